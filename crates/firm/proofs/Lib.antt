@@ -1,0 +1,9 @@
+mod Prefixes
+mod OneTenant
+mod Snoc
+mod AnswerLemmas
+mod Unmarked
+mod Progress
+mod Stops
+mod ProgramLemmas
+mod Examples

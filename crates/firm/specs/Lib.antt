@@ -1,0 +1,5 @@
+pub mod Faults
+pub mod Output
+pub mod Answer
+pub mod Service
+pub mod Program

@@ -1,0 +1,5 @@
+pub mod Sharing
+pub mod Crossing
+pub mod Row
+pub mod Words
+pub mod SlotLemmas

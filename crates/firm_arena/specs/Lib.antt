@@ -1,0 +1,10 @@
+pub mod Arena
+pub mod Steps
+pub mod Laws
+pub mod Lends
+pub mod Slot
+pub mod SlotLends
+pub mod Block
+pub mod BlockLends
+pub mod Ownership
+pub mod CellLends

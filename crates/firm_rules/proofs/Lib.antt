@@ -1,0 +1,3 @@
+pub mod NameParts
+pub mod TableLemmas
+mod Examples

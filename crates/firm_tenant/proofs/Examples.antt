@@ -1,0 +1,88 @@
+-- The replies of a tenant alone, computed at worked examples.
+use Rattle.std.proofs.Common.{◌≡◌, ℕ, true, false, List, [], ◌∷◌, refl, codes}
+use Rattle.firm_rules.specs.Limits.{TenantLimits}
+use Rattle.firm_rules.specs.declared.commands.Command.{Command}
+use Rattle.firm_rules.specs.declared.commands.Command.TheVariants.{AddMachine, AddJob, AddTask, Show, Faulty}
+use Rattle.firm_rules.specs.declared.commands.LineFault.TheVariants.{BadCommand, BadName, BadNumber}
+use Rattle.firm_rules.specs.declared.replies.Reply.{Reply}
+use Rattle.firm_rules.specs.declared.replies.Outcome.{Outcome}
+use Rattle.firm_rules.specs.declared.replies.Outcome.TheVariants.{Plain, Shown, Refused}
+use Rattle.firm_rules.specs.declared.replies.Refusal.{Refusal}
+use Rattle.firm_rules.specs.declared.replies.Refusal.TheVariants.{Worn, BadCommand as NoCommand, BadName as NoName, BadNumber as NoNumber, MachineExists, JobExists, NoSuchJob, TaskExists, ArenaNodes, ArenaArcs, Memory}
+use Rattle.firm_tenant.specs.Alone.{alone, alone_marked}
+
+abbrev limits : ℕ → ℕ → ℕ → TenantLimits
+limits nodes arcs life = record { nodes = nodes; arcs = arcs; life = life; spread = 1; churn = 2 }
+
+abbrev reply : ℕ → Outcome → Reply
+reply number outcome = record { number = number; outcome = outcome }
+
+abbrev ok : ℕ → Reply
+ok number = reply number Plain
+
+abbrev no : ℕ → Refusal → Reply
+no number refusal = reply number (Refused refusal)
+
+abbrev m1 : List ℕ
+m1 = codes "m1"
+
+abbrev j : List ℕ
+j = codes "j"
+
+abbrev a : List ℕ
+a = codes "a"
+
+abbrev b : List ℕ
+b = codes "b"
+
+abbrev c : List ℕ
+c = codes "c"
+
+-- one of each: 5 of 6 nodes and 7 of 11 arcs
+one_of_each : alone (limits 6 11 100) (AddMachine m1 2 ∷ AddJob j 5 ∷ AddTask j a ∷ Show ∷ [])
+    ≡ ok 1 ∷ ok 2 ∷ ok 3 ∷ reply 4 (Shown 1 1 1 0 5 6 7 11) ∷ []
+one_of_each = refl
+
+-- a third task finds no node
+no_node_left : alone (limits 6 11 100) (AddMachine m1 2 ∷ AddJob j 5 ∷ AddTask j a ∷ AddTask j b ∷ AddTask j c ∷ [])
+    ≡ ok 1 ∷ ok 2 ∷ ok 3 ∷ ok 4 ∷ no 5 ArenaNodes ∷ []
+no_node_left = refl
+
+-- a second task finds two arcs of the three that it takes, and leaves nothing behind
+no_arcs_left : alone (limits 9 9 100) (AddMachine m1 2 ∷ AddJob j 1 ∷ AddTask j a ∷ AddTask j b ∷ Show ∷ [])
+    ≡ ok 1 ∷ ok 2 ∷ ok 3 ∷ no 4 ArenaArcs ∷ reply 5 (Shown 1 1 1 0 5 9 7 9) ∷ []
+no_arcs_left = refl
+
+-- two commands, and the replies after them keep one number
+a_life_of_two : alone (limits 2 0 2) (Show ∷ Faulty BadCommand ∷ Show ∷ Show ∷ [])
+    ≡ reply 1 (Shown 0 0 0 0 2 2 0 0) ∷ no 2 NoCommand ∷ no 3 Worn ∷ no 3 Worn ∷ []
+a_life_of_two = refl
+
+-- a machine of 64 slots takes 65 arcs
+widest_machine : alone (limits 3 64 10) (AddMachine m1 64 ∷ AddMachine m1 63 ∷ []) ≡ no 1 ArenaArcs ∷ ok 2 ∷ []
+widest_machine = refl
+
+-- where nodes and arcs both do not fit, the nodes are named
+nodes_first : alone (limits 2 0 10) (AddMachine m1 1 ∷ AddJob j 1 ∷ []) ≡ no 1 ArenaNodes ∷ no 2 ArenaNodes ∷ []
+nodes_first = refl
+
+-- names are looked up before the arena is, and a task's job before its own name
+names_first : alone (limits 5 7 100) (AddTask j a ∷ AddMachine m1 2 ∷ AddMachine m1 2 ∷ AddJob j 5 ∷ AddJob j 5 ∷ AddTask j a ∷ AddTask j a ∷ AddTask b a ∷ [])
+    ≡ no 1 NoSuchJob ∷ ok 2 ∷ no 3 MachineExists ∷ ok 4 ∷ no 5 JobExists ∷ ok 6 ∷ no 7 TaskExists ∷ no 8 NoSuchJob ∷ []
+names_first = refl
+
+-- machines, jobs and tasks have names of their own
+three_name_spaces : alone (limits 6 20 100) (AddMachine a 2 ∷ AddJob a 5 ∷ AddTask a a ∷ []) ≡ ok 1 ∷ ok 2 ∷ ok 3 ∷ []
+three_name_spaces = refl
+
+-- each fault of a line has its refusal
+faults : alone (limits 2 0 100) (Faulty BadCommand ∷ Faulty BadName ∷ Faulty BadNumber ∷ []) ≡ no 1 NoCommand ∷ no 2 NoName ∷ no 3 NoNumber ∷ []
+faults = refl
+
+-- want of memory is answered to a growth alone, after every other refusal, and leaves the rows as they were
+marked : alone_marked (limits 4 10 7)
+    ((AddMachine m1 2, true) ∷ (AddMachine m1 2, false) ∷ (AddMachine m1 2, true) ∷ (Show, true) ∷ (Faulty BadName, true)
+    ∷ (AddMachine b 64, true) ∷ (AddJob j 1, true) ∷ (AddJob j 1, true) ∷ [])
+    ≡ no 1 Memory ∷ ok 2 ∷ no 3 MachineExists ∷ reply 4 (Shown 1 0 0 0 3 4 3 10) ∷ no 5 NoName
+    ∷ no 6 ArenaArcs ∷ no 7 Memory ∷ no 8 Worn ∷ []
+marked = refl

@@ -1,0 +1,65 @@
+-- One command of a tenant: the reply to it, and the book after it.
+use Rattle.std.specs.Prelude.{ℕ, ◌+◌, Bool, true, false, not, nat_lt, nat_le, is_some, length, count_by, if◌then◌else◌}
+use Rattle.firm_rules.specs.Book.{Book, TenantRows, machine_names, job_names, task_names, with_machine, with_job, with_task}
+use Rattle.firm_rules.specs.ArenaUse.{arena_nodes, arena_arcs}
+use Rattle.firm_rules.specs.Names.{is_among}
+use Rattle.firm_rules.specs.Refusals.{fault_refusal}
+use Rattle.firm_rules.specs.declared.commands.Command.{Command}
+use Rattle.firm_rules.specs.declared.commands.Command.TheVariants.{AddMachine, AddJob, AddTask, Show, Faulty}
+use Rattle.firm_rules.specs.declared.replies.Reply.{Reply}
+use Rattle.firm_rules.specs.declared.replies.Outcome.{Outcome}
+use Rattle.firm_rules.specs.declared.replies.Outcome.TheVariants.{Plain, Shown, Refused}
+use Rattle.firm_rules.specs.declared.replies.Refusal.{Refusal}
+use Rattle.firm_rules.specs.declared.replies.Refusal.TheVariants.{Worn, MachineExists, NoSuchJob, JobExists, TaskExists, ArenaNodes, ArenaArcs, Memory}
+
+-- a refused command leaves the book, in which it is counted already, as it is
+abbrev pub refused : Book → Refusal → Outcome × Book
+refused book refusal = (Refused refusal, book)
+
+-- the book takes these rows where they fit its limits and memory was granted
+abbrev pub grown : Book → TenantRows → Bool → Outcome × Book
+grown book rows mark =
+    if nat_lt rows.limits.nodes (arena_nodes rows) then refused book ArenaNodes
+    else (if nat_lt rows.limits.arcs (arena_arcs rows) then refused book ArenaArcs
+    else (if mark then refused book Memory
+    else (Plain, record book { rows = rows })))
+
+-- the counts of the rows, and the limits of nodes and arcs
+abbrev pub counts_of : TenantRows → Outcome
+counts_of rows =
+    Shown (length rows.machines) (length rows.jobs) (length rows.tasks) (count_by (λ task. is_some task.machine) rows.tasks)
+    (arena_nodes rows) rows.limits.nodes (arena_arcs rows) rows.limits.arcs
+
+-- what a command comes to, and the book after it; the mark says that a growth was refused for want of memory
+abbrev pub effect : Book → Command → Bool → Outcome × Book
+effect book (AddMachine name slots) mark =
+    if is_among (machine_names book.rows) name then refused book MachineExists
+    else grown book (with_machine book.rows name slots) mark
+effect book (AddJob name weight) mark =
+    if is_among (job_names book.rows) name then refused book JobExists
+    else grown book (with_job book.rows name weight) mark
+effect book (AddTask job name) mark =
+    if not (is_among (job_names book.rows) job) then refused book NoSuchJob
+    else (if is_among (task_names book.rows) name then refused book TaskExists
+    else grown book (with_task book.rows job name) mark)
+effect book Show mark = (counts_of book.rows, book)
+effect book (Faulty fault) mark = refused book (fault_refusal fault)
+
+-- the book with one more command given
+abbrev pub counted : Book → Book
+counted book = record book { given = book.given + 1 }
+
+-- the reply to a command, and the book after it: a worn tenant changes no more, and otherwise each command counts
+abbrev pub step : Book → Command → Bool → Reply × Book
+step book command mark =
+    if nat_le book.rows.limits.life book.given then (record { number = book.rows.limits.life + 1; outcome = Refused Worn }, book)
+    else (let after = effect (counted book) command mark in (record { number = book.given + 1; outcome = after.0 }, after.1))
+
+-- whether an outcome is the refusal for want of memory
+abbrev pub is_memory_outcome : Outcome → Bool
+is_memory_outcome (Refused Memory) = true
+is_memory_outcome _ = false
+
+-- whether a reply is
+abbrev pub is_memory : Reply → Bool
+is_memory reply = is_memory_outcome reply.outcome

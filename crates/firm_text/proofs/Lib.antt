@@ -1,0 +1,6 @@
+pub mod Cuts
+pub mod Digits
+pub mod Puts
+pub mod Csv
+pub mod Fields
+pub mod Differ

@@ -1,0 +1,28 @@
+//! The formats of the service: what its input lines mean, what its replies read as, and which tenants a roster admits.
+#![tactic(auto)]
+
+mod admission;
+mod bytes;
+mod commands;
+mod devices;
+mod faults;
+mod inputs;
+mod lines;
+mod numbers;
+mod reading;
+mod records;
+mod replies;
+mod rosters;
+
+pub use admission::roster;
+pub use bytes::Bytes;
+pub use devices::{Failed, Sink, Source};
+pub use faults::RosterFault;
+pub use inputs::Line;
+pub use lines::next_line;
+pub use reading::line;
+pub use replies::reply_text;
+pub use rosters::Roster;
+
+#[cfg(test)]
+mod tests;
