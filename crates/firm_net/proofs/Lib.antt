@@ -1,0 +1,15 @@
+pub mod Arenas
+pub mod Lists
+pub mod Chains
+pub mod Relists
+pub mod Joins
+pub mod Frames
+pub mod Listings
+pub mod Nets
+pub mod Shown
+pub mod Moves
+pub mod Rewrites
+pub mod Clears
+pub mod Facts
+pub mod Results
+pub mod Cursors

@@ -1,0 +1,71 @@
+-- The parts show the net with the arc's flow changed.
+use Rattle.std.proofs.Common.{◌≡◌, ◌+◌, sym, ap, ◌∙◌, arith, refl, Option, Some, None}
+use Rattle.std.proofs.lemmas.Bool.{false≢true}
+use Rattle.firm_arena.specs.Arena.{Arena, find}
+use Rattle.firm_net.specs.Row.{Row}
+use Rattle.firm_net.specs.Net.{with_unit, IsResidual, row_at}
+use Rattle.firm_net.specs.declared.links.Link.{Link}
+use Rattle.firm_net.proofs.Results.{ChangesRow, changes_row, row-found, row-missing, can-push, push-residual, push-none, unit-tail, unit-head}
+use Rattle.firm_net.proofs.net.Net.push.Goals as goal
+
+changes : (c : goal.After-set_row) → ChangesRow c.set_row.new.links c.self.inside.nodes c.args.self.now c.args.arc (with_unit c.args.way)
+changes c =
+    changes_row c.self.inside.links c.set_row.new.links c.self.inside.nodes c.args.self.now c.args.arc c.in-Some.link c.with_unit.result
+    (with_unit c.args.way) c.self.invariant.net c.self.invariant.shows c.self.view_is
+    (sym c.get.ensures.value ∙ sym c.in-Some.ensures)
+    (sym c.with_unit.ensures.unit) c.with_unit.ensures.row
+    (ap (λ (r : Row). r.tail) c.with_unit.ensures.unit ∙ unit-tail c.args.way c.in-Some.link.row)
+    (ap (λ (r : Row). r.head) c.with_unit.ensures.unit ∙ unit-head c.args.way c.in-Some.link.row)
+    c.set_row.ensures
+
+pub invariant_of-self : goal.invariant_of-self
+invariant_of-self c =
+    record {
+      added = c.self.invariant.added ∙ ap (λ (l : Arena Link). c.self.inside.nodes.counter + l.counter) (sym c.set_row.ensures);
+      net = (changes c).net;
+      shows = (changes c).shows;
+    }
+
+pub returns-clause-allowed : goal.returns-clause-allowed
+returns-clause-allowed c = (
+  λ _.
+      can-push c.args.way (row_at c.args.self.now c.args.arc) c.in-Some.link.row
+      (row-found c.self.inside.links c.self.inside.nodes c.args.self.now c.args.arc c.in-Some.link c.self.view_is
+      (sym c.get.ensures.value ∙ sym c.in-Some.ensures))
+      (c.is_residual.ensures.0 c.if-not-is_residual.false),
+  λ _. refl,
+)
+
+pub returns-clause-pushes : goal.returns-clause-pushes
+returns-clause-pushes c = λ _. (changes c).is
+
+pub returns-clause-counts : goal.returns-clause-counts
+returns-clause-counts c = (changes c).counts
+
+pub returns-clause-others : goal.returns-clause-others
+returns-clause-others c = (changes c).others
+
+pub returns-clause-net : goal.returns-clause-net
+returns-clause-net c = (changes c).net
+
+pub returns-then-not-is_residual-clause-allowed : goal.returns-then-not-is_residual-clause-allowed
+returns-then-not-is_residual-clause-allowed c = (
+  λ e. absurd (false≢true e),
+  λ h.
+      sym c.if-not-is_residual.true
+      ∙ c.is_residual.ensures.1
+      (push-residual c.args.way (row_at c.args.self.now c.args.arc) c.in-Some.link.row
+      (row-found c.self.inside.links c.self.inside.nodes c.args.self.now c.args.arc c.in-Some.link c.self.view_is
+      (sym c.get.ensures.value ∙ sym c.in-Some.ensures))
+      h),
+)
+
+pub returns-in_default-clause-allowed : goal.returns-in_default-clause-allowed
+returns-in_default-clause-allowed c = (
+  λ e. absurd (false≢true e),
+  λ h.
+      absurd (push-none c.args.way (row_at c.args.self.now c.args.arc)
+      (row-missing c.self.inside.links c.self.inside.nodes c.args.self.now c.args.arc c.self.view_is
+      (sym c.get.ensures.value ∙ sym c.in_default.ensures))
+      h),
+)

@@ -1,0 +1,95 @@
+-- The parts show the net without the node.
+use Rattle.std.proofs.Common.{◌≡◌, ℕ, ◌+◌, ◌∙◌, sym, ap, arith, refl, is_some, Option}
+use Rattle.std.proofs.lemmas.Bool.{false≢true}
+use Rattle.firm_arena.specs.Arena.{Arena, without}
+use Rattle.firm_net.specs.declared.links.Node.{Node}
+use Rattle.firm_net.specs.declared.links.Side.TheVariants.{Out, In}
+use Rattle.firm_net.proofs.Results.{RemovesNode, removes_node, node-found, node-missing, not-node, list-empty, list-busy, if-some}
+use Rattle.firm_net.proofs.net.Net.remove_node.Goals as goal
+
+taken : (c : goal.After-take) → c.take.new.self ≡ without c.self.inside.nodes c.args.node.id.place
+taken c =
+    if-some c.take.result (λ _. c.take.new.self ≡ without c.self.inside.nodes c.args.node.id.place) c.in-Some.lists
+    (c.take.ensures.value ∙ (sym c.get.ensures.value ∙ sym c.in-Some.ensures)) c.take.ensures.removes
+
+removes : (c : goal.After-take) → RemovesNode c.self.inside.links c.take.new.self c.args.self.now c.args.node
+removes c =
+    removes_node c.self.inside.links c.self.inside.nodes c.take.new.self c.args.self.now c.args.node c.in-Some.lists
+    c.self.invariant.net c.self.invariant.shows c.self.view_is (sym c.get.ensures.value ∙ sym c.in-Some.ensures)
+    (omega arith) (omega arith) (taken c)
+
+pub invariant_of-self : goal.invariant_of-self
+invariant_of-self c =
+    record {
+      added = c.self.invariant.added ∙ ap (λ (a : Arena Node). a.counter + c.self.inside.links.counter) (sym (taken c));
+      net = (removes c).net;
+      shows = (removes c).shows;
+    }
+
+pub returns-clause-removes : goal.returns-clause-removes
+returns-clause-removes c = λ _. (removes c).is
+
+pub returns-clause-others : goal.returns-clause-others
+returns-clause-others c = (removes c).others
+
+pub returns-clause-counts : goal.returns-clause-counts
+returns-clause-counts c = λ _. (removes c).counts
+
+pub returns-clause-net : goal.returns-clause-net
+returns-clause-net c = (removes c).net
+
+pub returns-clause-gone : goal.returns-clause-gone
+returns-clause-gone c = (
+  λ e. let wrong : ⊥ = cc in absurd wrong,
+  λ none. absurd (not-node c.args.self.now c.args.node none (node-found c.self.inside.links c.self.inside.nodes c.args.self.now c.args.node c.in-Some.lists c.self.view_is (sym c.get.ensures.value ∙ sym c.in-Some.ensures))),
+)
+
+pub returns-clause-free : goal.returns-clause-free
+returns-clause-free c = (
+  λ _. (
+    node-found c.self.inside.links c.self.inside.nodes c.args.self.now c.args.node c.in-Some.lists c.self.view_is (sym c.get.ensures.value ∙ sym c.in-Some.ensures),
+    list-empty Out c.self.inside.links c.self.inside.nodes c.args.self.now c.args.node c.in-Some.lists c.self.invariant.shows c.self.view_is (sym c.get.ensures.value ∙ sym c.in-Some.ensures) (omega arith),
+    list-empty In c.self.inside.links c.self.inside.nodes c.args.self.now c.args.node c.in-Some.lists c.self.invariant.shows c.self.view_is (sym c.get.ensures.value ∙ sym c.in-Some.ensures) (omega arith),
+  ),
+  λ _. refl,
+)
+
+pub returns-then-lists-ne0-clause-free : goal.returns-then-lists-ne0-clause-free
+returns-then-lists-ne0-clause-free c = (
+  λ e. absurd (false≢true e),
+  λ h.
+      let none : c.in-Some.lists.out.count ≡ 0 =
+      list-busy Out c.self.inside.links c.self.inside.nodes c.args.self.now c.args.node c.in-Some.lists c.self.invariant.shows c.self.view_is (sym c.get.ensures.value ∙ sym c.in-Some.ensures) h.1 in
+      absurd (omega (arith, none)),
+)
+
+pub returns-then-lists-ne0-2-clause-free : goal.returns-then-lists-ne0-2-clause-free
+returns-then-lists-ne0-2-clause-free c = (
+  λ e. absurd (false≢true e),
+  λ h.
+      let none : c.in-Some.lists.into.count ≡ 0 =
+      list-busy In c.self.inside.links c.self.inside.nodes c.args.self.now c.args.node c.in-Some.lists c.self.invariant.shows c.self.view_is (sym c.get.ensures.value ∙ sym c.in-Some.ensures) h.2 in
+      absurd (omega (arith, none)),
+)
+
+pub returns-then-lists-ne0-clause-gone : goal.returns-then-lists-ne0-clause-gone
+returns-then-lists-ne0-clause-gone c = (
+  λ e. let wrong : ⊥ = cc in absurd wrong,
+  λ none. absurd (not-node c.args.self.now c.args.node none (node-found c.self.inside.links c.self.inside.nodes c.args.self.now c.args.node c.in-Some.lists c.self.view_is (sym c.get.ensures.value ∙ sym c.in-Some.ensures))),
+)
+
+pub returns-then-lists-ne0-2-clause-gone : goal.returns-then-lists-ne0-2-clause-gone
+returns-then-lists-ne0-2-clause-gone c = (
+  λ e. let wrong : ⊥ = cc in absurd wrong,
+  λ none. absurd (not-node c.args.self.now c.args.node none (node-found c.self.inside.links c.self.inside.nodes c.args.self.now c.args.node c.in-Some.lists c.self.view_is (sym c.get.ensures.value ∙ sym c.in-Some.ensures))),
+)
+
+pub returns-in_default-clause-free : goal.returns-in_default-clause-free
+returns-in_default-clause-free c = (
+  λ e. absurd (false≢true e),
+  λ h. absurd (not-node c.args.self.now c.args.node (node-missing c.self.inside.links c.self.inside.nodes c.args.self.now c.args.node c.self.view_is (sym c.get.ensures.value ∙ sym c.in_default.ensures)) h.0),
+)
+
+pub returns-in_default-clause-gone : goal.returns-in_default-clause-gone
+returns-in_default-clause-gone c =
+    (λ _. node-missing c.self.inside.links c.self.inside.nodes c.args.self.now c.args.node c.self.view_is (sym c.get.ensures.value ∙ sym c.in_default.ensures), λ _. refl)

@@ -1,0 +1,102 @@
+-- The parts show the net with the arc's head moved.
+use Rattle.std.proofs.Common.{◌≡◌, ◌≢◌, ◌≤◌, ℕ, ◌+◌, ◌-◌, ◌<◌, ◌∙◌, ◌==◌, sym, ap, ap₂, subst, eq-eqb, eqb-true, arith, refl, inl, inr, rules, Option, Some, None, IfSome}
+use Rattle.std.proofs.lemmas.Bool.{false≢true, and_from, and_parts}
+use Rattle.firm_arena.specs.Arena.{Arena, find}
+use Rattle.firm_net.specs.Row.{Row}
+use Rattle.firm_net.specs.Net.{Net, row_at, with_head, HasOtherTail}
+use Rattle.firm_net.specs.Links.{list_of, list_past}
+use Rattle.firm_net.specs.declared.row.NodeId.{NodeId}
+use Rattle.firm_net.specs.declared.links.Node.{Node}
+use Rattle.firm_net.specs.declared.links.Link.{Link}
+use Rattle.firm_net.specs.declared.links.Side.TheVariants.{Out, In}
+use Rattle.firm_net.proofs.Shown.{shown_net}
+use Rattle.firm_net.proofs.Results.{MovesHead, moves_head, has-arc, past-fits, past-there, added-counted, row-found, row-missing, node-found, node-missing, not-node, other-tail, tail-other, tail-none}
+use Rattle.firm_net.proofs.net.Net.retarget.Goals as goal
+
+pub unlist-requires : goal.unlist-requires
+unlist-requires c =
+    has-arc In c.self.inside.links c.self.inside.nodes c.args.arc c.in-Some.link c.head-old.result c.self.invariant.net c.self.invariant.shows (sym c.get.ensures.value ∙ sym c.in-Some.ensures) c.head-old.ensures.value
+
+pub list_first-requires : goal.list_first-requires
+list_first-requires c =
+    past-fits c.self.inside.links c.self.inside.nodes c.unlist.new.nodes c.args.arc c.in-Some.link c.head-old.result c.args.head
+    c.self.invariant.net c.self.invariant.shows (sym c.get.ensures.value ∙ sym c.in-Some.ensures) c.head-old.ensures.value c.unlist.ensures.nodes
+
+pub set_row-requires : goal.set_row-requires
+set_row-requires c =
+    past-there In c.self.inside.links c.unlist.new.links c.args.arc c.in-Some.link c.in-Some.link.into
+    (sym c.get.ensures.value ∙ sym c.in-Some.ensures) c.unlist.ensures.links
+
+differs : (c : goal.After-list_first) → c.in-Some.link.row.tail ≢ c.args.head
+differs c =
+    λ e.
+    let same : c.tail.result ≡ c.args.head = c.tail.ensures.value ∙ e in
+    false≢true
+    (sym c.if-eq.false ∙ c.eq.ensures
+    ∙ and_from (c.tail.result.id.place == c.args.head.id.place) (c.tail.result.id.stamp == c.args.head.id.stamp)
+    (eq-eqb c.tail.result.id.place c.args.head.id.place (ap (λ (k : NodeId). k.id.place) same))
+    (eq-eqb c.tail.result.id.stamp c.args.head.id.stamp (ap (λ (k : NodeId). k.id.stamp) same)))
+
+moves : (c : goal.After-list_first) → MovesHead c.list_first.new.links c.list_first.new.nodes c.args.self.now c.args.arc c.in-Some.link.row c.args.head
+moves c =
+    moves_head c.self.inside.links c.unlist.new.links c.set_row.new.links c.list_first.new.links c.self.inside.nodes c.unlist.new.nodes c.list_first.new.nodes
+    c.args.self.now c.args.arc c.in-Some.link c.head-old.result c.args.head c.with_head.result c.in-Some-copied._node
+    c.self.invariant.net c.self.invariant.shows c.self.view_is (sym c.get.ensures.value ∙ sym c.in-Some.ensures) c.head-old.ensures.value (sym c.get-2.ensures.value ∙ sym c.in-Some-copied.ensures) (differs c) c.with_head.ensures
+    c.unlist.ensures.nodes c.unlist.ensures.links c.set_row.ensures c.list_first.ensures.nodes c.list_first.ensures.links
+
+pub invariant_of-self : goal.invariant_of-self
+invariant_of-self c =
+    let after : c.list_first.new.nodes.counter + c.list_first.new.links.counter ≡ c.args.self.now.nodes.counter + c.args.self.now.arcs.counter =
+    added-counted c.list_first.new.links c.list_first.new.nodes (with_head c.args.self.now c.args.arc c.in-Some.link.row c.args.head) (moves c).is in
+    let before : c.self.inside.nodes.counter + c.self.inside.links.counter ≡ c.args.self.now.nodes.counter + c.args.self.now.arcs.counter =
+    added-counted c.self.inside.links c.self.inside.nodes c.args.self.now c.self.view_is in
+    record { added = omega (arith, c.self.invariant.added, before, after); net = (moves c).net; shows = (moves c).shows }
+
+row : (c : goal.After-list_first) → row_at c.args.self.now c.args.arc ≡ Some c.in-Some.link.row
+row c = row-found c.self.inside.links c.self.inside.nodes c.args.self.now c.args.arc c.in-Some.link c.self.view_is (sym c.get.ensures.value ∙ sym c.in-Some.ensures)
+
+pub returns-clause-allowed : goal.returns-clause-allowed
+returns-clause-allowed c = (
+  λ _. (
+    node-found c.self.inside.links c.self.inside.nodes c.args.self.now c.args.head c.in-Some-copied._node c.self.view_is (sym c.get-2.ensures.value ∙ sym c.in-Some-copied.ensures),
+    other-tail (row_at c.args.self.now c.args.arc) c.in-Some.link.row c.args.head (row c) (differs c),
+  ),
+  λ _. refl,
+)
+
+pub returns-clause-moves : goal.returns-clause-moves
+returns-clause-moves c =
+    λ _. subst (λ (o : Option Row). IfSome o (λ r. shown_net c.list_first.new.links c.list_first.new.nodes ≡ with_head c.args.self.now c.args.arc r c.args.head)) (sym (row c)) (moves c).is
+
+pub returns-clause-counts : goal.returns-clause-counts
+returns-clause-counts c = (moves c).counts
+
+pub returns-clause-others : goal.returns-clause-others
+returns-clause-others c = (moves c).others
+
+pub returns-clause-net : goal.returns-clause-net
+returns-clause-net c = (moves c).net
+
+pub returns-then-eq-clause-allowed : goal.returns-then-eq-clause-allowed
+returns-then-eq-clause-allowed c =
+    let parts = and_parts (c.tail.result.id.place == c.args.head.id.place) (c.tail.result.id.stamp == c.args.head.id.stamp) (sym c.eq.ensures ∙ c.if-eq.true) in
+    let same : c.tail.result ≡ c.args.head =
+    ap₂ (λ (p t : ℕ). let made : NodeId = record { id = record { place = p; stamp = t } } in made)
+    (eqb-true c.tail.result.id.place c.args.head.id.place parts.0) (eqb-true c.tail.result.id.stamp c.args.head.id.stamp parts.1) in (
+      λ e. absurd (false≢true e),
+      λ h.
+          absurd (tail-other (row_at c.args.self.now c.args.arc) c.in-Some.link.row c.args.head
+          (row-found c.self.inside.links c.self.inside.nodes c.args.self.now c.args.arc c.in-Some.link c.self.view_is (sym c.get.ensures.value ∙ sym c.in-Some.ensures)) h.1 (sym c.tail.ensures.value ∙ same)),
+    )
+
+pub returns-in_default-clause-allowed : goal.returns-in_default-clause-allowed
+returns-in_default-clause-allowed c = (
+  λ e. absurd (false≢true e),
+  λ h. absurd (tail-none (row_at c.args.self.now c.args.arc) c.args.head (row-missing c.self.inside.links c.self.inside.nodes c.args.self.now c.args.arc c.self.view_is (sym c.get.ensures.value ∙ sym c.in_default.ensures)) h.1),
+)
+
+pub returns-in_default-copied-clause-allowed : goal.returns-in_default-copied-clause-allowed
+returns-in_default-copied-clause-allowed c = (
+  λ e. absurd (false≢true e),
+  λ h. absurd (not-node c.args.self.now c.args.head (node-missing c.self.inside.links c.self.inside.nodes c.args.self.now c.args.head c.self.view_is (sym c.get-2.ensures.value ∙ sym c.in_default-copied.ensures)) h.0),
+)

@@ -1,0 +1,13 @@
+//! A bounded network of nodes and arcs, whose lists of arcs run through the arcs themselves.
+#![tactic(auto)]
+
+mod links;
+mod net;
+mod row;
+#[cfg(test)]
+mod tests;
+mod walk;
+
+pub use net::{ARC_LIMIT, ArcRefusal, NODE_LIMIT, Net, NoNode, NodeRefusal};
+pub use row::{ArcId, ArcRow, CAPACITY_LIMIT, COST_LIMIT, NodeId, Way};
+pub use walk::Arcs;

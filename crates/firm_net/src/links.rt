@@ -1,0 +1,312 @@
+//! How the arcs of a node hang together: each arc has a place in the list of its tail and in that of its head, and
+//! names its neighbours there by their places. One treatment serves both lists.
+ghost use Rattle.std.specs.Prelude.{◌≡◌, ◌+◌, ◌-◌, ◌<◌, ◌≤◌, ◌^◌, IsSome, IfSome, Some, None};
+ghost use Rattle.firm_arena.specs.Arena.{find};
+ghost use Rattle.firm_net.specs.Net.{changed_at, changed_all};
+ghost use Rattle.firm_net.specs.Links.{neighbours_of, list_of, with_neighbours, with_next, with_previous, with_arc_list, empty_node, at_option, list_from, list_past, first_past, links_from, links_past, loose_link, arc_at, with_link_row, cleared_link};
+
+use crate::row::{ArcId, ArcRow, NodeId};
+use firm_arena::{Arena, Id};
+
+/// Which of the two lists of a node: the arcs out of it, or the arcs into it.
+#[derive(Clone, Copy)]
+pub enum Side {
+    Out,
+    In,
+}
+
+/// The places of the arcs before and after an arc in a list.
+#[derive(Clone, Copy)]
+pub struct Neighbours {
+    pub next: Option<u32>,
+    pub previous: Option<u32>,
+}
+
+/// An arc: its row, and its neighbours in the list of its tail and in that of its head.
+#[derive(Clone, Copy)]
+pub struct Link {
+    pub row: ArcRow,
+    pub out: Neighbours,
+    pub into: Neighbours,
+}
+
+/// One list of a node: the place of its first arc, and how many arcs it has.
+#[derive(Clone, Copy)]
+pub struct ArcList {
+    pub first: Option<u32>,
+    pub count: u32,
+}
+
+/// A node: the list of the arcs out of it and that of the arcs into it.
+#[derive(Clone, Copy)]
+pub struct Node {
+    pub out: ArcList,
+    pub into: ArcList,
+}
+
+impl ArcList {
+    /// A list without arcs.
+    pub fn new() -> ArcList
+        ensures { result ≡ record { first = None; count = 0 } }
+    {
+        ArcList {
+            first: None,
+            count: 0,
+        }
+    }
+}
+
+impl Link {
+    /// An arc that stands in no list.
+    pub fn new(row: ArcRow) -> Link
+        ensures { result ≡ loose_link row }
+    {
+        let none = Neighbours {
+            next: None,
+            previous: None,
+        };
+        Link {
+            row,
+            out: none,
+            into: none,
+        }
+    }
+
+    pub fn neighbours(&self, side: Side) -> Neighbours
+        ensures { result ≡ neighbours_of side self.now }
+    {
+        match side {
+            Side::Out => self.out,
+            Side::In => self.into,
+        }
+    }
+
+    fn set_neighbours(&mut self, side: Side, neighbours: Neighbours)
+        ensures { self.new ≡ with_neighbours side neighbours self.old }
+    {
+        match side {
+            Side::Out => self.out = neighbours,
+            Side::In => self.into = neighbours,
+        }
+    }
+
+    fn set_next(&mut self, side: Side, next: Option<u32>)
+        ensures { self.new ≡ with_next side next self.old }
+    {
+        match side {
+            Side::Out => self.out.next = next,
+            Side::In => self.into.next = next,
+        }
+    }
+
+    fn set_previous(&mut self, side: Side, previous: Option<u32>)
+        ensures { self.new ≡ with_previous side previous self.old }
+    {
+        match side {
+            Side::Out => self.out.previous = previous,
+            Side::In => self.into.previous = previous,
+        }
+    }
+}
+
+impl Node {
+    /// A node without arcs.
+    pub fn new() -> Node
+        ensures { result ≡ empty_node }
+    {
+        let none = ArcList::new();
+        Node {
+            out: none,
+            into: none,
+        }
+    }
+
+    pub fn list(&self, side: Side) -> ArcList
+        ensures { result ≡ list_of side self.now }
+    {
+        match side {
+            Side::Out => self.out,
+            Side::In => self.into,
+        }
+    }
+
+    fn set_list(&mut self, side: Side, list: ArcList)
+        ensures { self.new ≡ with_arc_list side list self.old }
+    {
+        match side {
+            Side::Out => self.out = list,
+            Side::In => self.into = list,
+        }
+    }
+}
+
+/// Names other neighbours of the arc at a place, where a place is named.
+fn set_neighbours(links: &mut Arena<Link>, side: Side, place: Option<u32>, neighbours: Neighbours)
+    ensures { links.new ≡ at_option links.old place (with_neighbours side neighbours) }
+{
+    let Some(place) = place else {
+        return;
+    };
+    let Some(id) = links.id_at(place) else {
+        return;
+    };
+    let Some(link) = links.get_mut(id) else {
+        return;
+    };
+    link.set_neighbours(side, neighbours);
+}
+
+/// Names another arc behind the one at a place, where a place is named.
+fn set_next(links: &mut Arena<Link>, side: Side, place: Option<u32>, next: Option<u32>)
+    ensures { links.new ≡ at_option links.old place (with_next side next) }
+{
+    let Some(place) = place else {
+        return;
+    };
+    let Some(id) = links.id_at(place) else {
+        return;
+    };
+    let Some(link) = links.get_mut(id) else {
+        return;
+    };
+    link.set_next(side, next);
+}
+
+/// Names another arc before the one at a place, where a place is named.
+fn set_previous(links: &mut Arena<Link>, side: Side, place: Option<u32>, previous: Option<u32>)
+    ensures { links.new ≡ at_option links.old place (with_previous side previous) }
+{
+    let Some(place) = place else {
+        return;
+    };
+    let Some(id) = links.id_at(place) else {
+        return;
+    };
+    let Some(link) = links.get_mut(id) else {
+        return;
+    };
+    link.set_previous(side, previous);
+}
+
+/// Gives a node that is there another list.
+fn set_list(nodes: &mut Arena<Node>, side: Side, node: NodeId, list: ArcList)
+    requires { IsSome (find nodes.old node.id) }
+    ensures { nodes.new ≡ changed_at nodes.old node.id.place (with_arc_list side list) }
+{
+    let Some(owner) = nodes.get_mut(node.id) else {
+        return;
+    };
+    owner.set_list(side, list);
+}
+
+/// Links an arc before the first of a node's list.
+pub fn list_first(
+    nodes: &mut Arena<Node>,
+    links: &mut Arena<Link>,
+    side: Side,
+    node: NodeId,
+    arc: ArcId,
+)
+    requires { IfSome (find nodes.old node.id) (λ owner. (list_of side owner).count + 1 < 2 ^ 32) }
+    ensures nodes { IfSome (find nodes.old node.id) (λ owner. nodes.new ≡ changed_at nodes.old node.id.place (with_arc_list side (list_from arc.id.place (list_of side owner)))) }
+    ensures links { IfSome (find nodes.old node.id) (λ owner. links.new ≡ links_from side arc.id.place (list_of side owner).first links.old) }
+{
+    let Some(owner) = nodes.get(node.id).copied() else {
+        return;
+    };
+    let list = owner.list(side);
+    let place = Some(arc.id.place);
+    let neighbours = Neighbours {
+        next: list.first,
+        previous: None,
+    };
+    set_neighbours(links, side, place, neighbours);
+    set_previous(links, side, list.first, place);
+    let longer = ArcList {
+        first: place,
+        count: list.count + 1,
+    };
+    set_list(nodes, side, node, longer);
+}
+
+/// Takes the arc with these neighbours out of a node's list.
+pub fn unlist(
+    nodes: &mut Arena<Node>,
+    links: &mut Arena<Link>,
+    side: Side,
+    node: NodeId,
+    around: Neighbours,
+)
+    requires { IfSome (find nodes.old node.id) (λ owner. 0 < (list_of side owner).count) }
+    ensures nodes { IfSome (find nodes.old node.id) (λ owner. nodes.new ≡ changed_at nodes.old node.id.place (with_arc_list side (list_past around (list_of side owner)))) }
+    ensures links { links.new ≡ links_past side around links.old }
+{
+    set_next(links, side, around.previous, around.next);
+    set_previous(links, side, around.next, around.previous);
+    let Some(owner) = nodes.get(node.id).copied() else {
+        return;
+    };
+    let list = owner.list(side);
+    let first = first_past(around, list.first);
+    let shorter = ArcList {
+        first,
+        count: list.count - 1,
+    };
+    set_list(nodes, side, node, shorter);
+}
+
+/// The first arc of a list, once the arc with these neighbours left it.
+fn first_past(around: Neighbours, first: Option<u32>) -> Option<u32>
+    ensures { result ≡ first_past around.previous around.next first }
+{
+    match around.previous {
+        None => around.next,
+        Some(_) => first,
+    }
+}
+
+/// The arc at a place, where one is named and there.
+pub fn arc_at(links: &Arena<Link>, place: Option<u32>) -> Option<ArcId>
+    ensures { result ≡ arc_at links.now place }
+{
+    let Some(place) = place else {
+        return None;
+    };
+    let Some(id) = links.id_at(place) else {
+        return None;
+    };
+    Some(ArcId { id })
+}
+
+/// Gives an arc that is there another row.
+pub fn set_row(links: &mut Arena<Link>, arc: ArcId, row: ArcRow)
+    requires { IsSome (find links.old arc.id) }
+    ensures { links.new ≡ changed_at links.old arc.id.place (with_link_row row) }
+{
+    let Some(link) = links.get_mut(arc.id) else {
+        return;
+    };
+    link.row = row;
+}
+
+/// Sets low and flow of the arc at a place to 0, where one is there.
+fn clear_row(links: &mut Arena<Link>, place: u32)
+    ensures { links.new ≡ changed_at links.old place cleared_link }
+{
+    let Some(id) = links.id_at(place) else {
+        return;
+    };
+    let Some(link) = links.get_mut(id) else {
+        return;
+    };
+    link.row = link.row.without_flow();
+}
+
+/// Sets low and flow of every arc to 0.
+pub fn clear_rows(links: &mut Arena<Link>)
+    ensures { links.new ≡ changed_all links.old cleared_link }
+{
+    for place in 0..links.capacity() {
+        clear_row(links, place);
+    }
+}

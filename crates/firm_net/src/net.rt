@@ -1,0 +1,386 @@
+//! The network: a bounded map of nodes and a bounded map of arcs.
+ghost use Rattle.std.specs.Prelude.{◌≡◌, ◌+◌, ◌-◌, ◌<◌, ◌≤◌, ◌^◌, ◌↔◌, ◌++◌, ◌∷◌, List, length, map, IsSome, IsNone, IfSome, IfNone, IfOk, IfErr, IsOk, OnErr, OnSome, Some, None, IsTrue, slice_index_or};
+ghost use Rattle.std.specs.Prelude.{ℕ, [], false, true, ◌⊎◌};
+ghost use Rattle.firm_arena.specs.Arena.{IsVacant, IsFull, capacity_of};
+ghost use Rattle.firm_net.specs.Row.{Row, IsRow};
+ghost use Rattle.firm_net.specs.Net.{IsNet, IsNode, IsArc, row_at, lists_at, out_list, in_list, place_of, added_of, node_count, arc_count, CountsAre, empty_net, with_node, without_node, with_arc, without_row, with_row, with_head, without_flow, with_numbers, IsResidual, with_unit, first_of, next_on, next_out, next_into, arcs_on, rows_of, SameOtherRows, SameOtherNodes, AreInRange, HasOtherTail, CanPush, Follows};
+ghost use Rattle.firm_net.specs.declared.links.Side.TheVariants.{Out, In};
+
+use crate::links::{ArcList, Link, Node, Side, arc_at, clear_rows, list_first, set_row, unlist};
+use crate::row::{ArcId, ArcRow, NodeId, Way};
+use crate::walk::Arcs;
+use firm_arena::Arena;
+use std::alloc::{AllocError, Global};
+use std::marker::Model;
+
+/// The most nodes that a net may have room for.
+pub const NODE_LIMIT: u32 = 4_096;
+
+/// The most arcs that a net may have room for.
+pub const ARC_LIMIT: u32 = 65_536;
+
+/// `Net::add_node` found no room.
+#[derive(Clone, Copy, PartialEq, Eq, Debug)]
+pub struct NoNode;
+
+/// Why `Net::remove_node` removed nothing.
+#[derive(Clone, Copy, PartialEq, Eq, Debug)]
+pub enum NodeRefusal {
+    /// The node is not there.
+    Gone,
+    /// The node has arcs.
+    Busy,
+}
+
+/// Why `Net::add_arc` added nothing.
+#[derive(Clone, Copy, PartialEq, Eq, Debug)]
+pub enum ArcRefusal {
+    /// An end of the arc is not there.
+    Gone,
+    /// Both ends are there, and there are as many arcs as the net has room for.
+    NoArc,
+}
+
+/// A network of nodes and arcs, of bounded size.
+#[derive(Drop)]
+pub struct Net {
+    nodes: Arena<Node>,
+    links: Arena<Link>,
+    added: u64,
+}
+
+impl Model for Net {
+    ghost use Rattle.firm_net.specs.Net.{Net as Network};
+
+    ghost Value = { Network };
+
+    ghost use Rattle.firm_net.specs.Inside.{net_of, IsSound};
+
+    ghost view = { net_of };
+
+    ghost invariant = { IsSound };
+}
+
+impl Net {
+    /// An empty net with room for so many nodes and arcs; it takes all its memory now. `Err` only where memory is
+    /// refused.
+    pub fn new(alloc: Global, nodes: u32, arcs: u32) -> Result<Net, AllocError>
+        requires nodes { nodes ≤ 4096 }
+        requires arcs { arcs ≤ 65536 }
+        ensures empty { IfOk result (λ net. net ≡ empty_net nodes arcs) }
+        ensures net { IfOk result (λ net. IsNet net) }
+    {
+        let nodes = Arena::new(alloc, nodes)?;
+        let links = Arena::new(alloc, arcs)?;
+        Ok(Net {
+            nodes,
+            links,
+            added: 0,
+        })
+    }
+
+    /// The nodes and the arcs that there is room for, as `new` was given them.
+    pub fn limits(&self) -> (u32, u32)
+        ensures nodes { result.0 ≡ capacity_of self.now.nodes }
+        ensures arcs { result.1 ≡ capacity_of self.now.arcs }
+        ensures net { IsNet self.now }
+    {
+        (self.nodes.capacity(), self.links.capacity())
+    }
+
+    /// How many nodes and arcs were ever added.
+    pub fn added(&self) -> u64
+        ensures value { result ≡ added_of self.now }
+        ensures net { IsNet self.now }
+    {
+        self.added
+    }
+
+    /// The place of a node: below the limit of nodes, another one for each node that is there, and the same as long
+    /// as the node is there. `None` exactly where the node is not there.
+    pub fn place(&self, node: NodeId) -> Option<u32>
+        ensures value { result ≡ place_of self.now node }
+        ensures there { IsSome result ↔ IsNode self.now node }
+        ensures below { IfSome result (λ place. place < capacity_of self.now.nodes) }
+        ensures net { IsNet self.now }
+    {
+        self.nodes.get(node.id)?;
+        Some(node.id.place)
+    }
+
+    /// Adds a node without arcs. `NoNode` exactly where as many nodes are there as there is room for.
+    pub fn add_node(&mut self) -> Result<NodeId, NoNode>
+        requires { added_of self.old < 2 ^ 62 }
+        ensures place { IfOk result (λ n. IsVacant self.old.nodes n.id.place) }
+        ensures stamp { IfOk result (λ n. n.id.stamp ≡ self.old.nodes.counter) }
+        ensures adds { IfOk result (λ n. self.new ≡ with_node self.old n.id.place) }
+        ensures others { IfOk result (λ n. SameOtherNodes self.old self.new n) }
+
+        ensures counts { IfOk result (λ _. CountsAre self.new (node_count self.old + 1) (arc_count self.old)) }
+        ensures room { IsOk result ↔ (node_count self.old < capacity_of self.old.nodes) }
+        ensures full { OnErr result (IsFull self.old.nodes) }
+        ensures unchanged { OnErr result (self.new ≡ self.old) }
+        ensures net { IsNet self.new }
+    {
+        let Ok(id) = self.nodes.put(Node::new()) else {
+            return Err(NoNode);
+        };
+        self.added += 1;
+        Ok(NodeId { id })
+    }
+
+    /// Removes a node without arcs. `Gone` exactly where it is not there, `Busy` exactly where it has arcs.
+    pub fn remove_node(&mut self, node: NodeId) -> Result<(), NodeRefusal>
+        ensures removes { IsOk result → self.new ≡ without_node self.old node }
+        ensures others { SameOtherNodes self.old self.new node }
+
+        ensures counts { IsOk result → CountsAre self.new (node_count self.old - 1) (arc_count self.old) }
+        ensures free { IsOk result ↔ IsNode self.old node × (out_list self.old node ≡ []) × (in_list self.old node ≡ []) }
+        ensures gone { (result ≡ Err NodeRefusal.Gone) ↔ (lists_at self.old node ≡ None) }
+        ensures unchanged { OnErr result (self.new ≡ self.old) }
+        ensures net { IsNet self.new }
+    {
+        let Some(lists) = self.nodes.get(node.id).copied() else {
+            return Err(NodeRefusal::Gone);
+        };
+        if lists.out.count != 0 {
+            return Err(NodeRefusal::Busy);
+        }
+        if lists.into.count != 0 {
+            return Err(NodeRefusal::Busy);
+        }
+        let _ = self.nodes.take(node.id);
+        Ok(())
+    }
+
+    /// Adds an arc, which stands first in the walks of its ends. `Gone` exactly where an end is not there, else
+    /// `NoArc` exactly where as many arcs are there as there is room for.
+    pub fn add_arc(&mut self, row: ArcRow) -> Result<ArcId, ArcRefusal>
+        requires { added_of self.old < 2 ^ 62 }
+        ensures place { IfOk result (λ a. IsVacant self.old.arcs a.id.place) }
+        ensures stamp { IfOk result (λ a. a.id.stamp ≡ self.old.arcs.counter) }
+        ensures adds { IfOk result (λ a. self.new ≡ with_arc self.old a row) }
+        ensures row { IfOk result (λ a. row_at self.new a ≡ Some row) }
+        ensures others { IfOk result (λ a. SameOtherRows self.old self.new a) }
+
+        ensures counts { IfOk result (λ _. CountsAre self.new (node_count self.old) (arc_count self.old + 1)) }
+        ensures room { IsOk result ↔ IsNode self.old row.tail × IsNode self.old row.head × (arc_count self.old < capacity_of self.old.arcs) }
+        ensures no_arc { result ≡ Err ArcRefusal.NoArc → IsNode self.old row.tail × IsNode self.old row.head × IsFull self.old.arcs }
+        ensures gone { result ≡ Err ArcRefusal.Gone → (lists_at self.old row.tail ≡ None) ⊎ (lists_at self.old row.head ≡ None) }
+        ensures unchanged { OnErr result (self.new ≡ self.old) }
+        ensures net { IsNet self.new }
+    {
+        let tail = row.tail();
+        let head = row.head();
+        let Some(_from) = self.nodes.get(tail.id).copied() else {
+            return Err(ArcRefusal::Gone);
+        };
+        let Some(_to) = self.nodes.get(head.id).copied() else {
+            return Err(ArcRefusal::Gone);
+        };
+        let Ok(id) = self.links.put(Link::new(row)) else {
+            return Err(ArcRefusal::NoArc);
+        };
+        let arc = ArcId { id };
+        list_first(&mut self.nodes, &mut self.links, Side::Out, tail, arc);
+        list_first(&mut self.nodes, &mut self.links, Side::In, head, arc);
+        self.added += 1;
+        Ok(arc)
+    }
+
+    /// Removes an arc and gives its row; the other arcs keep their order in the walks. `None` exactly where the arc
+    /// is not there, and then nothing changes.
+    pub fn remove_arc(&mut self, arc: ArcId) -> Option<ArcRow>
+        ensures row { result ≡ row_at self.old arc }
+        ensures removes { IfSome result (λ row. self.new ≡ without_row self.old arc row) }
+        ensures gone { row_at self.new arc ≡ None }
+        ensures counts { IfSome result (λ _. CountsAre self.new (node_count self.old) (arc_count self.old - 1)) }
+        ensures others { SameOtherRows self.old self.new arc }
+        ensures unchanged { IfNone result (self.new ≡ self.old) }
+        ensures net { IsNet self.new }
+    {
+        let Some(link) = self.links.get(arc.id).copied() else {
+            return None;
+        };
+        let tail = link.row.tail();
+        let head = link.row.head();
+        unlist(&mut self.nodes, &mut self.links, Side::Out, tail, link.out);
+        unlist(&mut self.nodes, &mut self.links, Side::In, head, link.into);
+        let _ = self.links.take(arc.id);
+        Some(link.row)
+    }
+
+    /// The row of an arc; `None` exactly where it is not there.
+    pub fn arc(&self, arc: ArcId) -> Option<ArcRow>
+        ensures row { result ≡ row_at self.now arc }
+        ensures in_range { IfSome result (λ row. IsRow row × IsNode self.now row.tail × IsNode self.now row.head) }
+        ensures net { IsNet self.now }
+    {
+        let link = self.links.get(arc.id)?;
+        Some(link.row)
+    }
+
+    /// Gives an arc these numbers. False, and nothing changes, exactly where the arc is not there or not
+    /// `low <= flow <= cap <= 4,096` and `cost <= 3,000,000`.
+    pub fn set(&mut self, arc: ArcId, low: u32, cap: u32, cost: u32, flow: u32) -> bool
+        ensures allowed { IsTrue result ↔ IsArc self.old arc × AreInRange low cap cost flow }
+        ensures sets { IsTrue result → self.new ≡ with_row self.old arc (with_numbers low cap cost flow) }
+        ensures unchanged { result ≡ false → self.new ≡ self.old }
+        ensures counts { CountsAre self.new (node_count self.old) (arc_count self.old) }
+        ensures others { SameOtherRows self.old self.new arc }
+        ensures net { IsNet self.new }
+    {
+        let Some(link) = self.links.get(arc.id).copied() else {
+            return false;
+        };
+        let tail = link.row.tail();
+        let head = link.row.head();
+        let Some(row) = ArcRow::new(tail, head, low, cap, cost, flow) else {
+            return false;
+        };
+        set_row(&mut self.links, arc, row);
+        true
+    }
+
+    /// Moves the head of an arc to a node, in whose walk it then stands first. False, and nothing changes, exactly
+    /// where the arc or the node is not there, or the node is the arc's tail.
+    pub fn retarget(&mut self, arc: ArcId, head: NodeId) -> bool
+        ensures allowed { IsTrue result ↔ IsNode self.old head × HasOtherTail (row_at self.old arc) head }
+        ensures moves { IsTrue result → IfSome (row_at self.old arc) (λ row. self.new ≡ with_head self.old arc row head) }
+        ensures unchanged { result ≡ false → self.new ≡ self.old }
+        ensures counts { CountsAre self.new (node_count self.old) (arc_count self.old) }
+        ensures others { SameOtherRows self.old self.new arc }
+        ensures net { IsNet self.new }
+    {
+        let Some(link) = self.links.get(arc.id).copied() else {
+            return false;
+        };
+        let Some(_node) = self.nodes.get(head.id).copied() else {
+            return false;
+        };
+        if link.row.tail() == head {
+            return false;
+        }
+        let old = link.row.head();
+        unlist(&mut self.nodes, &mut self.links, Side::In, old, link.into);
+        set_row(&mut self.links, arc, link.row.with_head(head));
+        list_first(&mut self.nodes, &mut self.links, Side::In, head, arc);
+        true
+    }
+
+    /// Moves one unit of flow along an arc, forward or back. False, and nothing changes, exactly where the arc is not
+    /// there or has no room: forward needs `flow < cap`, backward `flow > low`.
+    pub fn push(&mut self, arc: ArcId, way: Way) -> bool
+        ensures allowed { IsTrue result ↔ CanPush way (row_at self.old arc) }
+        ensures pushes { IsTrue result → self.new ≡ with_row self.old arc (with_unit way) }
+        ensures unchanged { result ≡ false → self.new ≡ self.old }
+        ensures counts { CountsAre self.new (node_count self.old) (arc_count self.old) }
+        ensures others { SameOtherRows self.old self.new arc }
+        ensures net { IsNet self.new }
+    {
+        let Some(link) = self.links.get(arc.id).copied() else {
+            return false;
+        };
+        if !link.row.is_residual(way) {
+            return false;
+        }
+        set_row(&mut self.links, arc, link.row.with_unit(way));
+        true
+    }
+
+    /// Sets low and flow of every arc to 0. All else stays: nodes, ids, ends, capacities, costs and the walks.
+    pub fn clear_flow(&mut self)
+        ensures clears { self.new ≡ without_flow self.old }
+        ensures counts { CountsAre self.new (node_count self.old) (arc_count self.old) }
+        ensures net { IsNet self.new }
+    {
+        clear_rows(&mut self.links);
+    }
+
+    /// The arcs out of a node, each once, with their rows; none where the node is not there.
+    pub fn out_arcs(&self, node: NodeId) -> Arcs<'_>
+        ensures arcs { result ≡ rows_of self.now (out_list self.now node) }
+        ensures count { length result ≤ capacity_of self.now.arcs }
+        ensures net { IsNet self.now }
+    {
+        self.walk(Side::Out, node)
+    }
+
+    /// The arcs into a node, each once, with their rows; none where the node is not there.
+    pub fn in_arcs(&self, node: NodeId) -> Arcs<'_>
+        ensures arcs { result ≡ rows_of self.now (in_list self.now node) }
+        ensures count { length result ≤ capacity_of self.now.arcs }
+        ensures net { IsNet self.now }
+    {
+        self.walk(Side::In, node)
+    }
+
+    /// The first arc out of a node; `None` where it has none or is not there.
+    pub fn out_first(&self, node: NodeId) -> Option<ArcId>
+        ensures first { result ≡ first_of (out_list self.now node) }
+        ensures net { IsNet self.now }
+    {
+        self.first(Side::Out, node)
+    }
+
+    /// The arc behind this one in the walk out of its tail; `None` where it is the last or is not there.
+    pub fn out_after(&self, arc: ArcId) -> Option<ArcId>
+        ensures next { result ≡ next_out self.now arc }
+        ensures behind { Follows Out self.now arc result }
+        ensures net { IsNet self.now }
+    {
+        self.after(Side::Out, arc)
+    }
+
+    /// The first arc into a node; `None` where it has none or is not there.
+    pub fn in_first(&self, node: NodeId) -> Option<ArcId>
+        ensures first { result ≡ first_of (in_list self.now node) }
+        ensures net { IsNet self.now }
+    {
+        self.first(Side::In, node)
+    }
+
+    /// The arc behind this one in the walk into its head; `None` where it is the last or is not there.
+    pub fn in_after(&self, arc: ArcId) -> Option<ArcId>
+        ensures next { result ≡ next_into self.now arc }
+        ensures behind { Follows In self.now arc result }
+        ensures net { IsNet self.now }
+    {
+        self.after(Side::In, arc)
+    }
+
+    /// The walk over one list of a node.
+    fn walk(&self, side: Side, node: NodeId) -> Arcs<'_>
+        ensures arcs { result ≡ rows_of self.now (arcs_on side self.now node) }
+        ensures count { length result ≤ capacity_of self.now.arcs }
+        ensures net { IsNet self.now }
+    {
+        let Some(lists) = self.nodes.get(node.id).copied() else {
+            return Arcs::new(&self.links, side, ArcList::new());
+        };
+        Arcs::new(&self.links, side, lists.list(side))
+    }
+
+    /// The first arc of one list of a node.
+    fn first(&self, side: Side, node: NodeId) -> Option<ArcId>
+        ensures first { result ≡ first_of (arcs_on side self.now node) }
+        ensures net { IsNet self.now }
+    {
+        let Some(lists) = self.nodes.get(node.id).copied() else {
+            return None;
+        };
+        arc_at(&self.links, lists.list(side).first)
+    }
+
+    /// The arc behind one in its list on one side.
+    fn after(&self, side: Side, arc: ArcId) -> Option<ArcId>
+        ensures next { result ≡ next_on side self.now arc }
+        ensures behind { Follows side self.now arc result }
+        ensures net { IsNet self.now }
+    {
+        let Some(link) = self.links.get(arc.id).copied() else {
+            return None;
+        };
+        arc_at(&self.links, link.neighbours(side).next)
+    }
+}
