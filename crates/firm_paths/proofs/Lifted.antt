@@ -1,0 +1,115 @@
+-- What the search by labels gives: prices that are valid again, a path, or a set that shows that there is none.
+use Rattle.std.proofs.Common.{◌≡◌, ◌≢◌, ℕ, ◌+◌, ◌*◌, ◌-◌, ◌<◌, ◌≤◌, ◌^◌, Bool, true, false, Option, Some, None, List, [], ◌∷◌, length, get_or, arith, refl, sym, ap, subst, ◌∙◌, inl, inr, ◌⊎◌, ⊎_elim}
+use Rattle.std.specs.Prelude.{slice_index}
+use Rattle.std.proofs.lemmas.Bool.{cases_lt, cases_Bool, both_ways}
+use Rattle.firm_arena.specs.Arena.{capacity_of}
+use Rattle.firm_net.specs.Row.{Row}
+use Rattle.firm_net.specs.Net.{Net, IsNet, IsNode, row_at}
+use Rattle.firm_net.specs.declared.row.NodeId.{NodeId}
+use Rattle.firm_net.specs.declared.row.ArcId.{ArcId}
+use Rattle.firm_net.specs.declared.row.Way.{Way}
+use Rattle.firm_net.specs.declared.row.Way.TheVariants.{Forward, Backward}
+use Rattle.firm_paths.specs.Network.{AreValid, IsValidAt, StaysInside, IsClosed}
+use Rattle.firm_paths.specs.NetArcs.{arc_of, arcs_of}
+use Rattle.firm_paths.specs.Paths.{IsTightPath, IsHighest, IsCut}
+use Rattle.firm_paths.specs.Search.{visit, IsTree, known, settled, label, IsReached, IsEnd, IsLifted}
+use Rattle.firm_paths.specs.Walk.{LeadsTo}
+use Rattle.firm_paths.specs.declared.search.Mark.{Mark}
+use Rattle.firm_paths.specs.declared.search.Step.{Step}
+use Rattle.firm_paths.specs.declared.search.Visit.{Visit}
+use Rattle.firm_paths.proofs.Listed.{all_arcs, at_row, node_listed}
+use Rattle.firm_paths.proofs.Labels.{tree_kept}
+use Rattle.firm_paths.proofs.Settles.{known_listed}
+
+module _ (net : Net) (old new : List ℕ) (from goal : ℕ) (ms : List Mark) (vs : List Visit) (number : ℕ)
+    (net_is : IsNet net) (lengths : (length old ≡ capacity_of net.nodes) × (length ms ≡ capacity_of net.nodes))
+    (reached : IsReached net (slice_index old) from goal ms vs number) (lifted : IsLifted old ms (label ms goal - slice_index old goal) new)
+    (start : slice_index old from ≤ slice_index old goal) (goal_listed : goal < capacity_of net.nodes)
+    (highest : IsHighest net (slice_index old) goal) (room : slice_index old goal ≤ 2 ^ 60) where
+  abbrev far : ℕ
+  far = label ms goal - slice_index old goal
+
+  far_small : far ≤ 4095 * 3000000
+  far_small = omega (arith, reached.near_by.below goal reached.is_known, start)
+
+  goal_ahead : slice_index old goal + far ≤ label ms goal
+  goal_ahead = reached.near_by.beyond goal reached.is_known reached.is_open
+
+  at_settled : (n : NodeId) → IsNode net n → settled ms n.id.place ≡ true → slice_index new n.id.place ≡ label ms n.id.place
+  at_settled n there s = lifted.at_settled n.id.place (omega (arith, node_listed net n there, lengths.0)) s
+
+  at_open : (n : NodeId) → IsNode net n → settled ms n.id.place ≡ false → slice_index new n.id.place ≡ slice_index old n.id.place + far
+  at_open n there s = lifted.at_others n.id.place (omega (arith, node_listed net n there, lengths.0)) s (omega (arith, highest n there, room, far_small))
+
+  pub at_goal : slice_index new goal ≡ slice_index old goal + far
+  at_goal = lifted.at_others goal (omega (arith, goal_listed, lengths.0)) reached.is_open (omega (arith, room, far_small))
+
+  forward : (id : ArcId) (row : Row) → row_at net id ≡ Some row → IsValidAt (slice_index old) (arc_of id row)
+      → row.flow < row.cap → slice_index new row.head.id.place ≤ row.cost + slice_index new row.tail.id.place
+  forward id row is valid open_ =
+      let t : ℕ = row.tail.id.place in
+      let h : ℕ = row.head.id.place in
+      ⊎_elim
+      (λ (st : settled ms t ≡ true).
+      let f = reached.followed Forward id row is st open_ in
+      ⊎_elim
+      (λ (sh : settled ms h ≡ true). omega (arith, f.1, at_settled row.tail (net_is.tails id row is) st, at_settled row.head (net_is.heads id row is) sh))
+      (λ (sh : settled ms h ≡ false). omega (arith, f.1, at_settled row.tail (net_is.tails id row is) st, at_open row.head (net_is.heads id row is) sh, reached.near_by.beyond h f.0 sh))
+      (cases_Bool (settled ms h)))
+      (λ (st : settled ms t ≡ false).
+      ⊎_elim
+      (λ (sh : settled ms h ≡ true). omega (arith, valid.0 open_, at_open row.tail (net_is.tails id row is) st, at_settled row.head (net_is.heads id row is) sh, (reached.near_by.within h sh).2))
+      (λ (sh : settled ms h ≡ false). omega (arith, valid.0 open_, at_open row.tail (net_is.tails id row is) st, at_open row.head (net_is.heads id row is) sh))
+      (cases_Bool (settled ms h)))
+      (cases_Bool (settled ms t))
+
+  backward : (id : ArcId) (row : Row) → row_at net id ≡ Some row → IsValidAt (slice_index old) (arc_of id row)
+      → row.low < row.flow → row.cost + slice_index new row.tail.id.place ≤ slice_index new row.head.id.place
+  backward id row is valid open_ =
+      let t : ℕ = row.tail.id.place in
+      let h : ℕ = row.head.id.place in
+      ⊎_elim
+      (λ (sh : settled ms h ≡ true).
+      let f = reached.followed Backward id row is sh open_ in
+      ⊎_elim
+      (λ (st : settled ms t ≡ true). omega (arith, f.1, at_settled row.tail (net_is.tails id row is) st, at_settled row.head (net_is.heads id row is) sh))
+      (λ (st : settled ms t ≡ false). omega (arith, f.1, at_open row.tail (net_is.tails id row is) st, at_settled row.head (net_is.heads id row is) sh, reached.near_by.beyond t f.0 st))
+      (cases_Bool (settled ms t)))
+      (λ (sh : settled ms h ≡ false).
+      ⊎_elim
+      (λ (st : settled ms t ≡ true). omega (arith, valid.1 open_, at_settled row.tail (net_is.tails id row is) st, at_open row.head (net_is.heads id row is) sh, (reached.near_by.within t st).2))
+      (λ (st : settled ms t ≡ false). omega (arith, valid.1 open_, at_open row.tail (net_is.tails id row is) st, at_open row.head (net_is.heads id row is) sh))
+      (cases_Bool (settled ms t)))
+      (cases_Bool (settled ms h))
+
+  pub lifted_valid : AreValid (arcs_of net) (slice_index old) → AreValid (arcs_of net) (slice_index new)
+  lifted_valid valid = all_arcs net (IsValidAt (slice_index new)) (λ id row is.
+      let v : IsValidAt (slice_index old) (arc_of id row) = at_row net (IsValidAt (slice_index old)) id row is valid in
+      (forward id row is v, backward id row is v))
+
+  pub lifted_highest : IsHighest net (slice_index new) goal
+  lifted_highest n there = ⊎_elim
+      (λ (s : settled ms n.id.place ≡ true). omega (arith, at_goal, at_settled n there s, (reached.near_by.within n.id.place s).2, highest n there))
+      (λ (s : settled ms n.id.place ≡ false). omega (arith, at_goal, at_open n there s, highest n there))
+      (cases_Bool (settled ms n.id.place))
+
+  pub lifted_path : (steps : List Step) → LeadsTo vs number steps → IsTightPath net (slice_index new) from goal steps
+  lifted_path steps leads =
+      let tree : IsTree net (slice_index new) [] vs from =
+      tree_kept net (label ms) (slice_index new) [] vs from (λ i l. ⊎_elim
+      (λ (s : settled ms (visit vs i).place ≡ true).
+      lifted.at_settled (visit vs i).place (omega (arith, known_listed ms (visit vs i).place (reached.near_by.within (visit vs i).place s).0, lengths.0, lengths.1)) s)
+      (λ (e : (visit vs i).place ≡ goal). ap (slice_index new) e ∙ (let at : slice_index new goal ≡ label ms goal = omega (arith, at_goal, goal_ahead) in at ∙ ap (label ms) (sym e)))
+      (reached.visited i l)) reached.tree in
+      subst (λ (to : ℕ). IsTightPath net (slice_index new) from to steps) reached.last.1 (leads net (slice_index new) [] from tree).0
+
+-- the known nodes are a cut
+pub end_cut : (net : Net) (from goal : ℕ) (ms : List Mark) → IsEnd net from goal ms → IsCut net from goal (known ms)
+end_cut net from goal ms end = record {
+  start = end.from_in;
+  end = end.goal_out;
+  closed = all_arcs net (StaysInside (known ms)) (λ id row is. (
+    (λ i o. ⊎_elim (λ (l : row.flow < row.cap). absurd (both_ways (known ms row.head.id.place) o (end.followed Forward id row is i l))) (λ (g : row.cap ≤ row.flow). g) (cases_lt row.flow row.cap)),
+    (λ i o. ⊎_elim (λ (l : row.low < row.flow). absurd (both_ways (known ms row.tail.id.place) o (end.followed Backward id row is i l))) (λ (g : row.flow ≤ row.low). g) (cases_lt row.low row.flow)),
+  ));
+}

@@ -1,0 +1,15 @@
+use Rattle.std.proofs.Common.{◌≤◌, vec_capacity}
+use Rattle.std.specs.Prelude.{slice_index}
+use Rattle.firm_net.specs.declared.row.Way.TheVariants.{Forward}
+use Rattle.firm_paths.specs.Spread.{IsCounted}
+use Rattle.firm_paths.proofs.Spreading.{IsSpreading}
+use Rattle.firm_paths.proofs.tight.look_out.Given as goal
+
+abbrev pub invariant-loop-arc : goal.invariant-loop-arc
+invariant-loop-arc l = record {
+  can_next : (goal.iterator-loop-arc).can_next l.arc-iterator;
+  is_finite : (goal.iterator-loop-arc).is_finite l.arc-iterator;
+  counted : IsCounted l.seen l.visits.items (vec_capacity l.visits);
+  capacity : vec_capacity l.initial.visits ≤ vec_capacity l.visits;
+  spreading : IsSpreading l.net (slice_index l.prices) l.barred l.here Forward l.initial.seen l.initial.visits.items l.seen l.visits.items l.arc-iterator;
+}

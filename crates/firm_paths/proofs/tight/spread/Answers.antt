@@ -1,0 +1,52 @@
+use Rattle.std.proofs.Common.{◌≡◌, ℕ, ◌<◌, ◌≤◌, ◌∙◌, List, [], arith, refl, sym, ap, subst, length, vec_capacity}
+use Rattle.std.specs.Prelude.{slice_index}
+use Rattle.std.proofs.lemmas.List.{get_or_default}
+use Rattle.firm_paths.specs.Search.{visit}
+use Rattle.firm_paths.specs.Spread.{is, seen_with, visits_with, IsCounted, IsGrown}
+use Rattle.firm_paths.specs.declared.search.Visit.{Visit}
+use Rattle.firm_paths.proofs.Listed.{node_listed}
+use Rattle.firm_paths.proofs.Spreading.{counted_start, visit_counted, visit_grown, out_start, out_more, out_done}
+use Rattle.firm_paths.proofs.tight.spread.Goals as goal
+
+pub visit_once-requires-clause-counted : goal.visit_once-requires-clause-counted
+visit_once-requires-clause-counted c =
+    rw c.clear-2.ensures.items (counted_start c.clear.new.seen _ c.clear.ensures (omega (arith, c.clear.auto.seen, c.requires.length.1, c.requires.room, c.clear-2.ensures.capacity)))
+
+pub loop-number-init : goal.loop-number-init
+loop-number-init c =
+    let listed : c.args.start.place < length c.clear.new.seen =
+    omega (arith, node_listed c.args.net.now c.args.start.node c.requires.start.0, c.requires.start.1, c.clear.auto.seen, c.requires.length.1) in
+    let items : c.visit_once.new.visits.items ≡ visits_with c.clear.new.seen [] c.args.start =
+    c.visit_once.ensures.visits ∙ ap (λ (z : List Visit). visits_with c.clear.new.seen z c.args.start) c.clear-2.ensures.items in
+    record {
+      length = omega (arith, c.visit_once.auto.seen, c.clear.auto.seen, c.requires.length.1);
+      counted = rw (c.visit_once.ensures.seen, items)
+          (visit_counted c.clear.new.seen [] c.args.start listed (vec_capacity c.visit_once.new.visits)
+          (counted_start c.clear.new.seen _ c.clear.ensures (omega (arith, c.clear.auto.seen, c.requires.length.1, c.requires.room, c.clear-2.ensures.capacity, c.visit_once.ensures.capacity))));
+      capacity = omega (arith, c.visit_once.ensures.capacity, c.clear-2.ensures.capacity);
+      out = rw (c.visit_once.ensures.seen, items)
+          (out_start c.args.net.now (slice_index c.args.prices.now) c.args.barred.now c.args.goal c.clear.new.seen c.args.start listed c.clear.ensures
+          c.requires.start.0 c.requires.start.1 c.requires.start.2);
+    }
+
+pub loop-number-preserved : goal.loop-number-preserved
+loop-number-preserved c =
+    let within : c.loop-number.number < length c.loop-number.visits.items = omega (arith, c.loop-number-test.true, c.len.ensures, c.loop-number.visits.ok.0) in
+    let is_visit : c.index-visit.result.now ≡ visit c.loop-number.visits.items c.loop-number.number =
+    c.index-visit.ensures ∙ get_or_default c.loop-number.visits.items c.loop-number.number _ _ within in
+    record {
+      length = omega (arith, c.loop-number.invariant.length, c.look_out.ensures.grown.length, c.look_in.ensures.grown.length);
+      counted = c.look_in.ensures.counted;
+      capacity = omega (arith, c.loop-number.invariant.capacity, c.look_out.ensures.capacity, c.look_in.ensures.capacity);
+      out = out_more c.args.net.now (slice_index c.args.prices.now) c.args.barred.now c.args.start.place c.args.goal c.loop-number.seen c.loop-number.visits.items
+          c.look_out.new.seen c.look_out.new.visits.items c.look_in.new.seen c.look_in.new.visits.items c.loop-number.number
+          (record { place = c.index-visit.result.now.place; number = c.loop-number.number })
+          c.loop-number.invariant.out within (ap (λ (y : Visit). y.place) is_visit) refl
+          (λ e. c.if-visit-goal.false (ap (λ (y : Visit). y.place) is_visit ∙ e))
+          c.look_out.ensures.grown c.look_out.ensures.spreads c.look_in.ensures.grown c.look_in.ensures.spreads;
+    }
+
+pub returns-clause-none : goal.returns-clause-none
+returns-clause-none c =
+    out_done c.args.net.now (slice_index c.args.prices.now) c.args.barred.now c.args.start.place c.args.goal c.loop-number.seen c.loop-number.visits.items c.loop-number.number
+    c.loop-number.invariant.out (omega (arith, c.loop-number-test.false, c.len.ensures, c.loop-number.visits.ok.0))

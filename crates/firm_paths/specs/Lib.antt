@@ -1,0 +1,9 @@
+pub mod Network
+pub mod NetArcs
+pub mod Paths
+pub mod PriceTable
+pub mod Workspace
+pub mod Search
+pub mod Walk
+pub mod Lending
+pub mod Spread

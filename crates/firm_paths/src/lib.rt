@@ -1,0 +1,14 @@
+#![tactic(auto)]
+//! Prices of a network's nodes, shortest paths through its residual network, and tight paths.
+
+mod prices;
+mod scratch;
+mod search;
+mod shortest;
+mod tight;
+
+pub use prices::Prices;
+pub use scratch::Scratch;
+pub use search::Step;
+pub use shortest::raise;
+pub use tight::tight_path;
