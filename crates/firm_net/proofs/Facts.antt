@@ -28,6 +28,9 @@ with_node-counts net p below free =
 pub without_node-others : (net : Net) (n : NodeId) (lists : Lists) → lists_at net n ≡ Some lists → SameOtherNodes net (without_node net n) n
 without_node-others net n lists there m other = find-without_other net.nodes n.id m.id lists there (node-id n m other)
 
+pub without_node-gone : (net : Net) (n : NodeId) → lists_at (without_node net n) n ≡ None
+without_node-gone net n = find-without_own net.nodes n.id
+
 pub without_node-counts : (net : Net) (n : NodeId) (lists : Lists) → lists_at net n ≡ Some lists
     → CountsAre (without_node net n) (node_count net - 1) (arc_count net)
 without_node-counts net n lists there =

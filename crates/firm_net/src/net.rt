@@ -139,6 +139,9 @@ impl Net {
         ensures gone { (result ≡ Err NodeRefusal.Gone) ↔ (lists_at self.old node ≡ None) }
         ensures unchanged { OnErr result (self.new ≡ self.old) }
         ensures net { IsNet self.new }
+        // The name answers no more, and no later node gets it: each gets the counter at its time as its stamp.
+        ensures absent { IsOk result → lists_at self.new node ≡ None }
+        ensures stamp { IsOk result → node.id.stamp < self.new.nodes.counter }
     {
         let Some(lists) = self.nodes.get(node.id).copied() else {
             return Err(NodeRefusal::Gone);
@@ -198,6 +201,8 @@ impl Net {
         ensures others { SameOtherRows self.old self.new arc }
         ensures unchanged { IfNone result (self.new ≡ self.old) }
         ensures net { IsNet self.new }
+        // No later arc gets this name: each gets the counter at its time as its stamp.
+        ensures stamp { IfSome result (λ _. arc.id.stamp < self.new.arcs.counter) }
     {
         let Some(link) = self.links.get(arc.id).copied() else {
             return None;

@@ -43,6 +43,9 @@ returns-clause-removes c = (removes c).is
 pub returns-clause-gone : goal.returns-clause-gone
 returns-clause-gone c = (removes c).gone
 
+pub returns-clause-stamp : goal.returns-clause-stamp
+returns-clause-stamp c = (removes c).stamp
+
 pub returns-clause-counts : goal.returns-clause-counts
 returns-clause-counts c = (removes c).counts
 

@@ -29,6 +29,12 @@ invariant_of-self c =
 pub returns-clause-removes : goal.returns-clause-removes
 returns-clause-removes c = λ _. (removes c).is
 
+pub returns-clause-absent : goal.returns-clause-absent
+returns-clause-absent c = λ _. (removes c).gone
+
+pub returns-clause-stamp : goal.returns-clause-stamp
+returns-clause-stamp c = λ _. (removes c).stamp
+
 pub returns-clause-others : goal.returns-clause-others
 returns-clause-others c = (removes c).others
 
