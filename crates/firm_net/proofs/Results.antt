@@ -1,6 +1,6 @@
 -- What each change of a net's parts says of the net before and after.
 use Rattle.std.proofs.Common.{◌≡◌, ◌≢◌, ℕ, ◌+◌, ◌-◌, ◌<◌, ◌≤◌, ◌⊎◌, inl, inr, ◌^◌, List, [], ◌∷◌, Contains, length, is_some, IfSome, Bool, true, false, cond, ◌==◌, refl, sym, ap, ap₂, ◌∙◌, subst, subst₂, arith, Option, Some, None, option_map, IsSome}
-use Rattle.std.proofs.lemmas.Option.{none-some, same_Some}
+use Rattle.std.proofs.lemmas.Option.{same_Some}
 use Rattle.firm_arena.specs.Arena.{Arena, find, held_at, capacity_of, len_of, with_put, without, IsVacant}
 use Rattle.firm_arena.specs.declared.Id.{Id}
 use Rattle.firm_net.specs.Row.{Row, IsRow}

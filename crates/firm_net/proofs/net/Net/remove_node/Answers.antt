@@ -1,5 +1,5 @@
 -- The parts show the net without the node.
-use Rattle.std.proofs.Common.{◌≡◌, ℕ, ◌+◌, ◌∙◌, sym, ap, arith, refl, is_some, Option}
+use Rattle.std.proofs.Common.{◌≡◌, ◌+◌, ◌∙◌, sym, ap, arith, refl}
 use Rattle.std.proofs.lemmas.Bool.{false≢true}
 use Rattle.firm_arena.specs.Arena.{Arena, without}
 use Rattle.firm_net.specs.declared.links.Node.{Node}
