@@ -7,3 +7,4 @@ mod Progress
 mod Stops
 mod ProgramLemmas
 mod Examples
+pub mod RosterOption

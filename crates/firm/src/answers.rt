@@ -15,6 +15,9 @@ use firm_tenant::Tenant;
 use firm_text::{Line, Roster, Sink, reply_text};
 use std::alloc::{AllocError, Global};
 
+/// The answer to a line for a tenant that the roster has not.
+const UNKNOWN_TENANT: &[u8] = b"! unknown-tenant\n";
+
 /// Writes the answer to a line for the one tenant, which has this name. The fault is `Write` where the writer failed, and
 /// `Memory` where no memory was granted for the answer's text.
 pub fn answer_line<W: Sink>(
@@ -35,9 +38,9 @@ pub fn answer_line<W: Sink>(
     match line {
         Line::Nothing => Ok(()),
         Line::Long => write_text(writer, b"! line-too-long\n"),
-        Line::Nameless => write_text(writer, b"! unknown-tenant\n"),
+        Line::Nameless => write_text(writer, UNKNOWN_TENANT),
         Line::For(name, command) => match roster.place_of(name) {
-            None => write_text(writer, b"! unknown-tenant\n"),
+            None => write_text(writer, UNKNOWN_TENANT),
             Some(_) => answer_command(alloc, writer, name, tenant, command),
         },
     }

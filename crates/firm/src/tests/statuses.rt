@@ -1,8 +1,9 @@
 //! The program's exit statuses, and what it says with them.
 
 use super::HEADING;
+use crate::faults::{Fault, report};
 use crate::run;
-use firm_text::{Bytes, Failed, Sink, Source};
+use firm_text::{Bytes, Failed, RosterFault, Sink, Source};
 use std::alloc::Global;
 use std::test::Fail;
 use std::{env, fs, process};
@@ -115,6 +116,23 @@ fn names_each_fault_of_a_roster(rt: HostRuntime) -> Result<(), Fail> {
 }
 
 #[test]
+fn reads_a_roster_of_the_most_bytes(rt: HostRuntime) -> Result<(), Fail> {
+    let alloc = rt.alloc();
+    let mut text = with_heading(alloc, b"a,2,0,1,0,0\n")?;
+    for _ in text.len()..65_536 {
+        text.push(b'\n')?;
+    }
+    assert_eq!(rt; text.len(), 65_536);
+    let ended = run_roster(&rt, "longest", &text, b"")?;
+    assert_eq!(rt; ended.status, 0);
+    text.push(b'\n')?;
+    let ended = run_roster(&rt, "longer", &text, b"")?;
+    assert_eq!(rt; ended.status, 3);
+    assert!(rt; ended.faults.as_slice() == b"firm: roster fault 2 row\n".as_slice());
+    Ok(())
+}
+
+#[test]
 fn cannot_read_a_missing_roster(rt: HostRuntime) -> Result<(), Fail> {
     let ended = run_words(
         &rt,
@@ -129,10 +147,11 @@ fn cannot_read_a_missing_roster(rt: HostRuntime) -> Result<(), Fail> {
 
 #[test]
 fn refuses_a_faulty_command_line(rt: HostRuntime) {
-    let faulty: [&[&str]; 4] = [
+    let faulty: [&[&str]; 5] = [
         &["firm"],
         &["firm", "--roster"],
         &["firm", "--workers", "9", "--roster", "r.csv"],
+        &["firm", "--workers", "0", "--roster", "r.csv"],
         &["firm", "--roster", "r.csv", "more"],
     ];
     for words in faulty {
@@ -147,6 +166,24 @@ fn prints_its_help(rt: HostRuntime) {
     let ended = run_words(&rt, &["firm", "--help"], b"a show\n");
     assert_eq!(rt; ended.status, 0);
     assert!(rt; !ended.output.is_empty() && ended.faults.is_empty());
+}
+
+#[test]
+fn tells_each_fault(rt: HostRuntime) {
+    let told = [
+        (Fault::UnreadableRoster, 3, "firm: cannot read roster\n"),
+        (Fault::Roster(RosterFault::Repeated), 3, "firm: roster fault 5 repeated-name\n"),
+        (Fault::Read, 4, "firm: read\n"),
+        (Fault::TooLong, 4, "firm: input too long\n"),
+        (Fault::Write, 5, "firm: write\n"),
+        (Fault::Memory, 6, "firm: memory\n"),
+    ];
+    for (fault, status, text) in &told {
+        let mut faults = Bytes::new(Vec::new(rt.alloc()));
+        report(&mut faults, fault);
+        assert!(rt; faults.into_inner().as_slice() == text.as_bytes(), "{text}");
+        assert_eq!(rt; fault.status(), *status, "{text}");
+    }
 }
 
 /// Fails at its first call.
@@ -206,6 +243,18 @@ fn tells_failed_devices_apart(rt: HostRuntime) -> Result<(), Fail> {
         &mut faults,
     );
     assert_eq!(rt; status, 5);
+    assert!(rt; faults.into_inner().as_slice() == b"firm: write\n".as_slice());
+    let mut faults = Bytes::new(Vec::new(alloc));
+    let mut input = Bytes::new(b"a show\n".as_slice());
+    let status = run(
+        &rt,
+        alloc,
+        &["firm", "--help"],
+        &mut input,
+        &mut Broken { failed: false },
+        &mut faults,
+    );
+    assert_eq!(rt; status, 5, "help that can't be written");
     assert!(rt; faults.into_inner().as_slice() == b"firm: write\n".as_slice());
     let mut input = Bytes::new(b"a show\n".as_slice());
     let status = run(
