@@ -205,6 +205,7 @@ fn raise_table(
     requires room { slice_index prices.old to.id.place ≤ 2 ^ 60 }
     ensures valid { AreValid (arcs_of net.now) (slice_index prices.new) }
     ensures highest { IsHighest net.now (slice_index prices.new) to.id.place }
+    ensures rises { (v : ℕ) → slice_index prices.old v ≤ slice_index prices.new v }
     ensures bound { slice_index prices.new to.id.place ≤ slice_index prices.old to.id.place + 4095 * 3000000 }
     ensures path { result ≡ true → IsTightPath net.now (slice_index prices.new) from.id.place to.id.place steps.new.items }
     ensures unchanged { result ≡ false → prices.new ≡ prices.old }
@@ -230,8 +231,8 @@ fn raise_table(
 }
 
 /// Raises prices, which stay valid, until a path over residual arcs of reduced cost 0 leads from `from` to `to`, and
-/// gives it. No node has a higher price than `to`, before and after, and that price grows by at most 4,095 times
-/// 3,000,000, which is what the longest path may cost. `None` only where a set of nodes holds `from` and not `to`, and
+/// gives it. No price falls. No node has a higher price than `to`, before and after, and that price grows by at most
+/// 4,095 times 3,000,000, which is what the longest path may cost. `None` only where a set of nodes holds `from` and not `to`, and
 /// no residual arc leaves it; the prices then stay as they were. Takes no memory.
 pub fn raise<'s>(
     scratch: &'s mut Scratch,
@@ -249,6 +250,7 @@ pub fn raise<'s>(
     ensures limits { prices.new.limits ≡ prices.old.limits }
     ensures valid { AreValid (arcs_of net.now) (price_of prices.new) }
     ensures highest { IsHighest net.now (price_of prices.new) to.id.place }
+    ensures rises { (v : ℕ) → price_of prices.old v ≤ price_of prices.new v }
     ensures bound { price_of prices.new to.id.place ≤ price_of prices.old to.id.place + 4095 * 3000000 }
     ensures path { IfSome result (λ steps. IsTightPath net.now (price_of prices.new) from.id.place to.id.place steps.now) }
     ensures unchanged { IfNone result (prices.new ≡ prices.old) }

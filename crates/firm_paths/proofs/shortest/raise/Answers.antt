@@ -22,6 +22,7 @@ returns-then-not-found c =
         limits = limits;
         valid = subst (λ (z : List ℕ). AreValid (arcs_of c.args.net.now) (slice_index z)) (sym items) c.raise_table-found.ensures.valid;
         highest = subst (λ (z : List ℕ). IsHighest c.args.net.now (slice_index z) c.args.to.id.place) (sym items) c.raise_table-found.ensures.highest;
+        rises = λ v. omega (arith, c.raise_table-found.ensures.rises v, ap (λ (z : List ℕ). slice_index z v) items, ap (λ (z : List ℕ). slice_index z v) before);
         bound = omega (arith, c.raise_table-found.ensures.bound, ap (λ (z : List ℕ). slice_index z c.args.to.id.place) items, ap (λ (z : List ℕ). slice_index z c.args.to.id.place) before);
         path = tt;
         unchanged = ap (λ (z : List ℕ). let t : PriceTable = record { limits = c.prices.inside.limits; prices = z } in t) (items ∙ same) ∙ c.prices.view_is;
@@ -42,6 +43,7 @@ returns c =
         limits = limits;
         valid = subst (λ (z : List ℕ). AreValid (arcs_of c.args.net.now) (slice_index z)) (sym items) c.raise_table-found.ensures.valid;
         highest = subst (λ (z : List ℕ). IsHighest c.args.net.now (slice_index z) c.args.to.id.place) (sym items) c.raise_table-found.ensures.highest;
+        rises = λ v. omega (arith, c.raise_table-found.ensures.rises v, ap (λ (z : List ℕ). slice_index z v) items, ap (λ (z : List ℕ). slice_index z v) before);
         bound = omega (arith, c.raise_table-found.ensures.bound, ap (λ (z : List ℕ). slice_index z c.args.to.id.place) items, ap (λ (z : List ℕ). slice_index z c.args.to.id.place) before);
         path = rw c.deref.ensures.value
             (subst (λ (z : List ℕ). IsTightPath c.args.net.now (slice_index z) c.args.from.id.place c.args.to.id.place c.raise_table-found.new.steps.items) (sym items)
