@@ -1,8 +1,8 @@
 -- The definitions, computed at a triangle: from node 0 to node 2 by node 1, or directly.
-use Rattle.std.proofs.Common.{◌≡◌, ℕ, zero, suc, ◌+◌, ◌<◌, ◌≤◌, ◌==◌, ◌⊎◌, Bool, true, false, List, [], ◌∷◌, refl, arith, inl, inr}
+use Rattle.std.proofs.Common.{◌≡◌, ℕ, zero, suc, ◌==◌, ◌⊎◌, Bool, true, false, List, [], ◌∷◌, refl, arith, inl, inr}
 use Rattle.std.specs.List.{All}
 use Rattle.std.proofs.lemmas.List.Elements.{All-nil, All-cons}
-use Rattle.firm_paths.specs.Network.{Arc, Residual, NotNegative, NotPositive, Tight, IsValidAt, AreValid, leaves, enters, IsResidual, IsPath, StaysInside, IsClosed, IsClosedBut}
+use Rattle.firm_paths.specs.Network.{Arc, Residual, Tight, IsValidAt, AreValid, leaves, enters, IsResidual, IsPath, StaysInside, IsClosed, IsClosedBut}
 
 -- an arc of capacity 1 and lower bound 0
 abbrev arc : ℕ → ℕ → ℕ → ℕ → ℕ → Arc ℕ ℕ

@@ -1,5 +1,5 @@
 -- What the search by labels gives: prices that are valid again, a path, or a set that shows that there is none.
-use Rattle.std.proofs.Common.{◌≡◌, ◌≢◌, ℕ, ◌+◌, ◌*◌, ◌-◌, ◌<◌, ◌≤◌, ◌^◌, Bool, true, false, Option, Some, None, List, [], ◌∷◌, length, get_or, arith, refl, sym, ap, subst, ◌∙◌, inl, inr, ◌⊎◌, ⊎_elim}
+use Rattle.std.proofs.Common.{◌≡◌, ℕ, ◌+◌, ◌*◌, ◌-◌, ◌<◌, ◌≤◌, ◌^◌, true, false, Some, List, [], length, arith, sym, ap, subst, ◌∙◌, ⊎_elim}
 use Rattle.std.specs.Prelude.{slice_index}
 use Rattle.std.proofs.lemmas.Bool.{cases_lt, cases_Bool, both_ways}
 use Rattle.std.proofs.lemmas.List.{get_or_past}
@@ -8,9 +8,8 @@ use Rattle.firm_net.specs.Row.{Row}
 use Rattle.firm_net.specs.Net.{Net, IsNet, IsNode, row_at}
 use Rattle.firm_net.specs.declared.row.NodeId.{NodeId}
 use Rattle.firm_net.specs.declared.row.ArcId.{ArcId}
-use Rattle.firm_net.specs.declared.row.Way.{Way}
 use Rattle.firm_net.specs.declared.row.Way.TheVariants.{Forward, Backward}
-use Rattle.firm_paths.specs.Network.{AreValid, IsValidAt, StaysInside, IsClosed}
+use Rattle.firm_paths.specs.Network.{AreValid, IsValidAt, StaysInside}
 use Rattle.firm_paths.specs.NetArcs.{arc_of, arcs_of}
 use Rattle.firm_paths.specs.Paths.{IsTightPath, IsHighest, IsCut}
 use Rattle.firm_paths.specs.Search.{visit, IsTree, known, settled, label, IsReached, IsEnd, IsLifted}

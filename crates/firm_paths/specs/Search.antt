@@ -1,5 +1,5 @@
 -- What the searches keep. No public clause cites this module.
-use Rattle.std.specs.Prelude.{◌≡◌, ℕ, ◌+◌, ◌-◌, ◌*◌, ◌^◌, ◌<◌, ◌≤◌, Bool, true, false, List, [], ◌∷◌, ◌++◌, length, Contains, Option, Some, None, is_some, MatchOption, IfSome, ◌⊎◌, slice_index, slice_index_or, slice_set, count_by, if◌then◌else◌, not, ◌&&◌, ◌||◌, nat_lt, ⊤}
+use Rattle.std.specs.Prelude.{◌≡◌, ℕ, ◌+◌, ◌-◌, ◌*◌, ◌^◌, ◌<◌, ◌≤◌, Bool, true, false, List, [], length, Contains, Some, None, is_some, MatchOption, ◌⊎◌, slice_index, slice_index_or, slice_set, count_by, if◌then◌else◌, not, ◌&&◌, ◌||◌, nat_lt, ⊤}
 use Rattle.firm_net.specs.Row.{Row}
 use Rattle.firm_net.specs.Net.{Net, IsNode, row_at, IsResidual as IsOpen}
 use Rattle.firm_net.specs.declared.row.NodeId.{NodeId}

@@ -1,10 +1,10 @@
-use Rattle.std.proofs.Common.{◌≡◌, ℕ, ◌+◌, ◌<◌, ◌≤◌, ◌∙◌, Option, Some, None, List, arith, ap, subst, sym, refl, length}
+use Rattle.std.proofs.Common.{◌≡◌, ◌<◌, ◌∙◌, Option, Some, arith, ap, subst}
 use Rattle.std.specs.Prelude.{IfSome, reverse}
 use Rattle.std.proofs.lemmas.List.{get_or_default}
 use Rattle.firm_paths.specs.Search.{visit}
 use Rattle.firm_paths.specs.declared.search.Hop.{Hop}
 use Rattle.firm_paths.specs.declared.search.Visit.{Visit}
-use Rattle.firm_paths.proofs.Trees.{IsWalked, walk_none, walk_more, walk_done}
+use Rattle.firm_paths.proofs.Trees.{walk_more, walk_done}
 use Rattle.firm_paths.proofs.search.walk_back.Goals as goal
 
 pub loop-at-preserved : goal.loop-at-preserved

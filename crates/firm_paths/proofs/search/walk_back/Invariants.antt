@@ -1,4 +1,4 @@
-use Rattle.std.proofs.Common.{◌≡◌, ℕ, ◌+◌, ◌<◌, ◌≤◌, List, length, vec_len, vec_capacity}
+use Rattle.std.proofs.Common.{ℕ, ◌+◌, ◌<◌, ◌≤◌, List, length, vec_len, vec_capacity}
 use Rattle.std.specs.Prelude.{reverse}
 use Rattle.firm_net.specs.Net.{Net}
 use Rattle.firm_net.specs.declared.row.ArcId.{ArcId}

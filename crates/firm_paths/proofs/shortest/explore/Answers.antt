@@ -1,12 +1,11 @@
-use Rattle.std.proofs.Common.{◌≡◌, ◌≢◌, ℕ, ◌<◌, ◌≤◌, ◌+◌, ◌∙◌, Some, None, Option, List, [], ◌∷◌, ◌++◌, length, vec_len, arith, refl, sym, ap, subst, length-append}
-use Rattle.std.specs.Prelude.{slice_index, is_some, MatchOption}
+use Rattle.std.proofs.Common.{◌≡◌, ◌+◌, ◌∙◌, List, length, arith, refl, ap, subst, length-append}
+use Rattle.std.specs.Prelude.{slice_index}
 use Rattle.std.proofs.lemmas.List.{length-set}
-use Rattle.firm_net.specs.declared.row.NodeId.{NodeId}
-use Rattle.firm_paths.specs.Search.{known, settled, mark, label, IsReached, IsNearestBelow}
+use Rattle.firm_paths.specs.Search.{mark, label, IsNearestBelow}
 use Rattle.firm_paths.specs.declared.search.Mark.{Mark}
 use Rattle.firm_paths.specs.declared.search.Visit.{Visit}
 use Rattle.firm_paths.proofs.Listed.{node_listed}
-use Rattle.firm_paths.proofs.Rounds.{IsSearching, search_start, few_visits, search_reached, search_ended, round_room, round_settled, round_enough, round_done}
+use Rattle.firm_paths.proofs.Rounds.{search_start, few_visits, search_reached, search_ended, round_room, round_settled, round_enough, round_done}
 use Rattle.firm_paths.proofs.shortest.explore.Goals as goal
 
 pub loop-place-init : goal.loop-place-init

@@ -1,8 +1,8 @@
-use Rattle.std.proofs.Common.{◌≡◌, ℕ, ◌<◌, ◌≤◌, ◌∙◌, Bool, Some, None, List, length, arith, refl, sym, ap, subst}
+use Rattle.std.proofs.Common.{◌≡◌, ℕ, ◌∙◌, List, length, arith, sym, ap, subst}
 use Rattle.std.specs.Prelude.{slice_index}
-use Rattle.firm_net.specs.Net.{IsNode, lists_at}
+use Rattle.firm_net.specs.Net.{lists_at}
 use Rattle.firm_paths.specs.Paths.{IsTightPath, IsHighest, IsCut}
-use Rattle.firm_paths.specs.Search.{known, label, IsReached, IsEnd}
+use Rattle.firm_paths.specs.Search.{known}
 use Rattle.firm_paths.specs.declared.search.Visit.{Visit}
 use Rattle.firm_paths.specs.Walk.{LeadsTo}
 use Rattle.firm_paths.proofs.Looks.{place_value}

@@ -1,8 +1,7 @@
-use Rattle.std.proofs.Common.{◌≡◌, ℕ, ◌∙◌, List, ap, sym, subst, refl}
+use Rattle.std.proofs.Common.{◌≡◌, ℕ, ◌∙◌, List, ap, subst, refl}
 use Rattle.std.specs.Prelude.{slice_index}
-use Rattle.firm_paths.specs.Paths.{IsTightPath, Avoids}
+use Rattle.firm_paths.specs.Paths.{IsTightPath}
 use Rattle.firm_paths.specs.PriceTable.{PriceTable}
-use Rattle.firm_paths.specs.declared.search.Step.{Step}
 use Rattle.firm_paths.proofs.tight.tight_path.Goals as goal
 
 pub returns : goal.returns

@@ -1,4 +1,4 @@
-use Rattle.std.proofs.Common.{arith, ◌≡◌}
+use Rattle.std.proofs.Common.{arith}
 use Rattle.firm_paths.proofs.Spreading.{room_left}
 use Rattle.firm_paths.proofs.tight.visit_once.Goals as goal
 
