@@ -1,10 +1,10 @@
 -- What an id finds in an arena, and what lies at a place, after a change.
-use Rattle.std.proofs.Common.{◌≡◌, ◌≢◌, ℕ, zero, suc, ◌+◌, ◌<◌, ◌≤◌, ◌==◌, ◌⊎◌, inl, inr, Bool, true, false, cond, not, List, [], ◌∷◌, map, length, get_or, set, replicate, Option, Some, None, option_map, is_some, IsSome, count_by, refl, sym, ap, ap₂, ◌∙◌, subst, arith, length-set, eqb-true, eq-eqb, ne_eqb}
+use Rattle.std.proofs.Common.{◌≡◌, ◌≢◌, ℕ, ◌+◌, ◌<◌, ◌≤◌, ◌==◌, ◌⊎◌, inl, inr, Bool, true, false, cond, List, [], ◌∷◌, map, length, get_or, set, Option, Some, None, option_map, is_some, IsSome, count_by, refl, sym, ap, ap₂, ◌∙◌, subst, arith, length-set, eq-eqb, ne_eqb}
 use Rattle.std.proofs.lemmas.List.{get_or-set_same, get_or-set_other, get_or_default, get_or_past, set-get_or, get_or-map, same_lists, map-set, length-map, set_past}
 use Rattle.std.proofs.lemmas.Bool.{cases_eq, cases_lt, true≢false}
 use Rattle.std.proofs.lemmas.Option.{none-some, some_pair_parts}
 use Rattle.std.proofs.lemmas.List.Sums.{sum_by-set, sum_by-cons}
-use Rattle.firm_arena.specs.Arena.{Arena, find, held_at, value_under, capacity_of, len_of, with_put, without, with_value, IsVacant, IsBoundedMap, vacant, id_under, id_of}
+use Rattle.firm_arena.specs.Arena.{Arena, find, held_at, value_under, capacity_of, len_of, with_put, without, with_value}
 use Rattle.firm_arena.specs.declared.Id.{Id}
 use Rattle.firm_net.specs.Net.{changed_at, changed_all, slot_changed}
 

@@ -1,12 +1,12 @@
 -- The lists that links show, and that they stay where links of other lists change.
-use Rattle.std.proofs.Common.{◌≡◌, ◌≢◌, ℕ, zero, suc, ◌+◌, ◌-◌, ◌<◌, ◌≤◌, ◌==◌, ◌⊎◌, inl, inr, Bool, true, false, cond, List, [], ◌∷◌, length, Contains, refl, sym, ap, ap₂, ◌∙◌, subst, arith, eqb-true, eq-eqb, ne_eqb, Option, Some, None, option_map}
+use Rattle.std.proofs.Common.{◌≡◌, ◌≢◌, ℕ, ◌==◌, ◌⊎◌, inl, inr, List, [], ◌∷◌, Contains, refl, sym, ap, ◌∙◌, subst, eq-eqb, ne_eqb, Option, Some, None, option_map}
 use Rattle.std.proofs.lemmas.Bool.{cases_eq}
 use Rattle.std.proofs.lemmas.Option.{none-some, same_Some}
-use Rattle.firm_arena.specs.Arena.{Arena, find, held_at, value_under}
+use Rattle.firm_arena.specs.Arena.{Arena, find}
 use Rattle.firm_arena.specs.declared.Id.{Id}
 use Rattle.firm_net.specs.Row.{Row}
-use Rattle.firm_net.specs.Net.{Lists, side_list, end_of, changed_at, slot_changed, with_list, EachOnce}
-use Rattle.firm_net.specs.Links.{neighbours_of, with_neighbours, with_next, with_previous, list_of, with_arc_list, at_option, Stands, IsChain, ShowsList, ShowsNode, ShowsSlot, Shows}
+use Rattle.firm_net.specs.Net.{Lists, side_list, end_of, with_list}
+use Rattle.firm_net.specs.Links.{neighbours_of, with_neighbours, with_next, with_previous, list_of, with_arc_list, at_option, IsChain, ShowsList}
 use Rattle.firm_net.specs.declared.row.NodeId.{NodeId}
 use Rattle.firm_net.specs.declared.row.ArcId.{ArcId}
 use Rattle.firm_net.specs.declared.links.Side.{Side}
@@ -15,8 +15,8 @@ use Rattle.firm_net.specs.declared.links.Neighbours.{Neighbours}
 use Rattle.firm_net.specs.declared.links.Link.{Link}
 use Rattle.firm_net.specs.declared.links.ArcList.{ArcList}
 use Rattle.firm_net.specs.declared.links.Node.{Node}
-use Rattle.firm_net.proofs.Arenas.{cond-true, cond-false, find-changed_at, find-held, held-find, find-held_own, same_place, held_at-changed_at, capacity_of-changed_at}
-use Rattle.firm_net.proofs.Lists.{contains-here, contains-there, contains-nothing, contains-cases, cases_arc}
+use Rattle.firm_net.proofs.Arenas.{cond-true, cond-false, find-changed_at, same_place}
+use Rattle.firm_net.proofs.Lists.{contains-here, contains-there, contains-nothing, contains-cases}
 
 abbrev pub opposite : Side → Side
 opposite Out = In

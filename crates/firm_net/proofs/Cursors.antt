@@ -1,10 +1,10 @@
 -- The first arc of a list and the arc behind one, as the links name them.
-use Rattle.std.proofs.Common.{◌≡◌, ◌≢◌, ℕ, ◌+◌, ◌<◌, ◌≤◌, ◌⊎◌, inl, inr, true, List, [], ◌∷◌, ◌++◌, length, Contains, refl, sym, ap, ◌∙◌, subst, arith, Option, Some, None, option_map}
-use Rattle.std.proofs.lemmas.Option.{none-some, same_Some}
-use Rattle.firm_arena.specs.Arena.{Arena, find, held_at, capacity_of, id_of, id_under}
+use Rattle.std.proofs.Common.{◌≡◌, ℕ, ◌≤◌, inl, inr, true, List, [], ◌∷◌, length, Contains, sym, ap, ◌∙◌, subst, arith, Option, Some, None, option_map}
+use Rattle.std.proofs.lemmas.Option.{same_Some}
+use Rattle.firm_arena.specs.Arena.{Arena, find, capacity_of, id_of}
 use Rattle.firm_net.specs.Row.{Row}
-use Rattle.firm_net.specs.Net.{Lists, Net, IsNet, IsNode, IsListed, side_list, EachOnce, lists_at, row_at, listed_in, arcs_on, end_of, first_of, next_in, next_on, behind, same_arc, Follows, rows_of, with_its_row}
-use Rattle.firm_net.specs.Links.{neighbours_of, list_of, arc_at, walk_rows, lists_of, nodes_shown, rows_shown, IsChain, Shows}
+use Rattle.firm_net.specs.Net.{Lists, Net, IsNet, IsNode, IsListed, side_list, EachOnce, row_at, listed_in, arcs_on, end_of, first_of, next_in, next_on, behind, same_arc, Follows, rows_of, with_its_row}
+use Rattle.firm_net.specs.Links.{neighbours_of, list_of, arc_at, walk_rows, nodes_shown, IsChain, Shows}
 use Rattle.firm_net.specs.declared.row.NodeId.{NodeId}
 use Rattle.firm_net.specs.declared.row.ArcId.{ArcId}
 use Rattle.firm_net.specs.declared.links.Side.{Side}
@@ -15,9 +15,8 @@ use Rattle.firm_net.proofs.Arenas.{cond-true, cond-false, find-held, find-change
 use Rattle.firm_net.proofs.Lists.{contains-nothing, contains-cases, cases_arc, same_arc-self, same_arc-other, next_in-append}
 use Rattle.firm_net.proofs.Relists.{shown-node}
 use Rattle.firm_net.proofs.Frames.{walk_rows-chain}
-use Rattle.firm_net.proofs.Listings.{listing}
-use Rattle.firm_net.proofs.Shown.{shown_net, row-shown, link-there, node-there, list-count, listing-short}
-use Rattle.firm_net.proofs.Results.{node-missing, row-found, row-missing}
+use Rattle.firm_net.proofs.Shown.{shown_net, row-shown, node-there, listing-short}
+use Rattle.firm_net.proofs.Results.{node-missing, row-missing}
 
 -- the arc that a chain begins with
 chain-first : (side : Side) (links : Arena Link) (n : NodeId) (before from : Option ℕ) (ids : List ArcId)

@@ -1,13 +1,13 @@
 -- What each change of a net leaves: the other rows and nodes, and how many there are.
-use Rattle.std.proofs.Common.{◌≡◌, ◌≢◌, ℕ, ◌+◌, ◌-◌, ◌<◌, ◌≤◌, List, [], ◌∷◌, refl, sym, ap, ◌∙◌, subst, arith, Option, Some, None, IsSome}
-use Rattle.firm_arena.specs.Arena.{Arena, find, held_at, capacity_of, len_of, with_put, without}
+use Rattle.std.proofs.Common.{◌≡◌, ◌≢◌, ℕ, ◌+◌, ◌-◌, ◌<◌, [], ◌∷◌, refl, ap, ◌∙◌, arith, Some, None}
+use Rattle.firm_arena.specs.Arena.{held_at, capacity_of, len_of, without}
 use Rattle.firm_arena.specs.declared.Id.{Id}
 use Rattle.firm_net.specs.Row.{Row}
-use Rattle.firm_net.specs.Net.{Lists, Net, lists_at, row_at, changed_at, changed_all, slot_changed, with_list, without_arc, listed_first, unlisted, with_node, without_node, with_arc, without_row, with_row, with_head, without_flow, SameOtherRows, SameOtherNodes, CountsAre, node_count, arc_count}
+use Rattle.firm_net.specs.Net.{Lists, Net, lists_at, row_at, with_list, without_arc, listed_first, unlisted, with_node, without_node, with_arc, without_row, with_row, with_head, without_flow, SameOtherRows, SameOtherNodes, CountsAre, node_count, arc_count}
 use Rattle.firm_net.specs.declared.row.NodeId.{NodeId}
 use Rattle.firm_net.specs.declared.row.ArcId.{ArcId}
 use Rattle.firm_net.specs.declared.links.Side.TheVariants.{Out, In}
-use Rattle.firm_net.proofs.Arenas.{find-put_own, find-put_other, find-changed_own, find-changed_other, find-without_own, find-without_other, len_of-changed_at, len_of-changed_all, len_of-without, len_of-with_put}
+use Rattle.firm_net.proofs.Arenas.{find-put_own, find-put_other, find-changed_other, find-without_own, find-without_other, len_of-changed_at, len_of-changed_all, len_of-without, len_of-with_put}
 
 node-id : (n m : NodeId) → m ≢ n → m.id ≢ n.id
 node-id n m other e = other (ap (λ (i : Id). let made : NodeId = record { id = i } in made) e)
@@ -27,6 +27,9 @@ with_node-counts net p below free =
 
 pub without_node-others : (net : Net) (n : NodeId) (lists : Lists) → lists_at net n ≡ Some lists → SameOtherNodes net (without_node net n) n
 without_node-others net n lists there m other = find-without_other net.nodes n.id m.id lists there (node-id n m other)
+
+pub without_node-gone : (net : Net) (n : NodeId) → lists_at (without_node net n) n ≡ None
+without_node-gone net n = find-without_own net.nodes n.id
 
 pub without_node-counts : (net : Net) (n : NodeId) (lists : Lists) → lists_at net n ≡ Some lists
     → CountsAre (without_node net n) (node_count net - 1) (arc_count net)

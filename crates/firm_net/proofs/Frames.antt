@@ -1,12 +1,12 @@
 -- The lists that links show stay where an arc comes or goes that is in none, or where rows change; and the lists that are shown are the walks.
-use Rattle.std.proofs.Common.{◌≡◌, ◌≢◌, ℕ, zero, suc, ◌+◌, ◌<◌, ◌≤◌, ◌==◌, ◌⊎◌, inl, inr, Bool, true, false, cond, List, [], ◌∷◌, length, length-set, Contains, refl, sym, ap, ap₂, ◌∙◌, subst, subst₂, arith, eq-eqb, ne_eqb, Option, Some, None, option_map}
+use Rattle.std.proofs.Common.{◌≡◌, ◌≢◌, ℕ, suc, ◌+◌, ◌<◌, ◌==◌, inl, inr, true, false, cond, List, [], ◌∷◌, length, length-set, Contains, refl, sym, ap, ap₂, ◌∙◌, subst, subst₂, eq-eqb, ne_eqb, Option, Some, None, option_map}
 use Rattle.std.proofs.lemmas.Bool.{cases_eq}
-use Rattle.std.proofs.lemmas.Option.{none-some, same_Some}
-use Rattle.firm_arena.specs.Arena.{Arena, find, held_at, capacity_of, with_put, without, IsVacant}
+use Rattle.std.proofs.lemmas.Option.{none-some}
+use Rattle.firm_arena.specs.Arena.{Arena, find, held_at, capacity_of, with_put, without}
 use Rattle.firm_arena.specs.declared.Id.{Id}
 use Rattle.firm_net.specs.Row.{Row}
 use Rattle.firm_net.specs.Net.{Lists, Net, side_list, end_of, changed_at, changed_all, slot_changed, row_at, rows_of, with_its_row}
-use Rattle.firm_net.specs.Links.{neighbours_of, list_of, empty_node, walk, walk_rows, arcs_in, lists_of, nodes_shown, rows_shown, Stands, IsChain, ShowsList, ShowsNode, ShowsSlot, Shows}
+use Rattle.firm_net.specs.Links.{neighbours_of, list_of, empty_node, walk, walk_rows, arcs_in, lists_of, nodes_shown, IsChain, ShowsList, ShowsSlot, Shows}
 use Rattle.firm_net.specs.declared.row.NodeId.{NodeId}
 use Rattle.firm_net.specs.declared.row.ArcId.{ArcId}
 use Rattle.firm_net.specs.declared.links.Side.{Side}

@@ -1,11 +1,11 @@
 -- The chain of a list that an arc joins at its front, and of one that an arc leaves.
-use Rattle.std.proofs.Common.{◌≡◌, ◌≢◌, ℕ, zero, suc, ◌+◌, ◌-◌, ◌<◌, ◌≤◌, ◌⊎◌, inl, inr, List, [], ◌∷◌, length, Contains, refl, sym, ap, ap₂, ◌∙◌, subst, subst₂, arith, Option, Some, None}
+use Rattle.std.proofs.Common.{◌≡◌, ◌≢◌, ℕ, ◌⊎◌, inl, inr, List, [], ◌∷◌, Contains, refl, sym, ap, ◌∙◌, subst, subst₂, arith, Option, Some, None}
 use Rattle.std.proofs.lemmas.Option.{none-some, same_Some}
 use Rattle.firm_arena.specs.Arena.{Arena, find}
 use Rattle.firm_arena.specs.declared.Id.{Id}
 use Rattle.firm_net.specs.Row.{Row}
-use Rattle.firm_net.specs.Net.{Lists, side_list, end_of, changed_at, with_list, EachOnce, without_arc, listed_first, unlisted}
-use Rattle.firm_net.specs.Links.{neighbours_of, with_neighbours, with_next, with_previous, list_of, with_arc_list, at_option, list_from, list_past, first_past, links_from, links_past, Stands, IsChain, ShowsList, Shows}
+use Rattle.firm_net.specs.Net.{Lists, side_list, end_of, changed_at, EachOnce, without_arc, listed_first, unlisted}
+use Rattle.firm_net.specs.Links.{neighbours_of, with_neighbours, with_next, with_previous, list_of, with_arc_list, at_option, list_from, list_past, first_past, links_from, links_past, IsChain, ShowsList, Shows}
 use Rattle.firm_net.specs.declared.row.NodeId.{NodeId}
 use Rattle.firm_net.specs.declared.row.ArcId.{ArcId}
 use Rattle.firm_net.specs.declared.links.Side.{Side}
@@ -15,7 +15,7 @@ use Rattle.firm_net.specs.declared.links.ArcList.{ArcList}
 use Rattle.firm_net.specs.declared.links.Node.{Node}
 use Rattle.firm_net.proofs.Arenas.{same_place}
 use Rattle.firm_net.proofs.Lists.{contains-here, contains-there, contains-nothing, contains-cases, cases_arc, without_arc-first, without_arc-other, length-without}
-use Rattle.firm_net.proofs.Chains.{neighbours-with_same, row-with_neighbours, KeptSide, chain-kept, chain-found, IsOf, first-of, find-at_option_other, find-at_option_same, touches-next, touches-previous, touches-neighbours}
+use Rattle.firm_net.proofs.Chains.{neighbours-with_same, row-with_neighbours, chain-kept, chain-found, first-of, find-at_option_other, find-at_option_same, touches-next, touches-previous, touches-neighbours}
 use Rattle.firm_net.proofs.Relists.{places-apart, some-apart, shown-node, relisted}
 
 -- an arc that a list has not is not its first

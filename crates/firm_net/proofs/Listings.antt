@@ -1,17 +1,16 @@
 -- The lists of one side of a net's nodes, through the steps of a change: each arc stands in the list of its end.
-use Rattle.std.proofs.Common.{◌≡◌, ◌≢◌, ℕ, ◌+◌, ◌<◌, ◌≤◌, ◌==◌, ◌⊎◌, inl, inr, Bool, true, false, cond, List, [], ◌∷◌, Contains, refl, sym, ap, ap₂, ◌∙◌, subst, subst₂, arith, eq-eqb, ne_eqb, Option, Some, None, option_map}
+use Rattle.std.proofs.Common.{◌≡◌, ◌≢◌, ℕ, ◌<◌, ◌==◌, ◌⊎◌, inl, inr, true, false, cond, List, ◌∷◌, Contains, refl, sym, ap, ap₂, ◌∙◌, subst, Option, Some, None, option_map}
 use Rattle.std.proofs.lemmas.Bool.{cases_eq}
 use Rattle.std.proofs.lemmas.Option.{none-some, same_Some}
 use Rattle.firm_arena.specs.Arena.{Arena, find, held_at, capacity_of, with_put, without}
 use Rattle.firm_arena.specs.declared.Id.{Id}
 use Rattle.firm_net.specs.Row.{Row}
-use Rattle.firm_net.specs.Net.{Lists, Net, IsListed, side_list, listed_in, end_of, changed_at, changed_all, with_list, EachOnce, without_arc, listed_first, unlisted}
+use Rattle.firm_net.specs.Net.{Lists, Net, IsListed, listed_in, end_of, changed_at, with_list, EachOnce, without_arc, listed_first, unlisted}
 use Rattle.firm_net.specs.declared.row.NodeId.{NodeId}
 use Rattle.firm_net.specs.declared.row.ArcId.{ArcId}
 use Rattle.firm_net.specs.declared.links.Side.{Side}
-use Rattle.firm_net.specs.declared.links.Side.TheVariants.{Out, In}
-use Rattle.firm_net.proofs.Arenas.{cond-true, cond-false, find-changed_at, find-changed_all, find-with_put, find-without, find-nothing, find-changed_own, find-changed_other, find-without_own, find-without_other, find-put_own, find-put_other, find-beside, same_place}
-use Rattle.firm_net.proofs.Lists.{contains-here, contains-there, contains-nothing, contains-cases, cases_arc, contains-without, without-contains, once-without}
+use Rattle.firm_net.proofs.Arenas.{find-changed_at, find-nothing, find-changed_own, find-changed_other, find-without_own, find-without_other, find-put_other}
+use Rattle.firm_net.proofs.Lists.{contains-here, contains-there, contains-cases, cases_arc, contains-without, without-contains, once-without}
 use Rattle.firm_net.proofs.Chains.{opposite, side_list-with_same, side_list-with_opposite}
 
 -- the list of a node on one side

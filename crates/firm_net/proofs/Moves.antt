@@ -1,11 +1,10 @@
 -- What links and nodes show after each change of a net.
-use Rattle.std.proofs.Common.{◌≡◌, ◌≢◌, ℕ, ◌+◌, ◌<◌, ◌≤◌, List, [], ◌∷◌, Contains, length, refl, sym, ap, ap₂, ◌∙◌, subst, subst₂, arith, Option, Some, None, option_map, IsSome}
+use Rattle.std.proofs.Common.{◌≡◌, ℕ, ◌<◌, List, [], ◌∷◌, Contains, refl, sym, ap, ◌∙◌, subst, Option, Some, None, IsSome}
 use Rattle.std.proofs.lemmas.Option.{none-some, same_Some}
-use Rattle.firm_arena.specs.Arena.{Arena, find, held_at, capacity_of, with_put, without, vacant}
-use Rattle.firm_arena.specs.declared.Id.{Id}
+use Rattle.firm_arena.specs.Arena.{Arena, find, held_at, capacity_of, with_put, without}
 use Rattle.firm_net.specs.Row.{Row, IsRow}
-use Rattle.firm_net.specs.Net.{Lists, Net, IsNet, IsNode, side_list, listed_in, end_of, changed_at, changed_all, slot_changed, with_list, EachOnce, without_arc, listed_first, unlisted, with_node, without_node, with_arc, without_row, with_row, with_head, without_flow, empty_net, out_list, in_list}
-use Rattle.firm_net.specs.Links.{neighbours_of, list_of, with_next, with_previous, with_neighbours, with_arc_list, with_link_row, cleared_link, empty_node, list_from, list_past, links_from, links_past, at_option, lists_of, nodes_shown, rows_shown, Shows}
+use Rattle.firm_net.specs.Net.{Lists, Net, IsNet, IsNode, side_list, listed_in, changed_at, slot_changed, with_list, EachOnce, without_arc, listed_first, unlisted, with_node, without_node, with_arc, without_row, out_list, in_list}
+use Rattle.firm_net.specs.Links.{list_of, with_next, with_previous, with_arc_list, empty_node, list_from, list_past, links_from, links_past, at_option, lists_of, nodes_shown, rows_shown, Shows}
 use Rattle.firm_net.specs.declared.row.NodeId.{NodeId}
 use Rattle.firm_net.specs.declared.row.ArcId.{ArcId}
 use Rattle.firm_net.specs.declared.links.Side.{Side}
@@ -13,12 +12,12 @@ use Rattle.firm_net.specs.declared.links.Side.TheVariants.{Out, In}
 use Rattle.firm_net.specs.declared.links.Neighbours.{Neighbours}
 use Rattle.firm_net.specs.declared.links.Link.{Link}
 use Rattle.firm_net.specs.declared.links.Node.{Node}
-use Rattle.firm_net.proofs.Arenas.{some-is, is-some, find-held, find-changed_own, find-put_own, held_at-changed_all, changed_all-with_put, changed_all-without, changed_all-changed_at, changed_all-changed_all, capacity_of-changed_all, find-nothing}
+use Rattle.firm_net.proofs.Arenas.{some-is, is-some, find-put_own, held_at-changed_all, changed_all-with_put, changed_all-without, capacity_of-changed_all, find-nothing}
 use Rattle.firm_net.proofs.Chains.{touched, touches-next, touches-previous}
 use Rattle.firm_net.proofs.Joins.{shows-listed, shows-unlisted}
-use Rattle.firm_net.proofs.Frames.{shows-put, shows-taken, shows-changed, shows-changed_all, shows-node, shows-unnode}
+use Rattle.firm_net.proofs.Frames.{shows-put, shows-taken, shows-node, shows-unnode}
 use Rattle.firm_net.proofs.Listings.{Listing, listing, only, nothing, listing-of, listing-opposite, listing-beside, listing-unlisted}
-use Rattle.firm_net.proofs.Nets.{found-after, net-with_arc, net-without_row, net-with_row, net-with_head, net-without_flow, net-with_node, net-without_node, net-empty}
+use Rattle.firm_net.proofs.Nets.{found-after, net-with_arc, net-without_row, net-with_node, net-without_node}
 use Rattle.firm_net.proofs.Shown.{shown_net, IsShown, is_shown, node-shown, row-shown, link-there, rows-links_from, rows-links_past}
 
 -- a node without arcs is added

@@ -1,17 +1,17 @@
 -- What every net keeps, through each change.
-use Rattle.std.proofs.Common.{◌≡◌, ◌≢◌, ℕ, ◌+◌, ◌<◌, ◌≤◌, ◌==◌, ◌⊎◌, inl, inr, Bool, true, false, cond, List, [], ◌∷◌, Contains, refl, sym, ap, ap₂, ◌∙◌, subst, subst₂, arith, eq-eqb, ne_eqb, Option, Some, None, option_map, is_some, IsSome, replicate, length, length-set, get_or}
+use Rattle.std.proofs.Common.{◌≡◌, ◌≢◌, ℕ, ◌<◌, ◌≤◌, ◌==◌, ◌⊎◌, inl, inr, Bool, true, false, cond, List, [], ◌∷◌, Contains, refl, sym, ap, ap₂, ◌∙◌, subst, arith, Option, Some, None, option_map, IsSome, replicate, length-set, get_or}
 use Rattle.std.proofs.lemmas.Bool.{cases_eq, cases_lt}
 use Rattle.std.proofs.lemmas.Option.{none-some, same_Some}
 use Rattle.std.proofs.lemmas.List.{get_or-replicate, get_or_past, length-replicate}
 use Rattle.firm_arena.specs.Arena.{Arena, find, held_at, capacity_of, with_put, without, vacant}
 use Rattle.firm_arena.specs.declared.Id.{Id}
 use Rattle.firm_net.specs.Row.{Row, IsRow}
-use Rattle.firm_net.specs.Net.{Lists, Net, IsNet, IsNode, IsListed, out_list, in_list, end_of, changed_at, changed_all, with_list, listed_in, EachOnce, without_arc, listed_first, unlisted, empty_net, with_node, without_node, with_arc, without_row, with_row, with_head, without_flow}
+use Rattle.firm_net.specs.Net.{Lists, Net, IsNet, IsNode, out_list, in_list, end_of, changed_at, changed_all, with_list, listed_in, EachOnce, without_arc, listed_first, unlisted, empty_net, with_node, without_node, with_arc, without_row, with_row, with_head, without_flow}
 use Rattle.firm_net.specs.declared.row.NodeId.{NodeId}
 use Rattle.firm_net.specs.declared.row.ArcId.{ArcId}
 use Rattle.firm_net.specs.declared.links.Side.{Side}
 use Rattle.firm_net.specs.declared.links.Side.TheVariants.{Out, In}
-use Rattle.firm_net.proofs.Arenas.{cond-true, cond-false, some-is, is-some, not-some, find-held, find-changed_at, find-changed_all, find-with_put, find-without, find-nothing, find-changed_own, find-changed_other, find-without_own, find-without_other, find-put_own, find-put_other, find-beside, same_place, capacity_of-changed_at, capacity_of-changed_all}
+use Rattle.firm_net.proofs.Arenas.{is-some, not-some, find-changed_at, find-changed_all, find-without, find-nothing, find-changed_own, find-changed_other, find-without_own, find-without_other, find-put_own, find-put_other, capacity_of-changed_at, capacity_of-changed_all}
 use Rattle.firm_net.proofs.Lists.{contains-nothing}
 use Rattle.firm_net.proofs.Listings.{Listing, listing, nothing, only, listing-of, listed-of, listing-same, listing-beside, listing-put, listing-listed, listing-unlisted, listing-taken, listing-rewritten, listing-kept}
 

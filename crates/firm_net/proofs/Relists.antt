@@ -1,22 +1,19 @@
 -- The lists that links show once an arc is listed first in one of them, or listed no more.
-use Rattle.std.proofs.Common.{◌≡◌, ◌≢◌, ℕ, zero, suc, ◌+◌, ◌-◌, ◌<◌, ◌≤◌, ◌==◌, ◌⊎◌, inl, inr, Bool, true, false, cond, List, [], ◌∷◌, length, Contains, refl, sym, ap, ap₂, ◌∙◌, subst, subst₂, arith, eq-eqb, ne_eqb, Option, Some, None}
+use Rattle.std.proofs.Common.{◌≡◌, ◌≢◌, ℕ, ◌==◌, inl, inr, List, refl, sym, ap, ◌∙◌, subst, subst₂, eq-eqb, ne_eqb, Option, Some, None}
 use Rattle.std.proofs.lemmas.Bool.{cases_eq}
-use Rattle.std.proofs.lemmas.Option.{none-some, same_Some}
+use Rattle.std.proofs.lemmas.Option.{same_Some}
 use Rattle.firm_arena.specs.Arena.{Arena, find, held_at}
 use Rattle.firm_arena.specs.declared.Id.{Id}
-use Rattle.firm_net.specs.Row.{Row}
-use Rattle.firm_net.specs.Net.{Lists, side_list, end_of, changed_at, slot_changed, with_list, EachOnce, without_arc, listed_first, unlisted}
-use Rattle.firm_net.specs.Links.{neighbours_of, with_neighbours, with_next, with_previous, list_of, with_arc_list, at_option, list_from, list_past, first_past, links_from, links_past, Stands, IsChain, ShowsList, ShowsNode, ShowsSlot, Shows}
+use Rattle.firm_net.specs.Net.{Lists, side_list, changed_at, slot_changed, with_list}
+use Rattle.firm_net.specs.Links.{list_of, with_arc_list, at_option, ShowsList, ShowsNode, ShowsSlot, Shows}
 use Rattle.firm_net.specs.declared.row.NodeId.{NodeId}
 use Rattle.firm_net.specs.declared.row.ArcId.{ArcId}
 use Rattle.firm_net.specs.declared.links.Side.{Side}
-use Rattle.firm_net.specs.declared.links.Neighbours.{Neighbours}
 use Rattle.firm_net.specs.declared.links.Link.{Link}
 use Rattle.firm_net.specs.declared.links.ArcList.{ArcList}
 use Rattle.firm_net.specs.declared.links.Node.{Node}
 use Rattle.firm_net.proofs.Arenas.{cond-true, cond-false, find-held, held-find, same_place, held_at-changed_at, capacity_of-changed_at}
-use Rattle.firm_net.proofs.Lists.{contains-here, contains-there, contains-nothing, contains-cases, cases_arc, without_arc-first, without_arc-other, length-without}
-use Rattle.firm_net.proofs.Chains.{opposite, cases_side, neighbours-with_same, row-with_neighbours, list-with_same, list-with_opposite, side_list-with_same, side_list-with_opposite, KeptSide, chain-kept, list-kept, chain-found, IsOf, first-of, find-at_option_other, find-at_option_same, Touches, touches-next, touches-previous, touches-neighbours, kept-opposite, kept-elsewhere}
+use Rattle.firm_net.proofs.Chains.{opposite, cases_side, list-with_same, list-with_opposite, side_list-with_same, side_list-with_opposite, KeptSide, list-kept, IsOf, Touches, kept-opposite, kept-elsewhere}
 
 -- arcs that are there and differ lie at different places
 pub places-apart : (links : Arena Link) (a b : ArcId) (la lb : Link) → find links a.id ≡ Some la → find links b.id ≡ Some lb

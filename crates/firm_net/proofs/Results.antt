@@ -1,6 +1,6 @@
 -- What each change of a net's parts says of the net before and after.
 use Rattle.std.proofs.Common.{◌≡◌, ◌≢◌, ℕ, ◌+◌, ◌-◌, ◌<◌, ◌≤◌, ◌⊎◌, inl, inr, ◌^◌, List, [], ◌∷◌, Contains, length, is_some, IfSome, Bool, true, false, cond, ◌==◌, refl, sym, ap, ap₂, ◌∙◌, subst, subst₂, arith, Option, Some, None, option_map, IsSome}
-use Rattle.std.proofs.lemmas.Option.{none-some, same_Some}
+use Rattle.std.proofs.lemmas.Option.{same_Some}
 use Rattle.firm_arena.specs.Arena.{Arena, find, held_at, capacity_of, len_of, with_put, without, IsVacant}
 use Rattle.firm_arena.specs.declared.Id.{Id}
 use Rattle.firm_net.specs.Row.{Row, IsRow}
@@ -17,7 +17,7 @@ use Rattle.firm_net.specs.declared.links.Node.{Node}
 use Rattle.firm_net.specs.declared.links.ArcList.{ArcList}
 use Rattle.firm_net.specs.declared.links.Neighbours.{Neighbours}
 use Rattle.firm_net.proofs.Arenas.{held_at-changed_all, capacity_of-changed_all, len_of-changed_all, find-changed_all, not-some, is-some, find-changed_at}
-use Rattle.firm_net.proofs.Facts.{with_node-others, with_node-counts, without_node-others, without_node-counts, with_arc-row, with_arc-others, with_arc-counts, without_row-others, without_row-gone, without_row-counts, with_row-others, with_row-counts, with_head-others, with_head-counts, without_flow-counts}
+use Rattle.firm_net.proofs.Facts.{with_node-others, with_node-counts, without_node-others, without_node-gone, without_node-counts, with_arc-row, with_arc-others, with_arc-counts, without_row-others, without_row-gone, without_row-counts, with_row-others, with_row-counts, with_head-others, with_head-counts, without_flow-counts}
 use Rattle.firm_net.proofs.Shown.{shown_net, IsShown, node-shown, row-shown, node-there, link-there, rows-links_past, list-count, count-fits, listing-short}
 use Rattle.firm_net.proofs.Listings.{listing}
 use Rattle.firm_net.proofs.Moves.{moved-add_node, moved-remove_node, moved-add_arc, moved-remove_arc}
@@ -79,6 +79,8 @@ pub record RemovesNode (links : Arena Link) (nodes : Arena Node) (old : Net) (n 
   pub is : shown_net links nodes ≡ without_node old n
   pub net : IsNet (shown_net links nodes)
   pub shows : Shows links nodes (nodes_shown links nodes)
+  pub gone : lists_at (shown_net links nodes) n ≡ None
+  pub stamp : n.id.stamp < (shown_net links nodes).nodes.counter
   pub others : SameOtherNodes old (shown_net links nodes) n
   pub counts : CountsAre (shown_net links nodes) (node_count old - 1) (arc_count old)
 
@@ -89,15 +91,18 @@ pub removes_node : (links : Arena Link) (nodes new : Arena Node) (old : Net) (n 
 removes_node links nodes new old n node is shows was there no_out no_in made =
     let net : Net = shown_net links nodes in
     let shown : lists_at net n ≡ Some (lists_of links node) = node-shown links nodes n.id node there in
+    let node_there : IsNode net n = ap (λ (o : Option Lists). is_some o) shown in
     let out : out_list net n ≡ [] = list-none Out links nodes n node shows there no_out in
     let into : in_list net n ≡ [] = list-none In links nodes n node shows there no_in in
     let m : IsShown links new (without_node net n) =
     subst (λ (a : Arena Node). IsShown links a (without_node net n)) (sym made)
-    (moved-remove_node links nodes n is shows (ap (λ (o : Option Lists). is_some o) shown) out into) in
+    (moved-remove_node links nodes n is shows node_there out into) in
     record {
       is = m.is ∙ ap (λ (o : Net). without_node o n) was;
       net = m.net;
       shows = m.shows;
+      gone = subst (λ (k : Net). lists_at k n ≡ None) (sym m.is) (without_node-gone net n);
+      stamp = subst (λ (k : Net). n.id.stamp < k.nodes.counter) (sym m.is) (is.node_stamps n node_there);
       others = subst₂ (λ (o k : Net). SameOtherNodes o k n) was (sym m.is) (without_node-others net n (lists_of links node) shown);
       counts = subst₂ (λ (o k : Net). CountsAre k (node_count o - 1) (arc_count o)) was (sym m.is) (without_node-counts net n (lists_of links node) shown);
     }
@@ -316,6 +321,7 @@ pub record RemovesArc (links : Arena Link) (nodes : Arena Node) (old : Net) (a :
   pub net : IsNet (shown_net links nodes)
   pub shows : Shows links nodes (nodes_shown links nodes)
   pub gone : row_at (shown_net links nodes) a ≡ None
+  pub stamp : a.id.stamp < (shown_net links nodes).arcs.counter
   pub others : SameOtherRows old (shown_net links nodes) a
   pub counts : CountsAre (shown_net links nodes) (node_count old) (arc_count old - 1)
 
@@ -364,6 +370,7 @@ removes_arc links links1 links2 links3 nodes nodes1 nodes2 old a link tail head 
       net = end.net;
       shows = end.shows;
       gone = subst (λ (k : Net). row_at k a ≡ None) (sym end.is) (without_row-gone net a link.row);
+      stamp = subst (λ (k : Net). a.id.stamp < k.arcs.counter) (sym end.is) (is.arc_stamps a (arc-is net a link.row row));
       others = subst₂ (λ (o k : Net). SameOtherRows o k a) was (sym end.is) (without_row-others net a link.row row);
       counts = subst₂ (λ (o k : Net). CountsAre k (node_count o) (arc_count o - 1)) was (sym end.is) (without_row-counts net a link.row row);
     }

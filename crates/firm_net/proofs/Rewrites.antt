@@ -1,11 +1,11 @@
 -- What links and nodes show after an arc's row changed, its head moved, or all flow was cleared.
-use Rattle.std.proofs.Common.{◌≡◌, ◌≢◌, ℕ, ◌+◌, ◌<◌, ◌≤◌, List, [], ◌∷◌, Contains, length, set, map, replicate, zero, suc, refl, sym, ap, ap₂, ◌∙◌, subst, subst₂, arith, Option, Some, None, option_map, IsSome}
-use Rattle.std.proofs.lemmas.Option.{none-some, same_Some}
+use Rattle.std.proofs.Common.{◌≡◌, ◌≢◌, ℕ, ◌≤◌, List, ◌∷◌, Contains, set, map, replicate, zero, suc, refl, sym, ap, ◌∙◌, subst, subst₂, Option, Some, None}
+use Rattle.std.proofs.lemmas.Option.{same_Some}
 use Rattle.std.proofs.lemmas.List.{length-replicate}
-use Rattle.firm_arena.specs.Arena.{Arena, find, held_at, capacity_of, vacant}
+use Rattle.firm_arena.specs.Arena.{Arena, find, held_at, vacant}
 use Rattle.firm_arena.specs.declared.Id.{Id}
 use Rattle.firm_net.specs.Row.{Row, IsRow}
-use Rattle.firm_net.specs.Net.{Lists, Net, IsNet, IsNode, side_list, listed_in, end_of, changed_at, changed_all, slot_changed, with_list, EachOnce, without_arc, listed_first, unlisted, with_row, with_head, without_flow, empty_net}
+use Rattle.firm_net.specs.Net.{Lists, Net, IsNet, IsNode, side_list, end_of, changed_at, changed_all, slot_changed, unlisted, with_row, with_head, without_flow, empty_net}
 use Rattle.firm_net.specs.Links.{neighbours_of, list_of, with_arc_list, with_link_row, cleared_link, list_from, list_past, links_from, links_past, lists_of, nodes_shown, rows_shown, ShowsSlot, Shows}
 use Rattle.firm_net.specs.declared.row.NodeId.{NodeId}
 use Rattle.firm_net.specs.declared.row.ArcId.{ArcId}
@@ -13,11 +13,11 @@ use Rattle.firm_net.specs.declared.links.Side.{Side}
 use Rattle.firm_net.specs.declared.links.Side.TheVariants.{Out, In}
 use Rattle.firm_net.specs.declared.links.Link.{Link}
 use Rattle.firm_net.specs.declared.links.Node.{Node}
-use Rattle.firm_net.proofs.Arenas.{some-is, is-some, find-held, find-nothing, find-changed_own, changed_all-changed_at, changed_all-changed_all, same_arenas}
+use Rattle.firm_net.proofs.Arenas.{some-is, find-held, find-changed_own, changed_all-changed_at, changed_all-changed_all}
 use Rattle.firm_net.proofs.Joins.{shows-listed, shows-unlisted}
 use Rattle.firm_net.proofs.Frames.{shows-changed, shows-changed_all}
-use Rattle.firm_net.proofs.Listings.{Listing, listing, only, nothing, listing-of, listing-unlisted}
-use Rattle.firm_net.proofs.Nets.{found-after, replicate-none, net-with_row, net-with_head, net-without_flow, net-empty}
+use Rattle.firm_net.proofs.Listings.{Listing, only, listing-of, listing-unlisted}
+use Rattle.firm_net.proofs.Nets.{replicate-none, net-with_row, net-with_head, net-without_flow, net-empty}
 use Rattle.firm_net.proofs.Shown.{shown_net, IsShown, is_shown, node-shown, row-shown, link-there, rows-links_from, rows-links_past}
 use Rattle.firm_net.proofs.Moves.{once-found, contains-found, found-contains}
 

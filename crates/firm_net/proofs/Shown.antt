@@ -1,12 +1,11 @@
 -- What a net's links and nodes show, and what they show after each change.
-use Rattle.std.proofs.Common.{◌≡◌, ◌≢◌, ℕ, zero, suc, ◌+◌, ◌-◌, ◌<◌, ◌≤◌, ◌==◌, ◌^◌, ◌⊎◌, inl, inr, Bool, true, false, cond, List, [], ◌∷◌, Contains, length, length-set, refl, sym, ap, ap₂, ◌∙◌, subst, subst₂, arith, eq-eqb, ne_eqb, Option, Some, None, option_map, is_some, IsSome}
-use Rattle.std.proofs.lemmas.Option.{none-some, same_Some}
+use Rattle.std.proofs.Common.{◌≡◌, ◌≢◌, ℕ, ◌+◌, ◌<◌, ◌≤◌, ◌^◌, List, [], ◌∷◌, Contains, length, refl, sym, ap, ap₂, ◌∙◌, subst, arith, Option, Some, None, option_map, is_some, IsSome}
 use Rattle.std.proofs.lemmas.List.Sums.{count_by-le-length}
-use Rattle.firm_arena.specs.Arena.{Arena, find, held_at, capacity_of, len_of, with_put, without, vacant}
+use Rattle.firm_arena.specs.Arena.{Arena, find, capacity_of, len_of, without}
 use Rattle.firm_arena.specs.declared.Id.{Id}
-use Rattle.firm_net.specs.Row.{Row, IsRow}
-use Rattle.firm_net.specs.Net.{Lists, Net, IsNet, IsNode, side_list, listed_in, end_of, changed_at, changed_all, slot_changed, with_list, EachOnce, without_arc, listed_first, unlisted, with_node, without_node, with_arc, without_row, with_row, with_head, without_flow, out_list, in_list}
-use Rattle.firm_net.specs.Links.{neighbours_of, list_of, with_neighbours, with_next, with_previous, with_arc_list, at_option, empty_node, list_from, list_past, links_from, links_past, lists_of, nodes_shown, rows_shown, ShowsList, ShowsNode, Shows}
+use Rattle.firm_net.specs.Row.{Row}
+use Rattle.firm_net.specs.Net.{Lists, Net, IsNet, listed_in, EachOnce}
+use Rattle.firm_net.specs.Links.{list_of, with_neighbours, with_next, with_previous, at_option, links_from, links_past, lists_of, nodes_shown, rows_shown, Shows}
 use Rattle.firm_net.specs.declared.row.NodeId.{NodeId}
 use Rattle.firm_net.specs.declared.row.ArcId.{ArcId}
 use Rattle.firm_net.specs.declared.links.Side.{Side}
@@ -14,14 +13,12 @@ use Rattle.firm_net.specs.declared.links.Side.TheVariants.{Out, In}
 use Rattle.firm_net.specs.declared.links.Neighbours.{Neighbours}
 use Rattle.firm_net.specs.declared.links.Link.{Link}
 use Rattle.firm_net.specs.declared.links.Node.{Node}
-use Rattle.firm_net.proofs.Arenas.{cond-true, cond-false, some-is, is-some, find-changed_at, find-changed_all, find-changed_own, find-changed_other, find-put_own, find-put_other, find-without_own, find-without_other, held_at-changed_all, changed_all-with_put, changed_all-without, changed_all-changed_at, changed_all-same, changed_all-changed_all, capacity_of-changed_all, len_of-changed_all, len_of-without, find-nothing}
-use Rattle.firm_net.proofs.Lists.{contains-here, contains-there, contains-nothing}
+use Rattle.firm_net.proofs.Arenas.{some-is, is-some, find-changed_all, find-without_other, changed_all-same, len_of-without}
+use Rattle.firm_net.proofs.Lists.{contains-here, contains-there}
 use Rattle.firm_net.proofs.Relists.{shown-node}
 use Rattle.firm_net.proofs.Chains.{touches-next, touches-previous, touches-neighbours}
-use Rattle.firm_net.proofs.Joins.{shows-listed, shows-unlisted}
-use Rattle.firm_net.proofs.Frames.{shows-put, shows-taken, shows-changed, shows-changed_all, shows-node, shows-unnode, shows-walks}
+use Rattle.firm_net.proofs.Frames.{shows-walks}
 use Rattle.firm_net.proofs.Listings.{listing}
-use Rattle.firm_net.proofs.Nets.{net-with_arc, net-without_row, net-with_row, net-with_head, net-without_flow, net-with_node, net-without_node}
 
 -- the net that links and nodes show
 abbrev pub shown_net : Arena Link → Arena Node → Net

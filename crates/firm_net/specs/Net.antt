@@ -1,5 +1,5 @@
 -- What a contract sees of a `Net`: a map of nodes, each with its lists of arcs, and a map of arcs.
-use Rattle.std.specs.Prelude.{◌≡◌, ◌≢◌, ℕ, ◌+◌, ◌-◌, ◌<◌, ◌≤◌, ◌==◌, ◌&&◌, ◌↔◌, Bool, not, List, [], ◌∷◌, ◌++◌, map, filter, Contains, Option, Some, None, IsSome, IfSome, slice_set, if◌then◌else◌}
+use Rattle.std.specs.Prelude.{◌≡◌, ◌≢◌, ℕ, ◌+◌, ◌-◌, ◌<◌, ◌≤◌, ◌==◌, ◌&&◌, Bool, not, List, [], ◌∷◌, ◌++◌, map, filter, Contains, Option, Some, None, IsSome, slice_set, if◌then◌else◌}
 use Rattle.firm_arena.specs.Arena.{Arena, find, held_at, capacity_of, len_of, vacant, with_put, without}
 use Rattle.firm_net.specs.Row.{Row, IsRow}
 use Rattle.firm_net.specs.declared.row.NodeId.{NodeId}

@@ -1,5 +1,5 @@
 -- What a contract sees of an `ArcRow`.
-use Rattle.std.specs.Prelude.{◌≡◌, ◌≢◌, ℕ, ◌≤◌}
+use Rattle.std.specs.Prelude.{◌≢◌, ℕ, ◌≤◌}
 use Rattle.firm_net.specs.declared.row.NodeId.{NodeId}
 
 -- an arc from tail to head, with its lower bound, its capacity, the cost of a unit, and its flow

@@ -1,12 +1,13 @@
 //! How the arcs of a node hang together: each arc has a place in the list of its tail and in that of its head, and
 //! names its neighbours there by their places. One treatment serves both lists.
-ghost use Rattle.std.specs.Prelude.{◌≡◌, ◌+◌, ◌-◌, ◌<◌, ◌≤◌, ◌^◌, IsSome, IfSome, Some, None};
-ghost use Rattle.firm_arena.specs.Arena.{find};
+ghost use Rattle.std.specs.Prelude.{◌≡◌, ◌+◌, ◌-◌, ◌<◌, ◌≤◌, ◌^◌, IsSome, IfSome, IfOk, Some, None};
+ghost use Rattle.firm_arena.specs.Arena.{find, vacant};
 ghost use Rattle.firm_net.specs.Net.{changed_at, changed_all};
 ghost use Rattle.firm_net.specs.Links.{neighbours_of, list_of, with_neighbours, with_next, with_previous, with_arc_list, empty_node, at_option, list_from, list_past, first_past, links_from, links_past, loose_link, arc_at, with_link_row, cleared_link};
 
 use crate::row::{ArcId, ArcRow, NodeId};
 use firm_arena::{Arena, Id};
+use std::alloc::{AllocError, Global};
 
 /// Which of the two lists of a node: the arcs out of it, or the arcs into it.
 #[derive(Clone, Copy)]
@@ -138,6 +139,20 @@ impl Node {
             Side::In => self.into = list,
         }
     }
+}
+
+/// Two arenas with room for so many; where memory for one is refused, neither.
+pub fn two_arenas<N: Drop, L: Drop>(
+    alloc: Global,
+    nodes: u32,
+    links: u32,
+) -> Result<(Arena<N>, Arena<L>), AllocError>
+    ensures nodes { IfOk result (λ both. both.0 ≡ vacant nodes 0) }
+    ensures links { IfOk result (λ both. both.1 ≡ vacant links 0) }
+{
+    let first = Arena::new(alloc, nodes)?;
+    let second = Arena::new(alloc, links)?;
+    Ok((first, second))
 }
 
 /// Names other neighbours of the arc at a place, where a place is named.

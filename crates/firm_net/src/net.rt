@@ -6,7 +6,9 @@ ghost use Rattle.firm_net.specs.Row.{Row, IsRow};
 ghost use Rattle.firm_net.specs.Net.{IsNet, IsNode, IsArc, row_at, lists_at, out_list, in_list, place_of, added_of, node_count, arc_count, CountsAre, empty_net, with_node, without_node, with_arc, without_row, with_row, with_head, without_flow, with_numbers, IsResidual, with_unit, first_of, next_on, next_out, next_into, arcs_on, rows_of, SameOtherRows, SameOtherNodes, AreInRange, HasOtherTail, CanPush, Follows};
 ghost use Rattle.firm_net.specs.declared.links.Side.TheVariants.{Out, In};
 
-use crate::links::{ArcList, Link, Node, Side, arc_at, clear_rows, list_first, set_row, unlist};
+use crate::links::{
+    ArcList, Link, Node, Side, arc_at, clear_rows, list_first, set_row, two_arenas, unlist,
+};
 use crate::row::{ArcId, ArcRow, NodeId, Way};
 use crate::walk::Arcs;
 use firm_arena::Arena;
@@ -70,8 +72,7 @@ impl Net {
         ensures empty { IfOk result (λ net. net ≡ empty_net nodes arcs) }
         ensures net { IfOk result (λ net. IsNet net) }
     {
-        let nodes = Arena::new(alloc, nodes)?;
-        let links = Arena::new(alloc, arcs)?;
+        let (nodes, links) = two_arenas(alloc, nodes, arcs)?;
         Ok(Net {
             nodes,
             links,
@@ -139,6 +140,9 @@ impl Net {
         ensures gone { (result ≡ Err NodeRefusal.Gone) ↔ (lists_at self.old node ≡ None) }
         ensures unchanged { OnErr result (self.new ≡ self.old) }
         ensures net { IsNet self.new }
+        // The name answers no more, and no later node gets it: each gets the counter at its time as its stamp.
+        ensures absent { IsOk result → lists_at self.new node ≡ None }
+        ensures stamp { IsOk result → node.id.stamp < self.new.nodes.counter }
     {
         let Some(lists) = self.nodes.get(node.id).copied() else {
             return Err(NodeRefusal::Gone);
@@ -198,6 +202,8 @@ impl Net {
         ensures others { SameOtherRows self.old self.new arc }
         ensures unchanged { IfNone result (self.new ≡ self.old) }
         ensures net { IsNet self.new }
+        // No later arc gets this name: each gets the counter at its time as its stamp.
+        ensures stamp { IfSome result (λ _. arc.id.stamp < self.new.arcs.counter) }
     {
         let Some(link) = self.links.get(arc.id).copied() else {
             return None;

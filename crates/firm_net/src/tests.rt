@@ -1,5 +1,8 @@
 //! Worked rows, walks of nets that change, and each call once.
-use crate::{ArcId, ArcRefusal, ArcRow, Arcs, Net, NoNode, NodeId, NodeRefusal, Way};
+use crate::links::two_arenas;
+use crate::{
+    ARC_LIMIT, ArcId, ArcRefusal, ArcRow, Arcs, NODE_LIMIT, Net, NoNode, NodeId, NodeRefusal, Way,
+};
 use std::alloc::{AllocError, Global};
 use std::process::Abort;
 use std::test::Fail;
@@ -165,5 +168,17 @@ fn numbers_places_and_limits(rt: HostRuntime) -> Result<(), Fail> {
         (read.low(), read.cap(), read.cost(), read.flow()),
         (0, 2, 7, 0)
     );
+    Ok(())
+}
+
+#[test]
+fn each_block_of_a_net_may_be_refused(rt: HostRuntime) -> Result<(), Fail> {
+    // 2^32 - 1 places of 2^17 bytes and more: the allocator has no such block.
+    let first = two_arenas::<[u64; 16384], u32>(rt.alloc(), u32::MAX, 1);
+    assert_eq!(rt; first.err(), Some(AllocError));
+    let second = two_arenas::<u32, [u64; 16384]>(rt.alloc(), 1, u32::MAX);
+    assert_eq!(rt; second.err(), Some(AllocError));
+    let net = Net::new(rt.alloc(), NODE_LIMIT, ARC_LIMIT)?;
+    assert_eq!(rt; net.limits(), (4_096, 65_536));
     Ok(())
 }

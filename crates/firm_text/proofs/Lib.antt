@@ -4,3 +4,4 @@ pub mod Puts
 pub mod Csv
 pub mod Fields
 pub mod Differ
+pub mod Judged

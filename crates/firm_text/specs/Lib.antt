@@ -6,3 +6,4 @@ pub mod Inputs
 pub mod Replies
 pub mod Faults
 pub mod Rosters
+pub mod RosterLaws

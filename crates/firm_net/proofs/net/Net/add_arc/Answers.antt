@@ -1,13 +1,12 @@
 -- The parts show the net with the arc.
-use Rattle.std.proofs.Common.{◌≡◌, ◌≢◌, ℕ, ◌+◌, ◌<◌, ◌^◌, ◌∙◌, sym, ap, ap₂, subst, arith, refl, inl, inr, Option, IsSome, Some, None}
+use Rattle.std.proofs.Common.{◌≡◌, ◌+◌, ◌<◌, ◌^◌, ◌∙◌, sym, ap, subst, arith, refl, inl, inr, None}
 use Rattle.std.proofs.lemmas.Bool.{false≢true, cases_lt}
 use Rattle.firm_arena.specs.Arena.{Arena, find, len_of, capacity_of}
 use Rattle.firm_net.specs.Net.{changed_at, with_arc, IsNet, IsNode, lists_at}
-use Rattle.firm_net.specs.Links.{list_of, with_arc_list, list_from, links_from, nodes_shown, Shows}
+use Rattle.firm_net.specs.Links.{list_of, with_arc_list, list_from, nodes_shown, Shows}
 use Rattle.firm_net.specs.declared.row.NodeId.{NodeId}
-use Rattle.firm_net.specs.declared.links.Node.{Node}
 use Rattle.firm_net.specs.declared.links.Link.{Link}
-use Rattle.firm_net.specs.declared.links.Side.TheVariants.{Out, In}
+use Rattle.firm_net.specs.declared.links.Side.TheVariants.{Out}
 use Rattle.firm_net.proofs.Shown.{shown_net}
 use Rattle.firm_net.proofs.Results.{AddsArc, adds_arc, first-fits, next-fits, if-some, node-found, node-missing, not-node, arcs-counted, arc-capacity, added-counted}
 use Rattle.firm_net.proofs.net.Net.add_arc.Goals as goal

@@ -1,7 +1,7 @@
 -- The parts show the net with the node.
-use Rattle.std.proofs.Common.{ℕ, ◌+◌, ◌<◌, arith, ap}
+use Rattle.std.proofs.Common.{arith, ap}
 use Rattle.std.proofs.lemmas.Bool.{false≢true}
-use Rattle.firm_arena.specs.Arena.{Arena, len_of, capacity_of}
+use Rattle.firm_arena.specs.Arena.{Arena}
 use Rattle.firm_net.specs.declared.links.Node.{Node}
 use Rattle.firm_net.proofs.Results.{AddsNode, adds_node, nodes-counted, node-capacity, added-counted}
 use Rattle.firm_net.proofs.net.Net.add_node.Goals as goal

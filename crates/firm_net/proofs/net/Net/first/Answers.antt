@@ -1,5 +1,5 @@
 -- The first arc that the links name is the first of the list.
-use Rattle.std.proofs.Common.{sym, ap, ◌∙◌, Option}
+use Rattle.std.proofs.Common.{sym, ap, ◌∙◌}
 use Rattle.firm_net.specs.Links.{arc_at}
 use Rattle.firm_net.specs.declared.links.ArcList.{ArcList}
 use Rattle.firm_net.proofs.Cursors.{first-is, first-none}

@@ -17,18 +17,18 @@ shown_new links nodes node_limit arc_limit no_nodes no_arcs few_nodes few_arcs =
 pub invariant_of-result : goal.invariant_of-result
 invariant_of-result c =
     let nodes = c.in_ok-nodes.nodes in
-    let links = c.in_ok-links.links in
-    let shown = shown_new links nodes c.args.nodes c.args.arcs c.in_ok-nodes.ensures.empty c.in_ok-links.ensures.empty c.requires.nodes c.requires.arcs in
-    let no_node : nodes.counter ≡ 0 = ap (λ (a : Arena Node). a.counter) c.in_ok-nodes.ensures.empty in
-    let no_link : links.counter ≡ 0 = ap (λ (a : Arena Link). a.counter) c.in_ok-links.ensures.empty in
+    let links = c.in_ok-nodes.links in
+    let shown = shown_new links nodes c.args.nodes c.args.arcs c.in_ok-nodes.ensures.nodes c.in_ok-nodes.ensures.links c.requires.nodes c.requires.arcs in
+    let no_node : nodes.counter ≡ 0 = ap (λ (a : Arena Node). a.counter) c.in_ok-nodes.ensures.nodes in
+    let no_link : links.counter ≡ 0 = ap (λ (a : Arena Link). a.counter) c.in_ok-nodes.ensures.links in
     record { added = omega arith; net = shown.net; shows = shown.shows }
 
 pub returns-clause-empty : goal.returns-clause-empty
 returns-clause-empty c =
-    (shown_new c.in_ok-links.links c.in_ok-nodes.nodes c.args.nodes c.args.arcs c.in_ok-nodes.ensures.empty c.in_ok-links.ensures.empty c.requires.nodes
+    (shown_new c.in_ok-nodes.links c.in_ok-nodes.nodes c.args.nodes c.args.arcs c.in_ok-nodes.ensures.nodes c.in_ok-nodes.ensures.links c.requires.nodes
     c.requires.arcs).is
 
 pub returns-clause-net : goal.returns-clause-net
 returns-clause-net c =
-    (shown_new c.in_ok-links.links c.in_ok-nodes.nodes c.args.nodes c.args.arcs c.in_ok-nodes.ensures.empty c.in_ok-links.ensures.empty c.requires.nodes
+    (shown_new c.in_ok-nodes.links c.in_ok-nodes.nodes c.args.nodes c.args.arcs c.in_ok-nodes.ensures.nodes c.in_ok-nodes.ensures.links c.requires.nodes
     c.requires.arcs).net

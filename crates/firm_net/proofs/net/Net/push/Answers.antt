@@ -1,9 +1,9 @@
 -- The parts show the net with the arc's flow changed.
-use Rattle.std.proofs.Common.{◌≡◌, ◌+◌, sym, ap, ◌∙◌, arith, refl, Option, Some, None}
+use Rattle.std.proofs.Common.{◌+◌, sym, ap, ◌∙◌, refl}
 use Rattle.std.proofs.lemmas.Bool.{false≢true}
-use Rattle.firm_arena.specs.Arena.{Arena, find}
+use Rattle.firm_arena.specs.Arena.{Arena}
 use Rattle.firm_net.specs.Row.{Row}
-use Rattle.firm_net.specs.Net.{with_unit, IsResidual, row_at}
+use Rattle.firm_net.specs.Net.{with_unit, row_at}
 use Rattle.firm_net.specs.declared.links.Link.{Link}
 use Rattle.firm_net.proofs.Results.{ChangesRow, changes_row, row-found, row-missing, can-push, push-residual, push-none, unit-tail, unit-head}
 use Rattle.firm_net.proofs.net.Net.push.Goals as goal

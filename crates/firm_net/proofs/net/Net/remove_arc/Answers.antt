@@ -1,11 +1,9 @@
 -- The parts show the net without the arc.
-use Rattle.std.proofs.Common.{◌≡◌, ◌<◌, ℕ, ◌+◌, ◌∙◌, sym, ap, subst, arith, refl, Option, Some, None, IfSome}
-use Rattle.firm_arena.specs.Arena.{Arena, find, without}
-use Rattle.firm_net.specs.Row.{Row}
+use Rattle.std.proofs.Common.{◌≡◌, ◌+◌, ◌∙◌, sym, subst, arith, Option, IfSome}
+use Rattle.firm_arena.specs.Arena.{without}
 use Rattle.firm_net.specs.Net.{without_row}
-use Rattle.firm_net.specs.declared.links.Node.{Node}
 use Rattle.firm_net.specs.declared.links.Link.{Link}
-use Rattle.firm_net.specs.declared.links.Side.TheVariants.{Out, In}
+use Rattle.firm_net.specs.declared.links.Side.TheVariants.{Out}
 use Rattle.firm_net.proofs.Results.{RemovesArc, removes_arc, has-arc, in-has-arc, added-counted, row-found, row-missing}
 use Rattle.firm_net.proofs.net.Net.remove_arc.Goals as goal
 
@@ -42,6 +40,9 @@ returns-clause-removes c = (removes c).is
 
 pub returns-clause-gone : goal.returns-clause-gone
 returns-clause-gone c = (removes c).gone
+
+pub returns-clause-stamp : goal.returns-clause-stamp
+returns-clause-stamp c = (removes c).stamp
 
 pub returns-clause-counts : goal.returns-clause-counts
 returns-clause-counts c = (removes c).counts

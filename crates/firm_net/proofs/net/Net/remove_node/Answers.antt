@@ -1,5 +1,5 @@
 -- The parts show the net without the node.
-use Rattle.std.proofs.Common.{◌≡◌, ℕ, ◌+◌, ◌∙◌, sym, ap, arith, refl, is_some, Option}
+use Rattle.std.proofs.Common.{◌≡◌, ◌+◌, ◌∙◌, sym, ap, arith, refl}
 use Rattle.std.proofs.lemmas.Bool.{false≢true}
 use Rattle.firm_arena.specs.Arena.{Arena, without}
 use Rattle.firm_net.specs.declared.links.Node.{Node}
@@ -28,6 +28,12 @@ invariant_of-self c =
 
 pub returns-clause-removes : goal.returns-clause-removes
 returns-clause-removes c = λ _. (removes c).is
+
+pub returns-clause-absent : goal.returns-clause-absent
+returns-clause-absent c = λ _. (removes c).gone
+
+pub returns-clause-stamp : goal.returns-clause-stamp
+returns-clause-stamp c = λ _. (removes c).stamp
 
 pub returns-clause-others : goal.returns-clause-others
 returns-clause-others c = (removes c).others

@@ -1,14 +1,10 @@
 -- The parts show the net with the arc's head moved.
-use Rattle.std.proofs.Common.{◌≡◌, ◌≢◌, ◌≤◌, ℕ, ◌+◌, ◌-◌, ◌<◌, ◌∙◌, ◌==◌, sym, ap, ap₂, subst, eq-eqb, eqb-true, arith, refl, inl, inr, rules, Option, Some, None, IfSome}
+use Rattle.std.proofs.Common.{◌≡◌, ◌≢◌, ℕ, ◌+◌, ◌∙◌, ◌==◌, sym, ap, ap₂, subst, eq-eqb, eqb-true, arith, refl, Option, Some, IfSome}
 use Rattle.std.proofs.lemmas.Bool.{false≢true, and_from, and_parts}
-use Rattle.firm_arena.specs.Arena.{Arena, find}
 use Rattle.firm_net.specs.Row.{Row}
-use Rattle.firm_net.specs.Net.{Net, row_at, with_head, HasOtherTail}
-use Rattle.firm_net.specs.Links.{list_of, list_past}
+use Rattle.firm_net.specs.Net.{row_at, with_head}
 use Rattle.firm_net.specs.declared.row.NodeId.{NodeId}
-use Rattle.firm_net.specs.declared.links.Node.{Node}
-use Rattle.firm_net.specs.declared.links.Link.{Link}
-use Rattle.firm_net.specs.declared.links.Side.TheVariants.{Out, In}
+use Rattle.firm_net.specs.declared.links.Side.TheVariants.{In}
 use Rattle.firm_net.proofs.Shown.{shown_net}
 use Rattle.firm_net.proofs.Results.{MovesHead, moves_head, has-arc, past-fits, past-there, added-counted, row-found, row-missing, node-found, node-missing, not-node, other-tail, tail-other, tail-none}
 use Rattle.firm_net.proofs.net.Net.retarget.Goals as goal

@@ -1,10 +1,9 @@
 -- The parts show the net with the arc's numbers changed.
-use Rattle.std.proofs.Common.{◌≡◌, ◌≤◌, ◌+◌, sym, ap, ap₂, ◌∙◌, subst, refl, Option, Some, None}
+use Rattle.std.proofs.Common.{◌≡◌, ◌+◌, sym, ap, ap₂, ◌∙◌, subst, refl}
 use Rattle.std.proofs.lemmas.Bool.{false≢true}
-use Rattle.std.proofs.lemmas.Option.{none-some}
-use Rattle.firm_arena.specs.Arena.{Arena, find}
+use Rattle.firm_arena.specs.Arena.{Arena}
 use Rattle.firm_net.specs.Row.{Row, IsRow}
-use Rattle.firm_net.specs.Net.{with_numbers, row_at, IsArc, AreInRange}
+use Rattle.firm_net.specs.Net.{with_numbers}
 use Rattle.firm_net.specs.declared.links.Link.{Link}
 use Rattle.firm_net.specs.declared.row.NodeId.{NodeId}
 use Rattle.firm_net.proofs.Results.{ChangesRow, changes_row, row-found, row-missing, arc-is, not-arc}
