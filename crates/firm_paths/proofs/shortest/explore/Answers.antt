@@ -18,8 +18,8 @@ loop-place-init c = record {
   capacity = omega (arith, c.clear-2.ensures.capacity);
 }
 
-pub append-requires : goal.append-requires
-append-requires c =
+pub push_reserved-requires : goal.push_reserved-requires
+push_reserved-requires c =
     omega (
       arith,
       few_visits c.args.net.now (slice_index c.args.prices.now) c.args.start.place c.args.goal c.loop-place.marks c.loop-place.visits.items
@@ -35,7 +35,7 @@ returns-then-place-goal-clause-found c =
     let number : c.len-number.result ≡ length c.loop-place.visits.items = c.len-number.ensures ∙ c.loop-place.visits.ok.0 in
     let nearest : IsNearestBelow (slice_index c.args.prices.now) c.loop-place.marks (length c.loop-place.marks) c.args.goal =
     subst (IsNearestBelow (slice_index c.args.prices.now) c.loop-place.marks (length c.loop-place.marks)) c.if-place-goal.true c.in-Some.ensures in
-    rw (c.append.ensures.items, number)
+    rw (c.push_reserved.ensures.items, number)
     (search_reached c.args.net.now (slice_index c.args.prices.now) c.args.start.place c.args.goal c.loop-place.marks c.loop-place.visits.items
     (record { node = c.in_ok-node.node; place = c.in-Some.place; hop = (mark c.loop-place.marks c.in-Some.place).hop })
     (omega (arith, c.loop-place.invariant.length, c.requires.low.1)) c.loop-place.invariant.searching nearest c.if-place-goal.true
@@ -94,8 +94,8 @@ pub loop-place-smaller : goal.loop-place-smaller
 loop-place-smaller c =
     let few = few_visits c.args.net.now (slice_index c.args.prices.now) c.args.start.place c.args.goal c.loop-place.marks c.loop-place.visits.items
     (omega (arith, c.loop-place.invariant.length, c.requires.goal.0)) c.loop-place.invariant.searching in
-    let grown : length c.append.new.list.items ≡ length c.loop-place.visits.items + 1 =
-    ap (λ (z : List Visit). length z) c.append.ensures.items ∙ length-append c.loop-place.visits.items _ in
+    let grown : length c.push_reserved.new.self.items ≡ length c.loop-place.visits.items + 1 =
+    ap (λ (z : List Visit). length z) c.push_reserved.ensures.items ∙ length-append c.loop-place.visits.items _ in
     omega (arith, few, grown, c.look_in.ensures.lowers.length, c.look_out.ensures.lowers.length, length-set {A = Mark})
 
 pub loop-place-preserved : goal.loop-place-preserved
@@ -104,12 +104,12 @@ loop-place-preserved c =
     let number : c.len-number.result ≡ length c.loop-place.visits.items = c.len-number.ensures ∙ c.loop-place.visits.ok.0 in
     record {
       length = omega (arith, c.loop-place.invariant.length, c.look_in.ensures.lowers.length, c.look_out.ensures.lowers.length, length-set {A = Mark});
-      searching = rw c.append.ensures.items
+      searching = rw c.push_reserved.ensures.items
           (round_done c.args.net.now (slice_index c.args.prices.now) c.args.start.place c.args.goal c.loop-place.marks c.loop-place.visits.items c.in-Some.place
           x (record { place = c.in-Some.place; number = c.len-number.result })
           c.loop-place.invariant.searching c.in-Some.ensures refl refl refl number c.requires.valid c.look_out.new.marks c.look_in.new.marks c.if-place-goal.false
           c.look_out.ensures.lowers c.look_out.ensures.looks c.look_in.ensures.lowers c.look_in.ensures.looks);
-      capacity = omega (arith, c.loop-place.invariant.capacity, c.append.ensures.capacity);
+      capacity = omega (arith, c.loop-place.invariant.capacity, c.push_reserved.ensures.capacity);
     }
 
 pub returns-clause-none : goal.returns-clause-none
