@@ -1,5 +1,5 @@
 //! The flow of least cost, by one augmenting path for each source.
-ghost use Rattle.std.specs.Prelude.{◌≡◌, ◌≢◌, ℕ, Bool, All, IfSome, IfNone, IfOk, OnOk, OnErr, pos, map};
+ghost use Rattle.std.specs.Prelude.{◌≡◌, ◌≢◌, ◌↔◌, ℕ, Bool, All, IfSome, IfNone, IfOk, OnOk, OnErr, pos, map};
 ghost use Rattle.firm_net.specs.Net.{IsNode, without_flow};
 ghost use Rattle.firm_paths.specs.Network.{AreValid};
 ghost use Rattle.firm_paths.specs.NetArcs.{arcs_of, residual_of, limits_of};
@@ -38,7 +38,7 @@ fn send(
     requires nodes { IsNode net.old source × IsNode net.old sink × (source ≢ sink) }
     requires made_for { (prices.old.limits ≡ limits_of net.old) × (scratch.old.limits ≡ limits_of net.old) }
     requires sent { SentSoFar net.old (price_of prices.old) sink.id.place }
-    ensures scratch { scratch.new ≡ scratch.old }
+    ensures scratch { scratch.new.limits ≡ scratch.old.limits }
     ensures limits { prices.new.limits ≡ prices.old.limits }
     ensures same { SameButFlow net.old net.new }
     ensures more { IfSome result (λ more. SendsMore net.old (price_of prices.old) net.new (price_of prices.new) source.id.place sink.id.place more) }
@@ -66,8 +66,10 @@ pub fn solve(
     requires nodes { AreDistinctNodes net.old sources.now sink }
     requires made_for { (prices.old.limits ≡ limits_of net.old) × (scratch.old.limits ≡ limits_of net.old) }
     ensures same { SameButFlow net.old net.new }
+    ensures net_limits { limits_of net.new ≡ limits_of net.old }
+    ensures net_nodes { (node : NodeId) → IsNode net.new node ↔ IsNode net.old node }
     ensures limits { prices.new.limits ≡ prices.old.limits }
-    ensures scratch { scratch.new ≡ scratch.old }
+    ensures scratch { scratch.new.limits ≡ scratch.old.limits }
     ensures lows { OnOk result (All (λ a. a.low ≡ 0) (arcs_of net.new)) }
     ensures least { OnOk result (IsLeastFlow net.new (places sources.now) sink.id.place) }
     ensures valid { OnOk result (AreValid (arcs_of net.new) (price_of prices.new)) }

@@ -7,3 +7,5 @@ pub mod Settles
 pub mod Rounds
 pub mod Lifted
 pub mod Spreading
+pub mod FromZero
+mod Examples

@@ -1,15 +1,15 @@
 -- What the search by labels gives: prices that are valid again, a path, or a set that shows that there is none.
-use Rattle.std.proofs.Common.{◌≡◌, ◌≢◌, ℕ, ◌+◌, ◌*◌, ◌-◌, ◌<◌, ◌≤◌, ◌^◌, Bool, true, false, Option, Some, None, List, [], ◌∷◌, length, get_or, arith, refl, sym, ap, subst, ◌∙◌, inl, inr, ◌⊎◌, ⊎_elim}
+use Rattle.std.proofs.Common.{◌≡◌, ℕ, ◌+◌, ◌*◌, ◌-◌, ◌<◌, ◌≤◌, ◌^◌, true, false, Some, List, [], length, arith, sym, ap, subst, ◌∙◌, ⊎_elim}
 use Rattle.std.specs.Prelude.{slice_index}
 use Rattle.std.proofs.lemmas.Bool.{cases_lt, cases_Bool, both_ways}
+use Rattle.std.proofs.lemmas.List.{get_or_past}
 use Rattle.firm_arena.specs.Arena.{capacity_of}
 use Rattle.firm_net.specs.Row.{Row}
 use Rattle.firm_net.specs.Net.{Net, IsNet, IsNode, row_at}
 use Rattle.firm_net.specs.declared.row.NodeId.{NodeId}
 use Rattle.firm_net.specs.declared.row.ArcId.{ArcId}
-use Rattle.firm_net.specs.declared.row.Way.{Way}
 use Rattle.firm_net.specs.declared.row.Way.TheVariants.{Forward, Backward}
-use Rattle.firm_paths.specs.Network.{AreValid, IsValidAt, StaysInside, IsClosed}
+use Rattle.firm_paths.specs.Network.{AreValid, IsValidAt, StaysInside}
 use Rattle.firm_paths.specs.NetArcs.{arc_of, arcs_of}
 use Rattle.firm_paths.specs.Paths.{IsTightPath, IsHighest, IsCut}
 use Rattle.firm_paths.specs.Search.{visit, IsTree, known, settled, label, IsReached, IsEnd, IsLifted}
@@ -92,6 +92,16 @@ module _ (net : Net) (old new : List ℕ) (from goal : ℕ) (ms : List Mark) (vs
       (λ (s : settled ms n.id.place ≡ true). omega (arith, at_goal, at_settled n there s, (reached.near_by.within n.id.place s).2, highest n there))
       (λ (s : settled ms n.id.place ≡ false). omega (arith, at_goal, at_open n there s, highest n there))
       (cases_Bool (settled ms n.id.place))
+
+  pub lifted_rises : (v : ℕ) → slice_index old v ≤ slice_index new v
+  lifted_rises v = ⊎_elim
+      (λ (l : v < length old).
+      ⊎_elim
+      (λ (s : settled ms v ≡ true). omega (arith, lifted.at_settled v l s, (reached.near_by.within v s).1))
+      (λ (s : settled ms v ≡ false). lifted.rises v l s)
+      (cases_Bool (settled ms v)))
+      (λ (p : length old ≤ v). omega (arith, get_or_past old v 0 p))
+      (cases_lt v (length old))
 
   pub lifted_path : (steps : List Step) → LeadsTo vs number steps → IsTightPath net (slice_index new) from goal steps
   lifted_path steps leads =

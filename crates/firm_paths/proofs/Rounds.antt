@@ -1,20 +1,17 @@
 -- The search by labels: its start, one round of it, and its two ends.
-use Rattle.std.proofs.Common.{◌≡◌, ◌≢◌, ℕ, zero, suc, ◌+◌, ◌*◌, ◌-◌, ◌<◌, ◌≤◌, Bool, true, false, cond, Option, Some, None, List, [], ◌∷◌, ◌++◌, length, get_or, set, arith, refl, sym, ap, subst, ◌∙◌, inl, inr, ◌⊎◌, ⊎_elim, length-append}
+use Rattle.std.proofs.Common.{◌≡◌, ℕ, ◌+◌, ◌*◌, ◌-◌, ◌<◌, ◌≤◌, true, false, Some, None, List, [], ◌∷◌, ◌++◌, length, set, arith, refl, sym, ap, subst, ◌∙◌, inl, inr, ⊎_elim}
 use Rattle.std.specs.Prelude.{MatchOption, is_some}
-use Rattle.std.specs.List.{count_by}
-use Rattle.std.proofs.lemmas.List.{get_or-set_other, get_or-set_same, length-set}
-use Rattle.std.proofs.lemmas.Bool.{cases_eq, cases_Bool, both_ways, cond-true, cond-false}
-use Rattle.std.proofs.lemmas.List.Sums.{sum_by-set}
+use Rattle.std.proofs.lemmas.List.{get_or-set_other, get_or-set_same}
+use Rattle.std.proofs.lemmas.Bool.{cases_eq, cases_Bool, both_ways}
 use Rattle.firm_net.specs.Row.{Row}
-use Rattle.firm_net.specs.Net.{Net, IsNode, row_at, IsResidual as IsOpen}
+use Rattle.firm_net.specs.Net.{Net, IsNode, row_at}
 use Rattle.firm_net.specs.declared.row.NodeId.{NodeId}
 use Rattle.firm_net.specs.declared.row.ArcId.{ArcId}
 use Rattle.firm_net.specs.declared.row.Way.{Way}
 use Rattle.firm_net.specs.declared.row.Way.TheVariants.{Forward, Backward}
 use Rattle.firm_paths.specs.Network.{AreValid, IsValidAt}
-use Rattle.firm_paths.specs.NetArcs.{arc_of, arcs_of}
-use Rattle.firm_paths.specs.Search.{visit, IsHop, IsTree, mark, known, settled, label, IsNearBy, IsLabelled, IsLowered, IsAt, IsFollowed, AllFollowed, NodeFollowed, LooksAll, AllEnough, IsNearestBelow, IsReached, IsEnd, start_of, end_of}
-use Rattle.firm_paths.specs.declared.search.Hop.{Hop}
+use Rattle.firm_paths.specs.NetArcs.{arcs_of}
+use Rattle.firm_paths.specs.Search.{visit, IsHop, mark, known, settled, label, IsNearBy, IsLabelled, IsLowered, IsAt, IsFollowed, AllFollowed, LooksAll, AllEnough, IsNearestBelow, IsReached, IsEnd, start_of}
 use Rattle.firm_paths.specs.declared.search.Here.{Here}
 use Rattle.firm_paths.specs.declared.search.Mark.{Mark}
 use Rattle.firm_paths.specs.declared.search.Visit.{Visit}

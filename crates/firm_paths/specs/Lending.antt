@@ -5,6 +5,6 @@ use mathlib.Core.Option.{none}
 use Rattle.firm_paths.specs.Workspace.{Workspace}
 use Rattle.firm_paths.specs.contracts.scratch.Scratch.{the_row}
 
--- it is as it was
+-- it keeps the limits that it was made for
 abbrev pub Rests : MutBor Workspace → Fml
-Rests s = follows_so the_row the_row s.ghost_name none (λ _ _. ⊤) (λ last. last ≡ s.now)
+Rests s = follows_so the_row the_row s.ghost_name none (λ _ _. ⊤) (λ last. last.limits ≡ s.now.limits)

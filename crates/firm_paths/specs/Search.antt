@@ -1,5 +1,5 @@
 -- What the searches keep. No public clause cites this module.
-use Rattle.std.specs.Prelude.{◌≡◌, ℕ, ◌+◌, ◌-◌, ◌*◌, ◌^◌, ◌<◌, ◌≤◌, Bool, true, false, List, [], ◌∷◌, ◌++◌, length, Contains, Option, Some, None, is_some, MatchOption, IfSome, ◌⊎◌, slice_index, slice_index_or, slice_set, count_by, if◌then◌else◌, not, ◌&&◌, ◌||◌, nat_lt, ⊤}
+use Rattle.std.specs.Prelude.{◌≡◌, ℕ, ◌+◌, ◌-◌, ◌*◌, ◌^◌, ◌<◌, ◌≤◌, Bool, true, false, List, [], length, Contains, Some, None, is_some, MatchOption, ◌⊎◌, slice_index, slice_index_or, slice_set, count_by, if◌then◌else◌, not, ◌&&◌, ◌||◌, nat_lt, ⊤}
 use Rattle.firm_net.specs.Row.{Row}
 use Rattle.firm_net.specs.Net.{Net, IsNode, row_at, IsResidual as IsOpen}
 use Rattle.firm_net.specs.declared.row.NodeId.{NodeId}
@@ -140,6 +140,7 @@ pub record IsNearestBelow (price : ℕ → ℕ) (ms : List Mark) (n u : ℕ) : T
 pub record IsLifted (old : List ℕ) (ms : List Mark) (far : ℕ) (new : List ℕ) : Type 0 where
   pub at_settled : (v : ℕ) → v < length old → settled ms v ≡ true → slice_index new v ≡ label ms v
   pub at_others : (v : ℕ) → v < length old → settled ms v ≡ false → slice_index old v + far < 2 ^ 64 → slice_index new v ≡ slice_index old v + far
+  pub rises : (v : ℕ) → v < length old → settled ms v ≡ false → slice_index old v ≤ slice_index new v
 
 -- the search stays where it stands, and the row is followed from there
 abbrev pub Looks : Net → Here → Way → Row → List Mark → List Mark → Type 0

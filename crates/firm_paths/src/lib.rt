@@ -5,6 +5,8 @@ mod prices;
 mod scratch;
 mod search;
 mod shortest;
+#[cfg(test)]
+mod tests;
 mod tight;
 
 pub use prices::Prices;

@@ -13,7 +13,7 @@ ghost use Rattle.firm_paths.specs.Lending.{Rests};
 
 use crate::prices::Prices;
 use crate::scratch::Scratch;
-use crate::search::{Here, Hop, Mark, Step, Visit, append, entered, is_residual, walk_back};
+use crate::search::{Here, Hop, Mark, Step, Visit, entered, is_residual, walk_back};
 use firm_net::{ArcRow, Net, NodeId, Way};
 
 /// Labels the node at `place`, if it is open to a lower label.
@@ -140,7 +140,7 @@ fn explore(
     requires low { (slice_index prices.now start.place ≤ 2 ^ 60) × (capacity_of net.now.nodes ≤ 4096) }
     ensures found { IfSome result (IsReached net.now (slice_index prices.now) start.place goal marks.new visits.new.items) }
     ensures none { IfNone result (IsEnd net.now start.place goal marks.new) }
-    ensures capacity { vec_capacity visits.old ≤ vec_capacity visits.new }
+    ensures capacity { vec_capacity visits.new ≡ vec_capacity visits.old }
 {
     clear(marks);
     visits.clear();
@@ -160,7 +160,7 @@ fn explore(
             place,
             hop: mark.hop,
         };
-        append(visits, visit);
+        visits.push_reserved(visit);
         if place == goal {
             return Some(number);
         }
@@ -205,11 +205,12 @@ fn raise_table(
     requires room { slice_index prices.old to.id.place ≤ 2 ^ 60 }
     ensures valid { AreValid (arcs_of net.now) (slice_index prices.new) }
     ensures highest { IsHighest net.now (slice_index prices.new) to.id.place }
+    ensures rises { (v : ℕ) → slice_index prices.old v ≤ slice_index prices.new v }
     ensures bound { slice_index prices.new to.id.place ≤ slice_index prices.old to.id.place + 4095 * 3000000 }
     ensures path { result ≡ true → IsTightPath net.now (slice_index prices.new) from.id.place to.id.place steps.new.items }
     ensures unchanged { result ≡ false → prices.new ≡ prices.old }
     ensures none { result ≡ false → (inside : ℕ → Bool) × IsCut net.now from.id.place to.id.place inside }
-    ensures capacity { (vec_capacity visits.old ≤ vec_capacity visits.new) × (vec_capacity steps.old ≤ vec_capacity steps.new) }
+    ensures capacity { (vec_capacity visits.new ≡ vec_capacity visits.old) × (vec_capacity steps.new ≡ vec_capacity steps.old) }
 {
     let (Some(place), Some(goal)) = (net.place(from), net.place(to)) else {
         return false;
@@ -230,8 +231,8 @@ fn raise_table(
 }
 
 /// Raises prices, which stay valid, until a path over residual arcs of reduced cost 0 leads from `from` to `to`, and
-/// gives it. No node has a higher price than `to`, before and after, and that price grows by at most 4,095 times
-/// 3,000,000, which is what the longest path may cost. `None` only where a set of nodes holds `from` and not `to`, and
+/// gives it. No node's price falls. No node has a higher price than `to`, before and after, and that price grows by at most
+/// 4,095 times 3,000,000, which is what the longest path may cost. `None` only where a set of nodes holds `from` and not `to`, and
 /// no residual arc leaves it; the prices then stay as they were. Takes no memory.
 pub fn raise<'s>(
     scratch: &'s mut Scratch,
@@ -249,6 +250,7 @@ pub fn raise<'s>(
     ensures limits { prices.new.limits ≡ prices.old.limits }
     ensures valid { AreValid (arcs_of net.now) (price_of prices.new) }
     ensures highest { IsHighest net.now (price_of prices.new) to.id.place }
+    ensures rises { (node : NodeId) → IsNode net.now node → price_of prices.old node.id.place ≤ price_of prices.new node.id.place }
     ensures bound { price_of prices.new to.id.place ≤ price_of prices.old to.id.place + 4095 * 3000000 }
     ensures path { IfSome result (λ steps. IsTightPath net.now (price_of prices.new) from.id.place to.id.place steps.now) }
     ensures unchanged { IfNone result (prices.new ≡ prices.old) }

@@ -13,7 +13,7 @@ ghost use Rattle.firm_paths.specs.Lending.{Rests};
 
 use crate::prices::Prices;
 use crate::scratch::Scratch;
-use crate::search::{Here, Hop, Step, Visit, append, entered, is_residual, walk_back};
+use crate::search::{Here, Hop, Step, Visit, entered, is_residual, walk_back};
 use firm_net::{ArcId, ArcRow, Net, NodeId, Way};
 
 /// Visits a node, unless it was seen.
@@ -22,11 +22,11 @@ fn visit_once(seen: &mut [bool], visits: &mut Vec<Visit>, visit: Visit)
     requires counted { IsCounted seen.old visits.old.items (vec_capacity visits.old) }
     ensures seen { seen.new ≡ seen_with seen.old visit }
     ensures visits { visits.new.items ≡ visits_with seen.old visits.old.items visit }
-    ensures capacity { vec_capacity visits.old ≤ vec_capacity visits.new }
+    ensures capacity { vec_capacity visits.new ≡ vec_capacity visits.old }
 {
     if !seen[visit.place] {
         seen[visit.place] = true;
-        append(visits, visit);
+        visits.push_reserved(visit);
     }
 }
 
@@ -63,7 +63,7 @@ fn look(
     ensures grown { IsGrown seen.old visits.old.items seen.new visits.new.items }
     ensures counted { IsCounted seen.new visits.new.items (vec_capacity visits.new) }
     ensures spreads { Spreads net.now (slice_index prices.now) barred.now here step.way step.arc row seen.old visits.old.items seen.new visits.new.items }
-    ensures capacity { vec_capacity visits.old ≤ vec_capacity visits.new }
+    ensures capacity { vec_capacity visits.new ≡ vec_capacity visits.old }
 {
     if is_barred(barred, step.arc) || !is_residual(row, step.way) {
         return;
@@ -102,7 +102,7 @@ fn look_out(
     ensures grown { IsGrown seen.old visits.old.items seen.new visits.new.items }
     ensures counted { IsCounted seen.new visits.new.items (vec_capacity visits.new) }
     ensures spreads { SpreadsAll net.now (slice_index prices.now) barred.now here Forward seen.old visits.old.items seen.new visits.new.items }
-    ensures capacity { vec_capacity visits.old ≤ vec_capacity visits.new }
+    ensures capacity { vec_capacity visits.new ≡ vec_capacity visits.old }
 {
     for (arc, row) in net.out_arcs(node) {
         let way = Way::Forward;
@@ -135,7 +135,7 @@ fn look_in(
     ensures grown { IsGrown seen.old visits.old.items seen.new visits.new.items }
     ensures counted { IsCounted seen.new visits.new.items (vec_capacity visits.new) }
     ensures spreads { SpreadsAll net.now (slice_index prices.now) barred.now here Backward seen.old visits.old.items seen.new visits.new.items }
-    ensures capacity { vec_capacity visits.old ≤ vec_capacity visits.new }
+    ensures capacity { vec_capacity visits.new ≡ vec_capacity visits.old }
 {
     for (arc, row) in net.in_arcs(node) {
         let way = Way::Backward;
@@ -177,7 +177,7 @@ fn spread(
     ensures found { IfSome result (IsReachedBy net.now (slice_index prices.now) barred.now start.place goal visits.new.items) }
     ensures few { length visits.new.items ≤ capacity_of net.now.nodes }
     ensures none { IfNone result (IsSpent net.now (slice_index prices.now) barred.now start.place goal seen.new) }
-    ensures capacity { vec_capacity visits.old ≤ vec_capacity visits.new }
+    ensures capacity { vec_capacity visits.new ≡ vec_capacity visits.old }
 {
     clear(seen);
     visits.clear();
@@ -215,7 +215,7 @@ fn find_tight(
     requires capacity { (capacity_of net.now.nodes ≤ vec_capacity visits.old) × (capacity_of net.now.nodes ≤ vec_capacity steps.old) }
     ensures path { result ≡ true → IsTightPath net.now (slice_index prices.now) from.id.place to.id.place steps.new.items × Avoids barred.now steps.new.items }
     ensures none { result ≡ false → (inside : ℕ → Bool) × IsTightCut net.now (slice_index prices.now) barred.now from.id.place to.id.place inside }
-    ensures capacity { (vec_capacity visits.old ≤ vec_capacity visits.new) × (vec_capacity steps.old ≤ vec_capacity steps.new) }
+    ensures capacity { (vec_capacity visits.new ≡ vec_capacity visits.old) × (vec_capacity steps.new ≡ vec_capacity steps.old) }
 {
     let (Some(place), Some(goal)) = (net.place(from), net.place(to)) else {
         return false;

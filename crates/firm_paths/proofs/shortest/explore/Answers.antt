@@ -1,12 +1,11 @@
-use Rattle.std.proofs.Common.{◌≡◌, ◌≢◌, ℕ, ◌<◌, ◌≤◌, ◌+◌, ◌∙◌, Some, None, Option, List, [], ◌∷◌, ◌++◌, length, vec_len, arith, refl, sym, ap, subst, length-append}
-use Rattle.std.specs.Prelude.{slice_index, is_some, MatchOption}
+use Rattle.std.proofs.Common.{◌≡◌, ◌+◌, ◌∙◌, List, length, arith, refl, ap, subst, length-append}
+use Rattle.std.specs.Prelude.{slice_index}
 use Rattle.std.proofs.lemmas.List.{length-set}
-use Rattle.firm_net.specs.declared.row.NodeId.{NodeId}
-use Rattle.firm_paths.specs.Search.{known, settled, mark, label, IsReached, IsNearestBelow}
+use Rattle.firm_paths.specs.Search.{mark, label, IsNearestBelow}
 use Rattle.firm_paths.specs.declared.search.Mark.{Mark}
 use Rattle.firm_paths.specs.declared.search.Visit.{Visit}
 use Rattle.firm_paths.proofs.Listed.{node_listed}
-use Rattle.firm_paths.proofs.Rounds.{IsSearching, search_start, few_visits, search_reached, search_ended, round_room, round_settled, round_enough, round_done}
+use Rattle.firm_paths.proofs.Rounds.{search_start, few_visits, search_reached, search_ended, round_room, round_settled, round_enough, round_done}
 use Rattle.firm_paths.proofs.shortest.explore.Goals as goal
 
 pub loop-place-init : goal.loop-place-init
@@ -19,8 +18,8 @@ loop-place-init c = record {
   capacity = omega (arith, c.clear-2.ensures.capacity);
 }
 
-pub append-requires : goal.append-requires
-append-requires c =
+pub push_reserved-requires : goal.push_reserved-requires
+push_reserved-requires c =
     omega (
       arith,
       few_visits c.args.net.now (slice_index c.args.prices.now) c.args.start.place c.args.goal c.loop-place.marks c.loop-place.visits.items
@@ -36,7 +35,7 @@ returns-then-place-goal-clause-found c =
     let number : c.len-number.result ≡ length c.loop-place.visits.items = c.len-number.ensures ∙ c.loop-place.visits.ok.0 in
     let nearest : IsNearestBelow (slice_index c.args.prices.now) c.loop-place.marks (length c.loop-place.marks) c.args.goal =
     subst (IsNearestBelow (slice_index c.args.prices.now) c.loop-place.marks (length c.loop-place.marks)) c.if-place-goal.true c.in-Some.ensures in
-    rw (c.append.ensures.items, number)
+    rw (c.push_reserved.ensures.items, number)
     (search_reached c.args.net.now (slice_index c.args.prices.now) c.args.start.place c.args.goal c.loop-place.marks c.loop-place.visits.items
     (record { node = c.in_ok-node.node; place = c.in-Some.place; hop = (mark c.loop-place.marks c.in-Some.place).hop })
     (omega (arith, c.loop-place.invariant.length, c.requires.low.1)) c.loop-place.invariant.searching nearest c.if-place-goal.true
@@ -95,8 +94,8 @@ pub loop-place-smaller : goal.loop-place-smaller
 loop-place-smaller c =
     let few = few_visits c.args.net.now (slice_index c.args.prices.now) c.args.start.place c.args.goal c.loop-place.marks c.loop-place.visits.items
     (omega (arith, c.loop-place.invariant.length, c.requires.goal.0)) c.loop-place.invariant.searching in
-    let grown : length c.append.new.list.items ≡ length c.loop-place.visits.items + 1 =
-    ap (λ (z : List Visit). length z) c.append.ensures.items ∙ length-append c.loop-place.visits.items _ in
+    let grown : length c.push_reserved.new.self.items ≡ length c.loop-place.visits.items + 1 =
+    ap (λ (z : List Visit). length z) c.push_reserved.ensures.items ∙ length-append c.loop-place.visits.items _ in
     omega (arith, few, grown, c.look_in.ensures.lowers.length, c.look_out.ensures.lowers.length, length-set {A = Mark})
 
 pub loop-place-preserved : goal.loop-place-preserved
@@ -105,12 +104,12 @@ loop-place-preserved c =
     let number : c.len-number.result ≡ length c.loop-place.visits.items = c.len-number.ensures ∙ c.loop-place.visits.ok.0 in
     record {
       length = omega (arith, c.loop-place.invariant.length, c.look_in.ensures.lowers.length, c.look_out.ensures.lowers.length, length-set {A = Mark});
-      searching = rw c.append.ensures.items
+      searching = rw c.push_reserved.ensures.items
           (round_done c.args.net.now (slice_index c.args.prices.now) c.args.start.place c.args.goal c.loop-place.marks c.loop-place.visits.items c.in-Some.place
           x (record { place = c.in-Some.place; number = c.len-number.result })
           c.loop-place.invariant.searching c.in-Some.ensures refl refl refl number c.requires.valid c.look_out.new.marks c.look_in.new.marks c.if-place-goal.false
           c.look_out.ensures.lowers c.look_out.ensures.looks c.look_in.ensures.lowers c.look_in.ensures.looks);
-      capacity = omega (arith, c.loop-place.invariant.capacity, c.append.ensures.capacity);
+      capacity = omega (arith, c.loop-place.invariant.capacity, c.push_reserved.ensures.capacity);
     }
 
 pub returns-clause-none : goal.returns-clause-none

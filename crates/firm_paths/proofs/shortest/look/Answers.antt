@@ -1,7 +1,7 @@
-use Rattle.std.proofs.Common.{◌≡◌, ℕ, ◌<◌, ◌≤◌, ◌+◌, List, length, refl, sym, ap, ◌∙◌, arith, subst, Some}
+use Rattle.std.proofs.Common.{refl, sym, arith, subst}
 use Rattle.firm_net.specs.declared.row.Way.{Way}
-use Rattle.firm_net.specs.declared.row.Way.TheVariants.{Forward, Backward}
-use Rattle.firm_net.specs.Net.{IsNode, lists_at, IsResidual as IsOpen}
+use Rattle.firm_net.specs.declared.row.Way.TheVariants.{Backward}
+use Rattle.firm_net.specs.Net.{lists_at, IsResidual as IsOpen}
 use Rattle.firm_paths.specs.Search.{label, HasEnough}
 use Rattle.firm_paths.proofs.Labels.{offer_lowers}
 use Rattle.firm_paths.proofs.Looks.{look_step, place_value, Gives}

@@ -1,7 +1,6 @@
-use Rattle.std.proofs.Common.{◌∙◌, ◌≡◌, ℕ, Some, sym, subst}
-use Rattle.firm_net.specs.Net.{row_at}
+use Rattle.std.proofs.Common.{◌∙◌, ℕ, sym, subst}
 use Rattle.firm_net.specs.declared.row.Way.TheVariants.{Backward}
-use Rattle.firm_paths.specs.Search.{start_of, HasEnough}
+use Rattle.firm_paths.specs.Search.{HasEnough}
 use Rattle.firm_paths.proofs.Walks.{looking_start, looking_more, looking_done, cons_first}
 use Rattle.firm_paths.proofs.shortest.look_in.Goals as goal
 

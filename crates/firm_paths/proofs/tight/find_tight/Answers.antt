@@ -1,9 +1,8 @@
-use Rattle.std.proofs.Common.{◌≡◌, ℕ, List, subst, arith}
+use Rattle.std.proofs.Common.{◌≡◌, ℕ, List, subst}
 use Rattle.std.specs.Prelude.{slice_index}
 use Rattle.firm_net.specs.Net.{lists_at}
-use Rattle.firm_paths.specs.Paths.{IsTightPath, IsTightCut, Avoids}
+use Rattle.firm_paths.specs.Paths.{IsTightPath, IsTightCut}
 use Rattle.firm_paths.specs.Spread.{is}
-use Rattle.firm_paths.specs.Search.{visit}
 use Rattle.firm_paths.specs.Walk.{LeadsTo}
 use Rattle.firm_paths.specs.declared.search.Visit.{Visit}
 use Rattle.firm_paths.proofs.Looks.{place_value}

@@ -1,8 +1,7 @@
-use Rattle.std.proofs.Common.{◌≡◌, ℕ, ◌<◌, ◌+◌, ◌∙◌, Some, true, arith, refl, sym, ap, subst, length, inl, inr}
-use Rattle.std.specs.Prelude.{slice_index, Contains}
-use Rattle.firm_net.specs.Net.{IsNode, lists_at, IsResidual as IsOpen}
+use Rattle.std.proofs.Common.{◌≡◌, ℕ, ◌+◌, ◌∙◌, Some, true, arith, refl, sym, ap, subst, inr}
+use Rattle.std.specs.Prelude.{slice_index}
+use Rattle.firm_net.specs.Net.{lists_at, IsResidual as IsOpen}
 use Rattle.firm_net.specs.declared.row.Way.{Way}
-use Rattle.firm_net.specs.declared.row.Way.TheVariants.{Forward, Backward}
 use Rattle.firm_net.specs.declared.row.NodeId.{NodeId}
 use Rattle.firm_paths.specs.Search.{start_of, end_of, IsHop}
 use Rattle.firm_paths.specs.Spread.{is}

@@ -1,11 +1,11 @@
-use Rattle.std.proofs.Common.{◌≡◌, ℕ, ◌<◌, ◌≤◌, ◌∙◌, List, [], arith, refl, sym, ap, subst, length, vec_capacity}
+use Rattle.std.proofs.Common.{◌≡◌, ◌<◌, ◌∙◌, List, [], arith, refl, ap, length, vec_capacity}
 use Rattle.std.specs.Prelude.{slice_index}
 use Rattle.std.proofs.lemmas.List.{get_or_default}
 use Rattle.firm_paths.specs.Search.{visit}
-use Rattle.firm_paths.specs.Spread.{is, seen_with, visits_with, IsCounted, IsGrown}
+use Rattle.firm_paths.specs.Spread.{visits_with}
 use Rattle.firm_paths.specs.declared.search.Visit.{Visit}
 use Rattle.firm_paths.proofs.Listed.{node_listed}
-use Rattle.firm_paths.proofs.Spreading.{counted_start, visit_counted, visit_grown, out_start, out_more, out_done}
+use Rattle.firm_paths.proofs.Spreading.{counted_start, visit_counted, out_start, out_more, out_done}
 use Rattle.firm_paths.proofs.tight.spread.Goals as goal
 
 pub visit_once-requires-clause-counted : goal.visit_once-requires-clause-counted

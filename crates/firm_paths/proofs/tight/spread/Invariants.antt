@@ -1,4 +1,4 @@
-use Rattle.std.proofs.Common.{◌≡◌, ◌-◌, ◌≤◌, length, vec_capacity}
+use Rattle.std.proofs.Common.{◌≡◌, ◌-◌, length, vec_capacity}
 use Rattle.std.specs.Prelude.{slice_index}
 use Rattle.firm_arena.specs.Arena.{capacity_of}
 use Rattle.firm_paths.specs.Spread.{IsCounted}
@@ -9,7 +9,7 @@ abbrev pub invariant-loop-number : goal.invariant-loop-number
 invariant-loop-number l = record {
   length : length l.seen ≡ capacity_of l.net.nodes;
   counted : IsCounted l.seen l.visits.items (vec_capacity l.visits);
-  capacity : vec_capacity l.fn.visits ≤ vec_capacity l.visits;
+  capacity : vec_capacity l.visits ≡ vec_capacity l.fn.visits;
   out : IsSpreadOut l.net (slice_index l.prices) l.barred l.fn.start.place l.goal l.seen l.visits.items l.number;
 }
 

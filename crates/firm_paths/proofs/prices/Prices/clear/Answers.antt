@@ -1,4 +1,4 @@
-use Rattle.std.proofs.Common.{◌≡◌, ℕ, ◌∙◌, List, length, arith, ap}
+use Rattle.std.proofs.Common.{ℕ, ◌∙◌, List, length, arith, ap}
 use Rattle.std.specs.Prelude.{slice_index}
 use Rattle.std.proofs.lemmas.List.{with_items_is}
 use Rattle.firm_paths.proofs.prices.Prices.clear.Goals as goal
