@@ -1,19 +1,17 @@
 -- One line for the one tenant of a roster.
-use Rattle.std.proofs.Common.{◌≡◌, ℕ, List, [], ◌∷◌, ◌++◌, refl, sym, ap, subst, ◌∙◌, take, length, ◌≤◌, arith}
+use Rattle.std.proofs.Common.{◌≡◌, ℕ, List, [], ◌∷◌, refl, sym, ap, subst, ◌∙◌, take, length, ◌≤◌}
 use Rattle.std.specs.Prelude.{Bool, true, false, Option, Some, None, codes, bytes_eq, position, if◌then◌else◌}
 use Rattle.std.specs.Io.KnownBytes.{Appends}
 use Rattle.std.proofs.lemmas.Slice.Eq.{bytes_eq-Decides}
-use Rattle.std.proofs.KnownBytes.{Appends-nil}
 use Rattle.firm_rules.specs.Book.{Book}
 use Rattle.firm_rules.specs.Limits.{TenantLimits}
 use Rattle.firm_rules.specs.declared.commands.Command.{Command}
 use Rattle.firm_rules.specs.declared.replies.Reply.{Reply}
-use Rattle.firm_tenant.specs.Step.{step, is_memory}
+use Rattle.firm_tenant.specs.Step.{is_memory}
 use Rattle.firm_text.specs.Inputs.{command_to}
-use Rattle.firm_text.specs.Replies.{text_of_reply}
 use Rattle.firm_text.specs.Rosters.{Admitted, place_among}
 use Rattle.firm_text.specs.declared.inputs.Line.{Line}
-use Rattle.firm_text.specs.declared.inputs.Line.TheVariants.{Nothing, Long, Nameless, For}
+use Rattle.firm_text.specs.declared.inputs.Line.TheVariants.{For}
 use Rattle.firm.specs.Output.{ended, tenant_answer, is_refused_memory}
 use Rattle.firm.specs.Answer.{Answered, AnsweredCommand, IsOnlyTenant, PartlyAnswered, PartlyAnsweredCommand, answer_with, book_with, reply_with}
 

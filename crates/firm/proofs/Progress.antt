@@ -1,7 +1,7 @@
 -- What the service keeps from line to line.
-use Rattle.std.proofs.Common.{◌≡◌, ℕ, ◌+◌, ◌≤◌, List, [], ◌∷◌, ◌++◌, take, length, refl, sym, ap, subst, ◌∙◌, append_assoc, append-nil, arith}
-use Rattle.std.specs.Prelude.{Bool, true, false, ◌||◌, Option, Some, None, map, bytes_eq, if◌then◌else◌, option_map, option_and_then, nat_le, nat_lt}
-use Rattle.std.specs.List.{filter_map, cons_option}
+use Rattle.std.proofs.Common.{◌≡◌, ℕ, ◌+◌, List, [], ◌∷◌, ◌++◌, take, length, refl, sym, ap, subst, ◌∙◌, append_assoc, append-nil}
+use Rattle.std.specs.Prelude.{Bool, true, false, ◌||◌, Option, Some, None, map, bytes_eq, if◌then◌else◌, option_map}
+use Rattle.std.specs.List.{cons_option}
 use Rattle.std.specs.Io.KnownBytes.{Appends, Keeps}
 use Rattle.std.proofs.KnownBytes.{Appends-nil, Appends-trans, Appends-kept}
 use Rattle.std.proofs.lemmas.List.Elements.{filter_map-append}
@@ -10,15 +10,14 @@ use Rattle.std.proofs.Math.Seq.{take-append-add, take-length}
 use Rattle.firm_rules.specs.Book.{Book, opening_book}
 use Rattle.firm_rules.specs.Limits.{TenantLimits}
 use Rattle.firm_rules.specs.declared.commands.Command.{Command}
-use Rattle.firm_rules.specs.declared.replies.Reply.{Reply}
-use Rattle.firm_tenant.specs.Step.{step, is_memory}
+use Rattle.firm_tenant.specs.Step.{step}
 use Rattle.firm_tenant.specs.Alone.{alone_marked, book_after, replies_from}
 use Rattle.firm_text.specs.Inputs.{command_to, input_lines, line_of}
 use Rattle.firm_text.specs.Lines.{lines}
 use Rattle.firm_text.specs.Rosters.{Admitted}
 use Rattle.firm_text.specs.declared.inputs.Line.{Line}
 use Rattle.firm_text.specs.declared.inputs.Line.TheVariants.{Nothing, Long, Nameless, For}
-use Rattle.firm.specs.Output.{MarkedLine, marked_command_to, marked_commands_to, last_of, limits_in, last_reply, reply_in, answer_in, tenant_answer, output_behind, output_of, output, unmarked, has_mark, is_refused_memory, MarksRefusalsBehind, AreLinesOf}
+use Rattle.firm.specs.Output.{MarkedLine, marked_command_to, marked_commands_to, last_of, last_reply, reply_in, answer_in, tenant_answer, output_behind, output_of, output, unmarked, has_mark, is_refused_memory, MarksRefusalsBehind, AreLinesOf}
 use Rattle.firm.specs.Service.{Answers, BeginsAnswers}
 use Rattle.firm.specs.Answer.{Answered, IsOnlyTenant, PartlyAnswered, answer_with, book_with, reply_with}
 use Rattle.firm.proofs.Snoc.{last_of-last, replies_from-last, book_after-last, output_behind-append, MarksRefusals-append}

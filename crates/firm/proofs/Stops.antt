@@ -1,7 +1,7 @@
 -- How a service ends.
 use Rattle.std.proofs.Common.{◌≡◌, ℕ, ◌≤◌, List, [], ◌++◌, length, refl, sym, subst, append-nil, inl, inr, arith}
-use Rattle.std.specs.Prelude.{Bool, true, false, Option}
-use Rattle.std.specs.Io.KnownBytes.{Appends, Consumes, IsAtEnd, Keeps}
+use Rattle.std.specs.Prelude.{Bool, false, Option}
+use Rattle.std.specs.Io.KnownBytes.{Consumes, IsAtEnd, Keeps}
 use Rattle.firm_rules.specs.Limits.{TenantLimits}
 use Rattle.firm_text.specs.Rosters.{Admitted}
 use Rattle.firm.specs.Faults.{IsCause, IsReadingFault, IsWritingFault}
@@ -9,7 +9,7 @@ use Rattle.firm.specs.Service.{Answers, BeginsAnswers, Served, Stopped}
 use Rattle.firm.specs.Answer.{IsOnlyTenant}
 use Rattle.firm.specs.declared.serving.ServeFault.{ServeFault}
 use Rattle.firm.specs.declared.serving.ServeFault.TheVariants.{Read, Write, TooLong, Memory}
-use Rattle.firm.proofs.Progress.{nothing_written, all_written, answers_kept}
+use Rattle.firm.proofs.Progress.{nothing_written, answers_kept}
 
 -- the cause of a fault while nothing was written
 cause_reading : (fault : ServeFault) (input : List ℕ) (most : ℕ) (read_failed write_failed : Bool) → write_failed ≡ false
