@@ -31,7 +31,7 @@ module _ (R : RattleType) where
   abbrev pub addressable : ℕ → Fml
   addressable capacity = flt (capacity * type_size R) (2 ^ 63)
 
-  -- the right to give back the memory of so many places, to whichever handle of the heap gave it
+  -- the right to give back the memory of so many places, which is the same for each handle of the heap
   abbrev pub freeable : ℕ → Ptr → Fml
   freeable capacity start = fex Global (λ heap. ghosts.dealloc_token heap (raw (ty_array (lone R.mir) capacity)) start)
 
