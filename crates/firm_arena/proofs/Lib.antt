@@ -1,5 +1,6 @@
-pub mod Sharing
-pub mod Crossing
-pub mod Row
-pub mod Words
+pub mod Places
+pub mod Reach
+pub mod Parts
+pub mod Rows
+pub mod Heap
 pub mod SlotLemmas

@@ -7,4 +7,3 @@ pub mod SlotLends
 pub mod Block
 pub mod BlockLends
 pub mod Ownership
-pub mod CellLends

@@ -1,46 +1,52 @@
--- What the parts of a block own, and what a `&` to them reaches, for values of the row R.
-use Rattle.std.specs.Prelude.{ℕ, ◌+◌, ◌*◌, ◌^◌, List, [], ◌∷◌, length, Option, Some, None}
+-- What a block owns, and what a `&` to it reaches, for values of the row R.
+use Rattle.std.specs.Prelude.{ℕ, zero, suc, ◌+◌, ◌*◌, ◌^◌, List, Option, Some, None, slice_index_or}
 use Rattle.std.specs.Mem.{type_size}
+use Rattle.std.specs.Global.{Global}
+use Rattle.std.specs.contracts.impls.GlobalAllocator.TheImpl.{ghosts}
 use base.Fraction.{full_share}
-use base.Fml.{Lft, Fml, ftrue, ffalse, fsep, flt, froom}
-use mir.Syntax.{Ty, ty_array}
+use base.Fml.{Lft, Fml, ftrue, ffalse, fsep, fex, flt, froom}
+use mir.Syntax.{ty_array}
 use mir.Raw.{raw}
 use denote.RattleType.{RattleType}
 use denote.Memory.{lone, part_at, shared_of}
 use denote.Sharing.{nothing, said, beside}
 use denote.RawPtr.{Ptr, block_ptr, null_ptr}
 
+-- so many places from the first on, where this is said of each
+abbrev pub each_place : (ℕ → Fml) → ℕ → ℕ → Fml
+each_place says first zero = ftrue
+each_place says first (suc count) = fsep (says first) (each_place says (suc first) count)
+
 module _ (R : RattleType) where
-  -- a cell at this byte of the block: its value, or the room for one
-  abbrev pub cell : ℕ → ℕ → Option R.Denot → Fml
-  cell block byte None = froom (raw (lone R.mir)) block byte
-  cell block byte (Some x) = part_at R full_share x block byte
+  -- a place of the memory that begins at this byte: the room for a value, or the value
+  abbrev pub place_owns : ℕ → ℕ → ℕ → Option R.Denot → Fml
+  place_owns memory byte place None = froom (raw (lone R.mir)) memory (place * type_size R + byte)
+  place_owns memory byte place (Some value) = part_at R full_share value memory (place * type_size R + byte)
 
-  -- cells side by side, the first of them at this byte
-  abbrev pub row : ℕ → ℕ → List (Option R.Denot) → Fml
-  row block byte [] = ftrue
-  row block byte (c ∷ cs) = fsep (cell block byte c) (row block (byte + type_size R) cs)
+  abbrev pub place_lends : ℕ → ℕ → Lft → ℕ → Option R.Denot → Fml
+  place_lends memory byte κ place None = nothing κ
+  place_lends memory byte κ place (Some value) = shared_of R value memory (place * type_size R + byte) κ
 
-  abbrev pub cell_lent : ℕ → ℕ → Option R.Denot → Lft → Fml
-  cell_lent block byte None = nothing
-  cell_lent block byte (Some x) = shared_of R x block byte
+  -- so many places have fewer than 2 ^ 63 bytes
+  abbrev pub addressable : ℕ → Fml
+  addressable capacity = flt (capacity * type_size R) (2 ^ 63)
 
-  abbrev pub row_lent : ℕ → ℕ → List (Option R.Denot) → Lft → Fml
-  row_lent block byte [] = nothing
-  row_lent block byte (c ∷ cs) = beside (cell_lent block byte c) (row_lent block (byte + type_size R) cs)
+  -- the right to give back the memory of so many places, which is the same for each handle of the heap
+  abbrev pub freeable : ℕ → Ptr → Fml
+  freeable capacity start = fex Global (λ heap. ghosts.dealloc_token heap (raw (ty_array (lone R.mir) capacity)) start)
 
-  -- the row has fewer than 2 ^ 63 bytes
-  abbrev pub addressable : List (Option R.Denot) → Fml
-  addressable cs = flt (length cs * type_size R) (2 ^ 63)
+  abbrev pub row_owns : ℕ → ℕ → List (Option R.Denot) → ℕ → Fml
+  row_owns memory byte row place = place_owns memory byte place (slice_index_or row place None)
 
-  abbrev pub cells_own : Ptr → List (Option R.Denot) → Fml
-  cells_own null_ptr cs = ffalse
-  cells_own (block_ptr block byte) cs = fsep (addressable cs) (row block byte cs)
+  abbrev pub row_lends : ℕ → ℕ → List (Option R.Denot) → Lft → ℕ → Fml
+  row_lends memory byte row κ place = place_lends memory byte κ place (slice_index_or row place None)
 
-  abbrev pub cells_lent : Ptr → List (Option R.Denot) → Lft → Fml
-  cells_lent null_ptr cs = said ffalse
-  cells_lent (block_ptr block byte) cs = beside (said (addressable cs)) (row_lent block byte cs)
+  -- a block owns its places, and the right to give its memory back
+  abbrev pub block_owns : Ptr → ℕ → List (Option R.Denot) → Fml
+  block_owns null_ptr capacity row = ffalse
+  block_owns (block_ptr memory byte) capacity row =
+      fsep (addressable capacity) (fsep (each_place (row_owns memory byte row) 0 capacity) (freeable capacity (block_ptr memory byte)))
 
-  -- the allocator's token for a block of this many cells
-  abbrev pub deed_owns : (Ty → Ptr → Fml) → Ptr → ℕ → Fml
-  deed_owns token p count = token (raw (ty_array (lone R.mir) count)) p
+  abbrev pub block_lends : Ptr → ℕ → List (Option R.Denot) → Lft → Fml
+  block_lends null_ptr capacity row = said ffalse
+  block_lends (block_ptr memory byte) capacity row = beside (said (addressable capacity)) (λ κ. each_place (row_lends memory byte row κ) 0 capacity)

@@ -7,7 +7,6 @@ ghost use Rattle.firm_arena.specs.Arena.{find, len_of, capacity_of, id_under, va
 ghost use Rattle.firm_arena.specs.Steps.{Step, after};
 
 mod block;
-mod cells;
 mod slot;
 #[cfg(test)]
 mod tests;
@@ -39,6 +38,8 @@ pub enum Refused<T> {
 /// finds what this one holds under it, or nothing.
 pub struct Arena<T> {
     block: Block<Slot<T>>,
+    // Takes the block's memory back.
+    alloc: Global,
     // The places from here on were never written, so that the constructor writes none.
     used: u32,
     len: u32,
@@ -80,7 +81,8 @@ impl<T> Arena<T> {
         ensures map { IfOk result (λ arena. IsBoundedMap arena) }
     {
         Ok(Arena {
-            block: Block::new(alloc, capacity)?,
+            block: Block::new(&alloc, capacity)?,
+            alloc,
             used: 0,
             len: 0,
             first_free: None,
@@ -222,6 +224,7 @@ impl<T: Drop> Drop for Arena<T> {
     fn drop(self) {
         let Arena {
             mut block,
+            alloc,
             used,
             len: _,
             first_free: _,
@@ -230,6 +233,6 @@ impl<T: Drop> Drop for Arena<T> {
         for place in 0..used {
             let _ = block.read(place);
         }
-        block.free();
+        block.free(&alloc);
     }
 }
