@@ -1,5 +1,5 @@
 -- What a contract sees of an `Arena`: a map from ids to values of at most `capacity` entries, and a counter.
-use Rattle.std.specs.Prelude.{◌≡◌, ◌≢◌, ℕ, ◌+◌, ◌^◌, ◌<◌, ◌≤◌, ◌==◌, ◌↔◌, List, [], ◌∷◌, length, Option, Some, None, is_some, IsSome, count_by, slice_index_or, slice_set, replicate, Contains, refl, if◌then◌else◌}
+use Rattle.std.specs.Prelude.{◌≡◌, ◌≢◌, ℕ, ◌+◌, ◌^◌, ◌<◌, ◌≤◌, ◌==◌, ◌↔◌, List, [], ◌∷◌, map, length, Option, Some, None, is_some, IsSome, count_by, slice_index_or, slice_set, replicate, Contains, refl, if◌then◌else◌}
 use Rattle.std.specs.Coded.{Coded, code_by, coded×, coded_ℕ, coded_list, coded_option}
 use Rattle.firm_arena.specs.declared.Id.{Id}
 use Rattle.firm_arena.specs.declared.Refused.{Refused}
@@ -19,6 +19,15 @@ arena_code {X} code =
     (λ a. (a.held, a.counter))
     (λ p. record { held = p.0; counter = p.1 })
     (λ _. refl)
+
+-- the value in a slot changed, the stamp kept
+abbrev pub slot_changed : {X Y : Type 0} → (X → Y) → Option (ℕ × X) → Option (ℕ × Y)
+slot_changed f None = None
+slot_changed f (Some own) = Some (own.0, f own.1)
+
+-- every value of an arena changed
+abbrev pub changed_all : {X Y : Type 0} → Arena X → (X → Y) → Arena Y
+changed_all a f = record { held = map (slot_changed f) a.held; counter = a.counter }
 
 module _ {X : Type 0} where
   -- how many values fit
@@ -78,6 +87,11 @@ module _ {X : Type 0} where
   abbrev pub with_value : Arena X → Id → X → Arena X
   with_value a id value =
       record { held = slice_set a.held id.place (Some (id.stamp, value)); counter = a.counter }
+
+  -- the value at a place changed; a vacant place stays so
+  abbrev pub changed_at : Arena X → ℕ → (X → X) → Arena X
+  changed_at a place f =
+      record { held = slice_set a.held place (slot_changed f (held_at a place)); counter = a.counter }
 
   -- there is such a place, and it holds nothing
   pub record IsVacant (a : Arena X) (place : ℕ) : Type 0 where

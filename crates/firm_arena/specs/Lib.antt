@@ -1,6 +1,8 @@
 pub mod Arena
 pub mod Steps
 pub mod Laws
+pub mod Changes
+pub mod Sums
 pub mod Lends
 pub mod Slot
 pub mod SlotLends

@@ -15,7 +15,8 @@ use Rattle.firm_net.specs.declared.links.Neighbours.{Neighbours}
 use Rattle.firm_net.specs.declared.links.Link.{Link}
 use Rattle.firm_net.specs.declared.links.ArcList.{ArcList}
 use Rattle.firm_net.specs.declared.links.Node.{Node}
-use Rattle.firm_net.proofs.Arenas.{cond-true, cond-false, find-changed_at, same_place}
+use Rattle.std.proofs.lemmas.Bool.{cond-true, cond-false}
+use Rattle.firm_arena.specs.Changes.{find-changed_at, same_place}
 use Rattle.firm_net.proofs.Lists.{contains-here, contains-there, contains-nothing, contains-cases}
 
 abbrev pub opposite : Side → Side

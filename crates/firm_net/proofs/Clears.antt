@@ -2,11 +2,11 @@
 use Rattle.std.proofs.Common.{◌≡◌, ℕ, ◌+◌, ◌≤◌, ◌==◌, inl, inr, refl, sym, ap, ◌∙◌, arith, eq-eqb, ne_eqb, Option, None}
 use Rattle.std.proofs.lemmas.Bool.{cases_eq, cases_lt}
 use Rattle.std.proofs.lemmas.List.{get_or_past}
-use Rattle.firm_arena.specs.Arena.{Arena, held_at, capacity_of}
-use Rattle.firm_net.specs.Net.{changed_at, changed_all, slot_changed}
+use Rattle.firm_arena.specs.Arena.{Arena, held_at, capacity_of, changed_at, changed_all, slot_changed}
 use Rattle.firm_net.specs.Links.{cleared_link, IsClearedTo}
 use Rattle.firm_net.specs.declared.links.Link.{Link}
-use Rattle.firm_net.proofs.Arenas.{cond-true, cond-false, held_at-changed_at, held_at-changed_all, capacity_of-changed_at, capacity_of-changed_all, same_arenas}
+use Rattle.std.proofs.lemmas.Bool.{cond-true, cond-false}
+use Rattle.firm_arena.specs.Changes.{held_at-changed_at, held_at-changed_all, capacity_of-changed_at, capacity_of-changed_all, same_arenas}
 
 pub cleared-start : (old : Arena Link) → IsClearedTo old old 0
 cleared-start old = record { places = refl; same_counter = refl; cleared = λ p h. absurd (omega arith); same = λ p h. refl }

@@ -11,8 +11,10 @@ use Rattle.firm_net.specs.declared.links.Side.{Side}
 use Rattle.firm_net.specs.declared.links.Side.TheVariants.{Out, In}
 use Rattle.firm_net.specs.declared.links.Link.{Link}
 use Rattle.firm_net.specs.declared.links.Node.{Node}
-use Rattle.firm_net.proofs.Arenas.{cond-true, cond-false, find-held, find-changed_all}
-use Rattle.firm_net.proofs.Lists.{contains-nothing, contains-cases, cases_arc, same_arc-self, same_arc-other, next_in-append}
+use Rattle.std.proofs.lemmas.Bool.{cond-true, cond-false}
+use Rattle.firm_arena.specs.Changes.{find-held, find-changed_all}
+use Rattle.firm_net.proofs.Lists.{contains-nothing, contains-cases, next_in-append}
+use Rattle.firm_net.specs.Laws.{same_arc_or_not, same_arc_self, same_arc_other}
 use Rattle.firm_net.proofs.Relists.{shown-node}
 use Rattle.firm_net.proofs.Frames.{walk_rows-chain}
 use Rattle.firm_net.proofs.Shown.{shown_net, row-shown, node-there, listing-short}
@@ -33,14 +35,14 @@ chain-next : (side : Side) (links : Arena Link) (n : NodeId) (before from : Opti
     → next_in a ids ≡ arc_at links (neighbours_of side la).next
 chain-next side links n before from [] a la chain has found = absurd (contains-nothing a has)
 chain-next side links n before from (x ∷ rest) a la (lx, stands, chain) has found =
-    elim (cases_arc a x) [
+    elim (same_arc_or_not a x) [
       | inl same ↦
           let is : lx ≡ la = same_Some lx la (sym stands.found ∙ ap (λ (c : ArcId). find links c.id) (sym same) ∙ found) in
-          cond-true (same_arc a x) (first_of rest) (next_in a rest) (subst (λ (c : ArcId). same_arc a c ≡ true) same (same_arc-self a))
+          cond-true (same_arc a x) (first_of rest) (next_in a rest) (subst (λ (c : ArcId). same_arc a c ≡ true) same (same_arc_self a))
           ∙ sym (chain-first side links n (Some x.id.place) (neighbours_of side lx).next rest chain)
           ∙ ap (λ (l : Link). arc_at links (neighbours_of side l).next) is
       | inr other ↦
-          cond-false (same_arc a x) (first_of rest) (next_in a rest) (same_arc-other a x other)
+          cond-false (same_arc a x) (first_of rest) (next_in a rest) (same_arc_other a x other)
           ∙ elim (contains-cases x rest a has) [
             | inl is ↦ absurd (other (sym is))
             | inr later ↦ chain-next side links n (Some x.id.place) (neighbours_of side lx).next rest a la chain later found
@@ -62,8 +64,8 @@ first-none side links nodes old n was none =
     sym (ap (λ (o : Option Lists). first_of (listed_in side o)) (node-missing links nodes old n was none))
 
 listed-on : (side : Side) (net : Net) → IsNet net → IsListed side net
-listed-on Out net is = is.out
-listed-on In net is = is.into
+listed-on Out net is = is.outgoing
+listed-on In net is = is.incoming
 
 end-node : (side : Side) (net : Net) (a : ArcId) (row : Row) → IsNet net → row_at net a ≡ Some row → IsNode net (end_of side row)
 end-node Out net a row is found = is.tails a row found

@@ -2,10 +2,10 @@
 use Rattle.std.proofs.Common.{◌≡◌, ◌≢◌, ℕ, suc, ◌+◌, ◌<◌, ◌==◌, inl, inr, true, false, cond, List, [], ◌∷◌, length, length-set, Contains, refl, sym, ap, ap₂, ◌∙◌, subst, subst₂, eq-eqb, ne_eqb, Option, Some, None, option_map}
 use Rattle.std.proofs.lemmas.Bool.{cases_eq}
 use Rattle.std.proofs.lemmas.Option.{none-some}
-use Rattle.firm_arena.specs.Arena.{Arena, find, held_at, capacity_of, with_put, without}
+use Rattle.firm_arena.specs.Arena.{Arena, find, held_at, capacity_of, with_put, without, changed_at, changed_all, slot_changed}
 use Rattle.firm_arena.specs.declared.Id.{Id}
 use Rattle.firm_net.specs.Row.{Row}
-use Rattle.firm_net.specs.Net.{Lists, Net, side_list, end_of, changed_at, changed_all, slot_changed, row_at, rows_of, with_its_row}
+use Rattle.firm_net.specs.Net.{Lists, Net, side_list, end_of, row_at, rows_of, with_its_row}
 use Rattle.firm_net.specs.Links.{neighbours_of, list_of, empty_node, walk, walk_rows, arcs_in, lists_of, nodes_shown, IsChain, ShowsList, ShowsSlot, Shows}
 use Rattle.firm_net.specs.declared.row.NodeId.{NodeId}
 use Rattle.firm_net.specs.declared.row.ArcId.{ArcId}
@@ -13,7 +13,8 @@ use Rattle.firm_net.specs.declared.links.Side.{Side}
 use Rattle.firm_net.specs.declared.links.Side.TheVariants.{Out, In}
 use Rattle.firm_net.specs.declared.links.Link.{Link}
 use Rattle.firm_net.specs.declared.links.Node.{Node}
-use Rattle.firm_net.proofs.Arenas.{cond-true, cond-false, find-held, held-find, same_arenas, find-changed_at, find-changed_all, find-with_put, find-without, find-nothing, held_at-changed_all, held_at-with_put, held_at-without, capacity_of-changed_all, same_place}
+use Rattle.std.proofs.lemmas.Bool.{cond-true, cond-false}
+use Rattle.firm_arena.specs.Changes.{find-held, held-find, same_arenas, find-changed_at, find-changed_all, find-with_put, find-without, find-nothing, held_at-changed_all, held_at-with_put, held_at-without, capacity_of-changed_all, same_place}
 use Rattle.firm_net.proofs.Chains.{KeptSide, list-kept}
 use Rattle.firm_net.proofs.Relists.{places-apart}
 
@@ -127,9 +128,9 @@ shows-changed_all links nodes shown f around ends shows =
 -- a node without arcs is put at a vacant place
 pub shows-node : (links : Arena Link) (nodes : Arena Node) (shown : Arena Lists) (p : ℕ)
     → p < capacity_of nodes → Shows links nodes shown
-    → Shows links (with_put nodes p empty_node) (with_put shown p (record { out = []; into = [] }))
+    → Shows links (with_put nodes p empty_node) (with_put shown p (record { outgoing = []; incoming = [] }))
 shows-node links nodes shown p below shows =
-    let none : Lists = record { out = []; into = [] } in
+    let none : Lists = record { outgoing = []; incoming = [] } in
     record {
       places =
           length-set nodes.held p (Some (nodes.counter, empty_node)) ∙ shows.places
@@ -221,7 +222,7 @@ slot-walks links q (Some node) (Some shown) (stamps, lists) =
     λ s. ap (λ (k : ℕ). walk s links k (list_of s node.1).first) (lists s).count
     ∙ walk-chain s links m None (list_of s node.1).first (side_list s shown.1) (lists s).chain in
     let both : lists_of links node.1 ≡ shown.1 =
-    ap₂ (λ (o i : List ArcId). let made : Lists = record { out = o; into = i } in made) (one Out) (one In) in
+    ap₂ (λ (o i : List ArcId). let made : Lists = record { outgoing = o; incoming = i } in made) (one Out) (one In) in
     ap₂ (λ (t : ℕ) (l : Lists). let made : Option (ℕ × Lists) = Some (t, l) in made) stamps both
 
 -- the lists that are shown are those that the links name

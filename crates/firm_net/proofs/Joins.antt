@@ -1,10 +1,10 @@
 -- The chain of a list that an arc joins at its front, and of one that an arc leaves.
 use Rattle.std.proofs.Common.{◌≡◌, ◌≢◌, ℕ, ◌⊎◌, inl, inr, List, [], ◌∷◌, Contains, refl, sym, ap, ◌∙◌, subst, subst₂, arith, Option, Some, None}
 use Rattle.std.proofs.lemmas.Option.{none-some, same_Some}
-use Rattle.firm_arena.specs.Arena.{Arena, find}
+use Rattle.firm_arena.specs.Arena.{Arena, find, changed_at}
 use Rattle.firm_arena.specs.declared.Id.{Id}
 use Rattle.firm_net.specs.Row.{Row}
-use Rattle.firm_net.specs.Net.{Lists, side_list, end_of, changed_at, EachOnce, without_arc, listed_first, unlisted}
+use Rattle.firm_net.specs.Net.{Lists, side_list, end_of, EachOnce, without_arc, linked_at_front, unlinked}
 use Rattle.firm_net.specs.Links.{neighbours_of, with_neighbours, with_next, with_previous, list_of, with_arc_list, at_option, list_from, list_past, first_past, links_from, links_past, IsChain, ShowsList, Shows}
 use Rattle.firm_net.specs.declared.row.NodeId.{NodeId}
 use Rattle.firm_net.specs.declared.row.ArcId.{ArcId}
@@ -13,8 +13,9 @@ use Rattle.firm_net.specs.declared.links.Neighbours.{Neighbours}
 use Rattle.firm_net.specs.declared.links.Link.{Link}
 use Rattle.firm_net.specs.declared.links.ArcList.{ArcList}
 use Rattle.firm_net.specs.declared.links.Node.{Node}
-use Rattle.firm_net.proofs.Arenas.{same_place}
-use Rattle.firm_net.proofs.Lists.{contains-here, contains-there, contains-nothing, contains-cases, cases_arc, without_arc-first, without_arc-other, length-without}
+use Rattle.firm_arena.specs.Changes.{same_place}
+use Rattle.firm_net.proofs.Lists.{contains-here, contains-there, contains-nothing, contains-cases, without_arc-first, without_arc-other, length-without}
+use Rattle.firm_net.specs.Laws.{same_arc_or_not}
 use Rattle.firm_net.proofs.Chains.{neighbours-with_same, row-with_neighbours, chain-kept, chain-found, first-of, find-at_option_other, find-at_option_same, touches-next, touches-previous, touches-neighbours}
 use Rattle.firm_net.proofs.Relists.{places-apart, some-apart, shown-node, relisted}
 
@@ -100,7 +101,7 @@ pub shows-listed : (side : Side) (n : NodeId) (links : Arena Link) (nodes : Aren
     → ((lists : Lists) → find shown n.id ≡ Some lists → Contains (side_list side lists) a → ⊥)
     → Shows (links_from side a.id.place (list_of side node).first links)
     (changed_at nodes n.id.place (with_arc_list side (list_from a.id.place (list_of side node))))
-    (listed_first side a n shown)
+    (linked_at_front side a n shown)
 shows-listed side n links nodes shown node a la shows there found end once absent =
     let own = shown-node links nodes shown n node shows there in
     let chain : IsChain side links n None (list_of side node).first (side_list side own.0) = (own.2 side).chain in
@@ -120,7 +121,7 @@ before-of : (side : Side) (links : Arena Link) (n : NodeId) (before from : Optio
     ⊎ ((z : ArcId) × Contains ids z × ((neighbours_of side la).previous ≡ Some z.id.place) × (from ≢ Some a.id.place))
 before-of side links n before from [] a la chain has found = absurd (contains-nothing a has)
 before-of side links n before from (x ∷ rest) a la (lx, stands, chain) has found =
-    elim (cases_arc x a) [
+    elim (same_arc_or_not x a) [
       | inl same ↦
           let e : lx ≡ la =
           same_Some lx la (sym stands.found ∙ ap (λ (c : ArcId). find links c.id) same ∙ found) in
@@ -154,7 +155,7 @@ behind-of : (side : Side) (links : Arena Link) (n : NodeId) (before from : Optio
     → (p : ℕ) → (neighbours_of side la).next ≡ Some p → (z : ArcId) × Contains ids z × (z.id.place ≡ p)
 behind-of side links n before from [] a la once chain has found p e = absurd (contains-nothing a has)
 behind-of side links n before from (x ∷ rest) a la once (lx, stands, chain) has found p e =
-    elim (cases_arc x a) [
+    elim (same_arc_or_not x a) [
       | inl same ↦
           let is : lx ≡ la =
           same_Some lx la (sym stands.found ∙ ap (λ (c : ArcId). find links c.id) same ∙ found) in
@@ -228,7 +229,7 @@ left : (side : Side) (links : Arena Link) (n : NodeId) (before from : Option ℕ
     × (from ≢ Some a.id.place → IsChain side (links_past side (neighbours_of side la) links) n before from (without_arc a ids))
 left side links n before from [] a la once apart chain has found = absurd (contains-nothing a has)
 left side links n before from (x ∷ rest) a la once apart (lx, stands, chain) has found =
-    elim (cases_arc a x) [
+    elim (same_arc_or_not a x) [
       | inl same ↦
           let is : lx ≡ la =
           same_Some lx la (sym stands.found ∙ ap (λ (c : ArcId). find links c.id) (sym same) ∙ found) in
@@ -317,13 +318,13 @@ list-left side links n list ids a la once has found shows =
     }
 
 -- an arc of this node's list is listed no more
-pub shows-unlisted : (side : Side) (n : NodeId) (links : Arena Link) (nodes : Arena Node) (shown : Arena Lists) (node : Node) (a : ArcId) (la : Link)
+pub shows-unlinked : (side : Side) (n : NodeId) (links : Arena Link) (nodes : Arena Node) (shown : Arena Lists) (node : Node) (a : ArcId) (la : Link)
     → Shows links nodes shown → find nodes n.id ≡ Some node → find links a.id ≡ Some la
     → ((lists : Lists) → find shown n.id ≡ Some lists → EachOnce (side_list side lists) × Contains (side_list side lists) a)
     → Shows (links_past side (neighbours_of side la) links)
     (changed_at nodes n.id.place (with_arc_list side (list_past (neighbours_of side la) (list_of side node))))
-    (unlisted side a n shown)
-shows-unlisted side n links nodes shown node a la shows there found listed =
+    (unlinked side a n shown)
+shows-unlinked side n links nodes shown node a la shows there found listed =
     let own = shown-node links nodes shown n node shows there in
     let chain : IsChain side links n None (list_of side node).first (side_list side own.0) = (own.2 side).chain in
     let around : Neighbours = neighbours_of side la in

@@ -1,4 +1,3 @@
-pub mod Arenas
 pub mod Lists
 pub mod Chains
 pub mod Relists
@@ -11,5 +10,6 @@ pub mod Moves
 pub mod Rewrites
 pub mod Clears
 pub mod Facts
+pub mod Edits
 pub mod Results
 pub mod Cursors

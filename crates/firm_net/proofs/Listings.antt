@@ -2,15 +2,16 @@
 use Rattle.std.proofs.Common.{◌≡◌, ◌≢◌, ℕ, ◌<◌, ◌==◌, ◌⊎◌, inl, inr, true, false, cond, List, ◌∷◌, Contains, refl, sym, ap, ap₂, ◌∙◌, subst, Option, Some, None, option_map}
 use Rattle.std.proofs.lemmas.Bool.{cases_eq}
 use Rattle.std.proofs.lemmas.Option.{none-some, same_Some}
-use Rattle.firm_arena.specs.Arena.{Arena, find, held_at, capacity_of, with_put, without}
+use Rattle.firm_arena.specs.Arena.{Arena, find, held_at, capacity_of, with_put, without, changed_at}
 use Rattle.firm_arena.specs.declared.Id.{Id}
 use Rattle.firm_net.specs.Row.{Row}
-use Rattle.firm_net.specs.Net.{Lists, Net, IsListed, listed_in, end_of, changed_at, with_list, EachOnce, without_arc, listed_first, unlisted}
+use Rattle.firm_net.specs.Net.{Lists, Net, IsListed, listed_in, end_of, with_list, EachOnce, without_arc, linked_at_front, unlinked}
 use Rattle.firm_net.specs.declared.row.NodeId.{NodeId}
 use Rattle.firm_net.specs.declared.row.ArcId.{ArcId}
 use Rattle.firm_net.specs.declared.links.Side.{Side}
-use Rattle.firm_net.proofs.Arenas.{find-changed_at, find-nothing, find-changed_own, find-changed_other, find-without_own, find-without_other, find-put_other}
-use Rattle.firm_net.proofs.Lists.{contains-here, contains-there, contains-cases, cases_arc, contains-without, without-contains, once-without}
+use Rattle.firm_arena.specs.Changes.{find-changed_at, find-nothing, find-changed_own, find-changed_other, find-without_own, find-without_other, find-put_other}
+use Rattle.firm_net.proofs.Lists.{contains-here, contains-there, contains-cases, contains-without, without-contains, once-without}
+use Rattle.firm_net.specs.Laws.{same_arc_or_not}
 use Rattle.firm_net.proofs.Chains.{opposite, side_list-with_same, side_list-with_opposite}
 
 -- the list of a node on one side
@@ -131,7 +132,7 @@ listing-put side nodes arcs a row below vacant stamp listed =
 -- the arc that was in no list is listed first at its end
 pub listing-listed : (side : Side) (nodes : Arena Lists) (arcs : Arena Row) (a : ArcId) (row : Row) (lists : Lists)
     → find arcs a.id ≡ Some row → find nodes (end_of side row).id ≡ Some lists
-    → Listing side nodes arcs (only a) → Listing side (listed_first side a (end_of side row) nodes) arcs nothing
+    → Listing side nodes arcs (only a) → Listing side (linked_at_front side a (end_of side row) nodes) arcs nothing
 listing-listed side nodes arcs a row lists found there listed =
     let n : NodeId = end_of side row in
     let f : List ArcId → List ArcId = λ ids. a ∷ ids in
@@ -163,7 +164,7 @@ listing-listed side nodes arcs a row lists found there listed =
         ],
       );
       all = λ b r _ found_b.
-          elim (cases_arc b a) [
+          elim (same_arc_or_not b a) [
             | inl is ↦
                 let same : r ≡ row = same_Some r row (sym found_b ∙ ap (λ (c : ArcId). find arcs c.id) is ∙ found) in
                 subst (λ (k : Row). Contains (listing side (changed_at nodes n.id.place (with_list side f)) (end_of side k)) b) (sym same)
@@ -183,10 +184,10 @@ listing-listed side nodes arcs a row lists found there listed =
     }
 
 -- an arc is listed no more at its end
-pub listing-unlisted : (side : Side) (nodes : Arena Lists) (arcs : Arena Row) (a : ArcId) (row : Row) (lists : Lists)
+pub listing-unlinked : (side : Side) (nodes : Arena Lists) (arcs : Arena Row) (a : ArcId) (row : Row) (lists : Lists)
     → find arcs a.id ≡ Some row → find nodes (end_of side row).id ≡ Some lists
-    → Listing side nodes arcs nothing → Listing side (unlisted side a (end_of side row) nodes) arcs (only a)
-listing-unlisted side nodes arcs a row lists found there listed =
+    → Listing side nodes arcs nothing → Listing side (unlinked side a (end_of side row) nodes) arcs (only a)
+listing-unlinked side nodes arcs a row lists found there listed =
     let n : NodeId = end_of side row in
     record {
       once = λ m.

@@ -4,7 +4,8 @@ use Rattle.std.proofs.lemmas.List.Elements.{Contains-append_right}
 use Rattle.std.proofs.lemmas.Bool.{cases_eq, and_from, and_left, and_right}
 use Rattle.firm_net.specs.declared.row.ArcId.{ArcId}
 use Rattle.firm_net.specs.Net.{EachOnce, same_arc, without_arc, first_of, next_in}
-use Rattle.firm_net.proofs.Arenas.{cond-true, cond-false}
+use Rattle.firm_net.specs.Laws.{same_arc_or_not, same_arc_self, same_arc_other}
+use Rattle.std.proofs.lemmas.Bool.{cond-true, cond-false}
 
 pub contains-here : (a : ArcId) (rest : List ArcId) → Contains (a ∷ rest) a
 contains-here a rest = (0, omega arith, refl)
@@ -19,47 +20,20 @@ pub contains-cases : (b : ArcId) (rest : List ArcId) (a : ArcId) → Contains (b
 contains-cases b rest a (zero, below, is) = inl is
 contains-cases b rest a (suc k, below, is) = inr (k, omega arith, is)
 
--- two ids are one, or differ
-pub cases_arc : (a b : ArcId) → (a ≡ b) ⊎ (a ≢ b)
-cases_arc a b =
-    elim (cases_eq a.id.place b.id.place) [
-      | inl places ↦
-          elim (cases_eq a.id.stamp b.id.stamp) [
-            | inl stamps ↦ inl (ap₂ (λ (p s : ℕ). let made : ArcId = record { id = record { place = p; stamp = s } } in made) places stamps)
-            | inr other ↦ inr (λ e. other (ap (λ (c : ArcId). c.id.stamp) e))
-          ]
-      | inr other ↦ inr (λ e. other (ap (λ (c : ArcId). c.id.place) e))
-    ]
-
-pub same_arc-self : (a : ArcId) → same_arc a a ≡ true
-same_arc-self a =
-    and_from (a.id.place == a.id.place) (a.id.stamp == a.id.stamp) (eq-eqb a.id.place a.id.place refl) (eq-eqb a.id.stamp a.id.stamp refl)
-
-pub same_arc-other : (a b : ArcId) → a ≢ b → same_arc a b ≡ false
-same_arc-other a b other =
-    elim (cases_eq a.id.place b.id.place) [
-      | inl places ↦
-          elim (cases_eq a.id.stamp b.id.stamp) [
-            | inl stamps ↦ absurd (other (ap₂ (λ (p s : ℕ). let made : ArcId = record { id = record { place = p; stamp = s } } in made) places stamps))
-            | inr differ ↦ and_right (a.id.place == b.id.place) (a.id.stamp == b.id.stamp) (ne_eqb a.id.stamp b.id.stamp differ)
-          ]
-      | inr differ ↦ and_left (a.id.place == b.id.place) (a.id.stamp == b.id.stamp) (ne_eqb a.id.place b.id.place differ)
-    ]
-
 -- a list that does not begin with the arc keeps its first without it
 pub without_arc-other : (a b : ArcId) (rest : List ArcId) → a ≢ b → without_arc a (b ∷ rest) ≡ b ∷ without_arc a rest
 without_arc-other a b rest other =
-    cond-true (not (same_arc a b)) (b ∷ without_arc a rest) (without_arc a rest) (ap not (same_arc-other a b other))
+    cond-true (not (same_arc a b)) (b ∷ without_arc a rest) (without_arc a rest) (ap not (same_arc_other a b other))
 
 pub without_arc-skips : (a : ArcId) (rest : List ArcId) → without_arc a (a ∷ rest) ≡ without_arc a rest
 without_arc-skips a rest =
-    cond-false (not (same_arc a a)) (a ∷ without_arc a rest) (without_arc a rest) (ap not (same_arc-self a))
+    cond-false (not (same_arc a a)) (a ∷ without_arc a rest) (without_arc a rest) (ap not (same_arc_self a))
 
 -- a list without an arc that it has not is the list
 pub without_arc-absent : (a : ArcId) (ids : List ArcId) → (Contains ids a → ⊥) → without_arc a ids ≡ ids
 without_arc-absent a [] absent = refl
 without_arc-absent a (b ∷ rest) absent =
-    elim (cases_arc a b) [
+    elim (same_arc_or_not a b) [
       | inl same ↦ absurd (absent (subst (λ (c : ArcId). Contains (b ∷ rest) c) (sym same) (contains-here b rest)))
       | inr other ↦
           without_arc-other a b rest other
@@ -74,7 +48,7 @@ without_arc-first a rest absent = without_arc-skips a rest ∙ without_arc-absen
 pub contains-without : (a : ArcId) (ids : List ArcId) (b : ArcId) → Contains (without_arc a ids) b → (a ≢ b) × Contains ids b
 contains-without a [] b h = absurd (contains-nothing b h)
 contains-without a (c ∷ rest) b h =
-    elim (cases_arc a c) [
+    elim (same_arc_or_not a c) [
       | inl same ↦
           let shorter : without_arc a (c ∷ rest) ≡ without_arc a rest =
           subst (λ (d : ArcId). without_arc a (d ∷ rest) ≡ without_arc a rest) same (without_arc-skips a rest) in
@@ -94,7 +68,7 @@ contains-without a (c ∷ rest) b h =
 pub without-contains : (a : ArcId) (ids : List ArcId) (b : ArcId) → a ≢ b → Contains ids b → Contains (without_arc a ids) b
 without-contains a [] b other h = absurd (contains-nothing b h)
 without-contains a (c ∷ rest) b other h =
-    elim (cases_arc a c) [
+    elim (same_arc_or_not a c) [
       | inl same ↦
           let shorter : without_arc a (c ∷ rest) ≡ without_arc a rest =
           subst (λ (d : ArcId). without_arc a (d ∷ rest) ≡ without_arc a rest) same (without_arc-skips a rest) in
@@ -113,7 +87,7 @@ without-contains a (c ∷ rest) b other h =
 pub once-without : (a : ArcId) (ids : List ArcId) → EachOnce ids → EachOnce (without_arc a ids)
 once-without a [] once = tt
 once-without a (c ∷ rest) once =
-    elim (cases_arc a c) [
+    elim (same_arc_or_not a c) [
       | inl same ↦
           let shorter : without_arc a (c ∷ rest) ≡ without_arc a rest =
           subst (λ (d : ArcId). without_arc a (d ∷ rest) ≡ without_arc a rest) same (without_arc-skips a rest) in
@@ -127,7 +101,7 @@ once-without a (c ∷ rest) once =
 pub length-without : (a : ArcId) (ids : List ArcId) → EachOnce ids → Contains ids a → length (without_arc a ids) + 1 ≡ length ids
 length-without a [] once h = absurd (contains-nothing a h)
 length-without a (c ∷ rest) once h =
-    elim (cases_arc a c) [
+    elim (same_arc_or_not a c) [
       | inl same ↦
           let shorter : without_arc a (c ∷ rest) ≡ rest =
           subst (λ (d : ArcId). without_arc a (d ∷ rest) ≡ without_arc a rest) same (without_arc-skips a rest)
@@ -144,13 +118,13 @@ length-without a (c ∷ rest) once h =
 -- the arc behind one that stands once in a list
 pub next_in-append : (a : ArcId) (before rest : List ArcId) → EachOnce (before ++ a ∷ rest)
     → next_in a (before ++ a ∷ rest) ≡ first_of rest
-next_in-append a [] rest once = cond-true (same_arc a a) (first_of rest) (next_in a rest) (same_arc-self a)
+next_in-append a [] rest once = cond-true (same_arc a a) (first_of rest) (next_in a rest) (same_arc_self a)
 next_in-append a (b ∷ before) rest once =
-    elim (cases_arc a b) [
+    elim (same_arc_or_not a b) [
       | inl same ↦
           absurd (once.0 (subst (λ (c : ArcId). Contains (before ++ a ∷ rest) c) same
           (Contains-append_right before (a ∷ rest) a (contains-here a rest))))
       | inr other ↦
-          cond-false (same_arc a b) (first_of (before ++ a ∷ rest)) (next_in a (before ++ a ∷ rest)) (same_arc-other a b other)
+          cond-false (same_arc a b) (first_of (before ++ a ∷ rest)) (next_in a (before ++ a ∷ rest)) (same_arc_other a b other)
           ∙ next_in-append a before rest once.1
     ]

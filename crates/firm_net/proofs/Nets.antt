@@ -1,156 +1,19 @@
 -- What every net keeps, through each change.
-use Rattle.std.proofs.Common.{◌≡◌, ◌≢◌, ℕ, ◌<◌, ◌≤◌, ◌==◌, ◌⊎◌, inl, inr, Bool, true, false, cond, List, [], ◌∷◌, Contains, refl, sym, ap, ap₂, ◌∙◌, subst, arith, Option, Some, None, option_map, IsSome, replicate, length-set, get_or}
-use Rattle.std.proofs.lemmas.Bool.{cases_eq, cases_lt}
+use Rattle.std.proofs.Common.{◌≡◌, ◌≢◌, ℕ, ◌+◌, ◌^◌, ◌<◌, ◌≤◌, ◌==◌, ◌⊎◌, inl, inr, Bool, true, false, cond, List, [], ◌∷◌, Contains, refl, sym, ap, ap₂, ◌∙◌, subst, arith, Option, Some, None, option_map, IsSome, length-set}
+use Rattle.std.proofs.lemmas.Bool.{cases_eq}
 use Rattle.std.proofs.lemmas.Option.{none-some, same_Some}
-use Rattle.std.proofs.lemmas.List.{get_or-replicate, get_or_past, length-replicate}
-use Rattle.firm_arena.specs.Arena.{Arena, find, held_at, capacity_of, with_put, without, vacant}
+use Rattle.std.proofs.lemmas.List.{length-replicate}
+use Rattle.firm_arena.specs.Arena.{Arena, find, held_at, capacity_of, with_put, without, vacant, changed_at, changed_all, IsBoundedMap}
 use Rattle.firm_arena.specs.declared.Id.{Id}
 use Rattle.firm_net.specs.Row.{Row, IsRow}
-use Rattle.firm_net.specs.Net.{Lists, Net, IsNet, IsNode, out_list, in_list, end_of, changed_at, changed_all, with_list, listed_in, EachOnce, without_arc, listed_first, unlisted, empty_net, with_node, without_node, with_arc, without_row, with_row, with_head, without_flow}
+use Rattle.firm_net.specs.Net.{Lists, Net, IsNet, IsNode, out_list, in_list, end_of, with_list, listed_in, EachOnce, without_arc, linked_at_front, unlinked, empty_net, with_node, without_node, with_arc, without_row, with_row, with_head, without_flow}
 use Rattle.firm_net.specs.declared.row.NodeId.{NodeId}
 use Rattle.firm_net.specs.declared.row.ArcId.{ArcId}
 use Rattle.firm_net.specs.declared.links.Side.{Side}
 use Rattle.firm_net.specs.declared.links.Side.TheVariants.{Out, In}
-use Rattle.firm_net.proofs.Arenas.{is-some, not-some, find-changed_at, find-changed_all, find-without, find-nothing, find-changed_own, find-changed_other, find-without_own, find-without_other, find-put_own, find-put_other, capacity_of-changed_at, capacity_of-changed_all}
+use Rattle.firm_arena.specs.Changes.{found-before, found-after, bounded-changed_at, bounded-changed_all, bounded-without, bounded-put, bounded-vacant, find-vacant, is-some, not-some, find-changed_at, find-changed_all, find-without, find-nothing, find-changed_own, find-changed_other, find-without_own, find-without_other, find-put_own, find-put_other, capacity_of-changed_at, capacity_of-changed_all}
 use Rattle.firm_net.proofs.Lists.{contains-nothing}
-use Rattle.firm_net.proofs.Listings.{Listing, listing, nothing, only, listing-of, listed-of, listing-same, listing-beside, listing-put, listing-listed, listing-unlisted, listing-taken, listing-rewritten, listing-kept}
-
-module _ {X : Type 0} where
-  -- ids stand at different places within the arena, under stamps below the counter
-  pub record IsPlaced (a : Arena X) : Type 0 where
-    pub within : (id : Id) → IsSome (find a id) → id.place < capacity_of a
-    pub apart : (one other : Id) → IsSome (find a one) → IsSome (find a other) → one.place ≡ other.place → one ≡ other
-    pub stamps : (id : Id) → IsSome (find a id) → id.stamp < a.counter
-
-  option-before : (o : Option X) (b : Bool) (f : X → X) → IsSome (cond b (option_map f o) o) → IsSome o
-  option-before None true f h = h
-  option-before None false f h = h
-  option-before (Some v) b f h = refl
-
-  -- what a changed value's id found before
-  pub found-before : (a : Arena X) (p : ℕ) (f : X → X) (id : Id) → IsSome (find (changed_at a p f) id) → IsSome (find a id)
-  found-before a p f id h =
-      option-before (find a id) (id.place == p) f (subst (λ (o : Option X). IsSome o) (find-changed_at a p f id) h)
-
-  option-after : (o : Option X) (b : Bool) (f : X → X) → IsSome o → IsSome (cond b (option_map f o) o)
-  option-after None b f h = absurd (not-some {X = X} None refl h)
-  option-after (Some v) true f h = refl
-  option-after (Some v) false f h = refl
-
-  pub found-after : (a : Arena X) (p : ℕ) (f : X → X) (id : Id) → IsSome (find a id) → IsSome (find (changed_at a p f) id)
-  found-after a p f id h =
-      subst (λ (o : Option X). IsSome o) (sym (find-changed_at a p f id)) (option-after (find a id) (id.place == p) f h)
-
-  pub placed-changed_at : (a : Arena X) (p : ℕ) (f : X → X) → IsPlaced a → IsPlaced (changed_at a p f)
-  placed-changed_at a p f placed =
-      record {
-        within = λ id h. subst (λ (k : ℕ). id.place < k) (sym (capacity_of-changed_at a p f)) (placed.within id (found-before a p f id h));
-        apart = λ one other h k e. placed.apart one other (found-before a p f one h) (found-before a p f other k) e;
-        stamps = λ id h. placed.stamps id (found-before a p f id h);
-      }
-
-  none-before : (o : Option X) (b : Bool) → IsSome (cond b None o) → IsSome o
-  none-before o true h = absurd (not-some {X = X} None refl h)
-  none-before o false h = h
-
-  pub placed-without : (a : Arena X) (p : ℕ) → IsPlaced a → IsPlaced (without a p)
-  placed-without a p placed =
-      let before : (id : Id) → IsSome (find (without a p) id) → IsSome (find a id) =
-      λ id h. none-before (find a id) (id.place == p) (subst (λ (o : Option X). IsSome o) (find-without a p id) h) in
-      record {
-        within = λ id h. subst (λ (k : ℕ). id.place < k) (sym (length-set a.held p None)) (placed.within id (before id h));
-        apart = λ one other h k e. placed.apart one other (before one h) (before other k) e;
-        stamps = λ id h. placed.stamps id (before id h);
-      }
-
-  put-cases : (a : Arena X) (id : Id) (v : X) → id.place < capacity_of a → held_at a id.place ≡ None → id.stamp ≡ a.counter
-      → (other : Id) → IsSome (find (with_put a id.place v) other) → (other ≡ id) ⊎ ((other.place ≢ id.place) × IsSome (find a other))
-  put-cases a id v below free stamp other h =
-      elim (cases_eq other.place id.place) [
-        | inr elsewhere ↦
-            inr (
-              elsewhere,
-              subst (λ (o : Option X). IsSome o)
-                  (find-put_other a id other v below free stamp (λ e. elsewhere (ap (λ (i : Id). i.place) e))) h,
-            )
-        | inl places ↦
-            elim (cases_eq other.stamp id.stamp) [
-              | inl stamps ↦ inl (ap₂ (λ (p s : ℕ). let made : Id = record { place = p; stamp = s } in made) places stamps)
-              | inr differ ↦
-                  let other_id : other ≢ id = λ e. differ (ap (λ (i : Id). i.stamp) e) in
-                  let is_none : find (with_put a id.place v) other ≡ None =
-                  find-put_other a id other v below free stamp other_id
-                  ∙ find-nothing a other (ap (λ (k : ℕ). held_at a k) places ∙ free) in
-                  absurd (not-some (find (with_put a id.place v) other) is_none h)
-            ]
-      ]
-
-  pub placed-put : (a : Arena X) (id : Id) (v : X) → id.place < capacity_of a → held_at a id.place ≡ None → id.stamp ≡ a.counter
-      → IsPlaced a → IsPlaced (with_put a id.place v)
-  placed-put a id v below free stamp placed =
-      let cases : (other : Id) → IsSome (find (with_put a id.place v) other) → (other ≡ id) ⊎ ((other.place ≢ id.place) × IsSome (find a other)) =
-      λ other h. put-cases a id v below free stamp other h in
-      record {
-        within = λ other h.
-            elim (cases other h) [
-              | inl same ↦
-                  subst (λ (k : ℕ). other.place < k) (sym (length-set a.held id.place (Some (a.counter, v))))
-                  (subst (λ (i : Id). i.place < capacity_of a) (sym same) below)
-              | inr old ↦
-                  subst (λ (k : ℕ). other.place < k) (sym (length-set a.held id.place (Some (a.counter, v)))) (placed.within other old.1)
-            ];
-        apart = λ one other h k e.
-            elim (cases one h) [
-              | inl same ↦
-                  elim (cases other k) [
-                    | inl too ↦ same ∙ sym too
-                    | inr old ↦ absurd (old.0 (sym e ∙ ap (λ (i : Id). i.place) same))
-                  ]
-              | inr old ↦
-                  elim (cases other k) [
-                    | inl same ↦ absurd (old.0 (e ∙ ap (λ (i : Id). i.place) same))
-                    | inr too ↦ placed.apart one other old.1 too.1 e
-                  ]
-            ];
-        stamps = λ other h.
-            elim (cases other h) [
-              | inl same ↦ let e : other.stamp ≡ a.counter = ap (λ (i : Id). i.stamp) same ∙ stamp in omega (arith, e)
-              | inr old ↦ let below_counter : other.stamp < a.counter = placed.stamps other old.1 in omega (arith, below_counter)
-            ];
-      }
-
-  pub replicate-none : (n p : ℕ) → get_or (replicate {A = Option (ℕ × X)} n None) p None ≡ None
-  replicate-none n p =
-      elim (cases_lt p n) [
-        | inl below ↦ get_or-replicate n p None None below
-        | inr past ↦ get_or_past (replicate n None) p None (omega (arith, length-replicate {A = Option (ℕ × X)} n None, past))
-      ]
-
-  pub find-vacant : (n first : ℕ) (id : Id) → find (vacant {X = X} n first) id ≡ None
-  find-vacant n first id = find-nothing (vacant n first) id (replicate-none n id.place)
-
-  pub placed-vacant : (n first : ℕ) → IsPlaced (vacant {X = X} n first)
-  placed-vacant n first =
-      let none : (id : Id) → find (vacant {X = X} n first) id ≡ None = λ id. find-vacant n first id in
-      record {
-        within = λ id h. absurd (not-some (find (vacant n first) id) (none id) h);
-        apart = λ one other h k e. absurd (not-some (find (vacant n first) one) (none one) h);
-        stamps = λ id h. absurd (not-some (find (vacant n first) id) (none id) h);
-      }
-
-map-before : {X Y : Type 0} (o : Option X) (f : X → Y) → IsSome (option_map f o) → IsSome o
-map-before None f h = h
-map-before (Some v) f h = refl
-
-pub placed-changed_all : {X Y : Type 0} (a : Arena X) (f : X → Y) → IsPlaced a → IsPlaced (changed_all a f)
-placed-changed_all {X} {Y} a f placed =
-    let before : (id : Id) → IsSome (find (changed_all a f) id) → IsSome (find a id) =
-    λ id h. map-before (find a id) f (subst (λ (o : Option Y). IsSome o) (find-changed_all a f id) h) in
-    record {
-      within = λ id h. subst (λ (k : ℕ). id.place < k) (sym (capacity_of-changed_all a f)) (placed.within id (before id h));
-      apart = λ one other h k e. placed.apart one other (before one h) (before other k) e;
-      stamps = λ id h. placed.stamps id (before id h);
-    }
+use Rattle.firm_net.proofs.Listings.{Listing, listing, nothing, only, listing-of, listed-of, listing-same, listing-beside, listing-put, listing-listed, listing-unlinked, listing-taken, listing-rewritten, listing-kept}
 
 -- rows are within their ranges, and their ends are nodes
 pub record IsEnded (nodes : Arena Lists) (arcs : Arena Row) : Type 0 where
@@ -160,42 +23,22 @@ pub record IsEnded (nodes : Arena Lists) (arcs : Arena Row) : Type 0 where
 
 -- a net from its parts
 pub net-from : (net : Net) → IsEnded net.nodes net.arcs → Listing Out net.nodes net.arcs nothing → Listing In net.nodes net.arcs nothing
-    → IsPlaced net.nodes → IsPlaced net.arcs → capacity_of net.nodes ≤ 4096 → capacity_of net.arcs ≤ 65536 → IsNet net
-net-from net ended out into nodes arcs node_limit arc_limit =
+    → IsBoundedMap net.nodes → IsBoundedMap net.arcs → capacity_of net.nodes ≤ 4096 → capacity_of net.arcs ≤ 65536 → IsNet net
+net-from net ended outgoing incoming nodes arcs node_limit arc_limit =
     record {
       rows = ended.rows;
       tails = ended.tails;
       heads = ended.heads;
-      out = listed-of Out net out;
-      into = listed-of In net into;
+      outgoing = listed-of Out net outgoing;
+      incoming = listed-of In net incoming;
       node_limit = node_limit;
       arc_limit = arc_limit;
-      node_places = λ n h. nodes.within n.id h;
-      arc_places = λ a h. arcs.within a.id h;
-      nodes_apart = λ n m h k e. ap (λ (i : Id). let made : NodeId = record { id = i } in made) (nodes.apart n.id m.id h k e);
-      arcs_apart = λ a b h k e. ap (λ (i : Id). let made : ArcId = record { id = i } in made) (arcs.apart a.id b.id h k e);
-      node_stamps = λ n h. nodes.stamps n.id h;
-      arc_stamps = λ a h. arcs.stamps a.id h;
+      node_map = nodes;
+      arc_map = arcs;
     }
 
 pub ended-of : (net : Net) → IsNet net → IsEnded net.nodes net.arcs
 ended-of net is = record { rows = is.rows; tails = is.tails; heads = is.heads }
-
-pub nodes-of : (net : Net) → IsNet net → IsPlaced net.nodes
-nodes-of net is =
-    record {
-      within = λ id h. is.node_places (record { id = id }) h;
-      apart = λ one other h k e. ap (λ (n : NodeId). n.id) (is.nodes_apart (record { id = one }) (record { id = other }) h k e);
-      stamps = λ id h. is.node_stamps (record { id = id }) h;
-    }
-
-pub arcs-of : (net : Net) → IsNet net → IsPlaced net.arcs
-arcs-of net is =
-    record {
-      within = λ id h. is.arc_places (record { id = id }) h;
-      apart = λ one other h k e. ap (λ (a : ArcId). a.id) (is.arcs_apart (record { id = one }) (record { id = other }) h k e);
-      stamps = λ id h. is.arc_stamps (record { id = id }) h;
-    }
 
 -- more nodes do no harm
 ended-nodes : (nodes new : Arena Lists) (arcs : Arena Row) → ((id : Id) → IsSome (find nodes id) → IsSome (find new id))
@@ -235,10 +78,10 @@ Arcs = Arena Row
 -- an arc is added
 pub net-with_arc : (net : Net) (a : ArcId) (row : Row) → IsNet net → IsRow row → IsNode net row.tail → IsNode net row.head
     → a.id.place < capacity_of net.arcs → held_at net.arcs a.id.place ≡ None → a.id.stamp ≡ net.arcs.counter
-    → IsNet (with_arc net a row)
-net-with_arc net a row is is_row tail head below free stamp =
-    let nodes1 : Arena Lists = listed_first Out a row.tail net.nodes in
-    let nodes2 : Arena Lists = listed_first In a row.head nodes1 in
+    → net.arcs.counter + 1 < 2 ^ 64 → IsNet (with_arc net a row)
+net-with_arc net a row is is_row tail head below free stamp unworn =
+    let nodes1 : Arena Lists = linked_at_front Out a row.tail net.nodes in
+    let nodes2 : Arena Lists = linked_at_front In a row.head nodes1 in
     let arcs : Arcs = with_put net.arcs a.id.place row in
     let f : List ArcId → List ArcId = λ ids. a ∷ ids in
     let found : find arcs a.id ≡ Some row = find-put_own net.arcs a.id row below stamp in
@@ -246,14 +89,14 @@ net-with_arc net a row is is_row tail head below free stamp =
     let h = is-some (find nodes1 row.head.id) (found-after net.nodes row.tail.id.place (with_list Out f) row.head.id head) in
     let there : (id : Id) → IsSome (find net.nodes id) → IsSome (find nodes2 id) =
     λ id k. found-after nodes1 row.head.id.place (with_list In f) id (found-after net.nodes row.tail.id.place (with_list Out f) id k) in
-    let out : Listing Out nodes2 arcs nothing =
+    let outgoing : Listing Out nodes2 arcs nothing =
     listing-beside In nodes1 arcs row.head.id.place f nothing
     (listing-listed Out net.nodes arcs a row t.0 found t.1
-    (listing-put Out net.nodes net.arcs a row below free stamp (listing-of Out net is.out))) in
-    let into : Listing In nodes2 arcs nothing =
+    (listing-put Out net.nodes net.arcs a row below free stamp (listing-of Out net is.outgoing))) in
+    let incoming : Listing In nodes2 arcs nothing =
     listing-listed In nodes1 arcs a row h.0 found h.1
     (listing-beside Out net.nodes arcs row.tail.id.place f (only a)
-    (listing-put In net.nodes net.arcs a row below free stamp (listing-of In net is.into))) in
+    (listing-put In net.nodes net.arcs a row below free stamp (listing-of In net is.incoming))) in
     let ended : IsEnded nodes2 arcs =
     ended-rows nodes2 net.arcs arcs
     (λ b r found_b.
@@ -266,9 +109,9 @@ net-with_arc net a row is is_row tail head below free stamp =
           let old : find net.arcs b.id ≡ Some r = sym (find-put_other net.arcs a.id b.id row below free stamp other) ∙ found_b in
           (is.rows b r old, there r.tail.id (is.tails b r old), there r.head.id (is.heads b r old))
     ]) in
-    net-from (with_arc net a row) ended out into
-    (placed-changed_at nodes1 row.head.id.place (with_list In f) (placed-changed_at net.nodes row.tail.id.place (with_list Out f) (nodes-of net is)))
-    (placed-put net.arcs a.id row below free stamp (arcs-of net is))
+    net-from (with_arc net a row) ended outgoing incoming
+    (bounded-changed_at nodes1 row.head.id.place (with_list In f) (bounded-changed_at net.nodes row.tail.id.place (with_list Out f) is.node_map))
+    (bounded-put net.arcs a.id row below free stamp unworn is.arc_map)
     (omega (arith, capacity_of-changed_at nodes1 row.head.id.place (with_list In f), capacity_of-changed_at net.nodes row.tail.id.place (with_list Out f), is.node_limit))
     (omega (arith, length-set net.arcs.held a.id.place (Some (net.arcs.counter, row)), is.arc_limit))
 
@@ -276,21 +119,21 @@ net-with_arc net a row is is_row tail head below free stamp =
 pub net-without_row : (net : Net) (a : ArcId) (row : Row) → IsNet net → find net.arcs a.id ≡ Some row → IsNet (without_row net a row)
 net-without_row net a row is found =
     let f : List ArcId → List ArcId = without_arc a in
-    let nodes1 : Arena Lists = unlisted Out a row.tail net.nodes in
-    let nodes2 : Arena Lists = unlisted In a row.head nodes1 in
+    let nodes1 : Arena Lists = unlinked Out a row.tail net.nodes in
+    let nodes2 : Arena Lists = unlinked In a row.head nodes1 in
     let arcs : Arcs = without net.arcs a.id.place in
     let t = is-some (find net.nodes row.tail.id) (is.tails a row found) in
     let h = is-some (find nodes1 row.head.id) (found-after net.nodes row.tail.id.place (with_list Out f) row.head.id (is.heads a row found)) in
     let there : (id : Id) → IsSome (find net.nodes id) → IsSome (find nodes2 id) =
     λ id k. found-after nodes1 row.head.id.place (with_list In f) id (found-after net.nodes row.tail.id.place (with_list Out f) id k) in
-    let out : Listing Out nodes2 arcs nothing =
+    let outgoing : Listing Out nodes2 arcs nothing =
     listing-taken Out nodes2 net.arcs a row found
     (listing-beside In nodes1 net.arcs row.head.id.place f (only a)
-    (listing-unlisted Out net.nodes net.arcs a row t.0 found t.1 (listing-of Out net is.out))) in
-    let into : Listing In nodes2 arcs nothing =
+    (listing-unlinked Out net.nodes net.arcs a row t.0 found t.1 (listing-of Out net is.outgoing))) in
+    let incoming : Listing In nodes2 arcs nothing =
     listing-taken In nodes2 net.arcs a row found
-    (listing-unlisted In nodes1 net.arcs a row h.0 found h.1
-    (listing-beside Out net.nodes net.arcs row.tail.id.place f nothing (listing-of In net is.into))) in
+    (listing-unlinked In nodes1 net.arcs a row h.0 found h.1
+    (listing-beside Out net.nodes net.arcs row.tail.id.place f nothing (listing-of In net is.incoming))) in
     let ended : IsEnded nodes2 arcs =
     ended-rows nodes2 net.arcs arcs
     (λ b r found_b.
@@ -298,9 +141,9 @@ net-without_row net a row is found =
     λ e. none-some r (sym (find-without_own net.arcs a.id) ∙ ap (λ (i : Id). find arcs i) (sym e) ∙ found_b) in
     let old : find net.arcs b.id ≡ Some r = sym (find-without_other net.arcs a.id b.id row found other) ∙ found_b in
     (is.rows b r old, there r.tail.id (is.tails b r old), there r.head.id (is.heads b r old))) in
-    net-from (without_row net a row) ended out into
-    (placed-changed_at nodes1 row.head.id.place (with_list In f) (placed-changed_at net.nodes row.tail.id.place (with_list Out f) (nodes-of net is)))
-    (placed-without net.arcs a.id.place (arcs-of net is))
+    net-from (without_row net a row) ended outgoing incoming
+    (bounded-changed_at nodes1 row.head.id.place (with_list In f) (bounded-changed_at net.nodes row.tail.id.place (with_list Out f) is.node_map))
+    (bounded-without net.arcs a.id.place is.arc_map)
     (omega (arith, capacity_of-changed_at nodes1 row.head.id.place (with_list In f), capacity_of-changed_at net.nodes row.tail.id.place (with_list Out f), is.node_limit))
     (omega (arith, length-set net.arcs.held a.id.place None, is.arc_limit))
 
@@ -375,9 +218,9 @@ net-with_row net a row f is found is_row tail head =
           )
     ]) in
     net-from (with_row net a f) ended
-    (listing-changed Out net.nodes net.arcs a row f nothing found tail (listing-of Out net is.out))
-    (listing-changed In net.nodes net.arcs a row f nothing found head (listing-of In net is.into))
-    (nodes-of net is) (placed-changed_at net.arcs a.id.place f (arcs-of net is)) is.node_limit
+    (listing-changed Out net.nodes net.arcs a row f nothing found tail (listing-of Out net is.outgoing))
+    (listing-changed In net.nodes net.arcs a row f nothing found head (listing-of In net is.incoming))
+    is.node_map (bounded-changed_at net.arcs a.id.place f is.arc_map) is.node_limit
     (omega (arith, capacity_of-changed_at net.arcs a.id.place f, is.arc_limit))
 
 -- an arc's head moves
@@ -385,8 +228,8 @@ pub net-with_head : (net : Net) (a : ArcId) (row : Row) (n : NodeId) → IsNet n
     → row.tail ≢ n → IsNet (with_head net a row n)
 net-with_head net a row n is found node differs =
     let f : Row → Row = λ old. record old { head = n } in
-    let nodes1 : Arena Lists = unlisted In a row.head net.nodes in
-    let nodes2 : Arena Lists = listed_first In a n nodes1 in
+    let nodes1 : Arena Lists = unlinked In a row.head net.nodes in
+    let nodes2 : Arena Lists = linked_at_front In a n nodes1 in
     let arcs : Arcs = changed_at net.arcs a.id.place f in
     let found_new : find arcs a.id ≡ Some (f row) = find-changed_own net.arcs a.id row f found in
     let h = is-some (find net.nodes row.head.id) (is.heads a row found) in
@@ -394,14 +237,14 @@ net-with_head net a row n is found node differs =
     let there : (id : Id) → IsSome (find net.nodes id) → IsSome (find nodes2 id) =
     λ id k. found-after nodes1 n.id.place (with_list In (λ ids. a ∷ ids)) id (found-after net.nodes row.head.id.place (with_list In (without_arc a)) id k) in
     let old_row : IsRow row = is.rows a row found in
-    let out : Listing Out nodes2 arcs nothing =
+    let outgoing : Listing Out nodes2 arcs nothing =
     listing-beside In nodes1 arcs n.id.place (λ ids. a ∷ ids) nothing
     (listing-beside In net.nodes arcs row.head.id.place (without_arc a) nothing
-    (listing-changed Out net.nodes net.arcs a row f nothing found refl (listing-of Out net is.out))) in
-    let into : Listing In nodes2 arcs nothing =
+    (listing-changed Out net.nodes net.arcs a row f nothing found refl (listing-of Out net is.outgoing))) in
+    let incoming : Listing In nodes2 arcs nothing =
     listing-listed In nodes1 arcs a (f row) m.0 found_new m.1
     (listing-rewritten In nodes1 net.arcs a row f found
-    (listing-unlisted In net.nodes net.arcs a row h.0 found h.1 (listing-of In net is.into))) in
+    (listing-unlinked In net.nodes net.arcs a row h.0 found h.1 (listing-of In net is.incoming))) in
     let ended : IsEnded nodes2 arcs =
     ended-rows nodes2 net.arcs arcs
     (λ b r found_b.
@@ -417,9 +260,9 @@ net-with_head net a row n is found node differs =
             there n.id node,
           )
     ]) in
-    net-from (with_head net a row n) ended out into
-    (placed-changed_at nodes1 n.id.place (with_list In (λ ids. a ∷ ids)) (placed-changed_at net.nodes row.head.id.place (with_list In (without_arc a)) (nodes-of net is)))
-    (placed-changed_at net.arcs a.id.place f (arcs-of net is))
+    net-from (with_head net a row n) ended outgoing incoming
+    (bounded-changed_at nodes1 n.id.place (with_list In (λ ids. a ∷ ids)) (bounded-changed_at net.nodes row.head.id.place (with_list In (without_arc a)) is.node_map))
+    (bounded-changed_at net.arcs a.id.place f is.arc_map)
     (omega (arith, capacity_of-changed_at nodes1 n.id.place (with_list In (λ ids. a ∷ ids)), capacity_of-changed_at net.nodes row.head.id.place (with_list In (without_arc a)), is.node_limit))
     (omega (arith, capacity_of-changed_at net.arcs a.id.place f, is.arc_limit))
 
@@ -452,15 +295,15 @@ net-without_flow net is =
       is.heads b was.0 was.1,
     )) in
     net-from (without_flow net) ended
-    (kept Out (λ row. refl) (listing-of Out net is.out)) (kept In (λ row. refl) (listing-of In net is.into))
-    (nodes-of net is) (placed-changed_all net.arcs f (arcs-of net is)) is.node_limit
+    (kept Out (λ row. refl) (listing-of Out net is.outgoing)) (kept In (λ row. refl) (listing-of In net is.incoming))
+    is.node_map (bounded-changed_all net.arcs f is.arc_map) is.node_limit
     (omega (arith, capacity_of-changed_all net.arcs f, is.arc_limit))
 
 -- a node without arcs is added
 pub net-with_node : (net : Net) (n : NodeId) → IsNet net → n.id.place < capacity_of net.nodes → held_at net.nodes n.id.place ≡ None
-    → n.id.stamp ≡ net.nodes.counter → IsNet (with_node net n.id.place)
-net-with_node net n is below free stamp =
-    let empty : Lists = record { out = []; into = [] } in
+    → n.id.stamp ≡ net.nodes.counter → net.nodes.counter + 1 < 2 ^ 64 → IsNet (with_node net n.id.place)
+net-with_node net n is below free stamp unworn =
+    let empty : Lists = record { outgoing = []; incoming = [] } in
     let nodes : Arena Lists = with_put net.nodes n.id.place empty in
     let same : (side : Side) → listed_in side (Some empty) ≡ [] → (m : NodeId) → listing side nodes m ≡ listing side net.nodes m =
     λ side none m.
@@ -479,9 +322,9 @@ net-with_node net n is below free stamp =
     λ e. not-some (find net.nodes id) (find-nothing net.nodes id (ap (λ (i : Id). held_at net.nodes i.place) e ∙ free)) h in
     subst (λ (o : Option Lists). IsSome o) (sym (find-put_other net.nodes n.id id empty below free stamp other)) h in
     net-from (with_node net n.id.place) (ended-nodes net.nodes nodes net.arcs there (ended-of net is))
-    (listing-same Out net.nodes nodes net.arcs nothing (same Out refl) (listing-of Out net is.out))
-    (listing-same In net.nodes nodes net.arcs nothing (same In refl) (listing-of In net is.into))
-    (placed-put net.nodes n.id empty below free stamp (nodes-of net is)) (arcs-of net is)
+    (listing-same Out net.nodes nodes net.arcs nothing (same Out refl) (listing-of Out net is.outgoing))
+    (listing-same In net.nodes nodes net.arcs nothing (same In refl) (listing-of In net is.incoming))
+    (bounded-put net.nodes n.id empty below free stamp unworn is.node_map) is.arc_map
     (omega (arith, length-set net.nodes.held n.id.place (Some (net.nodes.counter, empty)), is.node_limit)) is.arc_limit
 
 -- a node without arcs is removed
@@ -506,11 +349,11 @@ net-without_node net n is node no_out no_in =
     let not_tail : (a : ArcId) (row : Row) → find net.arcs a.id ≡ Some row → n ≢ row.tail =
     λ a row found e.
     contains-nothing a (subst (λ (l : List ArcId). Contains l a) no_out
-    (subst (λ (k : NodeId). Contains (listing Out net.nodes k) a) (sym e) (is.out.all a row found))) in
+    (subst (λ (k : NodeId). Contains (listing Out net.nodes k) a) (sym e) (is.outgoing.all a row found))) in
     let not_head : (a : ArcId) (row : Row) → find net.arcs a.id ≡ Some row → n ≢ row.head =
     λ a row found e.
     contains-nothing a (subst (λ (l : List ArcId). Contains l a) no_in
-    (subst (λ (k : NodeId). Contains (listing In net.nodes k) a) (sym e) (is.into.all a row found))) in
+    (subst (λ (k : NodeId). Contains (listing In net.nodes k) a) (sym e) (is.incoming.all a row found))) in
     let ended : IsEnded nodes net.arcs =
     ended-rows nodes net.arcs net.arcs
     (λ a row found. (
@@ -519,9 +362,9 @@ net-without_node net n is node no_out no_in =
       there row.head (not_head a row found) (is.heads a row found),
     )) in
     net-from (without_node net n) ended
-    (listing-same Out net.nodes nodes net.arcs nothing (same Out no_out) (listing-of Out net is.out))
-    (listing-same In net.nodes nodes net.arcs nothing (same In no_in) (listing-of In net is.into))
-    (placed-without net.nodes n.id.place (nodes-of net is)) (arcs-of net is)
+    (listing-same Out net.nodes nodes net.arcs nothing (same Out no_out) (listing-of Out net is.outgoing))
+    (listing-same In net.nodes nodes net.arcs nothing (same In no_in) (listing-of In net is.incoming))
+    (bounded-without net.nodes n.id.place is.node_map) is.arc_map
     (omega (arith, length-set net.nodes.held n.id.place None, is.node_limit)) is.arc_limit
 
 -- a net without nodes and arcs
@@ -545,6 +388,6 @@ net-empty nodes arcs node_limit arc_limit =
       tails = λ a row found. absurd (no_arc a row found);
       heads = λ a row found. absurd (no_arc a row found);
     })
-    (none Out) (none In) (placed-vacant nodes 0) (placed-vacant arcs 0)
+    (none Out) (none In) (bounded-vacant nodes 0 (omega (arith, node_limit)) (omega arith)) (bounded-vacant arcs 0 (omega (arith, arc_limit)) (omega arith))
     (omega (arith, length-replicate {A = Option (ℕ × Lists)} nodes None, node_limit))
     (omega (arith, length-replicate {A = Option (ℕ × Row)} arcs None, arc_limit))

@@ -2,9 +2,9 @@
 use Rattle.std.proofs.Common.{◌≡◌, ◌≢◌, ℕ, ◌==◌, inl, inr, List, refl, sym, ap, ◌∙◌, subst, subst₂, eq-eqb, ne_eqb, Option, Some, None}
 use Rattle.std.proofs.lemmas.Bool.{cases_eq}
 use Rattle.std.proofs.lemmas.Option.{same_Some}
-use Rattle.firm_arena.specs.Arena.{Arena, find, held_at}
+use Rattle.firm_arena.specs.Arena.{Arena, find, held_at, changed_at, slot_changed}
 use Rattle.firm_arena.specs.declared.Id.{Id}
-use Rattle.firm_net.specs.Net.{Lists, side_list, changed_at, slot_changed, with_list}
+use Rattle.firm_net.specs.Net.{Lists, side_list, with_list}
 use Rattle.firm_net.specs.Links.{list_of, with_arc_list, at_option, ShowsList, ShowsNode, ShowsSlot, Shows}
 use Rattle.firm_net.specs.declared.row.NodeId.{NodeId}
 use Rattle.firm_net.specs.declared.row.ArcId.{ArcId}
@@ -12,7 +12,8 @@ use Rattle.firm_net.specs.declared.links.Side.{Side}
 use Rattle.firm_net.specs.declared.links.Link.{Link}
 use Rattle.firm_net.specs.declared.links.ArcList.{ArcList}
 use Rattle.firm_net.specs.declared.links.Node.{Node}
-use Rattle.firm_net.proofs.Arenas.{cond-true, cond-false, find-held, held-find, same_place, held_at-changed_at, capacity_of-changed_at}
+use Rattle.std.proofs.lemmas.Bool.{cond-true, cond-false}
+use Rattle.firm_arena.specs.Changes.{find-held, held-find, same_place, held_at-changed_at, capacity_of-changed_at}
 use Rattle.firm_net.proofs.Chains.{opposite, cases_side, list-with_same, list-with_opposite, side_list-with_same, side_list-with_opposite, KeptSide, list-kept, IsOf, Touches, kept-opposite, kept-elsewhere}
 
 -- arcs that are there and differ lie at different places

@@ -2,10 +2,10 @@
 use Rattle.std.proofs.Common.{◌≡◌, ◌≢◌, ℕ, ◌≤◌, List, ◌∷◌, Contains, set, map, replicate, zero, suc, refl, sym, ap, ◌∙◌, subst, subst₂, Option, Some, None}
 use Rattle.std.proofs.lemmas.Option.{same_Some}
 use Rattle.std.proofs.lemmas.List.{length-replicate}
-use Rattle.firm_arena.specs.Arena.{Arena, find, held_at, vacant}
+use Rattle.firm_arena.specs.Arena.{Arena, find, held_at, vacant, changed_at, changed_all, slot_changed}
 use Rattle.firm_arena.specs.declared.Id.{Id}
 use Rattle.firm_net.specs.Row.{Row, IsRow}
-use Rattle.firm_net.specs.Net.{Lists, Net, IsNet, IsNode, side_list, end_of, changed_at, changed_all, slot_changed, unlisted, with_row, with_head, without_flow, empty_net}
+use Rattle.firm_net.specs.Net.{Lists, Net, IsNet, IsNode, side_list, end_of, unlinked, with_row, with_head, without_flow, empty_net}
 use Rattle.firm_net.specs.Links.{neighbours_of, list_of, with_arc_list, with_link_row, cleared_link, list_from, list_past, links_from, links_past, lists_of, nodes_shown, rows_shown, ShowsSlot, Shows}
 use Rattle.firm_net.specs.declared.row.NodeId.{NodeId}
 use Rattle.firm_net.specs.declared.row.ArcId.{ArcId}
@@ -13,11 +13,11 @@ use Rattle.firm_net.specs.declared.links.Side.{Side}
 use Rattle.firm_net.specs.declared.links.Side.TheVariants.{Out, In}
 use Rattle.firm_net.specs.declared.links.Link.{Link}
 use Rattle.firm_net.specs.declared.links.Node.{Node}
-use Rattle.firm_net.proofs.Arenas.{some-is, find-held, find-changed_own, changed_all-changed_at, changed_all-changed_all}
-use Rattle.firm_net.proofs.Joins.{shows-listed, shows-unlisted}
+use Rattle.firm_arena.specs.Changes.{replicate-none, some-is, find-held, find-changed_own, changed_all-changed_at, changed_all-changed_all}
+use Rattle.firm_net.proofs.Joins.{shows-listed, shows-unlinked}
 use Rattle.firm_net.proofs.Frames.{shows-changed, shows-changed_all}
-use Rattle.firm_net.proofs.Listings.{Listing, only, listing-of, listing-unlisted}
-use Rattle.firm_net.proofs.Nets.{replicate-none, net-with_row, net-with_head, net-without_flow, net-empty}
+use Rattle.firm_net.proofs.Listings.{Listing, only, listing-of, listing-unlinked}
+use Rattle.firm_net.proofs.Nets.{net-with_row, net-with_head, net-without_flow, net-empty}
 use Rattle.firm_net.proofs.Shown.{shown_net, IsShown, is_shown, node-shown, row-shown, link-there, rows-links_from, rows-links_past}
 use Rattle.firm_net.proofs.Moves.{once-found, contains-found, found-contains}
 
@@ -62,31 +62,31 @@ moved-row links nodes a link row f is shows found e is_row tail head =
 pub moved-retarget : (links : Arena Link) (nodes : Arena Node) (a : ArcId) (link : Link) (n : NodeId) (old new : Node)
     → IsNet (shown_net links nodes) → Shows links nodes (nodes_shown links nodes) → find links a.id ≡ Some link
     → find nodes link.row.head.id ≡ Some old → IsNode (shown_net links nodes) n → link.row.tail ≢ n
-    → find (changed_at nodes link.row.head.id.place (with_arc_list In (list_past link.into (list_of In old)))) n.id ≡ Some new
+    → find (changed_at nodes link.row.head.id.place (with_arc_list In (list_past link.incoming (list_of In old)))) n.id ≡ Some new
     → IsShown
-    (links_from In a.id.place (list_of In new).first (changed_at (links_past In link.into links) a.id.place (with_link_row (record link.row { head = n }))))
-    (changed_at (changed_at nodes link.row.head.id.place (with_arc_list In (list_past link.into (list_of In old)))) n.id.place (with_arc_list In (list_from a.id.place (list_of In new))))
+    (links_from In a.id.place (list_of In new).first (changed_at (links_past In link.incoming links) a.id.place (with_link_row (record link.row { head = n }))))
+    (changed_at (changed_at nodes link.row.head.id.place (with_arc_list In (list_past link.incoming (list_of In old)))) n.id.place (with_arc_list In (list_from a.id.place (list_of In new))))
     (with_head (shown_net links nodes) a link.row n)
 moved-retarget links nodes a link n old new is shows found there_old node differs there_new =
     let net : Net = shown_net links nodes in
     let row : Row = record link.row { head = n } in
-    let links1 : Arena Link = links_past In link.into links in
+    let links1 : Arena Link = links_past In link.incoming links in
     let links2 : Arena Link = changed_at links1 a.id.place (with_link_row row) in
-    let nodes1 : Arena Node = changed_at nodes link.row.head.id.place (with_arc_list In (list_past link.into (list_of In old))) in
-    let shown1 : Arena Lists = unlisted In a link.row.head net.nodes in
+    let nodes1 : Arena Node = changed_at nodes link.row.head.id.place (with_arc_list In (list_past link.incoming (list_of In old))) in
+    let shown1 : Arena Lists = unlinked In a link.row.head net.nodes in
     let found_row : find net.arcs a.id ≡ Some link.row = row-shown links a.id link found in
     let h : find net.nodes link.row.head.id ≡ Some (lists_of links old) = node-shown links nodes link.row.head.id old there_old in
-    let rows1 : rows_shown links1 ≡ net.arcs = rows-links_past In link.into links in
+    let rows1 : rows_shown links1 ≡ net.arcs = rows-links_past In link.incoming links in
     let row1 : find (rows_shown links1) a.id ≡ Some link.row = ap (λ (r : Arena Row). find r a.id) rows1 ∙ found_row in
     let la1 = link-there links1 a.id (some-is (find (rows_shown links1) a.id) link.row row1) in
     let is_row1 : la1.0.row ≡ link.row = same_Some la1.0.row link.row (sym (row-shown links1 a.id la1.0 la1.1) ∙ row1) in
     let into1 : Listing In shown1 net.arcs (only a) =
-    listing-unlisted In net.nodes net.arcs a link.row (lists_of links old) found_row h (listing-of In net is.into) in
+    listing-unlinked In net.nodes net.arcs a link.row (lists_of links old) found_row h (listing-of In net is.incoming) in
     let s1 : Shows links1 nodes1 shown1 =
-    shows-unlisted In link.row.head links nodes net.nodes old a link shows there_old found
+    shows-unlinked In link.row.head links nodes net.nodes old a link shows there_old found
     (λ lists there. (
-      once-found In net.nodes link.row.head lists there (is.into.once link.row.head),
-      contains-found In net.nodes link.row.head lists a there (is.into.all a link.row found_row),
+      once-found In net.nodes link.row.head lists there (is.incoming.once link.row.head),
+      contains-found In net.nodes link.row.head lists a there (is.incoming.all a link.row found_row),
     )) in
     let s2 : Shows links2 nodes1 shown1 =
     shows-changed links1 nodes1 shown1 a la1.0 (with_link_row row) la1.1 (λ s. neighbours-row s row la1.0)

@@ -13,7 +13,7 @@ use Rattle.firm_net.specs.declared.links.Side.TheVariants.{Out, In}
 use Rattle.firm_net.specs.declared.links.Neighbours.{Neighbours}
 use Rattle.firm_net.specs.declared.links.Link.{Link}
 use Rattle.firm_net.specs.declared.links.Node.{Node}
-use Rattle.firm_net.proofs.Arenas.{some-is, is-some, find-changed_all, find-without_other, changed_all-same, len_of-without}
+use Rattle.firm_arena.specs.Changes.{some-is, is-some, find-changed_all, find-without_other, changed_all-same, len_of-without}
 use Rattle.firm_net.proofs.Lists.{contains-here, contains-there}
 use Rattle.firm_net.proofs.Relists.{shown-node}
 use Rattle.firm_net.proofs.Chains.{touches-next, touches-previous, touches-neighbours}
@@ -106,10 +106,10 @@ pub listing-short : (side : Side) (net : Net) (n : NodeId) → IsNet net → len
 listing-short side net n is =
     let short : length (listing side net.nodes n) ≤ len_of net.arcs =
     elim side as (λ s. length (listing s net.nodes n) ≤ len_of net.arcs) [
-      | Out ↦ list-short net.arcs (listing Out net.nodes n) (is.out.once n)
-          (λ a has. let was = is.out.arcs n a has in some-is (find net.arcs a.id) was.0 was.1)
-      | In ↦ list-short net.arcs (listing In net.nodes n) (is.into.once n)
-          (λ a has. let was = is.into.arcs n a has in some-is (find net.arcs a.id) was.0 was.1)
+      | Out ↦ list-short net.arcs (listing Out net.nodes n) (is.outgoing.once n)
+          (λ a has. let was = is.outgoing.arcs n a has in some-is (find net.arcs a.id) was.0 was.1)
+      | In ↦ list-short net.arcs (listing In net.nodes n) (is.incoming.once n)
+          (λ a has. let was = is.incoming.arcs n a has in some-is (find net.arcs a.id) was.0 was.1)
     ] in
     omega (arith, short, len-le-capacity net.arcs)
 

@@ -1,6 +1,8 @@
 pub mod Row
 pub mod Fields
 pub mod Net
+pub mod Edits
+pub mod Laws
 pub mod Links
 pub mod Inside
 pub mod Arcs

@@ -1,8 +1,8 @@
 -- How a net's lists run through its arcs. No public clause cites this module.
 use Rattle.std.specs.Prelude.{◌≡◌, ℕ, zero, suc, ◌+◌, ◌-◌, ◌<◌, ◌≤◌, List, [], ◌∷◌, length, Option, Some, None, option_map}
-use Rattle.firm_arena.specs.Arena.{Arena, find, held_at, id_under}
+use Rattle.firm_arena.specs.Arena.{Arena, find, held_at, id_under, changed_at, changed_all, slot_changed}
 use Rattle.firm_net.specs.Row.{Row}
-use Rattle.firm_net.specs.Net.{Lists, side_list, end_of, changed_at, changed_all, slot_changed}
+use Rattle.firm_net.specs.Net.{Lists, side_list, end_of}
 use Rattle.firm_net.specs.declared.row.NodeId.{NodeId}
 use Rattle.firm_net.specs.declared.row.ArcId.{ArcId}
 use Rattle.firm_net.specs.declared.links.Side.{Side}
@@ -14,12 +14,12 @@ use Rattle.firm_net.specs.declared.links.Node.{Node}
 
 -- the neighbours of an arc in one of its lists
 abbrev pub neighbours_of : Side → Link → Neighbours
-neighbours_of Out link = link.out
-neighbours_of In link = link.into
+neighbours_of Out link = link.outgoing
+neighbours_of In link = link.incoming
 
 abbrev pub with_neighbours : Side → Neighbours → Link → Link
-with_neighbours Out n link = record link { out = n }
-with_neighbours In n link = record link { into = n }
+with_neighbours Out n link = record link { outgoing = n }
+with_neighbours In n link = record link { incoming = n }
 
 abbrev pub with_next : Side → Option ℕ → Link → Link
 with_next side next link =
@@ -32,7 +32,8 @@ with_previous side previous link =
 -- an arc in no list
 abbrev pub loose_link : Row → Link
 loose_link row =
-    record { row = row; out = record { next = None; previous = None }; into = record { next = None; previous = None } }
+    let none : Neighbours = record { next = None; previous = None } in
+    record { row = row; outgoing = none; incoming = none }
 
 -- an arc with another row
 abbrev pub with_link_row : Row → Link → Link
@@ -51,16 +52,16 @@ pub record IsClearedTo (old new : Arena Link) (place : ℕ) : Type 0 where
 
 -- one of the lists of a node
 abbrev pub list_of : Side → Node → ArcList
-list_of Out node = node.out
-list_of In node = node.into
+list_of Out node = node.outgoing
+list_of In node = node.incoming
 
 abbrev pub with_arc_list : Side → ArcList → Node → Node
-with_arc_list Out list node = record node { out = list }
-with_arc_list In list node = record node { into = list }
+with_arc_list Out list node = record node { outgoing = list }
+with_arc_list In list node = record node { incoming = list }
 
 -- a node without arcs
 abbrev pub empty_node : Node
-empty_node = record { out = record { first = None; count = 0 }; into = record { first = None; count = 0 } }
+empty_node = record { outgoing = record { first = None; count = 0 }; incoming = record { first = None; count = 0 } }
 
 -- the value at a place changed, where a place is named
 abbrev pub at_option : {X : Type 0} → Arena X → Option ℕ → (X → X) → Arena X
@@ -95,7 +96,8 @@ links_from side place first links =
 -- the links, once those of the arc with these neighbours skip it
 abbrev pub links_past : Side → Neighbours → Arena Link → Arena Link
 links_past side around links =
-    at_option (at_option links around.previous (with_next side around.next)) around.next (with_previous side around.previous)
+    at_option (at_option links around.previous (with_next side around.next)) around.next
+    (with_previous side around.previous)
 
 -- the arcs from a place on, so many at most, as the links name them
 abbrev pub walk : Side → Arena Link → ℕ → Option ℕ → List ArcId
@@ -126,7 +128,7 @@ arcs_in side links node = walk side links (list_of side node).count (list_of sid
 
 -- the lists of a node as their arcs
 abbrev pub lists_of : Arena Link → Node → Lists
-lists_of links node = record { out = arcs_in Out links node; into = arcs_in In links node }
+lists_of links node = record { outgoing = arcs_in Out links node; incoming = arcs_in In links node }
 
 -- the nodes with their lists, and the arcs with their rows
 abbrev pub nodes_shown : Arena Link → Arena Node → Arena Lists
@@ -136,7 +138,8 @@ abbrev pub rows_shown : Arena Link → Arena Row
 rows_shown links = changed_all links (λ link. link.row)
 
 -- the arc stands in the list of node n at the place `from`, behind the place `before`
-pub record Stands (side : Side) (links : Arena Link) (n : NodeId) (before from : Option ℕ) (a : ArcId) (link : Link) : Type 0 where
+pub record Stands (side : Side) (links : Arena Link) (n : NodeId) (before from : Option ℕ)
+    (a : ArcId) (link : Link) : Type 0 where
   pub starts : from ≡ Some a.id.place
   pub found : find links a.id ≡ Some link
   pub end : end_of side link.row ≡ n

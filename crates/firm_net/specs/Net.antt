@@ -1,6 +1,7 @@
 -- What a contract sees of a `Net`: a map of nodes, each with its lists of arcs, and a map of arcs.
-use Rattle.std.specs.Prelude.{◌≡◌, ◌≢◌, ℕ, ◌+◌, ◌-◌, ◌<◌, ◌≤◌, ◌==◌, ◌&&◌, Bool, not, List, [], ◌∷◌, ◌++◌, map, filter, Contains, Option, Some, None, IsSome, slice_set, if◌then◌else◌}
-use Rattle.firm_arena.specs.Arena.{Arena, find, held_at, capacity_of, len_of, vacant, with_put, without}
+use Rattle.std.specs.Prelude.{◌≡◌, ◌≢◌, ℕ, ◌+◌, ◌-◌, ◌<◌, ◌≤◌, ◌==◌, ◌&&◌, Bool, not, List, [], ◌∷◌, ◌++◌, filter, Contains, Option, Some, None, IsSome, if◌then◌else◌}
+use Rattle.firm_arena.specs.Arena.{Arena, find, capacity_of, len_of, vacant, with_put, without, IsBoundedMap}
+pub use Rattle.firm_arena.specs.Arena.{changed_at, changed_all, slot_changed}
 use Rattle.firm_net.specs.Row.{Row, IsRow}
 use Rattle.firm_net.specs.declared.row.NodeId.{NodeId}
 use Rattle.firm_net.specs.declared.row.ArcId.{ArcId}
@@ -11,8 +12,8 @@ use Rattle.firm_net.specs.declared.row.Way.TheVariants.{Forward, Backward}
 
 -- the arcs out of a node and into it, in the order of the walks
 pub record Lists : Type 0 where
-  pub out : List ArcId
-  pub into : List ArcId
+  pub outgoing : List ArcId
+  pub incoming : List ArcId
 
 -- the nodes with their lists, and the arcs with their rows
 pub record Net : Type 0 where
@@ -21,8 +22,8 @@ pub record Net : Type 0 where
 
 -- the arcs of one side of a node
 abbrev pub side_list : Side → Lists → List ArcId
-side_list Out lists = lists.out
-side_list In lists = lists.into
+side_list Out lists = lists.outgoing
+side_list In lists = lists.incoming
 
 -- the node at whose side the arc is listed: an arc goes out of its tail and into its head
 abbrev pub end_of : Side → Row → NodeId
@@ -98,39 +99,21 @@ pub record IsListed (side : Side) (net : Net) : Type 0 where
   pub all : (a : ArcId) (row : Row) → row_at net a ≡ Some row
       → Contains (arcs_on side net (end_of side row)) a
 
--- what every net keeps: rows within their ranges, whose ends are nodes, and lists that are the nodes' arcs
+-- what every net keeps: two bounded maps, rows in range whose ends are nodes, and lists that are the nodes' arcs
 pub record IsNet (net : Net) : Type 0 where
   pub rows : (a : ArcId) (row : Row) → row_at net a ≡ Some row → IsRow row
   pub tails : (a : ArcId) (row : Row) → row_at net a ≡ Some row → IsNode net row.tail
   pub heads : (a : ArcId) (row : Row) → row_at net a ≡ Some row → IsNode net row.head
-  pub out : IsListed Out net
-  pub into : IsListed In net
+  pub outgoing : IsListed Out net
+  pub incoming : IsListed In net
   pub node_limit : capacity_of net.nodes ≤ 4096
   pub arc_limit : capacity_of net.arcs ≤ 65536
-  pub node_places : (n : NodeId) → IsNode net n → n.id.place < capacity_of net.nodes
-  pub arc_places : (a : ArcId) → IsArc net a → a.id.place < capacity_of net.arcs
-  pub nodes_apart : (n m : NodeId) → IsNode net n → IsNode net m → n.id.place ≡ m.id.place → n ≡ m
-  pub arcs_apart : (a b : ArcId) → IsArc net a → IsArc net b → a.id.place ≡ b.id.place → a ≡ b
-  pub node_stamps : (n : NodeId) → IsNode net n → n.id.stamp < net.nodes.counter
-  pub arc_stamps : (a : ArcId) → IsArc net a → a.id.stamp < net.arcs.counter
+  pub node_map : IsBoundedMap net.nodes
+  pub arc_map : IsBoundedMap net.arcs
 
 -- a net with room for so many nodes and arcs that has none
 abbrev pub empty_net : ℕ → ℕ → Net
 empty_net nodes arcs = record { nodes = vacant nodes 0; arcs = vacant arcs 0 }
-
--- the value at the place changed, the stamp kept
-abbrev pub slot_changed : {X Y : Type 0} → (X → Y) → Option (ℕ × X) → Option (ℕ × Y)
-slot_changed f None = None
-slot_changed f (Some own) = Some (own.0, f own.1)
-
--- the value at a place of an arena changed; a vacant place stays so
-abbrev pub changed_at : {X : Type 0} → Arena X → ℕ → (X → X) → Arena X
-changed_at arena place f =
-    record { held = slice_set arena.held place (slot_changed f (held_at arena place)); counter = arena.counter }
-
--- every value of an arena changed
-abbrev pub changed_all : {X Y : Type 0} → Arena X → (X → Y) → Arena Y
-changed_all arena f = record { held = map (slot_changed f) arena.held; counter = arena.counter }
 
 -- whether two ids name one arc
 abbrev pub same_arc : ArcId → ArcId → Bool
@@ -142,20 +125,21 @@ without_arc a ids = filter (λ b. not (same_arc a b)) ids
 
 -- one of the two lists changed
 abbrev pub with_list : Side → (List ArcId → List ArcId) → Lists → Lists
-with_list Out f lists = record { out = f lists.out; into = lists.into }
-with_list In f lists = record { out = lists.out; into = f lists.into }
+with_list Out f lists = record { outgoing = f lists.outgoing; incoming = lists.incoming }
+with_list In f lists = record { outgoing = lists.outgoing; incoming = f lists.incoming }
 
 -- the arc stands first in the node's list
-abbrev pub listed_first : Side → ArcId → NodeId → Arena Lists → Arena Lists
-listed_first side a n nodes = changed_at nodes n.id.place (with_list side (λ ids. a ∷ ids))
+abbrev pub linked_at_front : Side → ArcId → NodeId → Arena Lists → Arena Lists
+linked_at_front side a n nodes = changed_at nodes n.id.place (with_list side (λ ids. a ∷ ids))
 
 -- the arc stands no more in the node's list
-abbrev pub unlisted : Side → ArcId → NodeId → Arena Lists → Arena Lists
-unlisted side a n nodes = changed_at nodes n.id.place (with_list side (without_arc a))
+abbrev pub unlinked : Side → ArcId → NodeId → Arena Lists → Arena Lists
+unlinked side a n nodes = changed_at nodes n.id.place (with_list side (without_arc a))
 
 -- a node without arcs is added
 abbrev pub with_node : Net → ℕ → Net
-with_node net place = record { nodes = with_put net.nodes place (record { out = []; into = [] }); arcs = net.arcs }
+with_node net place =
+    record { nodes = with_put net.nodes place (record { outgoing = []; incoming = [] }); arcs = net.arcs }
 
 -- a node is removed
 abbrev pub without_node : Net → NodeId → Net
@@ -165,7 +149,7 @@ without_node net n = record { nodes = without net.nodes n.id.place; arcs = net.a
 abbrev pub with_arc : Net → ArcId → Row → Net
 with_arc net a row =
     record {
-      nodes = listed_first In a row.head (listed_first Out a row.tail net.nodes);
+      nodes = linked_at_front In a row.head (linked_at_front Out a row.tail net.nodes);
       arcs = with_put net.arcs a.id.place row;
     }
 
@@ -173,7 +157,7 @@ with_arc net a row =
 abbrev pub without_row : Net → ArcId → Row → Net
 without_row net a row =
     record {
-      nodes = unlisted In a row.head (unlisted Out a row.tail net.nodes);
+      nodes = unlinked In a row.head (unlinked Out a row.tail net.nodes);
       arcs = without net.arcs a.id.place;
     }
 
@@ -185,7 +169,7 @@ with_row net a f = record { nodes = net.nodes; arcs = changed_at net.arcs a.id.p
 abbrev pub with_head : Net → ArcId → Row → NodeId → Net
 with_head net a row n =
     record {
-      nodes = listed_first In a n (unlisted In a row.head net.nodes);
+      nodes = linked_at_front In a n (unlinked In a row.head net.nodes);
       arcs = changed_at net.arcs a.id.place (λ old. record old { head = n });
     }
 

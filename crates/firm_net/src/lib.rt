@@ -1,4 +1,4 @@
-//! A bounded network of nodes and arcs, whose lists of arcs run through the arcs themselves.
+//! A bounded network of nodes and arcs, with incidence lists that lie in the arcs.
 #![tactic(auto)]
 
 mod links;

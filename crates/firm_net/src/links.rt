@@ -1,8 +1,7 @@
-//! How the arcs of a node hang together: each arc has a place in the list of its tail and in that of its head, and
-//! names its neighbours there by their places. One treatment serves both lists.
+//! The incidence lists of the nodes: each arc has an entry in the list of its tail, where it is outgoing, and one in
+//! the list of its head, where it is incoming. The entries lie in the arcs and name their neighbours by place.
 ghost use Rattle.std.specs.Prelude.{◌≡◌, ◌+◌, ◌-◌, ◌<◌, ◌≤◌, ◌^◌, IsSome, IfSome, IfOk, Some, None};
-ghost use Rattle.firm_arena.specs.Arena.{find, vacant};
-ghost use Rattle.firm_net.specs.Net.{changed_at, changed_all};
+ghost use Rattle.firm_arena.specs.Arena.{find, vacant, changed_at, changed_all};
 ghost use Rattle.firm_net.specs.Links.{neighbours_of, list_of, with_neighbours, with_next, with_previous, with_arc_list, empty_node, at_option, list_from, list_past, first_past, links_from, links_past, loose_link, arc_at, with_link_row, cleared_link};
 
 use crate::row::{ArcId, ArcRow, NodeId};
@@ -16,22 +15,22 @@ pub enum Side {
     In,
 }
 
-/// The places of the arcs before and after an arc in a list.
+/// The entry of an arc in an incidence list: the places of the arcs before and after it there.
 #[derive(Clone, Copy)]
 pub struct Neighbours {
     pub next: Option<u32>,
     pub previous: Option<u32>,
 }
 
-/// An arc: its row, and its neighbours in the list of its tail and in that of its head.
+/// An arc: its row, its entry in the list of its tail, and its entry in the list of its head.
 #[derive(Clone, Copy)]
 pub struct Link {
     pub row: ArcRow,
-    pub out: Neighbours,
-    pub into: Neighbours,
+    pub outgoing: Neighbours,
+    pub incoming: Neighbours,
 }
 
-/// One list of a node: the place of its first arc, and how many arcs it has.
+/// One incidence list of a node: the place of its first arc, and how many arcs it has.
 #[derive(Clone, Copy)]
 pub struct ArcList {
     pub first: Option<u32>,
@@ -41,8 +40,8 @@ pub struct ArcList {
 /// A node: the list of the arcs out of it and that of the arcs into it.
 #[derive(Clone, Copy)]
 pub struct Node {
-    pub out: ArcList,
-    pub into: ArcList,
+    pub outgoing: ArcList,
+    pub incoming: ArcList,
 }
 
 impl ArcList {
@@ -68,8 +67,8 @@ impl Link {
         };
         Link {
             row,
-            out: none,
-            into: none,
+            outgoing: none,
+            incoming: none,
         }
     }
 
@@ -77,8 +76,8 @@ impl Link {
         ensures { result ≡ neighbours_of side self.now }
     {
         match side {
-            Side::Out => self.out,
-            Side::In => self.into,
+            Side::Out => self.outgoing,
+            Side::In => self.incoming,
         }
     }
 
@@ -86,8 +85,8 @@ impl Link {
         ensures { self.new ≡ with_neighbours side neighbours self.old }
     {
         match side {
-            Side::Out => self.out = neighbours,
-            Side::In => self.into = neighbours,
+            Side::Out => self.outgoing = neighbours,
+            Side::In => self.incoming = neighbours,
         }
     }
 
@@ -95,8 +94,8 @@ impl Link {
         ensures { self.new ≡ with_next side next self.old }
     {
         match side {
-            Side::Out => self.out.next = next,
-            Side::In => self.into.next = next,
+            Side::Out => self.outgoing.next = next,
+            Side::In => self.incoming.next = next,
         }
     }
 
@@ -104,8 +103,8 @@ impl Link {
         ensures { self.new ≡ with_previous side previous self.old }
     {
         match side {
-            Side::Out => self.out.previous = previous,
-            Side::In => self.into.previous = previous,
+            Side::Out => self.outgoing.previous = previous,
+            Side::In => self.incoming.previous = previous,
         }
     }
 }
@@ -117,8 +116,8 @@ impl Node {
     {
         let none = ArcList::new();
         Node {
-            out: none,
-            into: none,
+            outgoing: none,
+            incoming: none,
         }
     }
 
@@ -126,8 +125,8 @@ impl Node {
         ensures { result ≡ list_of side self.now }
     {
         match side {
-            Side::Out => self.out,
-            Side::In => self.into,
+            Side::Out => self.outgoing,
+            Side::In => self.incoming,
         }
     }
 
@@ -135,8 +134,8 @@ impl Node {
         ensures { self.new ≡ with_arc_list side list self.old }
     {
         match side {
-            Side::Out => self.out = list,
-            Side::In => self.into = list,
+            Side::Out => self.outgoing = list,
+            Side::In => self.incoming = list,
         }
     }
 }
@@ -214,8 +213,8 @@ fn set_list(nodes: &mut Arena<Node>, side: Side, node: NodeId, list: ArcList)
     owner.set_list(side, list);
 }
 
-/// Links an arc before the first of a node's list.
-pub fn list_first(
+/// Links an arc at the front of a node's list.
+pub fn link_at_front(
     nodes: &mut Arena<Node>,
     links: &mut Arena<Link>,
     side: Side,
@@ -223,8 +222,10 @@ pub fn list_first(
     arc: ArcId,
 )
     requires { IfSome (find nodes.old node.id) (λ owner. (list_of side owner).count + 1 < 2 ^ 32) }
-    ensures nodes { IfSome (find nodes.old node.id) (λ owner. nodes.new ≡ changed_at nodes.old node.id.place (with_arc_list side (list_from arc.id.place (list_of side owner)))) }
-    ensures links { IfSome (find nodes.old node.id) (λ owner. links.new ≡ links_from side arc.id.place (list_of side owner).first links.old) }
+    ensures nodes { IfSome (find nodes.old node.id) (λ owner.
+        nodes.new ≡ changed_at nodes.old node.id.place (with_arc_list side (list_from arc.id.place (list_of side owner)))) }
+    ensures links { IfSome (find nodes.old node.id) (λ owner.
+        links.new ≡ links_from side arc.id.place (list_of side owner).first links.old) }
 {
     let Some(owner) = nodes.get(node.id).copied() else {
         return;
@@ -244,8 +245,8 @@ pub fn list_first(
     set_list(nodes, side, node, longer);
 }
 
-/// Takes the arc with these neighbours out of a node's list.
-pub fn unlist(
+/// Unlinks the arc with these neighbours from a node's list.
+pub fn unlink(
     nodes: &mut Arena<Node>,
     links: &mut Arena<Link>,
     side: Side,
@@ -253,7 +254,8 @@ pub fn unlist(
     around: Neighbours,
 )
     requires { IfSome (find nodes.old node.id) (λ owner. 0 < (list_of side owner).count) }
-    ensures nodes { IfSome (find nodes.old node.id) (λ owner. nodes.new ≡ changed_at nodes.old node.id.place (with_arc_list side (list_past around (list_of side owner)))) }
+    ensures nodes { IfSome (find nodes.old node.id) (λ owner.
+        nodes.new ≡ changed_at nodes.old node.id.place (with_arc_list side (list_past around (list_of side owner)))) }
     ensures links { links.new ≡ links_past side around links.old }
 {
     set_next(links, side, around.previous, around.next);

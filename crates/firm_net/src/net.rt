@@ -4,10 +4,11 @@ ghost use Rattle.std.specs.Prelude.{ℕ, [], false, true, ◌⊎◌};
 ghost use Rattle.firm_arena.specs.Arena.{IsVacant, IsFull, capacity_of};
 ghost use Rattle.firm_net.specs.Row.{Row, IsRow};
 ghost use Rattle.firm_net.specs.Net.{IsNet, IsNode, IsArc, row_at, lists_at, out_list, in_list, place_of, added_of, node_count, arc_count, CountsAre, empty_net, with_node, without_node, with_arc, without_row, with_row, with_head, without_flow, with_numbers, IsResidual, with_unit, first_of, next_on, next_out, next_into, arcs_on, rows_of, SameOtherRows, SameOtherNodes, AreInRange, HasOtherTail, CanPush, Follows};
+ghost use Rattle.firm_net.specs.Edits.{IsEdit, SameNodes, span_of};
 ghost use Rattle.firm_net.specs.declared.links.Side.TheVariants.{Out, In};
 
 use crate::links::{
-    ArcList, Link, Node, Side, arc_at, clear_rows, list_first, set_row, two_arenas, unlist,
+    ArcList, Link, Node, Side, arc_at, clear_rows, link_at_front, set_row, two_arenas, unlink,
 };
 use crate::row::{ArcId, ArcRow, NodeId, Way};
 use crate::walk::Arcs;
@@ -89,6 +90,15 @@ impl Net {
         (self.nodes.capacity(), self.links.capacity())
     }
 
+    /// How many more nodes and arcs can be added.
+    pub fn room(&self) -> (u32, u32)
+        ensures nodes { result.0 + node_count self.now ≡ capacity_of self.now.nodes }
+        ensures arcs { result.1 + arc_count self.now ≡ capacity_of self.now.arcs }
+        ensures net { IsNet self.now }
+    {
+        (self.nodes.room(), self.links.room())
+    }
+
     /// How many nodes and arcs were ever added.
     pub fn added(&self) -> u64
         ensures value { result ≡ added_of self.now }
@@ -116,11 +126,13 @@ impl Net {
         ensures stamp { IfOk result (λ n. n.id.stamp ≡ self.old.nodes.counter) }
         ensures adds { IfOk result (λ n. self.new ≡ with_node self.old n.id.place) }
         ensures others { IfOk result (λ n. SameOtherNodes self.old self.new n) }
+        ensures edit { IfOk result (λ n. IsEdit self.old self.new [] (n ∷ []) [] []) }
 
         ensures counts { IfOk result (λ _. CountsAre self.new (node_count self.old + 1) (arc_count self.old)) }
         ensures room { IsOk result ↔ (node_count self.old < capacity_of self.old.nodes) }
         ensures full { OnErr result (IsFull self.old.nodes) }
         ensures unchanged { OnErr result (self.new ≡ self.old) }
+        ensures net_before { IsNet self.old }
         ensures net { IsNet self.new }
     {
         let Ok(id) = self.nodes.put(Node::new()) else {
@@ -134,11 +146,14 @@ impl Net {
     pub fn remove_node(&mut self, node: NodeId) -> Result<(), NodeRefusal>
         ensures removes { IsOk result → self.new ≡ without_node self.old node }
         ensures others { SameOtherNodes self.old self.new node }
+        ensures edit { IsOk result → IsEdit self.old self.new (node ∷ []) [] [] [] }
 
         ensures counts { IsOk result → CountsAre self.new (node_count self.old - 1) (arc_count self.old) }
-        ensures free { IsOk result ↔ IsNode self.old node × (out_list self.old node ≡ []) × (in_list self.old node ≡ []) }
+        ensures free { IsOk result ↔
+            IsNode self.old node × (out_list self.old node ≡ []) × (in_list self.old node ≡ []) }
         ensures gone { (result ≡ Err NodeRefusal.Gone) ↔ (lists_at self.old node ≡ None) }
         ensures unchanged { OnErr result (self.new ≡ self.old) }
+        ensures net_before { IsNet self.old }
         ensures net { IsNet self.new }
         // The name answers no more, and no later node gets it: each gets the counter at its time as its stamp.
         ensures absent { IsOk result → lists_at self.new node ≡ None }
@@ -147,10 +162,10 @@ impl Net {
         let Some(lists) = self.nodes.get(node.id).copied() else {
             return Err(NodeRefusal::Gone);
         };
-        if lists.out.count != 0 {
+        if lists.outgoing.count != 0 {
             return Err(NodeRefusal::Busy);
         }
-        if lists.into.count != 0 {
+        if lists.incoming.count != 0 {
             return Err(NodeRefusal::Busy);
         }
         let _ = self.nodes.take(node.id);
@@ -166,12 +181,18 @@ impl Net {
         ensures adds { IfOk result (λ a. self.new ≡ with_arc self.old a row) }
         ensures row { IfOk result (λ a. row_at self.new a ≡ Some row) }
         ensures others { IfOk result (λ a. SameOtherRows self.old self.new a) }
+        ensures nodes { SameNodes self.old self.new }
+        ensures edit { IfOk result (λ a. IsEdit self.old self.new [] [] [] (span_of a row ∷ [])) }
 
         ensures counts { IfOk result (λ _. CountsAre self.new (node_count self.old) (arc_count self.old + 1)) }
-        ensures room { IsOk result ↔ IsNode self.old row.tail × IsNode self.old row.head × (arc_count self.old < capacity_of self.old.arcs) }
-        ensures no_arc { result ≡ Err ArcRefusal.NoArc → IsNode self.old row.tail × IsNode self.old row.head × IsFull self.old.arcs }
-        ensures gone { result ≡ Err ArcRefusal.Gone → (lists_at self.old row.tail ≡ None) ⊎ (lists_at self.old row.head ≡ None) }
+        ensures room { IsOk result ↔
+            IsNode self.old row.tail × IsNode self.old row.head × (arc_count self.old < capacity_of self.old.arcs) }
+        ensures no_arc { result ≡ Err ArcRefusal.NoArc
+            → IsNode self.old row.tail × IsNode self.old row.head × IsFull self.old.arcs }
+        ensures gone { result ≡ Err ArcRefusal.Gone
+            → (lists_at self.old row.tail ≡ None) ⊎ (lists_at self.old row.head ≡ None) }
         ensures unchanged { OnErr result (self.new ≡ self.old) }
+        ensures net_before { IsNet self.old }
         ensures net { IsNet self.new }
     {
         let tail = row.tail();
@@ -186,8 +207,8 @@ impl Net {
             return Err(ArcRefusal::NoArc);
         };
         let arc = ArcId { id };
-        list_first(&mut self.nodes, &mut self.links, Side::Out, tail, arc);
-        list_first(&mut self.nodes, &mut self.links, Side::In, head, arc);
+        link_at_front(&mut self.nodes, &mut self.links, Side::Out, tail, arc);
+        link_at_front(&mut self.nodes, &mut self.links, Side::In, head, arc);
         self.added += 1;
         Ok(arc)
     }
@@ -200,7 +221,11 @@ impl Net {
         ensures gone { row_at self.new arc ≡ None }
         ensures counts { IfSome result (λ _. CountsAre self.new (node_count self.old) (arc_count self.old - 1)) }
         ensures others { SameOtherRows self.old self.new arc }
+        ensures nodes { SameNodes self.old self.new }
+        ensures edit { (row : Row) → row_at self.old arc ≡ Some row
+            → IsEdit self.old self.new [] [] (span_of arc row ∷ []) [] }
         ensures unchanged { IfNone result (self.new ≡ self.old) }
+        ensures net_before { IsNet self.old }
         ensures net { IsNet self.new }
         // No later arc gets this name: each gets the counter at its time as its stamp.
         ensures stamp { IfSome result (λ _. arc.id.stamp < self.new.arcs.counter) }
@@ -210,8 +235,20 @@ impl Net {
         };
         let tail = link.row.tail();
         let head = link.row.head();
-        unlist(&mut self.nodes, &mut self.links, Side::Out, tail, link.out);
-        unlist(&mut self.nodes, &mut self.links, Side::In, head, link.into);
+        unlink(
+            &mut self.nodes,
+            &mut self.links,
+            Side::Out,
+            tail,
+            link.outgoing,
+        );
+        unlink(
+            &mut self.nodes,
+            &mut self.links,
+            Side::In,
+            head,
+            link.incoming,
+        );
         let _ = self.links.take(arc.id);
         Some(link.row)
     }
@@ -232,8 +269,15 @@ impl Net {
         ensures allowed { IsTrue result ↔ IsArc self.old arc × AreInRange low cap cost flow }
         ensures sets { IsTrue result → self.new ≡ with_row self.old arc (with_numbers low cap cost flow) }
         ensures unchanged { result ≡ false → self.new ≡ self.old }
+        ensures row { (row : Row) → row_at self.old arc ≡ Some row → IsTrue result
+            → row_at self.new arc ≡ Some (with_numbers low cap cost flow row) }
         ensures counts { CountsAre self.new (node_count self.old) (arc_count self.old) }
         ensures others { SameOtherRows self.old self.new arc }
+        ensures nodes { SameNodes self.old self.new }
+        ensures edit { (row : Row) → row_at self.old arc ≡ Some row → IsTrue result
+            → IsEdit self.old self.new [] [] (span_of arc row ∷ [])
+            (span_of arc (with_numbers low cap cost flow row) ∷ []) }
+        ensures net_before { IsNet self.old }
         ensures net { IsNet self.new }
     {
         let Some(link) = self.links.get(arc.id).copied() else {
@@ -252,10 +296,18 @@ impl Net {
     /// where the arc or the node is not there, or the node is the arc's tail.
     pub fn retarget(&mut self, arc: ArcId, head: NodeId) -> bool
         ensures allowed { IsTrue result ↔ IsNode self.old head × HasOtherTail (row_at self.old arc) head }
-        ensures moves { IsTrue result → IfSome (row_at self.old arc) (λ row. self.new ≡ with_head self.old arc row head) }
+        ensures moves { IsTrue result
+            → IfSome (row_at self.old arc) (λ row. self.new ≡ with_head self.old arc row head) }
         ensures unchanged { result ≡ false → self.new ≡ self.old }
+        ensures row { (row : Row) → row_at self.old arc ≡ Some row → IsTrue result
+            → row_at self.new arc ≡ Some (record row { head = head }) }
         ensures counts { CountsAre self.new (node_count self.old) (arc_count self.old) }
         ensures others { SameOtherRows self.old self.new arc }
+        ensures nodes { SameNodes self.old self.new }
+        ensures edit { (row : Row) → row_at self.old arc ≡ Some row → IsTrue result
+            → IsEdit self.old self.new [] [] (span_of arc row ∷ [])
+            (span_of arc (record row { head = head }) ∷ []) }
+        ensures net_before { IsNet self.old }
         ensures net { IsNet self.new }
     {
         let Some(link) = self.links.get(arc.id).copied() else {
@@ -268,9 +320,15 @@ impl Net {
             return false;
         }
         let old = link.row.head();
-        unlist(&mut self.nodes, &mut self.links, Side::In, old, link.into);
+        unlink(
+            &mut self.nodes,
+            &mut self.links,
+            Side::In,
+            old,
+            link.incoming,
+        );
         set_row(&mut self.links, arc, link.row.with_head(head));
-        list_first(&mut self.nodes, &mut self.links, Side::In, head, arc);
+        link_at_front(&mut self.nodes, &mut self.links, Side::In, head, arc);
         true
     }
 
@@ -280,8 +338,14 @@ impl Net {
         ensures allowed { IsTrue result ↔ CanPush way (row_at self.old arc) }
         ensures pushes { IsTrue result → self.new ≡ with_row self.old arc (with_unit way) }
         ensures unchanged { result ≡ false → self.new ≡ self.old }
+        ensures row { (row : Row) → row_at self.old arc ≡ Some row → IsTrue result
+            → row_at self.new arc ≡ Some (with_unit way row) }
+        ensures same { without_flow self.new ≡ without_flow self.old }
         ensures counts { CountsAre self.new (node_count self.old) (arc_count self.old) }
         ensures others { SameOtherRows self.old self.new arc }
+        ensures nodes { SameNodes self.old self.new }
+        ensures edit { IsEdit self.old self.new [] [] [] [] }
+        ensures net_before { IsNet self.old }
         ensures net { IsNet self.new }
     {
         let Some(link) = self.links.get(arc.id).copied() else {
@@ -298,6 +362,9 @@ impl Net {
     pub fn clear_flow(&mut self)
         ensures clears { self.new ≡ without_flow self.old }
         ensures counts { CountsAre self.new (node_count self.old) (arc_count self.old) }
+        ensures nodes { SameNodes self.old self.new }
+        ensures edit { IsEdit self.old self.new [] [] [] [] }
+        ensures net_before { IsNet self.old }
         ensures net { IsNet self.new }
     {
         clear_rows(&mut self.links);

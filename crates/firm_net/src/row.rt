@@ -67,8 +67,10 @@ impl ArcRow {
         cost: u32,
         flow: u32,
     ) -> Option<ArcRow>
-        ensures allowed { IsSome result ↔ IsRow (record { tail = tail; head = head; low = low; cap = cap; cost = cost; flow = flow }) }
-        ensures row { IfSome result (λ row. row ≡ record { tail = tail; head = head; low = low; cap = cap; cost = cost; flow = flow }) }
+        ensures allowed { IsSome result ↔
+            IsRow (record { tail = tail; head = head; low = low; cap = cap; cost = cost; flow = flow }) }
+        ensures row { IfSome result (λ row.
+            row ≡ record { tail = tail; head = head; low = low; cap = cap; cost = cost; flow = flow }) }
     {
         let in_range = low <= flow && flow <= cap && cap <= CAPACITY_LIMIT && cost <= COST_LIMIT;
         if tail == head || !in_range {

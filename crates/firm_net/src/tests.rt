@@ -33,30 +33,33 @@ fn ids(alloc: Global, walk: Arcs<'_>) -> Result<Vec<ArcId>, AllocError> {
 #[test]
 fn one_arc_between_two_nodes(rt: HostRuntime) -> Result<(), Fail> {
     let mut net = Net::new(rt.alloc(), 2, 1)?;
-    let p = node(&rt, &mut net);
-    let q = node(&rt, &mut net);
+    let tail = node(&rt, &mut net);
+    let head = node(&rt, &mut net);
     assert!(rt; net.added() < 1_000);
     assert_eq!(rt; net.add_node(), Err(NoNode));
-    let only = row(&rt, p, q, 1, 5);
+    let only = row(&rt, tail, head, 1, 5);
     assert!(rt; net.added() < 1_000);
-    let a = net.add_arc(only).expect(&rt, "there is room");
+    let only_arc = net.add_arc(only).expect(&rt, "there is room");
     assert!(rt; net.added() < 1_000);
     assert_eq!(rt; net.add_arc(only), Err(ArcRefusal::NoArc));
-    assert_eq!(rt; net.remove_node(p), Err(NodeRefusal::Busy));
-    assert!(rt; net.push(a, Way::Forward));
-    assert!(rt; !net.push(a, Way::Forward));
-    assert!(rt; net.push(a, Way::Backward));
-    assert!(rt; !net.push(a, Way::Backward));
+    assert_eq!(rt; net.remove_node(tail), Err(NodeRefusal::Busy));
+    assert!(rt; net.push(only_arc, Way::Forward));
+    assert!(rt; !net.push(only_arc, Way::Forward));
+    assert!(rt; net.push(only_arc, Way::Backward));
+    assert!(rt; !net.push(only_arc, Way::Backward));
     assert_eq!(rt;
-        ids(rt.alloc(), net.out_arcs(p))?.as_slice(),
-        [a].as_slice()
+        ids(rt.alloc(), net.out_arcs(tail))?.as_slice(),
+        [only_arc].as_slice()
     );
-    assert_eq!(rt; ids(rt.alloc(), net.in_arcs(q))?.as_slice(), [a].as_slice());
-    assert_eq!(rt; net.remove_arc(a), Some(only));
-    assert_eq!(rt; ids(rt.alloc(), net.out_arcs(p))?.len(), 0);
-    assert_eq!(rt; ids(rt.alloc(), net.in_arcs(q))?.len(), 0);
-    assert_eq!(rt; net.remove_node(p), Ok(()));
-    assert_eq!(rt; net.remove_node(p), Err(NodeRefusal::Gone));
+    assert_eq!(rt;
+        ids(rt.alloc(), net.in_arcs(head))?.as_slice(),
+        [only_arc].as_slice()
+    );
+    assert_eq!(rt; net.remove_arc(only_arc), Some(only));
+    assert_eq!(rt; ids(rt.alloc(), net.out_arcs(tail))?.len(), 0);
+    assert_eq!(rt; ids(rt.alloc(), net.in_arcs(head))?.len(), 0);
+    assert_eq!(rt; net.remove_node(tail), Ok(()));
+    assert_eq!(rt; net.remove_node(tail), Err(NodeRefusal::Gone));
     Ok(())
 }
 
@@ -65,19 +68,19 @@ fn a_removed_arc_answers_no_more_where_its_place_is_used_again(
     rt: HostRuntime,
 ) -> Result<(), Fail> {
     let mut net = Net::new(rt.alloc(), 3, 1)?;
-    let p = node(&rt, &mut net);
-    let q = node(&rt, &mut net);
-    let s = node(&rt, &mut net);
-    let old = arc(&rt, &mut net, p, q);
+    let tail = node(&rt, &mut net);
+    let head = node(&rt, &mut net);
+    let other = node(&rt, &mut net);
+    let old = arc(&rt, &mut net, tail, head);
     assert!(rt; net.remove_arc(old).is_some());
-    let new = arc(&rt, &mut net, p, q);
+    let new = arc(&rt, &mut net, tail, head);
     assert!(rt; new != old);
     assert_eq!(rt; net.arc(old), None);
     assert_eq!(rt; net.remove_arc(old), None);
     assert!(rt; !net.set(old, 0, 1, 1, 0));
-    assert!(rt; !net.retarget(old, s));
+    assert!(rt; !net.retarget(old, other));
     assert!(rt; !net.push(old, Way::Forward));
-    assert_eq!(rt; net.arc(new), Some(row(&rt, p, q, 2, 5)));
+    assert_eq!(rt; net.arc(new), Some(row(&rt, tail, head, 2, 5)));
     Ok(())
 }
 
@@ -85,50 +88,53 @@ fn a_removed_arc_answers_no_more_where_its_place_is_used_again(
 fn walks_of_a_net_that_changes_in_the_middle(rt: HostRuntime) -> Result<(), Fail> {
     let mut net = Net::new(rt.alloc(), 4, 8)?;
     let hub = node(&rt, &mut net);
-    let x = node(&rt, &mut net);
-    let y = node(&rt, &mut net);
-    let z = node(&rt, &mut net);
-    let a = arc(&rt, &mut net, hub, x);
-    let b = arc(&rt, &mut net, hub, y);
-    let c = arc(&rt, &mut net, hub, z);
-    let d = arc(&rt, &mut net, x, z);
+    let left = node(&rt, &mut net);
+    let middle = node(&rt, &mut net);
+    let right = node(&rt, &mut net);
+    let to_left = arc(&rt, &mut net, hub, left);
+    let to_middle = arc(&rt, &mut net, hub, middle);
+    let to_right = arc(&rt, &mut net, hub, right);
+    let left_to_right = arc(&rt, &mut net, left, right);
     assert_eq!(rt;
         ids(rt.alloc(), net.out_arcs(hub))?.as_slice(),
-        [c, b, a].as_slice()
+        [to_right, to_middle, to_left].as_slice()
     );
     assert_eq!(rt;
-        ids(rt.alloc(), net.in_arcs(z))?.as_slice(),
-        [d, c].as_slice()
+        ids(rt.alloc(), net.in_arcs(right))?.as_slice(),
+        [left_to_right, to_right].as_slice()
     );
-    assert!(rt; net.remove_arc(b).is_some());
-    assert_eq!(rt;
-        ids(rt.alloc(), net.out_arcs(hub))?.as_slice(),
-        [c, a].as_slice()
-    );
-    assert_eq!(rt; ids(rt.alloc(), net.in_arcs(y))?.len(), 0);
-    let e = arc(&rt, &mut net, hub, y);
+    assert!(rt; net.remove_arc(to_middle).is_some());
     assert_eq!(rt;
         ids(rt.alloc(), net.out_arcs(hub))?.as_slice(),
-        [e, c, a].as_slice()
+        [to_right, to_left].as_slice()
     );
-    assert!(rt; net.retarget(c, y));
-    assert!(rt; !net.retarget(c, hub));
+    assert_eq!(rt; ids(rt.alloc(), net.in_arcs(middle))?.len(), 0);
+    let to_middle_again = arc(&rt, &mut net, hub, middle);
     assert_eq!(rt;
         ids(rt.alloc(), net.out_arcs(hub))?.as_slice(),
-        [e, c, a].as_slice()
+        [to_middle_again, to_right, to_left].as_slice()
+    );
+    assert!(rt; net.retarget(to_right, middle));
+    assert!(rt; !net.retarget(to_right, hub));
+    assert_eq!(rt;
+        ids(rt.alloc(), net.out_arcs(hub))?.as_slice(),
+        [to_middle_again, to_right, to_left].as_slice()
     );
     assert_eq!(rt;
-        ids(rt.alloc(), net.in_arcs(y))?.as_slice(),
-        [c, e].as_slice()
+        ids(rt.alloc(), net.in_arcs(middle))?.as_slice(),
+        [to_right, to_middle_again].as_slice()
     );
-    assert_eq!(rt; ids(rt.alloc(), net.in_arcs(z))?.as_slice(), [d].as_slice());
-    assert_eq!(rt; net.out_first(hub), Some(e));
-    assert_eq!(rt; net.out_after(e), Some(c));
-    assert_eq!(rt; net.out_after(a), None);
-    assert_eq!(rt; net.in_first(y), Some(c));
-    assert_eq!(rt; net.in_after(c), Some(e));
-    assert_eq!(rt; net.in_after(e), None);
-    assert_eq!(rt; net.out_first(z), None);
+    assert_eq!(rt;
+        ids(rt.alloc(), net.in_arcs(right))?.as_slice(),
+        [left_to_right].as_slice()
+    );
+    assert_eq!(rt; net.out_first(hub), Some(to_middle_again));
+    assert_eq!(rt; net.out_after(to_middle_again), Some(to_right));
+    assert_eq!(rt; net.out_after(to_left), None);
+    assert_eq!(rt; net.in_first(middle), Some(to_right));
+    assert_eq!(rt; net.in_after(to_right), Some(to_middle_again));
+    assert_eq!(rt; net.in_after(to_middle_again), None);
+    assert_eq!(rt; net.out_first(right), None);
     Ok(())
 }
 
@@ -136,34 +142,42 @@ fn walks_of_a_net_that_changes_in_the_middle(rt: HostRuntime) -> Result<(), Fail
 fn numbers_places_and_limits(rt: HostRuntime) -> Result<(), Fail> {
     let mut net = Net::new(rt.alloc(), 3, 2)?;
     assert_eq!(rt; net.limits(), (3, 2));
+    assert_eq!(rt; net.room(), (3, 2));
     assert_eq!(rt; net.added(), 0);
-    let p = node(&rt, &mut net);
-    let q = node(&rt, &mut net);
-    let a = arc(&rt, &mut net, p, q);
+    let tail = node(&rt, &mut net);
+    let head = node(&rt, &mut net);
+    let only_arc = arc(&rt, &mut net, tail, head);
+    assert_eq!(rt; net.room(), (1, 1));
     assert_eq!(rt; net.added(), 3);
-    assert!(rt; net.set(a, 1, 4, 3_000_000, 3));
-    assert!(rt; !net.set(a, 2, 4, 5, 1));
-    assert!(rt; !net.set(a, 0, 4_097, 5, 1));
-    assert!(rt; !net.set(a, 0, 4, 3_000_001, 1));
-    assert_eq!(rt; net.arc(a), ArcRow::new(p, q, 1, 4, 3_000_000, 3));
-    assert_eq!(rt; ArcRow::new(p, p, 0, 1, 0, 0), None);
+    assert!(rt; net.set(only_arc, 1, 4, 3_000_000, 3));
+    assert!(rt; !net.set(only_arc, 2, 4, 5, 1));
+    assert!(rt; !net.set(only_arc, 0, 4_097, 5, 1));
+    assert!(rt; !net.set(only_arc, 0, 4, 3_000_001, 1));
+    assert_eq!(rt;
+        net.arc(only_arc),
+        ArcRow::new(tail, head, 1, 4, 3_000_000, 3)
+    );
+    assert_eq!(rt; ArcRow::new(tail, tail, 0, 1, 0, 0), None);
     net.clear_flow();
-    assert_eq!(rt; net.arc(a), ArcRow::new(p, q, 0, 4, 3_000_000, 0));
-    let place_p = net.place(p);
-    let place_q = net.place(q);
-    assert!(rt; place_p.is_some());
-    assert!(rt; place_q.is_some());
-    assert!(rt; place_p != place_q);
-    assert!(rt; net.remove_arc(a).is_some());
-    assert_eq!(rt; net.remove_node(p), Ok(()));
-    assert_eq!(rt; net.place(p), None);
-    assert_eq!(rt; net.place(q), place_q);
-    let gone = row(&rt, q, p, 1, 1);
+    assert_eq!(rt;
+        net.arc(only_arc),
+        ArcRow::new(tail, head, 0, 4, 3_000_000, 0)
+    );
+    let place_of_tail = net.place(tail);
+    let place_of_head = net.place(head);
+    assert!(rt; place_of_tail.is_some());
+    assert!(rt; place_of_head.is_some());
+    assert!(rt; place_of_tail != place_of_head);
+    assert!(rt; net.remove_arc(only_arc).is_some());
+    assert_eq!(rt; net.remove_node(tail), Ok(()));
+    assert_eq!(rt; net.place(tail), None);
+    assert_eq!(rt; net.place(head), place_of_head);
+    let gone = row(&rt, head, tail, 1, 1);
     assert!(rt; net.added() < 1_000);
     assert_eq!(rt; net.add_arc(gone), Err(ArcRefusal::Gone));
-    let read = row(&rt, p, q, 2, 7);
-    assert_eq!(rt; read.tail(), p);
-    assert_eq!(rt; read.head(), q);
+    let read = row(&rt, tail, head, 2, 7);
+    assert_eq!(rt; read.tail(), tail);
+    assert_eq!(rt; read.head(), head);
     assert_eq!(rt;
         (read.low(), read.cap(), read.cost(), read.flow()),
         (0, 2, 7, 0)

@@ -1,11 +1,19 @@
 pub mod Trees
+pub mod Tournament
+pub mod Forgets
 pub mod Listed
+pub mod ArcRows
+pub mod Counts
 pub mod Labels
 pub mod Looks
 pub mod Walks
 pub mod Settles
 pub mod Rounds
-pub mod Lifted
+pub mod Queues
+pub mod Degrees
+pub mod Turns
+pub mod Offsets
+pub mod Raised
 pub mod Spreading
 pub mod FromZero
 mod Examples

@@ -11,16 +11,16 @@ use Rattle.firm_net.specs.declared.row.Way.{Way}
 use Rattle.firm_net.specs.declared.row.Way.TheVariants.{Forward, Backward}
 use Rattle.firm_paths.specs.Network.{AreValid, IsValidAt}
 use Rattle.firm_paths.specs.NetArcs.{arcs_of}
-use Rattle.firm_paths.specs.Search.{visit, IsHop, mark, known, settled, label, IsNearBy, IsLabelled, IsLowered, IsAt, IsFollowed, AllFollowed, LooksAll, AllEnough, IsNearestBelow, IsReached, IsEnd, start_of}
-use Rattle.firm_paths.specs.declared.search.Here.{Here}
-use Rattle.firm_paths.specs.declared.search.Mark.{Mark}
+use Rattle.firm_paths.specs.inner.Search.{visit, IsPredecessor, state, known, settled, label, IsNearBy, IsLabelled, IsLowered, IsAt, IsFollowed, AllFollowed, LooksAll, AllEnough, IsNearestBelow, IsReached, IsEnd, start_of}
+use Rattle.firm_paths.specs.declared.search.Current.{Current}
+use Rattle.firm_paths.specs.declared.search.NodeState.{NodeState}
 use Rattle.firm_paths.specs.declared.search.Visit.{Visit}
-use Rattle.firm_paths.proofs.Listed.{at_row}
+use Rattle.firm_paths.specs.Laws.{at_row}
 use Rattle.firm_paths.proofs.Labels.{followed_kept}
 use Rattle.firm_paths.proofs.Settles.{visit_before, visit_last, length_push, known_listed, settled_label, settled_known, settled_here, tree_with, settle_labelled, settle_near, settle_followed, not_full, none_settled}
 
 -- what the loop keeps
-pub record IsSearching (net : Net) (price : ℕ → ℕ) (from goal : ℕ) (ms : List Mark) (vs : List Visit) : Type 0 where
+pub record IsSearching (net : Net) (price : ℕ → ℕ) (from goal : ℕ) (ms : List NodeState) (vs : List Visit) : Type 0 where
   pub near : ℕ
   pub near_by : IsNearBy price ms near (price from + 3000000 * length vs)
   pub labelled : IsLabelled net from ms vs
@@ -28,22 +28,22 @@ pub record IsSearching (net : Net) (price : ℕ → ℕ) (from goal : ℕ) (ms :
   pub start_known : known ms from ≡ true
   pub goal_open : settled ms goal ≡ false
 
-pub search_start : (net : Net) (price : ℕ → ℕ) (from goal : ℕ) (ms : List Mark) (node : NodeId) → from < length ms → IsNode net node → node.id.place ≡ from
+pub search_start : (net : Net) (price : ℕ → ℕ) (from goal : ℕ) (ms : List NodeState) (node : NodeId) → from < length ms → IsNode net node → node.id.place ≡ from
     → ((v : ℕ) → (known ms v ≡ false) × (settled ms v ≡ false))
-    → IsSearching net price from goal (set ms from (record { node = Some node; label = price from; settled = false; hop = None })) []
+    → IsSearching net price from goal (set ms from (record { node = Some node; label = price from; settled = false; predecessor = None })) []
 search_start net price from goal ms node listed there at none =
-    let first : Mark = record { node = Some node; label = price from; settled = false; hop = None } in
-    let ms1 : List Mark = set ms from first in
-    let d : Mark = record { node = None; label = 0; settled = false; hop = None } in
-    let same : mark ms1 from ≡ first = get_or-set_same ms from first d listed in
-    let other : (v : ℕ) → (v ≡ from → ⊥) → mark ms1 v ≡ mark ms v = λ v ne. get_or-set_other ms from v first d ne in
+    let first : NodeState = record { node = Some node; label = price from; settled = false; predecessor = None } in
+    let ms1 : List NodeState = set ms from first in
+    let d : NodeState = record { node = None; label = 0; settled = false; predecessor = None } in
+    let same : state ms1 from ≡ first = get_or-set_same ms from first d listed in
+    let other : (v : ℕ) → (v ≡ from → ⊥) → state ms1 v ≡ state ms v = λ v ne. get_or-set_other ms from v first d ne in
     let only : (v : ℕ) → known ms1 v ≡ true → v ≡ from =
     λ v k. ⊎_elim (λ (e : v ≡ from). e)
-    (λ (ne : v ≡ from → ⊥). absurd (both_ways (known ms v) (none v).0 (sym (ap (λ (m : Mark). is_some m.node) (other v ne)) ∙ k))) (cases_eq v from) in
+    (λ (ne : v ≡ from → ⊥). absurd (both_ways (known ms v) (none v).0 (sym (ap (λ (m : NodeState). is_some m.node) (other v ne)) ∙ k))) (cases_eq v from) in
     let free : (v : ℕ) → settled ms1 v ≡ false =
-    λ v. ⊎_elim (λ (e : v ≡ from). ap (settled ms1) e ∙ ap (λ (m : Mark). m.settled) same)
-    (λ (ne : v ≡ from → ⊥). ap (λ (m : Mark). m.settled) (other v ne) ∙ (none v).1) (cases_eq v from) in
-    let at_from : label ms1 from ≡ price from = ap (λ (m : Mark). m.label) same in
+    λ v. ⊎_elim (λ (e : v ≡ from). ap (settled ms1) e ∙ ap (λ (m : NodeState). m.settled) same)
+    (λ (ne : v ≡ from → ⊥). ap (λ (m : NodeState). m.settled) (other v ne) ∙ (none v).1) (cases_eq v from) in
+    let at_from : label ms1 from ≡ price from = ap (λ (m : NodeState). m.label) same in
     record {
       near = 0;
       near_by = record {
@@ -52,26 +52,26 @@ search_start net price from goal ms node listed there at none =
         below = λ v k. omega (arith, at_from, ap (label ms1) (only v k));
       };
       labelled = record {
-        named = λ v k. subst (λ (z : ℕ). MatchOption (mark ms1 z).node ⊥ (λ n. IsNode net n × (n.id.place ≡ z))) (sym (only v k))
-            (subst (λ (m : Mark). MatchOption m.node ⊥ (λ n. IsNode net n × (n.id.place ≡ from))) (sym same) (there, at));
-        hops = λ v k. subst (λ (z : ℕ). MatchOption (mark ms1 z).hop (z ≡ from) (IsHop net (label ms1) [] [] z)) (sym (only v k))
-            (subst (λ (m : Mark). MatchOption m.hop (from ≡ from) (IsHop net (label ms1) [] [] from)) (sym same) refl);
-        tree = record { hops = λ i l. absurd (omega arith); apart = λ i j b l e. absurd (omega arith) };
+        named = λ v k. subst (λ (z : ℕ). MatchOption (state ms1 z).node ⊥ (λ n. IsNode net n × (n.id.place ≡ z))) (sym (only v k))
+            (subst (λ (m : NodeState). MatchOption m.node ⊥ (λ n. IsNode net n × (n.id.place ≡ from))) (sym same) (there, at));
+        predecessors = λ v k. subst (λ (z : ℕ). MatchOption (state ms1 z).predecessor (z ≡ from) (IsPredecessor net (label ms1) [] [] z)) (sym (only v k))
+            (subst (λ (m : NodeState). MatchOption m.predecessor (from ≡ from) (IsPredecessor net (label ms1) [] [] from)) (sym same) refl);
+        tree = record { predecessors = λ i l. absurd (omega arith); apart = λ i j b l e. absurd (omega arith) };
         visited = λ i l. absurd (omega arith);
         count = none_settled ms1 free;
       };
       followed = λ way id row is s o. absurd (both_ways (settled ms1 (start_of way row).id.place) (free (start_of way row).id.place) s);
-      start_known = ap (λ (m : Mark). is_some m.node) same;
+      start_known = ap (λ (m : NodeState). is_some m.node) same;
       goal_open = free goal;
     }
 
 -- no more nodes are settled than there are but the goal
-pub few_visits : (net : Net) (price : ℕ → ℕ) (from goal : ℕ) (ms : List Mark) (vs : List Visit) → goal < length ms
+pub few_visits : (net : Net) (price : ℕ → ℕ) (from goal : ℕ) (ms : List NodeState) (vs : List Visit) → goal < length ms
     → IsSearching net price from goal ms vs → length vs < length ms
 few_visits net price from goal ms vs l s = omega (arith, not_full ms goal l s.goal_open, s.labelled.count)
 
-pub search_reached : (net : Net) (price : ℕ → ℕ) (from goal : ℕ) (ms : List Mark) (vs : List Visit) (x : Visit) → length ms ≤ 4096
-    → IsSearching net price from goal ms vs → IsNearestBelow price ms (length ms) goal → x.place ≡ goal → x.hop ≡ (mark ms goal).hop
+pub search_reached : (net : Net) (price : ℕ → ℕ) (from goal : ℕ) (ms : List NodeState) (vs : List Visit) (x : Visit) → length ms ≤ 4096
+    → IsSearching net price from goal ms vs → IsNearestBelow price ms (length ms) goal → x.place ≡ goal → x.predecessor ≡ (state ms goal).predecessor
     → IsReached net price from goal ms (vs ++ x ∷ []) (length vs)
 search_reached net price from goal ms vs x small s nearest at came =
     let few : length vs < length ms = few_visits net price from goal ms vs nearest.listed s in
@@ -82,7 +82,7 @@ search_reached net price from goal ms vs x small s nearest at came =
         beyond = λ v k t. omega (arith, far, s.near_by.beyond v k t, nearest.nearest v (known_listed ms v k) k t);
         below = λ v k. omega (arith, s.near_by.below v k, few, small);
       };
-      followed = s.followed;
+      followed = λ way id row is _. s.followed way id row is;
       is_known = nearest.is_known;
       is_open = nearest.is_open;
       tree = tree_with net price from s.near ms vs goal x s.labelled nearest.listed nearest.is_known nearest.is_open at came;
@@ -93,10 +93,11 @@ search_reached net price from goal ms vs x small s nearest at came =
           inl (ap (λ (y : Visit). settled ms y.place) (visit_before vs x i in_old) ∙ s.labelled.visited i in_old))
           (cases_eq i (length vs));
       few = omega (arith, few, length_push vs x);
+      named = s.labelled.named;
       last = (omega (arith, length_push vs x), ap (λ (y : Visit). y.place) (visit_last vs x) ∙ at);
     }
 
-pub search_ended : (net : Net) (price : ℕ → ℕ) (from goal : ℕ) (ms : List Mark) (vs : List Visit)
+pub search_ended : (net : Net) (price : ℕ → ℕ) (from goal : ℕ) (ms : List NodeState) (vs : List Visit)
     → IsSearching net price from goal ms vs → ((v : ℕ) → v < length ms → known ms v ≡ true → settled ms v ≡ true)
     → IsEnd net from goal ms
 search_ended net price from goal ms vs s all = record {
@@ -107,27 +108,27 @@ search_ended net price from goal ms vs s all = record {
 }
 
 -- a round: the nearest open node `u` is not the goal; it is settled, and all is followed from there
-module _ (net : Net) (price : ℕ → ℕ) (from goal : ℕ) (ms : List Mark) (vs : List Visit) (u : ℕ) (x : Visit) (here : Here)
-    (s : IsSearching net price from goal ms vs) (nearest : IsNearestBelow price ms (length ms) u) (at : x.place ≡ u) (came : x.hop ≡ (mark ms u).hop)
-    (place : here.place ≡ u) (number : here.number ≡ length vs) (valid : AreValid (arcs_of net) price) where
-  abbrev after : List Mark
-  after = set ms u (record (mark ms u) { settled = true })
+module _ (net : Net) (price : ℕ → ℕ) (from goal : ℕ) (ms : List NodeState) (vs : List Visit) (u : ℕ) (x : Visit) (current : Current)
+    (s : IsSearching net price from goal ms vs) (nearest : IsNearestBelow price ms (length ms) u) (at : x.place ≡ u) (came : x.predecessor ≡ (state ms u).predecessor)
+    (place : current.place ≡ u) (number : current.number ≡ length vs) (valid : AreValid (arcs_of net) price) where
+  abbrev after : List NodeState
+  after = set ms u (record (state ms u) { settled = true })
 
   label_here : label after u ≡ label ms u
   label_here = settled_label net price from s.near ms vs u x s.labelled nearest.listed nearest.is_known nearest.is_open at came u
 
-  pub round_room : label after here.place + 3000000 ≤ price from + 3000000 * (length vs + 1)
+  pub round_room : label after current.place + 3000000 ≤ price from + 3000000 * (length vs + 1)
   round_room = omega (arith, label_here, ap (label after) place, s.near_by.below u nearest.is_known)
 
-  pub round_settled : settled after here.place ≡ true
+  pub round_settled : settled after current.place ≡ true
   round_settled = ap (settled after) place ∙ settled_here net price from s.near ms vs u x s.labelled nearest.listed nearest.is_known nearest.is_open at came
 
-  pub round_enough : (value : ℕ) → value ≡ label after here.place → AllEnough net here.place value
+  pub round_enough : (value : ℕ) → value ≡ label after current.place → AllEnough Backward net current.place value
   round_enough value same id row is into fall =
       let v = at_row net (IsValidAt price) id row is valid in
       omega (arith, v.1 fall, same, label_here, ap (label after) place, s.near_by.beyond u nearest.is_known nearest.is_open, ap price (into ∙ place))
 
-  pub round_start : IsAt net price from (vs ++ x ∷ []) (label ms u - price u) (price from + 3000000 * (length vs + 1)) here after
+  pub round_start : IsAt net price from (vs ++ x ∷ []) (label ms u - price u) (price from + 3000000 * (length vs + 1)) current after
   round_start =
       let far : price u + s.near ≤ label ms u = s.near_by.beyond u nearest.is_known nearest.is_open in
       let near = settle_near net price from s.near ms vs u x s.labelled nearest.listed nearest.is_known nearest.is_open at came (price from + 3000000 * length vs) s.near_by
@@ -141,8 +142,8 @@ module _ (net : Net) (price : ℕ → ℕ) (from goal : ℕ) (ms : List Mark) (v
         room = round_room;
       }
 
-  pub round_done : (m2 m3 : List Mark) → (u ≡ goal → ⊥)
-      → IsLowered after m2 → LooksAll net here Forward after m2 → IsLowered m2 m3 → LooksAll net here Backward m2 m3
+  pub round_done : (m2 m3 : List NodeState) → (u ≡ goal → ⊥)
+      → IsLowered after m2 → LooksAll net current Forward after m2 → IsLowered m2 m3 → LooksAll net current Backward m2 m3
       → IsSearching net price from goal m3 (vs ++ x ∷ [])
   round_done m2 m3 ne lowers2 looks2 lowers3 looks3 =
       let top : ℕ = price from + 3000000 * (length vs + 1) in
@@ -174,4 +175,4 @@ module _ (net : Net) (price : ℕ → ℕ) (from goal : ℕ) (ms : List Mark) (v
       }
     where
       settled_elsewhere : (goal ≡ u → ⊥) → settled after goal ≡ settled ms goal
-      settled_elsewhere ne = ap (λ (m : Mark). m.settled) (get_or-set_other ms u goal (record (mark ms u) { settled = true }) (record { node = None; label = 0; settled = false; hop = None }) ne)
+      settled_elsewhere ne = ap (λ (m : NodeState). m.settled) (get_or-set_other ms u goal (record (state ms u) { settled = true }) (record { node = None; label = 0; settled = false; predecessor = None }) ne)

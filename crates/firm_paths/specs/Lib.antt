@@ -1,9 +1,8 @@
 pub mod Network
 pub mod NetArcs
 pub mod Paths
+pub mod Laws
 pub mod PriceTable
 pub mod Workspace
-pub mod Search
-pub mod Walk
 pub mod Lending
-pub mod Spread
+pub mod inner

@@ -1,6 +1,24 @@
--- What a contract sees of a `Scratch`.
-use Rattle.std.specs.Prelude.{ℕ}
+-- What a contract sees of a `Scratch`, and how searches are counted.
+use Rattle.std.specs.Prelude.{◌≡◌, ℕ, ◌+◌, ◌*◌, ◌^◌, ◌<◌, ◌≤◌}
 
--- the limits of the net for whose searches the room was reserved
+-- the limits of the net for whose searches the room was reserved, how often `begin` was called, and how many searches
+-- and looks were counted since
 pub record Workspace : Type 0 where
   pub limits : ℕ × ℕ
+  pub begins : ℕ
+  pub searches : ℕ
+  pub looks : ℕ
+
+-- a counter grew by this number where there was room for it below 2^64; else it stopped there, and did not fall
+pub record HasCounted (old new more : ℕ) : Type 0 where
+  pub exact : old + more < 2 ^ 64 → new ≡ old + more
+  pub kept : old ≤ new
+  pub no_more : new ≤ old + more
+
+-- so many searches were made in a net of so many arcs: each counts one, with at most two looks for each arc
+pub record HasSearched (old new : Workspace) (made arcs : ℕ) : Type 0 where
+  pub limits : new.limits ≡ old.limits
+  pub begins : new.begins ≡ old.begins
+  pub searches : HasCounted old.searches new.searches made
+  pub looks_kept : old.looks ≤ new.looks
+  pub looks : new.looks ≤ old.looks + made * (2 * arcs)

@@ -1,7 +1,9 @@
 #![tactic(auto)]
 //! Prices of a network's nodes, shortest paths through its residual network, and tight paths.
 
+mod laws;
 mod prices;
+mod queue;
 mod scratch;
 mod search;
 mod shortest;
@@ -9,6 +11,7 @@ mod shortest;
 mod tests;
 mod tight;
 
+pub use laws::{arcs_are_rows, searches_add_up};
 pub use prices::Prices;
 pub use scratch::Scratch;
 pub use search::Step;

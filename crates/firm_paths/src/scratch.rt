@@ -1,8 +1,10 @@
 //! The room in which the searches work.
 ghost use Rattle.std.specs.Prelude.{◌≡◌, IfOk};
+ghost use Rattle.firm_paths.specs.Workspace.{HasCounted};
 ghost use Rattle.firm_paths.specs.NetArcs.{limits_of};
 
-use crate::search::{Mark, Step, Visit};
+use crate::queue::Queue;
+use crate::search::{NodeState, Step, Visit};
 use firm_net::Net;
 use std::alloc::{AllocError, Global};
 use std::marker::Model;
@@ -11,7 +13,11 @@ use std::marker::Model;
 #[derive(Drop)]
 pub struct Scratch {
     limits: (u32, u32),
-    pub(crate) marks: Vec<Mark>,
+    begins: u64,
+    pub(crate) searches: u64,
+    pub(crate) looks: u64,
+    pub(crate) states: Vec<NodeState>,
+    pub(crate) queue: Queue,
     pub(crate) seen: Vec<bool>,
     pub(crate) visits: Vec<Visit>,
     pub(crate) steps: Vec<Step>,
@@ -20,28 +26,66 @@ pub struct Scratch {
 impl Model for Scratch {
     ghost use Rattle.std.specs.Prelude.{◌≡◌, ◌≤◌, length, vec_capacity};
     ghost use Rattle.firm_paths.specs.Workspace.{Workspace};
+    ghost use Rattle.firm_paths.specs.inner.Queue.{IsIdle};
 
     ghost Value = { Workspace };
 
-    ghost view = { λ s. record { limits = s.limits } };
+    ghost view = { λ s. record { limits = s.limits; begins = s.begins; searches = s.searches; looks = s.looks } };
 
-    ghost invariant = { λ s. (length s.marks.items ≡ s.limits.0) × (length s.seen.items ≡ s.limits.0)
-        × (s.limits.0 ≤ vec_capacity s.visits) × (s.limits.0 ≤ vec_capacity s.steps) };
+    ghost invariant = { λ s. (length s.states.items ≡ s.limits.0) × (length s.seen.items ≡ s.limits.0)
+        × IsIdle s.states.items s.queue × (s.limits.0 ≤ vec_capacity s.visits) × (s.limits.0 ≤ vec_capacity s.steps) };
 }
 
 impl Scratch {
     /// Room for the searches in a net of these limits. `Err` only where memory is refused.
     pub fn new(alloc: Global, net: &Net) -> Result<Scratch, AllocError>
-        ensures { IfOk result (λ scratch. scratch.limits ≡ limits_of net.now) }
+        ensures limits { IfOk result (λ scratch. scratch.limits ≡ limits_of net.now) }
+        ensures counts { IfOk result (λ scratch. (scratch.begins ≡ 0) × (scratch.searches ≡ 0) × (scratch.looks ≡ 0)) }
     {
         let limits = net.limits();
         let nodes = limits.0 as usize;
         Ok(Scratch {
             limits,
-            marks: vec![in alloc; Mark::UNKNOWN; nodes]?,
+            begins: 0,
+            searches: 0,
+            looks: 0,
+            states: vec![in alloc; NodeState::UNKNOWN; nodes]?,
+            queue: Queue::new(alloc, limits.0)?,
             seen: vec![in alloc; false; nodes]?,
             visits: Vec::with_capacity(alloc, nodes)?,
             steps: Vec::with_capacity(alloc, nodes)?,
         })
+    }
+
+    /// Counts one call more of itself, and sets the counts of searches and looks to 0.
+    pub fn begin(&mut self)
+        ensures limits { self.new.limits ≡ self.old.limits }
+        ensures begins { HasCounted self.old.begins self.new.begins 1 }
+        ensures counts { (self.new.searches ≡ 0) × (self.new.looks ≡ 0) }
+    {
+        self.begins = self.begins.saturating_add(1);
+        self.searches = 0;
+        self.looks = 0;
+    }
+
+    /// How often `begin` was called; `u64::MAX` for more than can be told.
+    pub fn begins(&self) -> u64
+        ensures { result ≡ self.now.begins }
+    {
+        self.begins
+    }
+
+    /// How many searches were made since the last `begin`; `u64::MAX` for more than can be told.
+    pub fn searches(&self) -> u64
+        ensures { result ≡ self.now.searches }
+    {
+        self.searches
+    }
+
+    /// How many looks at an arc the searches took since the last `begin`; `u64::MAX` for more than can be told.
+    pub fn looks(&self) -> u64
+        ensures { result ≡ self.now.looks }
+    {
+        self.looks
     }
 }

@@ -1,216 +1,270 @@
 //! Prices raised until a tight path leads from one node to another.
-ghost use Rattle.std.specs.Prelude.{◌≡◌, ◌≢◌, ℕ, ◌+◌, ◌-◌, ◌*◌, ◌<◌, ◌≤◌, ◌^◌, Bool, true, false, length, Some, None, IfSome, IfNone, MatchOption, slice_index, vec_len, vec_capacity, if◌then◌else◌};
+ghost use Rattle.std.specs.Prelude.{◌≡◌, ◌≢◌, ℕ, ◌+◌, ◌-◌, ◌*◌, ◌<◌, ◌≤◌, ◌^◌, Bool, true, false, length, Some, None};
+ghost use Rattle.std.specs.Prelude.{IfSome, IfNone, MatchOption, slice_index, vec_len, vec_capacity, if◌then◌else◌};
 ghost use Rattle.std.specs.Borrow.{sem};
 ghost use Rattle.firm_arena.specs.Arena.{capacity_of};
-ghost use Rattle.firm_net.specs.Net.{IsNode, IsNet, row_at, IsResidual as IsOpen};
-ghost use Rattle.firm_net.specs.declared.row.Way.TheVariants.{Forward, Backward};
+ghost use Rattle.firm_net.specs.Net.{IsNode, IsNet, arc_count, row_at, rows_of, arcs_on, IsResidual as IsOpen};
 ghost use Rattle.firm_paths.specs.Network.{AreValid};
 ghost use Rattle.firm_paths.specs.NetArcs.{arcs_of, limits_of};
 ghost use Rattle.firm_paths.specs.Paths.{IsTightPath, IsHighest, IsCut};
 ghost use Rattle.firm_paths.specs.PriceTable.{price_of};
-ghost use Rattle.firm_paths.specs.Search.{known, settled, label, mark, offered, start_of, IsLowered, IsReached, IsEnd, Looks, LooksAll, HasEnough, AllEnough, IsNearestBelow, IsLifted};
+ghost use Rattle.firm_paths.specs.inner.Search.{known, settled, label, state, offered, side_of, start_of, IsLowered};
+ghost use Rattle.firm_paths.specs.inner.Search.{IsReached, IsEnd, Looks, LooksAll, HasEnough, AllEnough, visit};
 ghost use Rattle.firm_paths.specs.Lending.{Rests};
+ghost use Rattle.firm_paths.specs.inner.Queue.{IsQueued, IsIdle, AreVisited, AreLeft};
 
 use crate::prices::Prices;
+use crate::queue::{ABSENT, Queue};
 use crate::scratch::Scratch;
-use crate::search::{Here, Hop, Mark, Step, Visit, entered, is_residual, walk_back};
+use crate::search::{
+    Current, NodeState, Predecessor, Step, Visit, arcs_leaving, entered, is_residual, walk_back,
+};
 use firm_net::{ArcRow, Net, NodeId, Way};
 
-/// Labels the node at `place`, if it is open to a lower label.
-fn offer(marks: &mut [Mark], place: usize, node: NodeId, label: u64, hop: Hop)
-    requires { place < length marks.old }
-    ensures { marks.new ≡ offered marks.old place (record { node = Some node; label = label; settled = false; hop = Some hop }) }
+/// Labels the node at `place`, if it is open to a lower label, and puts it into the queue.
+fn relax(
+    states: &mut [NodeState],
+    queue: &mut Queue,
+    prices: &Prices,
+    place: usize,
+    node: NodeId,
+    label: u64,
+    predecessor: Predecessor,
+)
+    requires place { place < length states.old }
+    requires length { length prices.now.prices ≡ length states.old }
+    requires label { label < 18446744073709551615 }
+    requires queued { IsQueued (slice_index prices.now.prices) states.old queue.old }
+    ensures states { states.new ≡ offered states.old place
+        (record { node = Some node; label = label; settled = false; predecessor = Some predecessor }) }
+    ensures queued { IsQueued (slice_index prices.now.prices) states.new queue.new }
 {
-    let mark = marks[place];
-    if !mark.settled && (mark.node.is_none() || label < mark.label) {
-        marks[place] = Mark {
+    let state = states[place];
+    if !state.settled && (state.node.is_none() || label < state.label) {
+        states[place] = NodeState {
             node: Some(node),
             label,
             settled: false,
-            hop: Some(hop),
+            predecessor: Some(predecessor),
         };
+        queue.set(place, label.saturating_sub(prices.at(place)));
     }
 }
 
-/// Looks along one arc from the node where the search stands.
-fn look(net: &Net, marks: &mut [Mark], here: Here, step: Step, row: ArcRow)
-    requires length { length marks.old ≡ capacity_of net.now.nodes }
-    requires place { here.place < length marks.old }
+/// Relaxes one arc: labels the node to which a step along it leads from the node where the search stands.
+fn relax_arc(
+    net: &Net,
+    prices: &Prices,
+    states: &mut [NodeState],
+    queue: &mut Queue,
+    current: Current,
+    step: Step,
+    row: ArcRow,
+)
+    requires length { (length states.old ≡ capacity_of net.now.nodes)
+        × (length prices.now.prices ≡ capacity_of net.now.nodes) }
+    requires place { current.place < length states.old }
     requires row { row_at net.now step.arc ≡ Some row }
-    requires start { (start_of step.way row).id.place ≡ here.place }
-    requires room { label marks.old here.place + 3000000 < 2 ^ 64 }
-    requires enough { HasEnough step.way (label marks.old here.place) row }
-    ensures lowers { IsLowered marks.old marks.new }
-    ensures looks { Looks net.now here step.way row marks.old marks.new }
+    requires start { (start_of step.way row).id.place ≡ current.place }
+    requires room { label states.old current.place + 3000001 < 2 ^ 64 }
+    requires enough { HasEnough step.way (label states.old current.place) row }
+    requires queued { IsQueued (slice_index prices.now.prices) states.old queue.old }
+    ensures lowers { IsLowered states.old states.new }
+    ensures looks { Looks net.now current step.way row states.old states.new }
+    ensures queued { IsQueued (slice_index prices.now.prices) states.new queue.new }
 {
     if is_residual(row, step.way) {
         let node = entered(row, step.way);
         if let Some(place) = net.place(node) {
-            let from = marks[here.place].label;
+            let from = states[current.place].label;
             let cost = u64::from(row.cost());
             let label = match step.way {
                 Way::Forward => from + cost,
                 Way::Backward => from - cost,
             };
-            let hop = Hop {
+            let predecessor = Predecessor {
                 step,
-                after: here.number,
+                after: current.number,
             };
-            offer(marks, place as usize, node, label, hop);
+            relax(
+                states,
+                queue,
+                prices,
+                place as usize,
+                node,
+                label,
+                predecessor,
+            );
         }
     }
 }
 
-/// Looks along every arc out of the node where the search stands.
-fn look_out(net: &Net, marks: &mut [Mark], here: Here, node: NodeId)
-    requires length { length marks.old ≡ capacity_of net.now.nodes }
-    requires place { here.place < length marks.old }
-    requires node { IsNode net.now node × (node.id.place ≡ here.place) }
-    requires settled { settled marks.old here.place ≡ true }
-    requires room { label marks.old here.place + 3000000 < 2 ^ 64 }
-    ensures lowers { IsLowered marks.old marks.new }
-    ensures looks { LooksAll net.now here Forward marks.old marks.new }
+/// Relaxes every arc by which a step this way leaves the node where the search stands.
+fn relax_arcs(
+    net: &Net,
+    prices: &Prices,
+    states: &mut [NodeState],
+    queue: &mut Queue,
+    current: Current,
+    node: NodeId,
+    way: Way,
+    looks: &mut u64,
+)
+    requires length { (length states.old ≡ capacity_of net.now.nodes)
+        × (length prices.now.prices ≡ capacity_of net.now.nodes) }
+    requires place { current.place < length states.old }
+    requires node { IsNode net.now node × (node.id.place ≡ current.place) }
+    requires settled { settled states.old current.place ≡ true }
+    requires room { label states.old current.place + 3000001 < 2 ^ 64 }
+    requires enough { AllEnough way net.now current.place (label states.old current.place) }
+    requires queued { IsQueued (slice_index prices.now.prices) states.old queue.old }
+    requires count { looks.old ≤ 2 ^ 63 }
+    ensures lowers { IsLowered states.old states.new }
+    ensures looks { LooksAll net.now current way states.old states.new }
+    ensures queued { IsQueued (slice_index prices.now.prices) states.new queue.new }
+    ensures counts { looks.new ≡ looks.old + length (rows_of net.now (arcs_on (side_of way) net.now node)) }
+    ensures net { IsNet net.now }
+    ensures node { node.id.place ≡ current.place }
 {
-    for (arc, row) in net.out_arcs(node) {
-        let way = Way::Forward;
-        look(net, marks, here, Step { arc, way }, row);
+    for (arc, row) in arcs_leaving(net, node, way) {
+        relax_arc(net, prices, states, queue, current, Step { arc, way }, row);
+        *looks += 1;
     }
 }
 
-/// Looks back along every arc into the node where the search stands.
-fn look_in(net: &Net, marks: &mut [Mark], here: Here, node: NodeId)
-    requires length { length marks.old ≡ capacity_of net.now.nodes }
-    requires place { here.place < length marks.old }
-    requires node { IsNode net.now node × (node.id.place ≡ here.place) }
-    requires settled { settled marks.old here.place ≡ true }
-    requires room { label marks.old here.place + 3000000 < 2 ^ 64 }
-    requires enough { AllEnough net.now here.place (label marks.old here.place) }
-    ensures lowers { IsLowered marks.old marks.new }
-    ensures looks { LooksAll net.now here Backward marks.old marks.new }
+/// Forgets every state, and empties the queue.
+fn forget(states: &mut [NodeState], queue: &mut Queue, visits: &[Visit])
+    requires length { length queue.old ≡ length states.old }
+    requires places { (i : ℕ) → i < length visits.now → (visit visits.now i).place < length states.old }
+    requires left { AreLeft states.old queue.old visits.now 0 }
+    ensures { IsIdle states.new queue.new }
 {
-    for (arc, row) in net.in_arcs(node) {
-        let way = Way::Backward;
-        look(net, marks, here, Step { arc, way }, row);
+    for i in 0..visits.len() {
+        states[visits[i].place] = NodeState::UNKNOWN;
     }
-}
-
-/// The place of the nearest node that is known and not settled.
-fn nearest(prices: &[u64], marks: &[Mark]) -> Option<usize>
-    requires prices { length prices.now ≡ length marks.now }
-    requires ahead { (v : ℕ) → known marks.now v ≡ true → settled marks.now v ≡ false → slice_index prices.now v ≤ label marks.now v }
-    ensures { MatchOption result
-        ((v : ℕ) → v < length marks.now → known marks.now v ≡ true → settled marks.now v ≡ true)
-        (IsNearestBelow (slice_index prices.now) marks.now (length marks.now)) }
-{
-    let mut best: Option<usize> = None;
-    for v in 0..marks.len() {
-        if marks[v].node.is_some() && !marks[v].settled {
-            match best {
-                Some(u) if marks[u].label - prices[u] <= marks[v].label - prices[v] => {}
-                _ => best = Some(v),
-            }
+    for place in 0..states.len() {
+        if queue.key(place) != ABSENT {
+            states[place] = NodeState::UNKNOWN;
         }
     }
-    best
-}
-
-/// Forgets every mark.
-fn clear(marks: &mut [Mark])
-    ensures { (v : ℕ) → (known marks.new v ≡ false) × (settled marks.new v ≡ false) }
-{
-    for mark in marks.iter_mut() {
-        *mark = Mark::UNKNOWN;
-    }
+    queue.clear();
 }
 
 /// Settles nodes from the start on, nearest first, until the goal is next; says as which number it was visited.
-fn explore(
+fn dijkstra(
     net: &Net,
-    prices: &[u64],
-    marks: &mut [Mark],
+    prices: &Prices,
+    states: &mut [NodeState],
+    queue: &mut Queue,
     visits: &mut Vec<Visit>,
     start: Visit,
     goal: usize,
+    looks: &mut u64,
 ) -> Option<usize>
-    requires length { (length prices.now ≡ capacity_of net.now.nodes) × (length marks.old ≡ capacity_of net.now.nodes) }
+    requires length { (length prices.now.prices ≡ capacity_of net.now.nodes)
+        × (length states.old ≡ capacity_of net.now.nodes) }
     requires room { capacity_of net.now.nodes ≤ vec_capacity visits.old }
-    requires start { IsNode net.now start.node × (start.node.id.place ≡ start.place) × (start.hop ≡ None) }
+    requires start { IsNode net.now start.node × (start.node.id.place ≡ start.place) × (start.predecessor ≡ None) }
     requires goal { (goal < capacity_of net.now.nodes) × (start.place ≢ goal) }
-    requires valid { AreValid (arcs_of net.now) (slice_index prices.now) }
-    requires low { (slice_index prices.now start.place ≤ 2 ^ 60) × (capacity_of net.now.nodes ≤ 4096) }
-    ensures found { IfSome result (IsReached net.now (slice_index prices.now) start.place goal marks.new visits.new.items) }
-    ensures none { IfNone result (IsEnd net.now start.place goal marks.new) }
+    requires valid { AreValid (arcs_of net.now) (slice_index prices.now.prices) }
+    requires low { (slice_index prices.now.prices start.place ≤ 2 ^ 60) × (capacity_of net.now.nodes ≤ 4096) }
+    requires idle { IsIdle states.old queue.old }
+    requires net { IsNet net.now }
+    requires count { looks.old ≤ 2 ^ 62 }
+    ensures found { IfSome result (IsReached net.now
+        (slice_index prices.now.prices) start.place goal states.new visits.new.items) }
+    ensures none { IfNone result (IsEnd net.now start.place goal states.new) }
     ensures capacity { vec_capacity visits.new ≡ vec_capacity visits.old }
+    ensures visited { AreVisited states.new visits.new.items }
+    ensures queued { IsQueued (slice_index prices.now.prices) states.new queue.new }
+    ensures counts { (looks.old ≤ looks.new) × (looks.new ≤ looks.old + 2 * length (arcs_of net.now)) }
 {
-    clear(marks);
     visits.clear();
-    let label = prices[start.place];
-    marks[start.place] = Mark {
+    let label = prices.at(start.place);
+    states[start.place] = NodeState {
         node: Some(start.node),
         label,
         settled: false,
-        hop: None,
+        predecessor: None,
     };
-    while let Some(place) = nearest(prices, marks) {
-        let mark = marks[place];
-        let node = mark.node?;
+    queue.set(start.place, 0);
+    while let Some(place) = queue.least() {
+        let state = states[place];
+        let node = state.node?;
         let number = visits.len();
         let visit = Visit {
             node,
             place,
-            hop: mark.hop,
+            predecessor: state.predecessor,
         };
         visits.push_reserved(visit);
         if place == goal {
             return Some(number);
         }
-        marks[place].settled = true;
-        let here = Here { place, number };
-        look_out(net, marks, here, node);
-        look_in(net, marks, here, node);
+        states[place].settled = true;
+        queue.set(place, ABSENT);
+        let current = Current { place, number };
+        relax_arcs(
+            net,
+            prices,
+            states,
+            queue,
+            current,
+            node,
+            Way::Forward,
+            looks,
+        );
+        relax_arcs(
+            net,
+            prices,
+            states,
+            queue,
+            current,
+            node,
+            Way::Backward,
+            looks,
+        );
     }
     None
 }
 
-/// Raises each price: of a settled node to its label, of every other by `far`.
-fn lift(prices: &mut [u64], marks: &[Mark], far: u64)
-    requires { length marks.now ≡ length prices.old }
-    ensures { IsLifted prices.old marks.now far prices.new }
-{
-    for (v, price) in prices.iter_mut().enumerate() {
-        if marks[v].settled {
-            *price = marks[v].label;
-        } else {
-            // The place of a node that is gone may hold any price.
-            *price = price.saturating_add(far);
-        }
-    }
-}
-
 /// What `raise` does, on the tables of prices and of the search; `steps` is then the path, where there is one.
-fn raise_table(
+#[tactic(auto, using(crate::proofs::ArcRows::as_many_as_counted))]
+fn find_shortest(
     net: &Net,
-    prices: &mut [u64],
-    marks: &mut [Mark],
+    prices: &mut Prices,
+    states: &mut [NodeState],
+    queue: &mut Queue,
     visits: &mut Vec<Visit>,
     steps: &mut Vec<Step>,
     from: NodeId,
     to: NodeId,
+    looks: &mut u64,
 ) -> bool
     requires nodes { IsNode net.now from × IsNode net.now to × (from ≢ to) }
-    requires length { (length prices.old ≡ capacity_of net.now.nodes) × (length marks.old ≡ capacity_of net.now.nodes) }
-    requires capacity { (capacity_of net.now.nodes ≤ vec_capacity visits.old) × (capacity_of net.now.nodes ≤ vec_capacity steps.old) }
-    requires valid { AreValid (arcs_of net.now) (slice_index prices.old) }
-    requires highest { IsHighest net.now (slice_index prices.old) to.id.place }
-    requires room { slice_index prices.old to.id.place ≤ 2 ^ 60 }
-    ensures valid { AreValid (arcs_of net.now) (slice_index prices.new) }
-    ensures highest { IsHighest net.now (slice_index prices.new) to.id.place }
-    ensures rises { (v : ℕ) → slice_index prices.old v ≤ slice_index prices.new v }
-    ensures bound { slice_index prices.new to.id.place ≤ slice_index prices.old to.id.place + 4095 * 3000000 }
-    ensures path { result ≡ true → IsTightPath net.now (slice_index prices.new) from.id.place to.id.place steps.new.items }
+    requires length { (length prices.old.prices ≡ capacity_of net.now.nodes)
+        × (length states.old ≡ capacity_of net.now.nodes) }
+    requires capacity { (capacity_of net.now.nodes ≤ vec_capacity visits.old)
+        × (capacity_of net.now.nodes ≤ vec_capacity steps.old) }
+    requires valid { AreValid (arcs_of net.now) (slice_index prices.old.prices) }
+    requires highest { IsHighest net.now (slice_index prices.old.prices) to.id.place }
+    requires room { slice_index prices.old.prices to.id.place ≤ 2 ^ 60 }
+    requires idle { IsIdle states.old queue.old }
+    requires count { looks.old ≤ 2 ^ 62 }
+    ensures counts { (looks.old ≤ looks.new) × (looks.new ≤ looks.old + 2 * arc_count net.now) }
+    ensures idle { IsIdle states.new queue.new }
+    ensures valid { AreValid (arcs_of net.now) (slice_index prices.new.prices) }
+    ensures highest { IsHighest net.now (slice_index prices.new.prices) to.id.place }
+    ensures limits { prices.new.limits ≡ prices.old.limits }
+    ensures rises { (node : NodeId) → IsNode net.now node
+        → slice_index prices.old.prices node.id.place ≤ slice_index prices.new.prices node.id.place }
+    ensures bound { slice_index prices.new.prices to.id.place ≤ slice_index prices.old.prices to.id.place + 4095 * 3000000 }
+    ensures path { result ≡ true → IsTightPath net.now
+        (slice_index prices.new.prices) from.id.place to.id.place steps.new.items }
     ensures unchanged { result ≡ false → prices.new ≡ prices.old }
     ensures none { result ≡ false → (inside : ℕ → Bool) × IsCut net.now from.id.place to.id.place inside }
-    ensures capacity { (vec_capacity visits.new ≡ vec_capacity visits.old) × (vec_capacity steps.new ≡ vec_capacity steps.old) }
+    ensures capacity { (vec_capacity visits.new ≡ vec_capacity visits.old)
+        × (vec_capacity steps.new ≡ vec_capacity steps.old) }
 {
     let (Some(place), Some(goal)) = (net.place(from), net.place(to)) else {
         return false;
@@ -219,21 +273,24 @@ fn raise_table(
     let start = Visit {
         node: from,
         place,
-        hop: None,
+        predecessor: None,
     };
-    let Some(end) = explore(net, prices, marks, visits, start, goal) else {
+    let Some(end) = dijkstra(net, prices, states, queue, visits, start, goal, looks) else {
+        forget(states, queue, visits);
         return false;
     };
-    let far = marks[goal].label - prices[goal];
-    lift(prices, marks, far);
+    let distance = states[goal].label - prices.at(goal);
+    prices.raise(states, visits, goal, distance);
     walk_back(visits, end, steps);
+    forget(states, queue, visits);
     true
 }
 
 /// Raises prices, which stay valid, until a path over residual arcs of reduced cost 0 leads from `from` to `to`, and
-/// gives it. No node's price falls. No node has a higher price than `to`, before and after, and that price grows by at most
-/// 4,095 times 3,000,000, which is what the longest path may cost. `None` only where a set of nodes holds `from` and not `to`, and
-/// no residual arc leaves it; the prices then stay as they were. Takes no memory.
+/// gives it. No node's price falls. No node has a higher price than `to`, before and after, and that price grows by at
+/// most 4,095 times 3,000,000, which is what the longest path may cost. `None` only where a set of nodes holds `from`
+/// and not `to`, and no residual arc leaves it; the prices then stay as they were. Counts one search, and at most two
+/// looks for each arc. Takes no memory.
 pub fn raise<'s>(
     scratch: &'s mut Scratch,
     net: &Net,
@@ -246,25 +303,33 @@ pub fn raise<'s>(
     requires valid { AreValid (arcs_of net.now) (price_of prices.old) }
     requires highest { IsHighest net.now (price_of prices.old) to.id.place }
     requires room { price_of prices.old to.id.place ≤ 2 ^ 60 }
-    ensures* rests { sem 𝓛 (Rests scratch.entry) }
+    ensures* rests { sem 𝓛 (Rests scratch.entry (arc_count net.now)) }
     ensures limits { prices.new.limits ≡ prices.old.limits }
     ensures valid { AreValid (arcs_of net.now) (price_of prices.new) }
     ensures highest { IsHighest net.now (price_of prices.new) to.id.place }
-    ensures rises { (node : NodeId) → IsNode net.now node → price_of prices.old node.id.place ≤ price_of prices.new node.id.place }
+    ensures rises { (node : NodeId) → IsNode net.now node
+        → price_of prices.old node.id.place ≤ price_of prices.new node.id.place }
     ensures bound { price_of prices.new to.id.place ≤ price_of prices.old to.id.place + 4095 * 3000000 }
-    ensures path { IfSome result (λ steps. IsTightPath net.now (price_of prices.new) from.id.place to.id.place steps.now) }
+    ensures path { IfSome result (λ steps. IsTightPath net.now
+        (price_of prices.new) from.id.place to.id.place steps.now) }
     ensures unchanged { IfNone result (prices.new ≡ prices.old) }
     ensures none { IfNone result ((inside : ℕ → Bool) × IsCut net.now from.id.place to.id.place inside) }
 {
-    let found = raise_table(
+    let _places = prices.places();
+    let mut looks = 0;
+    let found = find_shortest(
         net,
-        &mut prices.table,
-        &mut scratch.marks,
+        prices,
+        &mut scratch.states,
+        &mut scratch.queue,
         &mut scratch.visits,
         &mut scratch.steps,
         from,
         to,
+        &mut looks,
     );
+    scratch.searches = scratch.searches.saturating_add(1);
+    scratch.looks = scratch.looks.saturating_add(looks);
     if !found {
         return None;
     }

@@ -1,19 +1,22 @@
 //! Paths over residual arcs of reduced cost 0.
-ghost use Rattle.std.specs.Prelude.{◌≡◌, ◌≢◌, ℕ, ◌+◌, ◌<◌, ◌≤◌, ◌↔◌, Bool, true, false, length, Contains, IsTrue, Some, None, IfSome, IfNone, slice_index, slice_index_or, vec_capacity};
+ghost use Rattle.std.specs.Prelude.{◌≡◌, ◌≢◌, ℕ, ◌+◌, ◌*◌, ◌^◌, ◌<◌, ◌≤◌, ◌↔◌, Bool, true, false, length, Contains};
+ghost use Rattle.std.specs.Prelude.{IsTrue, Some, None, IfSome, IfNone, slice_index, slice_index_or, vec_capacity};
 ghost use Rattle.std.specs.Borrow.{sem};
 ghost use Rattle.firm_arena.specs.Arena.{capacity_of};
-ghost use Rattle.firm_net.specs.Net.{IsNode, row_at};
-ghost use Rattle.firm_net.specs.declared.row.Way.TheVariants.{Forward, Backward};
-ghost use Rattle.firm_paths.specs.NetArcs.{limits_of};
+ghost use Rattle.firm_net.specs.Net.{IsNode, IsNet, arc_count, row_at, rows_of, arcs_on};
+ghost use Rattle.firm_paths.specs.NetArcs.{arcs_of, limits_of};
 ghost use Rattle.firm_paths.specs.Paths.{IsTightPath, Avoids, IsTightCut};
 ghost use Rattle.firm_paths.specs.PriceTable.{price_of};
-ghost use Rattle.firm_paths.specs.Search.{start_of};
-ghost use Rattle.firm_paths.specs.Spread.{seen_with, visits_with, IsGrown, IsCounted, Spreads, SpreadsAll, IsReachedBy, IsSpent};
+ghost use Rattle.firm_paths.specs.inner.Search.{side_of, start_of};
+ghost use Rattle.firm_paths.specs.inner.Spread.{seen_with, visits_with, IsGrown, IsCounted, Spreads, SpreadsAll};
+ghost use Rattle.firm_paths.specs.inner.Spread.{IsReachedBy, IsSpent};
 ghost use Rattle.firm_paths.specs.Lending.{Rests};
 
 use crate::prices::Prices;
 use crate::scratch::Scratch;
-use crate::search::{Here, Hop, Step, Visit, entered, is_residual, walk_back};
+use crate::search::{
+    Current, Predecessor, Step, Visit, arcs_leaving, entered, is_residual, walk_back,
+};
 use firm_net::{ArcId, ArcRow, Net, NodeId, Way};
 
 /// Visits a node, unless it was seen.
@@ -44,25 +47,27 @@ fn is_barred(barred: &[ArcId], arc: ArcId) -> bool
     barred.contains(&arc)
 }
 
-/// Looks along one arc from the node where the search stands.
-fn look(
+/// Follows one arc: visits the node to which a step along it leads, if the step is tight and not barred.
+fn follow_arc(
     net: &Net,
-    prices: &[u64],
+    prices: &Prices,
     barred: &[ArcId],
     seen: &mut [bool],
     visits: &mut Vec<Visit>,
-    here: Here,
+    current: Current,
     step: Step,
     row: ArcRow,
 )
-    requires length { (length prices.now ≡ capacity_of net.now.nodes) × (length seen.old ≡ capacity_of net.now.nodes) }
-    requires place { here.place < capacity_of net.now.nodes }
+    requires length { (length prices.now.prices ≡ capacity_of net.now.nodes)
+        × (length seen.old ≡ capacity_of net.now.nodes) }
+    requires place { current.place < capacity_of net.now.nodes }
     requires counted { IsCounted seen.old visits.old.items (vec_capacity visits.old) }
     requires row { row_at net.now step.arc ≡ Some row }
-    requires start { (start_of step.way row).id.place ≡ here.place }
+    requires start { (start_of step.way row).id.place ≡ current.place }
     ensures grown { IsGrown seen.old visits.old.items seen.new visits.new.items }
     ensures counted { IsCounted seen.new visits.new.items (vec_capacity visits.new) }
-    ensures spreads { Spreads net.now (slice_index prices.now) barred.now here step.way step.arc row seen.old visits.old.items seen.new visits.new.items }
+    ensures spreads { Spreads net.now
+        (slice_index prices.now.prices) barred.now current step.way step.arc row seen.old visits.old.items seen.new visits.new.items }
     ensures capacity { vec_capacity visits.new ≡ vec_capacity visits.old }
 {
     if is_barred(barred, step.arc) || !is_residual(row, step.way) {
@@ -74,81 +79,64 @@ fn look(
     };
     let place = place as usize;
     let tight = match step.way {
-        Way::Forward => is_tight(prices[here.place], prices[place], row.cost()),
-        Way::Backward => is_tight(prices[place], prices[here.place], row.cost()),
+        Way::Forward => is_tight(prices.at(current.place), prices.at(place), row.cost()),
+        Way::Backward => is_tight(prices.at(place), prices.at(current.place), row.cost()),
     };
     if tight {
-        let hop = Some(Hop {
+        let predecessor = Some(Predecessor {
             step,
-            after: here.number,
+            after: current.number,
         });
-        visit_once(seen, visits, Visit { node, place, hop });
+        visit_once(
+            seen,
+            visits,
+            Visit {
+                node,
+                place,
+                predecessor,
+            },
+        );
     }
 }
 
-/// Looks along every arc out of the node where the search stands.
-fn look_out(
+/// Follows every arc by which a step this way leaves the node where the search stands.
+fn follow_arcs(
     net: &Net,
-    prices: &[u64],
+    prices: &Prices,
     barred: &[ArcId],
     seen: &mut [bool],
     visits: &mut Vec<Visit>,
-    here: Here,
+    current: Current,
     node: NodeId,
+    way: Way,
+    looks: &mut u64,
 )
-    requires length { (length prices.now ≡ capacity_of net.now.nodes) × (length seen.old ≡ capacity_of net.now.nodes) }
-    requires node { IsNode net.now node × (node.id.place ≡ here.place) }
+    requires length { (length prices.now.prices ≡ capacity_of net.now.nodes)
+        × (length seen.old ≡ capacity_of net.now.nodes) }
+    requires node { IsNode net.now node × (node.id.place ≡ current.place) }
     requires counted { IsCounted seen.old visits.old.items (vec_capacity visits.old) }
+    requires count { looks.old ≤ 2 ^ 63 }
     ensures grown { IsGrown seen.old visits.old.items seen.new visits.new.items }
     ensures counted { IsCounted seen.new visits.new.items (vec_capacity visits.new) }
-    ensures spreads { SpreadsAll net.now (slice_index prices.now) barred.now here Forward seen.old visits.old.items seen.new visits.new.items }
+    ensures spreads { SpreadsAll net.now
+        (slice_index prices.now.prices) barred.now current way seen.old visits.old.items seen.new visits.new.items }
     ensures capacity { vec_capacity visits.new ≡ vec_capacity visits.old }
+    ensures counts { looks.new ≡ looks.old + length (rows_of net.now (arcs_on (side_of way) net.now node)) }
+    ensures net { IsNet net.now }
+    ensures node { node.id.place ≡ current.place }
 {
-    for (arc, row) in net.out_arcs(node) {
-        let way = Way::Forward;
-        look(
+    for (arc, row) in arcs_leaving(net, node, way) {
+        follow_arc(
             net,
             prices,
             barred,
             seen,
             visits,
-            here,
+            current,
             Step { arc, way },
             row,
         );
-    }
-}
-
-/// Looks back along every arc into the node where the search stands.
-fn look_in(
-    net: &Net,
-    prices: &[u64],
-    barred: &[ArcId],
-    seen: &mut [bool],
-    visits: &mut Vec<Visit>,
-    here: Here,
-    node: NodeId,
-)
-    requires length { (length prices.now ≡ capacity_of net.now.nodes) × (length seen.old ≡ capacity_of net.now.nodes) }
-    requires node { IsNode net.now node × (node.id.place ≡ here.place) }
-    requires counted { IsCounted seen.old visits.old.items (vec_capacity visits.old) }
-    ensures grown { IsGrown seen.old visits.old.items seen.new visits.new.items }
-    ensures counted { IsCounted seen.new visits.new.items (vec_capacity visits.new) }
-    ensures spreads { SpreadsAll net.now (slice_index prices.now) barred.now here Backward seen.old visits.old.items seen.new visits.new.items }
-    ensures capacity { vec_capacity visits.new ≡ vec_capacity visits.old }
-{
-    for (arc, row) in net.in_arcs(node) {
-        let way = Way::Backward;
-        look(
-            net,
-            prices,
-            barred,
-            seen,
-            visits,
-            here,
-            Step { arc, way },
-            row,
-        );
+        *looks += 1;
     }
 }
 
@@ -162,22 +150,29 @@ fn clear(seen: &mut [bool])
 }
 
 /// Visits nodes from the start on, in the order in which they are found; says as which number the goal was visited.
-fn spread(
+fn breadth_first(
     net: &Net,
-    prices: &[u64],
+    prices: &Prices,
     barred: &[ArcId],
     seen: &mut [bool],
     visits: &mut Vec<Visit>,
     start: Visit,
     goal: usize,
+    looks: &mut u64,
 ) -> Option<usize>
-    requires length { (length prices.now ≡ capacity_of net.now.nodes) × (length seen.old ≡ capacity_of net.now.nodes) }
+    requires length { (length prices.now.prices ≡ capacity_of net.now.nodes)
+        × (length seen.old ≡ capacity_of net.now.nodes) }
     requires room { capacity_of net.now.nodes ≤ vec_capacity visits.old }
-    requires start { IsNode net.now start.node × (start.node.id.place ≡ start.place) × (start.hop ≡ None) }
-    ensures found { IfSome result (IsReachedBy net.now (slice_index prices.now) barred.now start.place goal visits.new.items) }
+    requires start { IsNode net.now start.node × (start.node.id.place ≡ start.place) × (start.predecessor ≡ None) }
+    requires net { IsNet net.now }
+    requires count { looks.old ≤ 2 ^ 62 }
+    ensures found { IfSome result (IsReachedBy net.now
+        (slice_index prices.now.prices) barred.now start.place goal visits.new.items) }
     ensures few { length visits.new.items ≤ capacity_of net.now.nodes }
-    ensures none { IfNone result (IsSpent net.now (slice_index prices.now) barred.now start.place goal seen.new) }
+    ensures none { IfNone result (IsSpent net.now
+        (slice_index prices.now.prices) barred.now start.place goal seen.new) }
     ensures capacity { vec_capacity visits.new ≡ vec_capacity visits.old }
+    ensures counts { (looks.old ≤ looks.new) × (looks.new ≤ looks.old + 2 * length (arcs_of net.now)) }
 {
     clear(seen);
     visits.clear();
@@ -188,34 +183,63 @@ fn spread(
         if visit.place == goal {
             return Some(number);
         }
-        let here = Here {
+        let current = Current {
             place: visit.place,
             number,
         };
-        look_out(net, prices, barred, seen, visits, here, visit.node);
-        look_in(net, prices, barred, seen, visits, here, visit.node);
+        follow_arcs(
+            net,
+            prices,
+            barred,
+            seen,
+            visits,
+            current,
+            visit.node,
+            Way::Forward,
+            looks,
+        );
+        follow_arcs(
+            net,
+            prices,
+            barred,
+            seen,
+            visits,
+            current,
+            visit.node,
+            Way::Backward,
+            looks,
+        );
         number += 1;
     }
     None
 }
 
 /// What `tight_path` does, on the tables of the search; `steps` is then the path, where there is one.
+#[tactic(auto, using(crate::proofs::ArcRows::as_many_as_counted))]
 fn find_tight(
     net: &Net,
-    prices: &[u64],
+    prices: &Prices,
     barred: &[ArcId],
     seen: &mut [bool],
     visits: &mut Vec<Visit>,
     steps: &mut Vec<Step>,
     from: NodeId,
     to: NodeId,
+    looks: &mut u64,
 ) -> bool
     requires nodes { IsNode net.now from × IsNode net.now to × (from ≢ to) }
-    requires length { (length prices.now ≡ capacity_of net.now.nodes) × (length seen.old ≡ capacity_of net.now.nodes) }
-    requires capacity { (capacity_of net.now.nodes ≤ vec_capacity visits.old) × (capacity_of net.now.nodes ≤ vec_capacity steps.old) }
-    ensures path { result ≡ true → IsTightPath net.now (slice_index prices.now) from.id.place to.id.place steps.new.items × Avoids barred.now steps.new.items }
-    ensures none { result ≡ false → (inside : ℕ → Bool) × IsTightCut net.now (slice_index prices.now) barred.now from.id.place to.id.place inside }
-    ensures capacity { (vec_capacity visits.new ≡ vec_capacity visits.old) × (vec_capacity steps.new ≡ vec_capacity steps.old) }
+    requires length { (length prices.now.prices ≡ capacity_of net.now.nodes)
+        × (length seen.old ≡ capacity_of net.now.nodes) }
+    requires capacity { (capacity_of net.now.nodes ≤ vec_capacity visits.old)
+        × (capacity_of net.now.nodes ≤ vec_capacity steps.old) }
+    requires count { looks.old ≤ 2 ^ 62 }
+    ensures counts { (looks.old ≤ looks.new) × (looks.new ≤ looks.old + 2 * arc_count net.now) }
+    ensures path { result ≡ true → IsTightPath net.now
+        (slice_index prices.now.prices) from.id.place to.id.place steps.new.items × Avoids barred.now steps.new.items }
+    ensures none { result ≡ false → (inside : ℕ → Bool)
+        × IsTightCut net.now (slice_index prices.now.prices) barred.now from.id.place to.id.place inside }
+    ensures capacity { (vec_capacity visits.new ≡ vec_capacity visits.old)
+        × (vec_capacity steps.new ≡ vec_capacity steps.old) }
 {
     let (Some(place), Some(goal)) = (net.place(from), net.place(to)) else {
         return false;
@@ -223,17 +247,27 @@ fn find_tight(
     let start = Visit {
         node: from,
         place: place as usize,
-        hop: None,
+        predecessor: None,
     };
-    let Some(end) = spread(net, prices, barred, seen, visits, start, goal as usize) else {
+    let Some(end) = breadth_first(
+        net,
+        prices,
+        barred,
+        seen,
+        visits,
+        start,
+        goal as usize,
+        looks,
+    ) else {
         return false;
     };
     walk_back(visits, end, steps);
     true
 }
 
-/// A path from `from` to `to` over residual arcs of reduced cost 0 that are not barred. `None` only where a set of nodes
-/// holds `from` and not `to`, and no such arc leaves it. Takes no memory.
+/// A path from `from` to `to` over residual arcs of reduced cost 0 that are not barred. `None` only where a set of
+/// nodes holds `from` and not `to`, and no such arc leaves it. Counts one search, and at most two looks for each arc.
+/// Takes no memory.
 pub fn tight_path<'s>(
     scratch: &'s mut Scratch,
     net: &Net,
@@ -244,21 +278,28 @@ pub fn tight_path<'s>(
 ) -> Option<&'s [Step]>
     requires nodes { IsNode net.now from × IsNode net.now to × (from ≢ to) }
     requires made_for { (prices.now.limits ≡ limits_of net.now) × (scratch.old.limits ≡ limits_of net.now) }
-    ensures* rests { sem 𝓛 (Rests scratch.entry) }
-    ensures path { IfSome result (λ steps. IsTightPath net.now (price_of prices.now) from.id.place to.id.place steps.now) }
+    ensures* rests { sem 𝓛 (Rests scratch.entry (arc_count net.now)) }
+    ensures path { IfSome result (λ steps. IsTightPath net.now
+        (price_of prices.now) from.id.place to.id.place steps.now) }
     ensures unbarred { IfSome result (λ steps. Avoids barred.now steps.now) }
-    ensures none { IfNone result ((inside : ℕ → Bool) × IsTightCut net.now (price_of prices.now) barred.now from.id.place to.id.place inside) }
+    ensures none { IfNone result ((inside : ℕ → Bool)
+        × IsTightCut net.now (price_of prices.now) barred.now from.id.place to.id.place inside) }
 {
+    let _places = prices.places();
+    let mut looks = 0;
     let found = find_tight(
         net,
-        &prices.table,
+        prices,
         barred,
         &mut scratch.seen,
         &mut scratch.visits,
         &mut scratch.steps,
         from,
         to,
+        &mut looks,
     );
+    scratch.searches = scratch.searches.saturating_add(1);
+    scratch.looks = scratch.looks.saturating_add(looks);
     if !found {
         return None;
     }

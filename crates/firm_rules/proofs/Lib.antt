@@ -1,3 +1,14 @@
 pub mod NameParts
+pub mod NamedRows
+pub mod SoundRows
 pub mod TableLemmas
+pub mod TaskWrites
+pub mod Legals
+pub mod Loads
+pub mod Places
+pub mod Recents
+pub mod Listing
+pub mod Firsts
 mod Examples
+mod RoundExamples
+pub mod Orders

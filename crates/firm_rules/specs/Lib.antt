@@ -3,5 +3,10 @@ pub mod Limits
 pub mod Amounts
 pub mod Book
 pub mod ArenaUse
+pub mod Sound
+pub mod Placement
+pub mod Order
+pub mod Round
+pub mod Recent
 pub mod Tables
 pub mod Refusals

@@ -4,20 +4,32 @@
 
 mod amounts;
 mod bounds;
+mod changing;
 mod commands;
+mod laws;
 mod names;
 mod parts;
+mod placements;
+mod recent;
 mod replies;
+#[cfg(test)]
+mod round_tests;
 mod rounds;
 mod tables;
 #[cfg(test)]
 mod tests;
+mod tickets;
 
 pub use amounts::{Slots, Weight};
 pub use bounds::Limits;
+pub use changing::{Changes, changes_of};
 pub use commands::{Command, LineFault};
+pub use laws::{legality_is_judged, the_first_difference_decides, the_round_is_the_first};
 pub use names::Name;
 pub use parts::{Job, Machine, Task, Use};
+pub use placements::{cost_of, legal, ranks_before};
+pub use recent::RecentCosts;
 pub use replies::{Outcome, Refusal, Reply};
 pub use rounds::{Change, Choice};
 pub use tables::{Rows, use_of};
+pub use tickets::Ticket;

@@ -1,15 +1,16 @@
 -- The replies of a tenant alone, computed at worked examples.
-use Rattle.std.proofs.Common.{◌≡◌, ℕ, true, false, List, [], ◌∷◌, refl, codes}
+use Rattle.std.proofs.Common.{◌≡◌, ℕ, true, false, List, [], ◌∷◌, map, Some, None, refl, codes}
 use Rattle.firm_rules.specs.Limits.{TenantLimits}
 use Rattle.firm_rules.specs.declared.commands.Command.{Command}
-use Rattle.firm_rules.specs.declared.commands.Command.TheVariants.{AddMachine, AddJob, AddTask, Show, Faulty}
+use Rattle.firm_rules.specs.declared.commands.Command.TheVariants.{AddMachine, AddJob, AddTask, Drain, CloseJob, Done, Find, Show, Faulty}
 use Rattle.firm_rules.specs.declared.commands.LineFault.TheVariants.{BadCommand, BadName, BadNumber}
 use Rattle.firm_rules.specs.declared.replies.Reply.{Reply}
 use Rattle.firm_rules.specs.declared.replies.Outcome.{Outcome}
-use Rattle.firm_rules.specs.declared.replies.Outcome.TheVariants.{Plain, Shown, Refused}
+use Rattle.firm_rules.specs.declared.replies.Outcome.TheVariants.{Plain, Evicted, At, Waits, Shown, Refused}
 use Rattle.firm_rules.specs.declared.replies.Refusal.{Refusal}
-use Rattle.firm_rules.specs.declared.replies.Refusal.TheVariants.{Worn, BadCommand as NoCommand, BadName as NoName, BadNumber as NoNumber, MachineExists, JobExists, NoSuchJob, TaskExists, ArenaNodes, ArenaArcs, Memory}
-use Rattle.firm_tenant.specs.Alone.{alone, alone_marked}
+use Rattle.firm_rules.specs.declared.replies.Refusal.TheVariants.{Worn, BadCommand as NoCommand, BadName as NoName, BadNumber as NoNumber, MachineExists, NoSuchMachine, JobExists, NoSuchJob, TaskExists, NoSuchTask, JobHasTasks, ArenaNodes, ArenaArcs, Memory}
+use Rattle.firm_tenant.specs.Alone.{alone, alone_marked, replies_from}
+use Rattle.firm_rules.specs.Book.{Book}
 
 abbrev limits : ℕ → ℕ → ℕ → TenantLimits
 limits nodes arcs life = record { nodes = nodes; arcs = arcs; life = life; spread = 1; churn = 2 }
@@ -43,9 +44,10 @@ one_of_each : alone (limits 6 11 100) (AddMachine m1 2 ∷ AddJob j 5 ∷ AddTas
     ≡ ok 1 ∷ ok 2 ∷ ok 3 ∷ reply 4 (Shown 1 1 1 0 5 6 7 11) ∷ []
 one_of_each = refl
 
--- a third task finds no node
-no_node_left : alone (limits 6 11 100) (AddMachine m1 2 ∷ AddJob j 5 ∷ AddTask j a ∷ AddTask j b ∷ AddTask j c ∷ [])
-    ≡ ok 1 ∷ ok 2 ∷ ok 3 ∷ ok 4 ∷ no 5 ArenaNodes ∷ []
+-- a third task finds no node until a task is done
+no_node_left : alone (limits 6 11 100)
+    (AddMachine m1 2 ∷ AddJob j 5 ∷ AddTask j a ∷ AddTask j b ∷ AddTask j c ∷ Done a ∷ AddTask j c ∷ [])
+    ≡ ok 1 ∷ ok 2 ∷ ok 3 ∷ ok 4 ∷ no 5 ArenaNodes ∷ ok 6 ∷ ok 7 ∷ []
 no_node_left = refl
 
 -- a second task finds two arcs of the three that it takes, and leaves nothing behind
@@ -74,6 +76,58 @@ names_first = refl
 -- machines, jobs and tasks have names of their own
 three_name_spaces : alone (limits 6 20 100) (AddMachine a 2 ∷ AddJob a 5 ∷ AddTask a a ∷ []) ≡ ok 1 ∷ ok 2 ∷ ok 3 ∷ []
 three_name_spaces = refl
+
+-- what is added again, what is not there, and a job that is closed only once its tasks are done
+known_or_not : alone (limits 8 30 100)
+    (AddJob j 5 ∷ AddJob j 5 ∷ AddTask j a ∷ AddTask j a ∷ AddTask b a ∷ CloseJob j ∷ Drain m1 ∷ Find b ∷ Done a ∷ CloseJob j
+    ∷ CloseJob j ∷ Done a ∷ [])
+    ≡ ok 1 ∷ no 2 JobExists ∷ ok 3 ∷ no 4 TaskExists ∷ no 5 NoSuchJob ∷ no 6 JobHasTasks ∷ no 7 NoSuchMachine ∷ no 8 NoSuchTask
+    ∷ ok 9 ∷ ok 10 ∷ no 11 NoSuchJob ∷ no 12 NoSuchTask ∷ []
+known_or_not = refl
+
+-- a task waits, also once the only machine is gone
+a_drain_of_a_free_machine : alone (limits 8 30 100)
+    (AddMachine m1 2 ∷ AddJob j 5 ∷ AddTask j a ∷ Find a ∷ Drain m1 ∷ Show ∷ Drain m1 ∷ [])
+    ≡ ok 1 ∷ ok 2 ∷ ok 3 ∷ reply 4 (Waits 0) ∷ reply 5 (Evicted 0) ∷ reply 6 (Shown 0 1 1 0 4 8 4 30) ∷ no 7 NoSuchMachine ∷ []
+a_drain_of_a_free_machine = refl
+
+abbrev m2 : List ℕ
+m2 = codes "m2"
+
+-- a runs on m1, b on m2, and c has waited for 3 rounds
+abbrev running : Book
+running = record {
+  rows = record {
+    limits = limits 9 30 9;
+    machines = record { name = m1; slots = 2 } ∷ record { name = m2; slots = 1 } ∷ [];
+    jobs = record { name = j; weight = 5 } ∷ [];
+    tasks =
+        record { name = a; job = j; machine = Some m1; waited = 0 } ∷ record { name = b; job = j; machine = Some m2; waited = 0 }
+        ∷ record { name = c; job = j; machine = None; waited = 3 } ∷ [];
+  };
+  costs = [];
+  given = 1;
+}
+
+abbrev replies : List Command → List Reply
+replies commands = replies_from running (map (λ command. (command, false)) commands)
+
+-- the machine's tasks alone wait again; a machine that comes back under its name has none of them
+a_drain : replies (Show ∷ Find a ∷ Find c ∷ Drain m1 ∷ Find a ∷ Find b ∷ Find c ∷ AddMachine m1 1 ∷ Find a ∷ [])
+    ≡ reply 2 (Shown 2 1 3 2 8 9 15 30) ∷ reply 3 (At m1) ∷ reply 4 (Waits 3) ∷ reply 5 (Evicted 1) ∷ reply 6 (Waits 0)
+    ∷ reply 7 (At m2) ∷ reply 8 (Waits 3) ∷ ok 9 ∷ no 10 Worn ∷ []
+a_drain = refl
+
+-- a running task that is done leaves its machine free
+a_running_task_is_done : replies (Done a ∷ Show ∷ Drain m1 ∷ Find a ∷ [])
+    ≡ ok 2 ∷ reply 3 (Shown 2 1 2 1 7 9 12 30) ∷ reply 4 (Evicted 0) ∷ no 5 NoSuchTask ∷ []
+a_running_task_is_done = refl
+
+-- these verbs grow nothing, so want of memory is never their answer
+marks_change_nothing : alone_marked (limits 8 30 100)
+    ((AddJob j 5, false) ∷ (AddTask j a, false) ∷ (Find a, true) ∷ (Done a, true) ∷ (CloseJob j, true) ∷ (Drain m1, true) ∷ [])
+    ≡ ok 1 ∷ ok 2 ∷ reply 3 (Waits 0) ∷ ok 4 ∷ ok 5 ∷ no 6 NoSuchMachine ∷ []
+marks_change_nothing = refl
 
 -- each fault of a line has its refusal
 faults : alone (limits 2 0 100) (Faulty BadCommand ∷ Faulty BadName ∷ Faulty BadNumber ∷ []) ≡ no 1 NoCommand ∷ no 2 NoName ∷ no 3 NoNumber ∷ []

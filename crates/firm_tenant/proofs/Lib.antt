@@ -1,1 +1,3 @@
+pub mod Steps
 mod Examples
+mod RoundExamples

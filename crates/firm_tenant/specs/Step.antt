@@ -1,16 +1,21 @@
 -- One command of a tenant: the reply to it, and the book after it.
-use Rattle.std.specs.Prelude.{ℕ, ◌+◌, Bool, true, false, not, nat_lt, nat_le, is_some, length, count_by, if◌then◌else◌}
-use Rattle.firm_rules.specs.Book.{Book, TenantRows, machine_names, job_names, task_names, with_machine, with_job, with_task}
+use Rattle.std.specs.Prelude.{ℕ, ℤ, pos, ◌+◌, Bool, true, false, not, List, nat_lt, nat_le, length, Option, Some, None, if◌then◌else◌}
+use Rattle.firm_rules.specs.Book.{Book, TenantRows, machine_names, job_names, task_names, with_machine, with_job, with_task, without_machine, without_job, without_task, running_on, running_count, has_tasks, task_named}
 use Rattle.firm_rules.specs.ArenaUse.{arena_nodes, arena_arcs}
 use Rattle.firm_rules.specs.Names.{is_among}
+use Rattle.firm_rules.specs.Placement.{placement_cost}
+use Rattle.firm_rules.specs.Recent.{with_cost}
 use Rattle.firm_rules.specs.Refusals.{fault_refusal}
+use Rattle.firm_rules.specs.Round.{case_of, round_placement, changes_made, rows_after}
+use Rattle.firm_rules.specs.declared.parts.Task.{Task}
+use Rattle.firm_rules.specs.declared.rounds.Choice.{Choice}
 use Rattle.firm_rules.specs.declared.commands.Command.{Command}
-use Rattle.firm_rules.specs.declared.commands.Command.TheVariants.{AddMachine, AddJob, AddTask, Show, Faulty}
+use Rattle.firm_rules.specs.declared.commands.Command.TheVariants.{AddMachine, AddJob, AddTask, Drain, CloseJob, Done, Find, Show, Costs as CostsCommand, Round as RoundCommand, Faulty}
 use Rattle.firm_rules.specs.declared.replies.Reply.{Reply}
 use Rattle.firm_rules.specs.declared.replies.Outcome.{Outcome}
-use Rattle.firm_rules.specs.declared.replies.Outcome.TheVariants.{Plain, Shown, Refused}
+use Rattle.firm_rules.specs.declared.replies.Outcome.TheVariants.{Plain, Evicted, At, Waits, Shown, Costs, Round, Refused}
 use Rattle.firm_rules.specs.declared.replies.Refusal.{Refusal}
-use Rattle.firm_rules.specs.declared.replies.Refusal.TheVariants.{Worn, MachineExists, NoSuchJob, JobExists, TaskExists, ArenaNodes, ArenaArcs, Memory}
+use Rattle.firm_rules.specs.declared.replies.Refusal.TheVariants.{Worn, MachineExists, NoSuchMachine, JobExists, NoSuchJob, TaskExists, NoSuchTask, JobHasTasks, ArenaNodes, ArenaArcs, Memory}
 
 -- a refused command leaves the book, in which it is counted already, as it is
 abbrev pub refused : Book → Refusal → Outcome × Book
@@ -24,11 +29,33 @@ grown book rows mark =
     else (if mark then refused book Memory
     else (Plain, record book { rows = rows })))
 
+-- the machine that a task runs on, if it does, and else how many rounds left it waiting
+abbrev pub whereabouts_of : Option (List ℕ) → ℕ → Outcome
+whereabouts_of (Some machine) waited = At machine
+whereabouts_of None waited = Waits waited
+
+-- where a task runs, or how many rounds left it waiting
+abbrev pub whereabouts : Task → Outcome
+whereabouts task = whereabouts_of task.machine task.waited
+
 -- the counts of the rows, and the limits of nodes and arcs
 abbrev pub counts_of : TenantRows → Outcome
 counts_of rows =
-    Shown (length rows.machines) (length rows.jobs) (length rows.tasks) (count_by (λ task. is_some task.machine) rows.tasks)
+    Shown (length rows.machines) (length rows.jobs) (length rows.tasks) (running_count rows.tasks)
     (arena_nodes rows) rows.limits.nodes (arena_arcs rows) rows.limits.arcs
+
+-- a task that is there is told where it is
+abbrev pub found : Book → Option Task → Outcome × Book
+found book None = refused book NoSuchTask
+found book (Some task) = (whereabouts task, book)
+
+-- what a placement costs and changes, and the book after it, with the cost as the newest of 8
+abbrev pub placed : Book → List Choice → Outcome × Book
+placed book placement =
+    let cost : ℤ = pos (placement_cost (case_of book.rows) placement) in (
+      Round cost (changes_made book.rows placement),
+      record book { rows = rows_after book.rows placement; costs = with_cost book.costs cost },
+    )
 
 -- what a command comes to, and the book after it; the mark says that a growth was refused for want of memory
 abbrev pub effect : Book → Command → Bool → Outcome × Book
@@ -42,7 +69,21 @@ effect book (AddTask job name) mark =
     if not (is_among (job_names book.rows) job) then refused book NoSuchJob
     else (if is_among (task_names book.rows) name then refused book TaskExists
     else grown book (with_task book.rows job name) mark)
+effect book (Drain name) mark =
+    if not (is_among (machine_names book.rows) name) then refused book NoSuchMachine
+    else (Evicted (running_on book.rows name), record book { rows = without_machine book.rows name })
+effect book (CloseJob name) mark =
+    if not (is_among (job_names book.rows) name) then refused book NoSuchJob
+    else (if has_tasks book.rows name then refused book JobHasTasks
+    else (Plain, record book { rows = without_job book.rows name }))
+effect book (Done name) mark =
+    if not (is_among (task_names book.rows) name) then refused book NoSuchTask
+    else (Plain, record book { rows = without_task book.rows name })
+effect book (Find name) mark = found book (task_named book.rows name)
 effect book Show mark = (counts_of book.rows, book)
+effect book CostsCommand mark = (Costs book.costs, book)
+effect book RoundCommand mark =
+    if mark then refused book Memory else placed book (round_placement (case_of book.rows))
 effect book (Faulty fault) mark = refused book (fault_refusal fault)
 
 -- the book with one more command given

@@ -1,7 +1,8 @@
 use crate::Tenant;
-use firm_rules::{Command, Limits, Name, Outcome, Refusal, Reply, Slots, Weight, use_of};
-use linked_list_allocator::LocalHeap;
-use std::alloc::{AllocError, Allocator, Global};
+use firm_rules::{
+    Command, Limits, LineFault, Name, Outcome, RecentCosts, Refusal, Reply, Slots, Weight,
+};
+use std::alloc::Global;
 use std::process::Abort;
 use std::test::Fail;
 
@@ -9,26 +10,42 @@ fn name(bytes: &[u8]) -> Result<Name, &'static str> {
     Name::read(bytes).ok_or("not a name")
 }
 
-// A machine with two slots, a job, and a task of the job.
-fn one_of_each() -> Result<[Command; 3], &'static str> {
-    let slots = Slots::check(2).ok_or("not slots")?;
-    let weight = Weight::check(5).ok_or("not a weight")?;
-    let job = name(b"j")?;
-    Ok([
-        Command::AddMachine(name(b"m1")?, slots),
-        Command::AddJob(job, weight),
-        Command::AddTask(job, name(b"a")?),
-    ])
+fn machine(bytes: &[u8], slots: u64) -> Result<Command, &'static str> {
+    let slots = Slots::check(slots).ok_or("not slots")?;
+    Ok(Command::AddMachine(name(bytes)?, slots))
+}
+
+fn job(bytes: &[u8], weight: u64) -> Result<Command, &'static str> {
+    let weight = Weight::check(weight).ok_or("not a weight")?;
+    Ok(Command::AddJob(name(bytes)?, weight))
+}
+
+fn task(job: &[u8], bytes: &[u8]) -> Result<Command, &'static str> {
+    Ok(Command::AddTask(name(job)?, name(bytes)?))
 }
 
 fn limits_of(nodes: u64, arcs: u64, life: u64) -> Result<Limits, &'static str> {
-    Limits::check(nodes, arcs, life, 1, 2).ok_or("not limits")
+    Limits::check(nodes, arcs, life, 0, 0).ok_or("not limits")
 }
 
-fn expect_reply<A: Allocator>(
+// The counts of machines, jobs, tasks and running tasks; nodes and arcs, each with its limit.
+fn shown(counts: [u64; 4], nodes: (u64, u64), arcs: (u64, u64)) -> Outcome {
+    Outcome::Shown {
+        machines: counts[0],
+        jobs: counts[1],
+        tasks: counts[2],
+        running: counts[3],
+        nodes: nodes.0,
+        nodes_limit: nodes.1,
+        arcs: arcs.0,
+        arcs_limit: arcs.1,
+    }
+}
+
+fn expect(
     rt: &impl Abort,
-    tenant: &mut Tenant<A>,
-    alloc: A,
+    tenant: &mut Tenant,
+    alloc: Global,
     command: Command,
     number: u64,
     outcome: Outcome,
@@ -38,177 +55,91 @@ fn expect_reply<A: Allocator>(
     assert!(rt; reply == wanted, "{reply:?} and not {wanted:?}");
 }
 
-fn expect_plain<A: Allocator + Copy>(
-    rt: &impl Abort,
-    tenant: &mut Tenant<A>,
-    alloc: A,
-    commands: &[Command],
-    first: u64,
-) {
-    for (number, command) in (first..u64::MAX).zip(commands) {
-        expect_reply(rt, tenant, alloc, *command, number, Outcome::Plain);
-    }
-}
-
-fn answer_all<A: Allocator + Copy>(
-    rt: &impl Abort,
-    tenant: &mut Tenant<A>,
-    alloc: A,
-    commands: &[Command],
-) {
-    assert!(rt; tenant.life_left() == 5);
-    expect_plain(rt, tenant, alloc, commands, 1);
-    let shown = Outcome::Shown {
-        machines: 1,
-        jobs: 1,
-        tasks: 1,
-        running: 0,
-        nodes: 5,
-        nodes_limit: 6,
-        arcs: 7,
-        arcs_limit: 11,
-    };
-    expect_reply(rt, tenant, alloc, Command::Show, 4, shown);
-    assert!(rt; tenant.life_left() == 1);
-    assert!(rt; tenant.limits().nodes() == 6 && tenant.rows().limits().arcs() == 11);
-}
-
-// Each command adds what is there already, and takes the tenant past its life.
-fn wear_out<A: Allocator + Copy>(
-    rt: &impl Abort,
-    tenant: &mut Tenant<A>,
-    alloc: A,
-    commands: &[Command],
-) {
-    let wanted = [
-        (5, Refusal::MachineExists),
-        (6, Refusal::Worn),
-        (6, Refusal::Worn),
-    ];
-    for (command, (number, refusal)) in commands.iter().zip(wanted) {
-        expect_reply(
-            rt,
-            tenant,
-            alloc,
-            *command,
-            number,
-            Outcome::Refused(refusal),
-        );
-    }
-    assert!(rt; tenant.life_left() == 0);
-}
-
-fn live_and_wear_out(
-    rt: &impl Abort,
-    alloc: Global,
-    limits: Limits,
-    commands: &[Command],
-) -> Result<(), AllocError> {
-    let mut tenant = Tenant::admit(alloc, limits)?;
-    answer_all(rt, &mut tenant, alloc, commands);
-    wear_out(rt, &mut tenant, alloc, commands);
-    Ok(())
-}
-
 #[test]
 fn a_tenant_answers_until_it_is_worn(rt: HostRuntime) -> Result<(), Fail> {
-    let commands = one_of_each()?;
-    let limits = limits_of(6, 11, 5)?;
-    live_and_wear_out(&rt, rt.alloc(), limits, &commands)?;
+    let alloc = rt.alloc();
+    let mut tenant = Tenant::admit(alloc, limits_of(2, 0, 2)?)?;
+    let faulty = Command::Faulty(LineFault::BadName);
+    let bad_name = Outcome::Refused(Refusal::BadName);
+    expect(&rt, &mut tenant, alloc, faulty, 1, bad_name);
+    assert_eq!(rt; tenant.life_left(), 1);
+    let empty = shown([0; 4], (2, 2), (0, 0));
+    expect(&rt, &mut tenant, alloc, Command::Show, 2, empty);
+    for _ in 0..3 {
+        let worn = Outcome::Refused(Refusal::Worn);
+        expect(&rt, &mut tenant, alloc, Command::Show, 3, worn);
+        assert_eq!(rt; tenant.life_left(), 0);
+    }
     Ok(())
 }
 
-// How many commands were done before memory ran out. The one that met this changed nothing but the count.
-fn done_in<A: Allocator + Copy>(
+// Adds machines of so many slots, all of which are answered, and each only once there is memory for it.
+fn add_machines(
     rt: &impl Abort,
-    tenant: &mut Tenant<A>,
-    alloc: A,
-    commands: &[Command],
-) -> usize {
-    for (place, command) in commands.iter().enumerate() {
-        let before = use_of(tenant.rows());
-        let left = tenant.life_left();
-        let reply = tenant.step(alloc, *command);
-        assert!(rt; tenant.life_left() < left);
-        if reply.outcome != Outcome::Plain {
-            assert!(rt; reply.outcome == Outcome::Refused(Refusal::Memory));
-            assert!(rt; use_of(tenant.rows()) == before);
-            return place;
-        }
+    tenant: &mut Tenant,
+    alloc: Global,
+    count: u64,
+    slots: u64,
+) -> Result<(), Fail> {
+    for number in 1..=count {
+        let text = format!(in alloc; "m{number}")?;
+        let command = machine(text.as_bytes(), slots)?;
+        expect(rt, tenant, alloc, command, number, Outcome::Plain);
     }
-    commands.len()
-}
-
-fn done_in_heap(
-    rt: &impl Abort,
-    heap: &LocalHeap,
-    limits: Limits,
-    commands: &[Command],
-) -> Result<usize, Fail> {
-    let mut tenant = Tenant::admit(heap, limits)?;
-    Ok(done_in(rt, &mut tenant, heap, commands))
+    Ok(())
 }
 
 #[test]
-fn each_growth_may_find_no_memory(rt: HostRuntime) -> Result<(), Fail> {
-    let commands = one_of_each()?;
-    let limits = limits_of(6, 11, 5)?;
-    let mut refused = [false; 3];
-    for units in 1..512 {
-        let heap = LocalHeap::new(rt.alloc(), 16 * units)?;
-        let done = done_in_heap(&rt, &heap, limits, &commands)?;
-        if done == 3 {
-            assert!(rt; refused == [true; 3], "{refused:?} at {units}");
-            return Ok(());
-        }
-        assert!(rt; done < 3);
-        refused[done] = true;
-    }
-    assert!(rt; false, "no heap sufficed");
+fn a_tenant_fills_every_node(rt: HostRuntime) -> Result<(), Fail> {
+    let alloc = rt.alloc();
+    let mut tenant = Tenant::admit(alloc, limits_of(4_096, 65_536, 10_000)?)?;
+    add_machines(&rt, &mut tenant, alloc, 4_094, 1)?;
+    let full = Outcome::Refused(Refusal::ArenaNodes);
+    expect(&rt, &mut tenant, alloc, job(b"j", 1)?, 4_095, full);
+    let counts = shown([4_094, 0, 0, 0], (4_096, 4_096), (8_188, 65_536));
+    expect(&rt, &mut tenant, alloc, Command::Show, 4_096, counts);
     Ok(())
 }
 
-fn refuse_once<'a>(
-    rt: &impl Abort,
-    heap: &'a LocalHeap,
-    tenant: &mut Tenant<&'a LocalHeap>,
-    command: Command,
-    number: u64,
-) -> Result<(), Fail> {
-    let hog: Vec<u8, &'a LocalHeap> = Vec::with_capacity(
-        heap,
-        8_000_usize.saturating_sub(heap.used()),
-    )?;
-    expect_reply(
-        rt,
-        tenant,
-        heap,
-        command,
-        number,
-        Outcome::Refused(Refusal::Memory),
+#[test]
+fn a_tenant_fills_every_arc(rt: HostRuntime) -> Result<(), Fail> {
+    let alloc = rt.alloc();
+    let mut tenant = Tenant::admit(alloc, limits_of(4_096, 65_536, 10_000)?)?;
+    add_machines(&rt, &mut tenant, alloc, 1_008, 64)?;
+    expect(
+        &rt,
+        &mut tenant,
+        alloc,
+        job(b"j", 1)?,
+        1_009,
+        Outcome::Plain,
     );
-    drop(hog);
+    for (number, bytes) in (1_010..).zip([b"a", b"b", b"c", b"d", b"e"]) {
+        expect(
+            &rt,
+            &mut tenant,
+            alloc,
+            task(b"j", bytes)?,
+            number,
+            Outcome::Plain,
+        );
+    }
+    let full = Outcome::Refused(Refusal::ArenaArcs);
+    expect(&rt, &mut tenant, alloc, job(b"k", 1)?, 1_015, full);
+    let counts = shown([1_008, 1, 5, 0], (1_016, 4_096), (65_536, 65_536));
+    expect(&rt, &mut tenant, alloc, Command::Show, 1_016, counts);
     Ok(())
 }
 
 #[test]
-fn a_growth_refused_once_succeeds_with_memory(rt: HostRuntime) -> Result<(), Fail> {
-    let commands = one_of_each()?;
-    let limits = limits_of(6, 11, 9)?;
-    let heap = LocalHeap::new(rt.alloc(), 8_192)?;
-    grow_after_refusals(&rt, &heap, limits, &commands)
-}
-
-fn grow_after_refusals(
-    rt: &impl Abort,
-    heap: &LocalHeap,
-    limits: Limits,
-    commands: &[Command],
-) -> Result<(), Fail> {
-    let mut tenant = Tenant::admit(heap, limits)?;
-    for ((refused, done), command) in [(1, 2), (3, 4), (5, 6)].into_iter().zip(commands) {
-        refuse_once(rt, heap, &mut tenant, *command, refused)?;
-        expect_plain(rt, &mut tenant, heap, &[*command], done);
-    }
+fn a_round_without_memory_counts_and_costs_nothing(rt: HostRuntime) -> Result<(), Fail> {
+    let mut tenant = Tenant::admit(rt.alloc(), limits_of(2, 0, 2)?)?;
+    assert!(rt; 0 < tenant.life_left());
+    let reply = tenant.no_memory();
+    let outcome = Outcome::Refused(Refusal::Memory);
+    assert_eq!(rt; reply, Reply { number: 1, outcome });
+    let none = Outcome::Costs(RecentCosts::new());
+    expect(&rt, &mut tenant, rt.alloc(), Command::Costs, 2, none);
+    assert!(rt; tenant.life_left() == 0);
     Ok(())
 }

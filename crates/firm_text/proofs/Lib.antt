@@ -1,4 +1,6 @@
+mod Examples
 pub mod Cuts
+pub mod Cutting
 pub mod Digits
 pub mod Puts
 pub mod Csv

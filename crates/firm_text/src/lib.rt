@@ -4,26 +4,27 @@
 mod admission;
 mod bytes;
 mod commands;
+mod cutter;
 mod devices;
 mod faults;
 mod inputs;
 mod laws;
-mod lines;
 mod numbers;
 mod reading;
 mod records;
 mod replies;
 mod rosters;
+mod words;
 
 pub use admission::roster;
 pub use bytes::Bytes;
+pub use cutter::{Cutter, Fed};
 pub use devices::{Failed, Sink, Source};
 pub use faults::RosterFault;
 pub use inputs::Line;
 pub use laws::{admits_records, refuses_first_fault};
-pub use lines::next_line;
 pub use reading::line;
-pub use replies::reply_text;
+pub use replies::{put_reply, reply_text};
 pub use rosters::Roster;
 
 #[cfg(test)]

@@ -1,28 +1,45 @@
 //! The text of a reply.
 
-ghost use Rattle.std.specs.Prelude.{◌≡◌, ◌∷◌, ◌++◌, [], IfOk, OnOk};
+ghost use Rattle.std.specs.Prelude.{◌≡◌, ◌∷◌, ◌++◌, [], IfOk, OnOk, codes, map};
 ghost use Rattle.std.specs.List.{flat_map};
-ghost use Rattle.std.specs.Fmt.{decimal};
-ghost use Rattle.firm_text.specs.Replies.{text_of_reply, outcome_words, rows_words, use_words, labelled, spaced};
+ghost use Rattle.std.specs.Io.{StartsWith};
+ghost use Rattle.std.specs.Fmt.{decimal, signed_decimal};
+ghost use Rattle.firm_text.specs.Replies.{text_of_reply, outcome_words, change_words, rows_words, use_words, labelled, spaced};
 
-use firm_rules::{Name, Outcome, Reply};
+use firm_rules::{Change, Name, Outcome, Reply};
+use itoa::Buffer;
 use std::alloc::{AllocError, Global};
 
 /// The line of a tenant's reply, without its line feed.
 pub fn reply_text(alloc: Global, tenant: Name, reply: &Reply) -> Result<Vec<u8>, AllocError>
     ensures { IfOk result (λ text. text.items ≡ text_of_reply tenant reply.now) }
 {
-    let mut text = Vec::from_slice(alloc, tenant.as_bytes())?;
-    put_number(alloc, &mut text, reply.number)?;
-    put_outcome(alloc, &mut text, &reply.outcome)?;
+    let mut text = Vec::new(alloc);
+    put_reply(&mut text, tenant, reply)?;
     Ok(text)
 }
 
-fn put_outcome(alloc: Global, text: &mut Vec<u8>, outcome: &Outcome) -> Result<(), AllocError>
-    ensures { OnOk result (text.new.items ≡ text.old.items ++ flat_map spaced (outcome_words outcome.now)) }
+/// Adds the line of a tenant's reply, without its line feed. Where memory runs out, some bytes may have been added.
+#[tactic(auto, using(crate::proofs::Puts::kept_trans))]
+pub fn put_reply(text: &mut Vec<u8>, tenant: Name, reply: &Reply) -> Result<(), AllocError>
+    ensures kept { StartsWith text.new.items text.old.items }
+    ensures added { OnOk result (text.new.items ≡ text.old.items ++ text_of_reply tenant reply.now) }
+{
+    text.extend_from_slice(tenant.as_bytes())?;
+    put_number(text, reply.number)?;
+    put_outcome(text, &reply.outcome)
+}
+
+#[tactic(auto, using(crate::proofs::Puts::kept_trans))]
+fn put_outcome(text: &mut Vec<u8>, outcome: &Outcome) -> Result<(), AllocError>
+    ensures kept { StartsWith text.new.items text.old.items }
+    ensures added { OnOk result (text.new.items ≡ text.old.items ++ flat_map spaced (outcome_words outcome.now)) }
 {
     match outcome {
         Outcome::Plain => put(text, b"ok"),
+        Outcome::Evicted(tasks) => put_count(text, b"evicted", *tasks),
+        Outcome::At(machine) => put_three(text, b"ok", b"at", machine.as_bytes()),
+        Outcome::Waits(rounds) => put_count(text, b"waits", *rounds),
         Outcome::Shown {
             machines,
             jobs,
@@ -34,75 +51,166 @@ fn put_outcome(alloc: Global, text: &mut Vec<u8>, outcome: &Outcome) -> Result<(
             arcs_limit,
         } => {
             put(text, b"ok")?;
-            put_rows(alloc, text, *machines, *jobs, *tasks, *running)?;
-            put_use(alloc, text, *nodes, *nodes_limit, *arcs, *arcs_limit)
+            put_rows(text, *machines, *jobs, *tasks, *running)?;
+            put_use(text, *nodes, *nodes_limit, *arcs, *arcs_limit)
+        }
+        Outcome::Costs(costs) => {
+            put(text, b"ok")?;
+            put(text, b"costs")?;
+            put_costs(text, costs.as_slice())
+        }
+        Outcome::Round { cost, changes } => {
+            put_three(text, b"ok", b"round", b"cost")?;
+            put_cost(text, *cost)?;
+            put_changes(text, changes.as_slice())
         }
         Outcome::Refused(refusal) => {
-            put_labelled(alloc, text, b"no", u64::from(refusal.code()))?;
+            put_labelled(text, b"no", u64::from(refusal.code()))?;
             put(text, refusal.name().as_bytes())
         }
     }
 }
 
+/// Adds `ok`, a word and a count.
+#[tactic(auto, using(crate::proofs::Puts::kept_trans))]
+fn put_count(text: &mut Vec<u8>, label: &[u8], count: u32) -> Result<(), AllocError>
+    ensures kept { StartsWith text.new.items text.old.items }
+    ensures added { OnOk result (text.new.items ≡ text.old.items ++ flat_map spaced (codes "ok" ∷ labelled label.now count)) }
+{
+    put(text, b"ok")?;
+    put_labelled(text, label, u64::from(count))
+}
+
+/// Adds the costs of rounds.
+#[tactic(auto, using(crate::proofs::Puts::kept_trans))]
+fn put_costs(text: &mut Vec<u8>, costs: &[i64]) -> Result<(), AllocError>
+    ensures kept { StartsWith text.new.items text.old.items }
+    ensures added { OnOk result (text.new.items ≡ text.old.items ++ flat_map spaced (map signed_decimal costs.now)) }
+{
+    for cost in costs {
+        put_cost(text, *cost)?;
+    }
+    Ok(())
+}
+
+/// Adds what a round changes.
+#[tactic(auto, using(crate::proofs::Puts::kept_trans))]
+fn put_changes(text: &mut Vec<u8>, changes: &[Change]) -> Result<(), AllocError>
+    ensures kept { StartsWith text.new.items text.old.items }
+    ensures added { OnOk result (text.new.items ≡ text.old.items ++ flat_map spaced (flat_map change_words changes.now)) }
+{
+    for change in changes {
+        put_change(text, *change)?;
+    }
+    Ok(())
+}
+
+#[tactic(auto, using(crate::proofs::Puts::kept_trans))]
+fn put_change(text: &mut Vec<u8>, change: Change) -> Result<(), AllocError>
+    ensures kept { StartsWith text.new.items text.old.items }
+    ensures added { OnOk result (text.new.items ≡ text.old.items ++ flat_map spaced (change_words change)) }
+{
+    match change {
+        Change::Start(task, machine) => {
+            put_three(text, b"start", task.as_bytes(), machine.as_bytes())
+        }
+        Change::Move(task, from, to) => {
+            put_three(text, b"move", task.as_bytes(), from.as_bytes())?;
+            put(text, to.as_bytes())
+        }
+        Change::Preempt(task, machine) => {
+            put_three(text, b"preempt", task.as_bytes(), machine.as_bytes())
+        }
+    }
+}
+
 /// Adds how many machines, jobs and tasks there are, and how many of the tasks run.
+#[tactic(auto, using(crate::proofs::Puts::kept_trans))]
 fn put_rows(
-    alloc: Global,
     text: &mut Vec<u8>,
     machines: u64,
     jobs: u64,
     tasks: u64,
     running: u64,
 ) -> Result<(), AllocError>
-    ensures { OnOk result (text.new.items ≡ text.old.items
+    ensures kept { StartsWith text.new.items text.old.items }
+    ensures added { OnOk result (text.new.items ≡ text.old.items
         ++ flat_map spaced (rows_words machines jobs tasks running)) }
 {
-    put_labelled(alloc, text, b"machines", machines)?;
-    put_labelled(alloc, text, b"jobs", jobs)?;
-    put_labelled(alloc, text, b"tasks", tasks)?;
-    put_labelled(alloc, text, b"running", running)
+    put_labelled(text, b"machines", machines)?;
+    put_labelled(text, b"jobs", jobs)?;
+    put_labelled(text, b"tasks", tasks)?;
+    put_labelled(text, b"running", running)
 }
 
 /// Adds how many nodes and arcs there are, each with its limit.
+#[tactic(auto, using(crate::proofs::Puts::kept_trans))]
 fn put_use(
-    alloc: Global,
     text: &mut Vec<u8>,
     nodes: u64,
     nodes_limit: u64,
     arcs: u64,
     arcs_limit: u64,
 ) -> Result<(), AllocError>
-    ensures { OnOk result (text.new.items ≡ text.old.items
+    ensures kept { StartsWith text.new.items text.old.items }
+    ensures added { OnOk result (text.new.items ≡ text.old.items
         ++ flat_map spaced (use_words nodes nodes_limit arcs arcs_limit)) }
 {
-    put_labelled(alloc, text, b"nodes", nodes)?;
-    put_labelled(alloc, text, b"of", nodes_limit)?;
-    put_labelled(alloc, text, b"arcs", arcs)?;
-    put_labelled(alloc, text, b"of", arcs_limit)
+    put_labelled(text, b"nodes", nodes)?;
+    put_labelled(text, b"of", nodes_limit)?;
+    put_labelled(text, b"arcs", arcs)?;
+    put_labelled(text, b"of", arcs_limit)
+}
+
+/// Adds three words.
+#[tactic(auto, using(crate::proofs::Puts::kept_trans))]
+fn put_three(
+    text: &mut Vec<u8>,
+    first: &[u8],
+    second: &[u8],
+    third: &[u8],
+) -> Result<(), AllocError>
+    ensures kept { StartsWith text.new.items text.old.items }
+    ensures added { OnOk result (text.new.items ≡ text.old.items ++ flat_map spaced (first.now ∷ second.now ∷ third.now ∷ [])) }
+{
+    put(text, first)?;
+    put(text, second)?;
+    put(text, third)
 }
 
 /// Adds a word, and the space before it.
+#[tactic(auto, using(crate::proofs::Puts::kept_trans))]
 fn put(text: &mut Vec<u8>, word: &[u8]) -> Result<(), AllocError>
-    ensures { OnOk result (text.new.items ≡ text.old.items ++ flat_map spaced (word.now ∷ [])) }
+    ensures kept { StartsWith text.new.items text.old.items }
+    ensures added { OnOk result (text.new.items ≡ text.old.items ++ flat_map spaced (word.now ∷ [])) }
 {
     text.push(b' ')?;
     text.extend_from_slice(word)
 }
 
-fn put_number(alloc: Global, text: &mut Vec<u8>, number: u64) -> Result<(), AllocError>
-    ensures { OnOk result (text.new.items ≡ text.old.items ++ flat_map spaced (decimal number ∷ [])) }
+#[tactic(auto, using(crate::proofs::Puts::kept_trans))]
+fn put_number(text: &mut Vec<u8>, number: u64) -> Result<(), AllocError>
+    ensures kept { StartsWith text.new.items text.old.items }
+    ensures added { OnOk result (text.new.items ≡ text.old.items ++ flat_map spaced (decimal number ∷ [])) }
 {
-    let digits = format!(in alloc; "{number}")?;
-    put(text, digits.as_bytes())
+    let mut digits = Buffer::new();
+    put(text, digits.format(number).as_bytes())
 }
 
-fn put_labelled(
-    alloc: Global,
-    text: &mut Vec<u8>,
-    label: &[u8],
-    number: u64,
-) -> Result<(), AllocError>
-    ensures { OnOk result (text.new.items ≡ text.old.items ++ flat_map spaced (labelled label.now number)) }
+#[tactic(auto, using(crate::proofs::Puts::kept_trans))]
+fn put_cost(text: &mut Vec<u8>, cost: i64) -> Result<(), AllocError>
+    ensures kept { StartsWith text.new.items text.old.items }
+    ensures added { OnOk result (text.new.items ≡ text.old.items ++ flat_map spaced (signed_decimal cost ∷ [])) }
+{
+    let mut digits = Buffer::new();
+    put(text, digits.format(cost).as_bytes())
+}
+
+#[tactic(auto, using(crate::proofs::Puts::kept_trans))]
+fn put_labelled(text: &mut Vec<u8>, label: &[u8], number: u64) -> Result<(), AllocError>
+    ensures kept { StartsWith text.new.items text.old.items }
+    ensures added { OnOk result (text.new.items ≡ text.old.items ++ flat_map spaced (labelled label.now number)) }
 {
     put(text, label)?;
-    put_number(alloc, text, number)
+    put_number(text, number)
 }

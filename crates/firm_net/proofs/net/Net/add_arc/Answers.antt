@@ -1,8 +1,8 @@
 -- The parts show the net with the arc.
 use Rattle.std.proofs.Common.{◌≡◌, ◌+◌, ◌<◌, ◌^◌, ◌∙◌, sym, ap, subst, arith, refl, inl, inr, None}
 use Rattle.std.proofs.lemmas.Bool.{false≢true, cases_lt}
-use Rattle.firm_arena.specs.Arena.{Arena, find, len_of, capacity_of}
-use Rattle.firm_net.specs.Net.{changed_at, with_arc, IsNet, IsNode, lists_at}
+use Rattle.firm_arena.specs.Arena.{Arena, find, len_of, capacity_of, changed_at}
+use Rattle.firm_net.specs.Net.{with_arc, IsNet, IsNode, lists_at}
 use Rattle.firm_net.specs.Links.{list_of, with_arc_list, list_from, nodes_shown, Shows}
 use Rattle.firm_net.specs.declared.row.NodeId.{NodeId}
 use Rattle.firm_net.specs.declared.links.Link.{Link}
@@ -11,32 +11,32 @@ use Rattle.firm_net.proofs.Shown.{shown_net}
 use Rattle.firm_net.proofs.Results.{AddsArc, adds_arc, first-fits, next-fits, if-some, node-found, node-missing, not-node, arcs-counted, arc-capacity, added-counted}
 use Rattle.firm_net.proofs.net.Net.add_arc.Goals as goal
 
-adds : (c : goal.After-self-1) → AddsArc c.list_first-2.new.links c.list_first-2.new.nodes c.args.self.now (record { id = c.in-Ok.id }) c.args.row
+adds : (c : goal.After-self-1) → AddsArc c.link_at_front-2.new.links c.link_at_front-2.new.nodes c.args.self.now (record { id = c.in-Ok.id }) c.args.row
 adds c =
-    adds_arc c.self.inside.links c.put.new.self c.list_first.new.links c.list_first-2.new.links
-    c.self.inside.nodes c.list_first.new.nodes c.list_first-2.new.nodes c.args.self.now (record { id = c.in-Ok.id }) c.args.row c.new.result
+    adds_arc c.self.inside.links c.put.new.self c.link_at_front.new.links c.link_at_front-2.new.links
+    c.self.inside.nodes c.link_at_front.new.nodes c.link_at_front-2.new.nodes c.args.self.now (record { id = c.in-Ok.id }) c.args.row c.new.result
     c.tail-tail.result c.head-head.result c.in-Some._from c.in-Some-copied._to
     c.self.invariant.net c.self.invariant.shows c.self.view_is c.tail-tail.ensures.row c.new.ensures c.tail-tail.ensures.value c.head-head.ensures.value
-    c.in-Ok.ensures.place c.in-Ok.ensures.stamp c.in-Ok.ensures.adds
+    c.in-Ok.ensures.place c.in-Ok.ensures.stamp (c.in-Ok.ensures.succeeds.0 refl).1 c.in-Ok.ensures.adds
     (sym c.get.ensures.value ∙ sym c.in-Some.ensures) (sym c.get-2.ensures.value ∙ sym c.in-Some-copied.ensures)
-    c.list_first.ensures.nodes c.list_first.ensures.links c.list_first-2.ensures.nodes c.list_first-2.ensures.links
+    c.link_at_front.ensures.nodes c.link_at_front.ensures.links c.link_at_front-2.ensures.nodes c.link_at_front-2.ensures.links
 
-pub list_first-requires : goal.list_first-requires
-list_first-requires c = first-fits Out c.self.inside.links c.self.inside.nodes c.tail-tail.result c.self.invariant.net c.self.invariant.shows
+pub link_at_front-requires : goal.link_at_front-requires
+link_at_front-requires c = first-fits Out c.self.inside.links c.self.inside.nodes c.tail-tail.result c.self.invariant.net c.self.invariant.shows
 
-pub list_first-requires-2 : goal.list_first-requires-2
-list_first-requires-2 c =
-    next-fits c.self.inside.links c.self.inside.nodes c.list_first.new.nodes c.tail-tail.result.id.place
+pub link_at_front-requires-2 : goal.link_at_front-requires-2
+link_at_front-requires-2 c =
+    next-fits c.self.inside.links c.self.inside.nodes c.link_at_front.new.nodes c.tail-tail.result.id.place
     (list_from c.in-Ok.id.place (list_of Out c.in-Some._from)) Out c.head-head.result c.self.invariant.net c.self.invariant.shows
     (if-some (find c.self.inside.nodes c.tail-tail.result.id)
-    (λ owner. c.list_first.new.nodes ≡ changed_at c.self.inside.nodes c.tail-tail.result.id.place (with_arc_list Out (list_from c.in-Ok.id.place (list_of Out owner))))
-    c.in-Some._from (sym c.get.ensures.value ∙ sym c.in-Some.ensures) c.list_first.ensures.nodes)
+    (λ owner. c.link_at_front.new.nodes ≡ changed_at c.self.inside.nodes c.tail-tail.result.id.place (with_arc_list Out (list_from c.in-Ok.id.place (list_of Out owner))))
+    c.in-Some._from (sym c.get.ensures.value ∙ sym c.in-Some.ensures) c.link_at_front.ensures.nodes)
     (inl refl)
 
 pub invariant_of-self-2 : goal.invariant_of-self-2
 invariant_of-self-2 c =
-    let after : c.list_first-2.new.nodes.counter + c.list_first-2.new.links.counter ≡ c.args.self.now.nodes.counter + (c.args.self.now.arcs.counter + 1) =
-    added-counted c.list_first-2.new.links c.list_first-2.new.nodes (with_arc c.args.self.now (record { id = c.in-Ok.id }) c.args.row) (adds c).is in
+    let after : c.link_at_front-2.new.nodes.counter + c.link_at_front-2.new.links.counter ≡ c.args.self.now.nodes.counter + (c.args.self.now.arcs.counter + 1) =
+    added-counted c.link_at_front-2.new.links c.link_at_front-2.new.nodes (with_arc c.args.self.now (record { id = c.in-Ok.id }) c.args.row) (adds c).is in
     let before : c.self.inside.nodes.counter + c.self.inside.links.counter ≡ c.args.self.now.nodes.counter + c.args.self.now.arcs.counter =
     added-counted c.self.inside.links c.self.inside.nodes c.args.self.now c.self.view_is in
     record {
@@ -149,3 +149,9 @@ invariant_of-self c =
 
 pub returns-in_default-put-clause-net : goal.returns-in_default-put-clause-net
 returns-in_default-put-clause-net c = kept-net c
+
+pub returns-clause-nodes : goal.returns-clause-nodes
+returns-clause-nodes c = (adds c).same_nodes
+
+pub returns-clause-edit : goal.returns-clause-edit
+returns-clause-edit c = (adds c).edit

@@ -1,5 +1,5 @@
 -- The parts show the net with the node.
-use Rattle.std.proofs.Common.{arith, ap}
+use Rattle.std.proofs.Common.{arith, ap, refl}
 use Rattle.std.proofs.lemmas.Bool.{false≢true}
 use Rattle.firm_arena.specs.Arena.{Arena}
 use Rattle.firm_net.specs.declared.links.Node.{Node}
@@ -10,7 +10,7 @@ adds : (c : goal.After-self-1) → AddsNode c.self.inside.links c.put.new.self c
 adds c =
     adds_node c.self.inside.links c.self.inside.nodes c.put.new.self c.args.self.now c.in-Ok.id c.new.result
     c.self.invariant.net c.self.invariant.shows c.self.view_is
-    c.in-Ok.ensures.place c.in-Ok.ensures.stamp c.in-Ok.ensures.adds c.new.ensures
+    c.in-Ok.ensures.place c.in-Ok.ensures.stamp (c.in-Ok.ensures.succeeds.0 refl).1 c.in-Ok.ensures.adds c.new.ensures
 
 pub invariant_of-self-2 : goal.invariant_of-self-2
 invariant_of-self-2 c = record { added = omega (arith, c.self.invariant.added, ap (λ (a : Arena Node). a.counter) c.in-Ok.ensures.adds); net = (adds c).net; shows = (adds c).shows }
@@ -36,3 +36,6 @@ returns-in_default-clause-room c = (
         omega (arith, c.requires, added-counted c.self.inside.links c.self.inside.nodes c.args.self.now c.self.view_is),
       ),
 )
+
+pub returns-clause-edit : goal.returns-clause-edit
+returns-clause-edit c = (adds c).edit

@@ -26,3 +26,9 @@ returns-clause-counts c = (clears c).counts
 
 pub returns-clause-net : goal.returns-clause-net
 returns-clause-net c = (clears c).net
+
+pub returns-clause-edit : goal.returns-clause-edit
+returns-clause-edit c = (clears c).edit
+
+pub returns-clause-nodes : goal.returns-clause-nodes
+returns-clause-nodes c = (clears c).same_nodes

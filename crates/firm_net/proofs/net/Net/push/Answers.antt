@@ -3,9 +3,10 @@ use Rattle.std.proofs.Common.{◌+◌, sym, ap, ◌∙◌, refl}
 use Rattle.std.proofs.lemmas.Bool.{false≢true}
 use Rattle.firm_arena.specs.Arena.{Arena}
 use Rattle.firm_net.specs.Row.{Row}
-use Rattle.firm_net.specs.Net.{with_unit, row_at}
+use Rattle.firm_net.specs.Net.{with_unit, without_flow, row_at}
+use Rattle.firm_net.specs.Laws.{cleared_pushed}
 use Rattle.firm_net.specs.declared.links.Link.{Link}
-use Rattle.firm_net.proofs.Results.{ChangesRow, changes_row, row-found, row-missing, can-push, push-residual, push-none, unit-tail, unit-head}
+use Rattle.firm_net.proofs.Results.{ChangesRow, changes_row, row-found, row-missing, can-push, push-residual, push-none, unit-tail, unit-head, unit-span}
 use Rattle.firm_net.proofs.net.Net.push.Goals as goal
 
 changes : (c : goal.After-set_row) → ChangesRow c.set_row.new.links c.self.inside.nodes c.args.self.now c.args.arc (with_unit c.args.way)
@@ -69,3 +70,15 @@ returns-in_default-clause-allowed c = (
       (sym c.get.ensures.value ∙ sym c.in_default.ensures))
       h),
 )
+
+pub returns-clause-edit : goal.returns-clause-edit
+returns-clause-edit c = (changes c).blind (λ b row. unit-span c.args.way b row)
+
+pub returns-clause-row : goal.returns-clause-row
+returns-clause-row c = λ row there _. (changes c).own row there
+
+pub returns-clause-same : goal.returns-clause-same
+returns-clause-same c = ap without_flow (changes c).is ∙ cleared_pushed c.args.self.now c.args.arc c.args.way
+
+pub returns-clause-nodes : goal.returns-clause-nodes
+returns-clause-nodes c = (changes c).same_nodes

@@ -64,7 +64,7 @@ pub returns-then-lists-ne0-clause-free : goal.returns-then-lists-ne0-clause-free
 returns-then-lists-ne0-clause-free c = (
   λ e. absurd (false≢true e),
   λ h.
-      let none : c.in-Some.lists.out.count ≡ 0 =
+      let none : c.in-Some.lists.outgoing.count ≡ 0 =
       list-busy Out c.self.inside.links c.self.inside.nodes c.args.self.now c.args.node c.in-Some.lists c.self.invariant.shows c.self.view_is (sym c.get.ensures.value ∙ sym c.in-Some.ensures) h.1 in
       absurd (omega (arith, none)),
 )
@@ -73,7 +73,7 @@ pub returns-then-lists-ne0-2-clause-free : goal.returns-then-lists-ne0-2-clause-
 returns-then-lists-ne0-2-clause-free c = (
   λ e. absurd (false≢true e),
   λ h.
-      let none : c.in-Some.lists.into.count ≡ 0 =
+      let none : c.in-Some.lists.incoming.count ≡ 0 =
       list-busy In c.self.inside.links c.self.inside.nodes c.args.self.now c.args.node c.in-Some.lists c.self.invariant.shows c.self.view_is (sym c.get.ensures.value ∙ sym c.in-Some.ensures) h.2 in
       absurd (omega (arith, none)),
 )
@@ -99,3 +99,6 @@ returns-in_default-clause-free c = (
 pub returns-in_default-clause-gone : goal.returns-in_default-clause-gone
 returns-in_default-clause-gone c =
     (λ _. node-missing c.self.inside.links c.self.inside.nodes c.args.self.now c.args.node c.self.view_is (sym c.get.ensures.value ∙ sym c.in_default.ensures), λ _. refl)
+
+pub returns-clause-edit : goal.returns-clause-edit
+returns-clause-edit c = λ _. (removes c).edit

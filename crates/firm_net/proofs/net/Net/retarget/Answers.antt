@@ -9,21 +9,21 @@ use Rattle.firm_net.proofs.Shown.{shown_net}
 use Rattle.firm_net.proofs.Results.{MovesHead, moves_head, has-arc, past-fits, past-there, added-counted, row-found, row-missing, node-found, node-missing, not-node, other-tail, tail-other, tail-none}
 use Rattle.firm_net.proofs.net.Net.retarget.Goals as goal
 
-pub unlist-requires : goal.unlist-requires
-unlist-requires c =
+pub unlink-requires : goal.unlink-requires
+unlink-requires c =
     has-arc In c.self.inside.links c.self.inside.nodes c.args.arc c.in-Some.link c.head-old.result c.self.invariant.net c.self.invariant.shows (sym c.get.ensures.value ∙ sym c.in-Some.ensures) c.head-old.ensures.value
 
-pub list_first-requires : goal.list_first-requires
-list_first-requires c =
-    past-fits c.self.inside.links c.self.inside.nodes c.unlist.new.nodes c.args.arc c.in-Some.link c.head-old.result c.args.head
-    c.self.invariant.net c.self.invariant.shows (sym c.get.ensures.value ∙ sym c.in-Some.ensures) c.head-old.ensures.value c.unlist.ensures.nodes
+pub link_at_front-requires : goal.link_at_front-requires
+link_at_front-requires c =
+    past-fits c.self.inside.links c.self.inside.nodes c.unlink.new.nodes c.args.arc c.in-Some.link c.head-old.result c.args.head
+    c.self.invariant.net c.self.invariant.shows (sym c.get.ensures.value ∙ sym c.in-Some.ensures) c.head-old.ensures.value c.unlink.ensures.nodes
 
 pub set_row-requires : goal.set_row-requires
 set_row-requires c =
-    past-there In c.self.inside.links c.unlist.new.links c.args.arc c.in-Some.link c.in-Some.link.into
-    (sym c.get.ensures.value ∙ sym c.in-Some.ensures) c.unlist.ensures.links
+    past-there In c.self.inside.links c.unlink.new.links c.args.arc c.in-Some.link c.in-Some.link.incoming
+    (sym c.get.ensures.value ∙ sym c.in-Some.ensures) c.unlink.ensures.links
 
-differs : (c : goal.After-list_first) → c.in-Some.link.row.tail ≢ c.args.head
+differs : (c : goal.After-link_at_front) → c.in-Some.link.row.tail ≢ c.args.head
 differs c =
     λ e.
     let same : c.tail.result ≡ c.args.head = c.tail.ensures.value ∙ e in
@@ -33,22 +33,22 @@ differs c =
     (eq-eqb c.tail.result.id.place c.args.head.id.place (ap (λ (k : NodeId). k.id.place) same))
     (eq-eqb c.tail.result.id.stamp c.args.head.id.stamp (ap (λ (k : NodeId). k.id.stamp) same)))
 
-moves : (c : goal.After-list_first) → MovesHead c.list_first.new.links c.list_first.new.nodes c.args.self.now c.args.arc c.in-Some.link.row c.args.head
+moves : (c : goal.After-link_at_front) → MovesHead c.link_at_front.new.links c.link_at_front.new.nodes c.args.self.now c.args.arc c.in-Some.link.row c.args.head
 moves c =
-    moves_head c.self.inside.links c.unlist.new.links c.set_row.new.links c.list_first.new.links c.self.inside.nodes c.unlist.new.nodes c.list_first.new.nodes
+    moves_head c.self.inside.links c.unlink.new.links c.set_row.new.links c.link_at_front.new.links c.self.inside.nodes c.unlink.new.nodes c.link_at_front.new.nodes
     c.args.self.now c.args.arc c.in-Some.link c.head-old.result c.args.head c.with_head.result c.in-Some-copied._node
     c.self.invariant.net c.self.invariant.shows c.self.view_is (sym c.get.ensures.value ∙ sym c.in-Some.ensures) c.head-old.ensures.value (sym c.get-2.ensures.value ∙ sym c.in-Some-copied.ensures) (differs c) c.with_head.ensures
-    c.unlist.ensures.nodes c.unlist.ensures.links c.set_row.ensures c.list_first.ensures.nodes c.list_first.ensures.links
+    c.unlink.ensures.nodes c.unlink.ensures.links c.set_row.ensures c.link_at_front.ensures.nodes c.link_at_front.ensures.links
 
 pub invariant_of-self : goal.invariant_of-self
 invariant_of-self c =
-    let after : c.list_first.new.nodes.counter + c.list_first.new.links.counter ≡ c.args.self.now.nodes.counter + c.args.self.now.arcs.counter =
-    added-counted c.list_first.new.links c.list_first.new.nodes (with_head c.args.self.now c.args.arc c.in-Some.link.row c.args.head) (moves c).is in
+    let after : c.link_at_front.new.nodes.counter + c.link_at_front.new.links.counter ≡ c.args.self.now.nodes.counter + c.args.self.now.arcs.counter =
+    added-counted c.link_at_front.new.links c.link_at_front.new.nodes (with_head c.args.self.now c.args.arc c.in-Some.link.row c.args.head) (moves c).is in
     let before : c.self.inside.nodes.counter + c.self.inside.links.counter ≡ c.args.self.now.nodes.counter + c.args.self.now.arcs.counter =
     added-counted c.self.inside.links c.self.inside.nodes c.args.self.now c.self.view_is in
     record { added = omega (arith, c.self.invariant.added, before, after); net = (moves c).net; shows = (moves c).shows }
 
-row : (c : goal.After-list_first) → row_at c.args.self.now c.args.arc ≡ Some c.in-Some.link.row
+row : (c : goal.After-link_at_front) → row_at c.args.self.now c.args.arc ≡ Some c.in-Some.link.row
 row c = row-found c.self.inside.links c.self.inside.nodes c.args.self.now c.args.arc c.in-Some.link c.self.view_is (sym c.get.ensures.value ∙ sym c.in-Some.ensures)
 
 pub returns-clause-allowed : goal.returns-clause-allowed
@@ -62,7 +62,7 @@ returns-clause-allowed c = (
 
 pub returns-clause-moves : goal.returns-clause-moves
 returns-clause-moves c =
-    λ _. subst (λ (o : Option Row). IfSome o (λ r. shown_net c.list_first.new.links c.list_first.new.nodes ≡ with_head c.args.self.now c.args.arc r c.args.head)) (sym (row c)) (moves c).is
+    λ _. subst (λ (o : Option Row). IfSome o (λ r. shown_net c.link_at_front.new.links c.link_at_front.new.nodes ≡ with_head c.args.self.now c.args.arc r c.args.head)) (sym (row c)) (moves c).is
 
 pub returns-clause-counts : goal.returns-clause-counts
 returns-clause-counts c = (moves c).counts
@@ -96,3 +96,12 @@ returns-in_default-copied-clause-allowed c = (
   λ e. absurd (false≢true e),
   λ h. absurd (not-node c.args.self.now c.args.head (node-missing c.self.inside.links c.self.inside.nodes c.args.self.now c.args.head c.self.view_is (sym c.get-2.ensures.value ∙ sym c.in_default-copied.ensures)) h.0),
 )
+
+pub returns-clause-nodes : goal.returns-clause-nodes
+returns-clause-nodes c = (moves c).same_nodes
+
+pub returns-clause-edit : goal.returns-clause-edit
+returns-clause-edit c = λ row there _. (moves c).edit row there
+
+pub returns-clause-row : goal.returns-clause-row
+returns-clause-row c = λ row there _. (moves c).own row there

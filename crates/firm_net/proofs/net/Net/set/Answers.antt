@@ -78,3 +78,12 @@ returns-in_default-new-clause-allowed c = (
         cost = h.1.cost_limit;
       }),
 )
+
+pub returns-clause-edit : goal.returns-clause-edit
+returns-clause-edit c = λ row there _. (changes c).edit row there
+
+pub returns-clause-row : goal.returns-clause-row
+returns-clause-row c = λ row there _. (changes c).own row there
+
+pub returns-clause-nodes : goal.returns-clause-nodes
+returns-clause-nodes c = (changes c).same_nodes

@@ -1,0 +1,228 @@
+-- Lower bounds after the next task was held to its choice.
+use Rattle.std.proofs.Common.{◌≡◌, ◌≢◌, ℕ, ◌+◌, ◌<◌, ◌≤◌, Bool, true, false, cond, eqb, List, [], ◌∷◌, ◌++◌, length}
+use Rattle.std.proofs.Common.{Some}
+use Rattle.std.proofs.Common.{None, Option, refl, sym, ap, subst, ◌∙◌, arith, ⊎_elim}
+use Rattle.std.proofs.lemmas.Bool.{cond-true, cond-false, eq-eqb, ne_eqb}
+use Rattle.firm_net.specs.Net.{Net, row_at}
+use Rattle.firm_net.specs.declared.row.ArcId.{ArcId}
+use Rattle.firm_net.specs.Laws.{same_arc_or_not}
+use Rattle.firm_rules.specs.declared.rounds.Choice.{Choice}
+use Rattle.firm_rules.specs.declared.rounds.Choice.TheVariants.{On, Wait}
+use Rattle.firm_rules.specs.Placement.{runs_at}
+use Rattle.firm_graph.specs.declared.network.Key.{Key}
+use Rattle.firm_graph.specs.declared.network.Key.TheVariants.{Through, Slot, Exit, Wide, Stay, Delay}
+use Rattle.firm_graph.specs.Network.{demand}
+use Rattle.firm_canon.specs.inner.Placed.{wide, stay, waits}
+use Rattle.firm_net.specs.Row.{Row}
+use Rattle.firm_graph.specs.View.{View, Shows, IsSameCase, CanHold, lows, low_of_row, flow_of_row}
+use Rattle.firm_graph.specs.Network.{IsKeyOf}
+use Rattle.firm_canon.specs.inner.Choosing.{low_of, Keeps, IsChosen}
+use Rattle.firm_canon.proofs.First.{pick_past, wide_none, stay_none}
+use Rattle.firm_canon.proofs.Choose.{wide_one}
+use Rattle.firm_canon.proofs.Prefixes.{added, kept_one}
+
+-- so much may be asked of an arc with so much flow
+pub can_hold : (low : ℕ) (o : Option Row) → 0 < low → low ≤ flow_of_row o → CanHold low o
+can_hold low None l h = absurd (omega (arith, l, h))
+can_hold low (Some row) l h = h
+
+-- what a hold leaves
+pub record IsHold (old new : Net) (id : ArcId) (low : ℕ) : Type 0 where
+  pub here : low_of_row (row_at new id) ≡ low
+  pub flows : (b : ArcId) → flow_of_row (row_at new b) ≡ flow_of_row (row_at old b)
+  pub others : (b : ArcId) → b ≢ id → row_at new b ≡ row_at old b
+
+pub kept_hold : (v new : View) (price : ℕ → ℕ) (p : List Choice) (o : Choice) (key : Key) (id : ArcId) → Keeps v price p
+    → length p < length v.case.tasks → IsChosen v p o
+    → Shows new → IsSameCase v new → IsKeyOf v.case key → id ≡ v.arc key → IsHold v.net new.net id 1
+    → low_of v.case p key ≡ 0 → added v.case p o key ≡ 1 → ((k : Key) → (k ≡ key → ⊥) → added v.case p o k ≡ 0)
+    → Keeps new price (p ++ o ∷ [])
+kept_hold v new price p o key id keeps l chosen shows same own is held none one rest =
+    let id_of : (k : Key) → new.arc k ≡ v.arc k = λ k. ap (λ (f : Key → ArcId). f k) same.arc in
+    kept_one v new price p o keeps l chosen shows same
+    (λ k own_k. ap (λ (i : ArcId). flow_of_row (row_at new.net i)) (id_of k) ∙ held.flows (v.arc k))
+    (λ k own_k.
+    ⊎_elim
+    (λ (e : v.arc k ≡ id).
+    let is_key : k ≡ key = keeps.shows.arcs_apart k key own_k own (e ∙ is) in
+    subst (λ (z : Key). lows new z ≡ lows v z + added v.case p o z) (sym is_key)
+    (omega (
+      arith,
+      ap (λ (i : ArcId). low_of_row (row_at new.net i)) (id_of key ∙ sym is),
+      held.here,
+      keeps.lows key own,
+      none,
+      one,
+    )))
+    (λ (ne : v.arc k ≡ id → ⊥).
+    omega (
+      arith,
+      ap (λ (i : ArcId). low_of_row (row_at new.net i)) (id_of k),
+      ap low_of_row (held.others (v.arc k) ne),
+      rest k (λ e. ne (ap v.arc e ∙ sym is)),
+    ))
+    (same_arc_or_not (v.arc k) id))
+
+pub kept_holds : (v mid new : View) (price : ℕ → ℕ) (p : List Choice) (o : Choice) (one two : Key)
+    (id_one id_two : ArcId) (low : ℕ) → Keeps v price p → length p < length v.case.tasks → IsChosen v p o
+    → Shows new → IsSameCase v new → IsKeyOf v.case one → IsKeyOf v.case two → id_one ≡ v.arc one → id_two ≡ v.arc two
+    → (one ≡ two → ⊥)
+    → IsHold v.net mid.net id_one 1 → IsHold mid.net new.net id_two (low + 1) → low ≡ lows v two
+    → low_of v.case p one ≡ 0 → added v.case p o one ≡ 1 → added v.case p o two ≡ 1
+    → ((k : Key) → (k ≡ one → ⊥) → (k ≡ two → ⊥) → added v.case p o k ≡ 0)
+    → Keeps new price (p ++ o ∷ [])
+kept_holds v mid new price p o one two id_one id_two low keeps l chosen shows same own_one own_two is_one is_two apart
+    first second low_is none adds_one adds_two rest =
+    let id_of : (k : Key) → new.arc k ≡ v.arc k = λ k. ap (λ (f : Key → ArcId). f k) same.arc in
+    kept_one v new price p o keeps l chosen shows same
+    (λ k own_k. ap (λ (i : ArcId). flow_of_row (row_at new.net i)) (id_of k)
+    ∙ (second.flows (v.arc k) ∙ first.flows (v.arc k)))
+    (λ k own_k.
+    ⊎_elim
+    (λ (e : v.arc k ≡ id_two).
+    let is_key : k ≡ two = keeps.shows.arcs_apart k two own_k own_two (e ∙ is_two) in
+    subst (λ (z : Key). lows new z ≡ lows v z + added v.case p o z) (sym is_key)
+    (omega (
+      arith,
+      ap (λ (i : ArcId). low_of_row (row_at new.net i)) (id_of two ∙ sym is_two),
+      second.here,
+      low_is,
+      adds_two,
+    )))
+    (λ (ne : v.arc k ≡ id_two → ⊥).
+    let past : row_at new.net (v.arc k) ≡ row_at mid.net (v.arc k) = second.others (v.arc k) ne in
+    ⊎_elim
+    (λ (e : v.arc k ≡ id_one).
+    let is_key : k ≡ one = keeps.shows.arcs_apart k one own_k own_one (e ∙ is_one) in
+    omega (
+      arith,
+      ap (λ (i : ArcId). low_of_row (row_at new.net i)) (id_of k),
+      ap low_of_row past,
+      ap (λ (i : ArcId). low_of_row (row_at mid.net i)) e,
+      first.here,
+      ap (lows v) is_key,
+      ap (added v.case p o) is_key,
+      keeps.lows one own_one,
+      none,
+      adds_one,
+    ))
+    (λ (other : v.arc k ≡ id_one → ⊥).
+    omega (
+      arith,
+      ap (λ (i : ArcId). low_of_row (row_at new.net i)) (id_of k),
+      ap low_of_row past,
+      ap low_of_row (first.others (v.arc k) other),
+      rest k (λ q. other (ap v.arc q ∙ sym is_one)) (λ q. ne (ap v.arc q ∙ sym is_two)),
+    ))
+    (same_arc_or_not (v.arc k) id_one))
+    (same_arc_or_not (v.arc k) id_two))
+
+cond_none : (b : Bool) (x : ℕ) → x ≡ 0 → cond b x 0 ≡ 0
+cond_none true x e = e
+cond_none false x e = refl
+
+cond_other : (n i x : ℕ) → (n ≡ i → ⊥) → cond (eqb n i) x 0 ≡ 0
+cond_other n i x ne = cond-false {A = ℕ} (eqb n i) x 0 (ne_eqb n i ne)
+
+cond_here : (n x : ℕ) → cond (eqb n n) x 0 ≡ x
+cond_here n x = cond-true {A = ℕ} (eqb n n) x 0 (eq-eqb n n refl)
+
+own_wide : (home : Option ℕ) (j : ℕ) → runs_at home j ≡ true → wide home (Some (On j)) ≡ 0
+own_wide None j e = absurd cc
+own_wide (Some h) j e = cond-true {A = ℕ} (eqb h j) 0 1 e
+
+own_stay : (home : Option ℕ) (j : ℕ) → runs_at home j ≡ true → stay home (Some (On j)) ≡ 1
+own_stay None j e = absurd cc
+own_stay (Some h) j e = cond-true {A = ℕ} (eqb h j) 1 0 e
+
+other_stay : (home : Option ℕ) (j : ℕ) → runs_at home j ≡ false → stay home (Some (On j)) ≡ 0
+other_stay None j e = refl
+other_stay (Some h) j e = cond-false {A = ℕ} (eqb h j) 1 0 e
+
+wait_wide : (home : Option ℕ) → wide home (Some Wait) ≡ 0
+wait_wide None = refl
+wait_wide (Some h) = refl
+
+wait_stay : (home : Option ℕ) → stay home (Some Wait) ≡ 0
+wait_stay None = refl
+wait_stay (Some h) = refl
+
+-- the three kinds of choice
+pub held_wait : (v new : View) (price : ℕ → ℕ) (p : List Choice) (id : ArcId) → Keeps v price p
+    → length p < length v.case.tasks → IsChosen v p Wait
+    → Shows new → IsSameCase v new → id ≡ v.arc (Delay (length p)) → IsHold v.net new.net id 1
+    → Keeps new price (p ++ Wait ∷ [])
+held_wait v new price p id keeps l chosen shows same is held =
+    let n : ℕ = length p in
+    let home : Option ℕ = (demand v.case n).home in
+    kept_hold v new price p Wait (Delay n) id keeps l chosen shows same l is held (ap waits (pick_past p))
+    (cond_here n 1)
+    (λ k. elim k as (λ k. (k ≡ Delay n → ⊥) → added v.case p Wait k ≡ 0) [
+      | Through j ↦ λ ne. cond_none (eqb 0 j) (wide home (Some Wait)) (wait_wide home)
+      | Slot j i ↦ λ ne. refl
+      | Exit i ↦ λ ne. refl
+      | Wide i ↦ λ ne. cond_none (eqb n i) (wide home (Some Wait)) (wait_wide home)
+      | Stay i ↦ λ ne. cond_none (eqb n i) (stay home (Some Wait)) (wait_stay home)
+      | Delay i ↦ λ ne. cond_other n i 1 (λ e. ne (ap Delay (sym e)))
+    ])
+
+pub held_own : (v new : View) (price : ℕ → ℕ) (p : List Choice) (o : ℕ) (id : ArcId) → Keeps v price p
+    → length p < length v.case.tasks → IsChosen v p (On o)
+    → runs_at (demand v.case (length p)).home o ≡ true
+    → Shows new → IsSameCase v new → id ≡ v.arc (Stay (length p)) → IsHold v.net new.net id 1
+    → Keeps new price (p ++ On o ∷ [])
+held_own v new price p o id keeps l chosen own shows same is held =
+    let n : ℕ = length p in
+    let home : Option ℕ = (demand v.case n).home in
+    kept_hold v new price p (On o) (Stay n) id keeps l chosen shows same l is held
+    (ap (stay home) (pick_past p) ∙ stay_none home) (cond_here n (stay home (Some (On o))) ∙ own_stay home o own)
+    (λ k. elim k as (λ k. (k ≡ Stay n → ⊥) → added v.case p (On o) k ≡ 0) [
+      | Through j ↦ λ ne. cond_none (eqb o j) (wide home (Some (On o))) (own_wide home o own)
+      | Slot j i ↦ λ ne. refl
+      | Exit i ↦ λ ne. refl
+      | Wide i ↦ λ ne. cond_none (eqb n i) (wide home (Some (On o))) (own_wide home o own)
+      | Stay i ↦ λ ne. cond_other n i (stay home (Some (On o))) (λ e. ne (ap Stay (sym e)))
+      | Delay i ↦ λ ne. cond_none (eqb n i) 0 refl
+    ])
+
+pub held_other : (v mid new : View) (price : ℕ → ℕ) (p : List Choice) (o : ℕ) (id_one id_two : ArcId) (low : ℕ)
+    → Keeps v price p → length p < length v.case.tasks → IsChosen v p (On o)
+    → runs_at (demand v.case (length p)).home o ≡ false
+    → Shows new → IsSameCase v new → id_one ≡ v.arc (Wide (length p)) → id_two ≡ v.arc (Through o)
+    → IsHold v.net mid.net id_one 1 → IsHold mid.net new.net id_two (low + 1) → low ≡ lows v (Through o)
+    → Keeps new price (p ++ On o ∷ [])
+held_other v mid new price p o id_one id_two low keeps l chosen other shows same is_one is_two first second low_is =
+    let n : ℕ = length p in
+    let home : Option ℕ = (demand v.case n).home in
+    kept_holds v mid new price p (On o) (Wide n) (Through o)
+    id_one id_two low keeps l chosen shows same l chosen.place is_one is_two (λ e. absurd cc) first second low_is
+    (ap (wide home) (pick_past p) ∙ wide_none home) (cond_here n (wide home (Some (On o))) ∙ wide_one home o other)
+    (cond_here o (wide home (Some (On o))) ∙ wide_one home o other)
+    (λ k. elim k as (λ k. (k ≡ Wide n → ⊥) → (k ≡ Through o → ⊥) → added v.case p (On o) k ≡ 0) [
+      | Through j ↦ λ a b. cond_other o j (wide home (Some (On o))) (λ e. b (ap Through (sym e)))
+      | Slot j i ↦ λ a b. refl
+      | Exit i ↦ λ a b. refl
+      | Wide i ↦ λ a b. cond_other n i (wide home (Some (On o))) (λ e. a (ap Wide (sym e)))
+      | Stay i ↦ λ a b. cond_none (eqb n i) (stay home (Some (On o))) (other_stay home o other)
+      | Delay i ↦ λ a b. cond_none (eqb n i) 0 refl
+    ])
+
+-- one task more may be held to come to the machine of the choice
+pub can_come : (v mid : View) (price : ℕ → ℕ) (p : List Choice) (o low : ℕ) (id : ArcId) → Keeps v price p
+    → IsChosen v p (On o) → runs_at (demand v.case (length p)).home o ≡ false → id ≡ v.arc (Through o)
+    → low ≡ lows v (Through o)
+    → ((b : ArcId) → flow_of_row (row_at mid.net b) ≡ flow_of_row (row_at v.net b))
+    → CanHold (low + 1) (row_at mid.net id)
+can_come v mid price p o low id keeps chosen other is low_is flows_are =
+    let home : Option ℕ = (demand v.case (length p)).home in
+    can_hold (low + 1) (row_at mid.net id) (omega arith)
+    (omega (
+      arith,
+      chosen.room.at_through o chosen.place,
+      cond_here o (wide home (Some (On o))),
+      wide_one home o other,
+      keeps.lows (Through o) chosen.place,
+      low_is,
+      flows_are id,
+      ap (λ (i : ArcId). flow_of_row (row_at v.net i)) is,
+    ))

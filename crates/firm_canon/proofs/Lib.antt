@@ -1,0 +1,17 @@
+pub mod Counts
+pub mod Graphs
+pub mod Homes
+pub mod Totals
+pub mod Placed
+pub mod Parts
+pub mod Read
+pub mod First
+pub mod Choose
+pub mod Take
+pub mod Cycles
+pub mod Shown
+pub mod Tries
+pub mod Choices
+pub mod Prefixes
+pub mod Holdings
+pub mod Starts

@@ -1,0 +1,264 @@
+-- A flow whose lower bounds hold every task to its choice gives a placement that costs no more.
+use Rattle.std.proofs.Common.{◌≡◌, ℕ, ◌+◌, ◌*◌, ◌<◌, ◌≤◌, Bool, true, false, cond, eqb, List, [], ◌∷◌, length, arith}
+use Rattle.std.proofs.Common.{sym, ap, ◌∙◌, ◌⊎◌, ⊎_elim, Option, Some, None}
+use Rattle.std.specs.List.{All, sum_by}
+use Rattle.std.proofs.lemmas.Bool.{cases_eq, eq-eqb, ne_eqb}
+use Rattle.firm_rules.specs.declared.rounds.Choice.{Choice}
+use Rattle.firm_paths.specs.Network.{Arc}
+use Rattle.firm_flow.specs.Flow.{IsWithinBounds, cost_of, carried}
+use Rattle.firm_rules.specs.Placement.{Case, total, load, load_cost, tasks_cost}
+use Rattle.firm_rules.specs.Placement.{IsLegal, placement_cost as cost, IsPlace}
+use Rattle.firm_graph.specs.Network.{runs}
+use Rattle.firm_graph.specs.declared.network.Node.{Node}
+use Rattle.firm_graph.specs.declared.network.Node.TheVariants.{Sink, Hub, Machine, Owner, Task}
+use Rattle.firm_graph.specs.declared.network.Key.{Key}
+use Rattle.firm_graph.specs.declared.network.Key.TheVariants.{Through, Slot, Exit, Wide, Stay, Delay}
+use Rattle.firm_graph.specs.Network.{slots_of, demand, stay_head, network, task_nodes}
+use Rattle.firm_canon.proofs.Totals.{total_zero, total_same, total-le, total-mul, total_at, total_tight}
+use Rattle.firm_canon.proofs.Totals.{staircase_least, tri_least, sum_gather}
+use Rattle.firm_canon.specs.inner.Placed.{pick, wide, stay, waits, spot, wide_at, stay_at, guests}
+use Rattle.firm_canon.proofs.Placed.{load_is, sum_network, at_pick, one_way, at_place, wide_spot, stay_there}
+use Rattle.firm_canon.proofs.Placed.{plain_regroup, task_arcs_cost, tasks_cost_is, task_cost_is}
+use Rattle.firm_canon.proofs.Parts.{parts}
+use Rattle.firm_flow.specs.Balance.{Balanced}
+
+-- the weight that marks one node
+abbrev task_mark : ℕ → Node → ℕ
+task_mark e Sink = 0
+task_mark e Hub = 0
+task_mark e (Machine j) = 0
+task_mark e (Owner k) = 0
+task_mark e (Task i) = cond (eqb e i) 1 0
+
+abbrev hub_mark : Node → ℕ
+hub_mark Sink = 0
+hub_mark Hub = 1
+hub_mark (Machine j) = 0
+hub_mark (Owner k) = 0
+hub_mark (Task i) = 0
+
+abbrev machine_mark : ℕ → Node → ℕ
+machine_mark e Sink = 0
+machine_mark e Hub = 0
+machine_mark e (Machine j) = cond (eqb e j) 1 0
+machine_mark e (Owner k) = 0
+machine_mark e (Task i) = 0
+
+cond_times : (b : Bool) (x : ℕ) → cond b 1 0 * x ≡ cond b x 0
+cond_times true x = omega arith
+cond_times false x = omega arith
+
+task_mark_stay : (e : ℕ) (home : Option ℕ) (x : ℕ) → task_mark e (stay_head home) * x ≡ 0
+task_mark_stay e None x = omega arith
+task_mark_stay e (Some h) x = omega arith
+
+-- a task sends out one unit
+pub task_sends : (c : Case) (low x : Key → ℕ) (e : ℕ) → e < length c.tasks
+    → Balanced (network c low x) (task_nodes c) Sink carried → x (Wide e) + x (Stay e) + x (Delay e) ≡ 1
+task_sends c low x e l balanced =
+    let m : ℕ = length c.slots in
+    let t : ℕ = length c.tasks in
+    let w : Node → ℕ = task_mark e in
+    omega (
+      arith,
+      balanced w,
+      sum_network (λ (a : Arc Node Key). w a.head * a.flow) c low x,
+      sum_network (λ (a : Arc Node Key). w a.tail * a.flow) c low x,
+      total_zero (λ (j : ℕ). 0 * x (Through j) + total (λ k. 0 * x (Slot j k)) (slots_of c j)) m
+          (λ j l. omega (arith, total_zero (λ (k : ℕ). 0 * x (Slot j k)) (slots_of c j) (λ k r. omega arith))),
+      total_zero (λ (k : ℕ). 0 * x (Exit k)) c.jobs (λ k r. omega arith),
+      total_zero (λ (i : ℕ). 0 * x (Wide i) + task_mark e (stay_head (demand c i).home) * x (Stay i) + 0 * x (Delay i))
+          t
+          (λ i r. omega (arith, task_mark_stay e (demand c i).home (x (Stay i)))),
+      total_same (λ (i : ℕ). cond (eqb e i) 1 0 * x (Wide i) + cond (eqb e i) 1 0 * x (Stay i)
+          + cond (eqb e i) 1 0 * x (Delay i))
+          (λ (i : ℕ). cond (eqb e i) (x (Wide i) + x (Stay i) + x (Delay i)) 0) t
+          (λ i r. elim (eqb e i) as (λ b. cond b 1 0 * x (Wide i) + cond b 1 0 * x (Stay i) + cond b 1 0 * x (Delay i)
+          ≡ cond b (x (Wide i) + x (Stay i) + x (Delay i)) 0) [ true ↦ omega arith | false ↦ omega arith ]),
+      total_at (λ (i : ℕ). x (Wide i) + x (Stay i) + x (Delay i)) t e l,
+      sum_gather w (λ (i : ℕ). Task i ∷ []) t,
+      total_same (λ (i : ℕ). sum_by w (Task i ∷ [])) (λ (i : ℕ). cond (eqb e i) 1 0) t (λ i l. omega arith),
+      total_at (λ (i : ℕ). 1) t e l,
+    )
+
+no_stay_by_hub : (home : Option ℕ) (y : ℕ) → y ≤ cond (runs home) 1 0 → hub_mark (stay_head home) * y ≡ 0
+no_stay_by_hub None y h = omega arith
+no_stay_by_hub (Some k) y h = omega arith
+
+-- what comes to the hub goes on to the machines
+pub hub_passes : (c : Case) (low x : Key → ℕ) → IsWithinBounds (network c low x) carried
+    → Balanced (network c low x) (task_nodes c) Sink carried
+    → total (λ i. x (Wide i)) (length c.tasks) ≡ total (λ j. x (Through j)) (length c.slots)
+hub_passes c low x within balanced =
+    let m : ℕ = length c.slots in
+    let t : ℕ = length c.tasks in
+    let w : Node → ℕ = hub_mark in
+    let bounds = parts (λ (a : Arc Node Key). (a.low ≤ a.flow) × (a.flow ≤ a.cap)) c low x within in
+    omega (
+      arith,
+      balanced w,
+      sum_network (λ (a : Arc Node Key). w a.head * a.flow) c low x,
+      sum_network (λ (a : Arc Node Key). w a.tail * a.flow) c low x,
+      total_zero (λ (j : ℕ). 0 * x (Through j) + total (λ k. 0 * x (Slot j k)) (slots_of c j)) m
+          (λ j l. omega (arith, total_zero (λ (k : ℕ). 0 * x (Slot j k)) (slots_of c j) (λ k r. omega arith))),
+      total_same (λ (j : ℕ). 1 * x (Through j) + total (λ k. 0 * x (Slot j k)) (slots_of c j))
+          (λ (j : ℕ). x (Through j)) m
+          (λ j l. omega (arith, total_zero (λ (k : ℕ). 0 * x (Slot j k)) (slots_of c j) (λ k r. omega arith))),
+      total_zero (λ (k : ℕ). 0 * x (Exit k)) c.jobs (λ k r. omega arith),
+      total_same (λ (i : ℕ). 1 * x (Wide i) + hub_mark (stay_head (demand c i).home) * x (Stay i) + 0 * x (Delay i))
+          (λ (i : ℕ). x (Wide i)) t
+          (λ i r. omega (arith, no_stay_by_hub (demand c i).home (x (Stay i)) ((bounds.stays i r).1))),
+      total_zero (λ (i : ℕ). 0 * x (Wide i) + 0 * x (Stay i) + 0 * x (Delay i)) t (λ i r. omega arith),
+      sum_gather w (λ (i : ℕ). Task i ∷ []) t,
+      total_zero (λ (i : ℕ). sum_by w (Task i ∷ [])) t (λ i l. omega arith),
+    )
+
+-- what comes to a machine fills its slots
+pub machine_passes : (c : Case) (low x : Key → ℕ) (e : ℕ) → e < length c.slots
+    → Balanced (network c low x) (task_nodes c) Sink carried
+    → x (Through e) + total (λ i. machine_mark e (stay_head (demand c i).home) * x (Stay i)) (length c.tasks)
+    ≡ total (λ k. x (Slot e k)) (slots_of c e)
+machine_passes c low x e l balanced =
+    let m : ℕ = length c.slots in
+    let t : ℕ = length c.tasks in
+    let w : Node → ℕ = machine_mark e in
+    omega (
+      arith,
+      balanced w,
+      sum_network (λ (a : Arc Node Key). w a.head * a.flow) c low x,
+      sum_network (λ (a : Arc Node Key). w a.tail * a.flow) c low x,
+      total_same (λ (j : ℕ). cond (eqb e j) 1 0 * x (Through j) + total (λ k. 0 * x (Slot j k)) (slots_of c j))
+          (λ (j : ℕ). cond (eqb e j) (x (Through j)) 0) m
+          (λ j l. omega (
+            arith,
+            cond_times (eqb e j) (x (Through j)),
+            total_zero (λ (k : ℕ). 0 * x (Slot j k)) (slots_of c j) (λ k r. omega arith),
+          )),
+      total_at (λ (j : ℕ). x (Through j)) m e l,
+      total_same (λ (j : ℕ). 0 * x (Through j) + total (λ k. cond (eqb e j) 1 0 * x (Slot j k)) (slots_of c j))
+          (λ (j : ℕ). cond (eqb e j) (total (λ k. x (Slot j k)) (slots_of c j)) 0) m
+          (λ j l. omega (
+            arith,
+            total-mul (cond (eqb e j) 1 0) (λ (k : ℕ). x (Slot j k)) (slots_of c j),
+            cond_times (eqb e j) (total (λ k. x (Slot j k)) (slots_of c j)),
+          )),
+      total_at (λ (j : ℕ). total (λ k. x (Slot j k)) (slots_of c j)) m e l,
+      total_zero (λ (k : ℕ). 0 * x (Exit k)) c.jobs (λ k r. omega arith),
+      total_same (λ (i : ℕ). 0 * x (Wide i) + machine_mark e (stay_head (demand c i).home) * x (Stay i)
+          + 0 * x (Delay i))
+          (λ (i : ℕ). machine_mark e (stay_head (demand c i).home) * x (Stay i)) t (λ i r. omega arith),
+      total_zero (λ (i : ℕ). 0 * x (Wide i) + 0 * x (Stay i) + 0 * x (Delay i)) t (λ i r. omega arith),
+      sum_gather w (λ (i : ℕ). Task i ∷ []) t,
+      total_zero (λ (i : ℕ). sum_by w (Task i ∷ [])) t (λ i l. omega arith),
+    )
+
+eqb_sym : (a b : ℕ) → eqb a b ≡ eqb b a
+eqb_sym a b =
+    ⊎_elim (λ (e : a ≡ b). eq-eqb a b e ∙ sym (eq-eqb b a (sym e)))
+    (λ (ne : a ≡ b → ⊥). ne_eqb a b ne ∙ sym (ne_eqb b a (λ (e : b ≡ a). ne (sym e))))
+    (cases_eq a b)
+
+-- the flow is held to the placement
+pub record IsHeld (c : Case) (p : List Choice) (x : Key → ℕ) : Type 0 where
+  pub at_through : (j : ℕ) → j < length c.slots → guests c p j ≤ x (Through j)
+  pub at_wide : (i : ℕ) → i < length c.tasks → wide_at c p i ≤ x (Wide i)
+  pub at_stay : (i : ℕ) → i < length c.tasks → stay_at c p i ≤ x (Stay i)
+  pub at_delay : (i : ℕ) → i < length c.tasks → waits (pick p i) ≤ x (Delay i)
+
+-- READING: the placement is legal, and costs no more than the flow
+pub read : (c : Case) (p : List Choice) (low x : Key → ℕ) → length p ≡ length c.tasks → All (IsPlace (length c.slots)) p
+    → IsHeld c p x
+    → IsWithinBounds (network c low x) carried → Balanced (network c low x) (task_nodes c) Sink carried
+    → IsLegal c p × (cost c p ≤ cost_of (network c low x) carried)
+read c p low x e places held within balanced =
+    let m : ℕ = length c.slots in
+    let t : ℕ = length c.tasks in
+    let bounds = parts (λ (a : Arc Node Key). (a.low ≤ a.flow) × (a.flow ≤ a.cap)) c low x within in
+    let one : (i : ℕ) → i < t → wide_at c p i + stay_at c p i + waits (pick p i) ≡ 1 =
+    λ i l. at_pick p i (λ o. wide (demand c i).home o + stay (demand c i).home o + waits o ≡ 1) (omega (arith, l, e))
+    (one_way (demand c i).home) in
+    let is_wide : (i : ℕ) → i < t → x (Wide i) ≡ wide_at c p i =
+    λ i l. omega (
+      arith,
+      one i l,
+      task_sends c low x i l balanced,
+      held.at_wide i l,
+      held.at_stay i l,
+      held.at_delay i l,
+    ) in
+    let is_stay : (i : ℕ) → i < t → x (Stay i) ≡ stay_at c p i =
+    λ i l. omega (
+      arith,
+      one i l,
+      task_sends c low x i l balanced,
+      held.at_wide i l,
+      held.at_stay i l,
+      held.at_delay i l,
+    ) in
+    let waits_is : (i : ℕ) → i < t → x (Delay i) ≡ waits (pick p i) =
+    λ i l. omega (
+      arith,
+      one i l,
+      task_sends c low x i l balanced,
+      held.at_wide i l,
+      held.at_stay i l,
+      held.at_delay i l,
+    ) in
+    let wides : total (wide_at c p) t ≡ total (guests c p) m =
+    plain_regroup (λ (i : ℕ). spot (pick p i)) (wide_at c p) m t
+    (λ i l. at_place (IsPlace m) p i (λ o. (spot o < m) ⊎ (wide (demand c i).home o ≡ 0)) places (omega (arith, l, e))
+    (wide_spot m (demand c i).home)) in
+    let is_through : (j : ℕ) → j < m → guests c p j ≡ x (Through j) =
+    total_tight (guests c p) (λ (j : ℕ). x (Through j)) m held.at_through
+    (omega (
+      arith,
+      wides,
+      hub_passes c low x within balanced,
+      total_same (λ (i : ℕ). x (Wide i)) (wide_at c p) t is_wide,
+    )) in
+    let is_load : (j : ℕ) → j < m → total (λ k. x (Slot j k)) (slots_of c j) ≡ load p j =
+    λ j l. omega (
+      arith,
+      machine_passes c low x j l balanced,
+      is_through j l,
+      load_is c p j e,
+      total_same (λ (i : ℕ). machine_mark j (stay_head (demand c i).home) * x (Stay i))
+          (λ (i : ℕ). cond (eqb (spot (pick p i)) j) (stay_at c p i) 0) t
+          (λ i r. ap (λ z. machine_mark j (stay_head (demand c i).home) * z) (is_stay i r)
+          ∙ (at_pick p i (λ o. machine_mark j (stay_head (demand c i).home) * stay (demand c i).home o
+          ≡ machine_mark j (Machine (spot o)) * stay (demand c i).home o)
+          (omega (arith, r, e)) (stay_there (machine_mark j) (demand c i).home)
+          ∙ (cond_times (eqb j (spot (pick p i))) (stay_at c p i)
+          ∙ ap (λ b. cond b (stay_at c p i) 0) (eqb_sym j (spot (pick p i)))))),
+    ) in
+    let units : (j k : ℕ) → j < m → k < slots_of c j → x (Slot j k) ≤ 1 = λ j k l r. (bounds.slot j k l r).1 in
+    let machines : total (λ j. load_cost c.spread (load p j)) m
+    ≤ total (λ j. 0 * x (Through j) + total (λ k. (k * c.spread) * x (Slot j k)) (slots_of c j)) m =
+    total-le (λ (j : ℕ). load_cost c.spread (load p j))
+    (λ (j : ℕ). 0 * x (Through j) + total (λ k. (k * c.spread) * x (Slot j k)) (slots_of c j)) m
+    (λ j l. omega (
+      arith,
+      staircase_least c.spread (λ (k : ℕ). x (Slot j k)) (slots_of c j) (load p j)
+          (λ k r. units j k l r) (is_load j l),
+    )) in
+    let tasks : total (λ i. cond (runs (demand c i).home) c.churn 0 * x (Wide i) + 0 * x (Stay i)
+    + ((demand c i).delay + cond (runs (demand c i).home) c.churn 0) * x (Delay i)) t
+    ≡ tasks_cost c c.tasks p =
+    total_same (λ (i : ℕ). cond (runs (demand c i).home) c.churn 0 * x (Wide i) + 0 * x (Stay i)
+    + ((demand c i).delay + cond (runs (demand c i).home) c.churn 0) * x (Delay i))
+    (λ (i : ℕ). task_arcs_cost c.churn (demand c i) (pick p i)) t
+    (λ i l. omega (
+      arith,
+      ap (λ z. cond (runs (demand c i).home) c.churn 0 * z) (is_wide i l),
+      ap (λ z. ((demand c i).delay + cond (runs (demand c i).home) c.churn 0) * z) (waits_is i l),
+    ))
+    ∙ sym (tasks_cost_is c (task_arcs_cost c.churn) (record { home = None; delay = 0; job = 0 }) c.tasks p e
+    (λ d o. task_cost_is c d.delay d.home d.job o)) in (
+      record {
+        one_each = e;
+        places = places;
+        room = λ j l. (tri_least (λ (k : ℕ). x (Slot j k)) (slots_of c j) (load p j) (λ k r. units j k l r)
+            (is_load j l)).0;
+      },
+      omega (arith, sum_network (λ (a : Arc Node Key). a.cost * a.flow) c low x, machines, tasks),
+    )

@@ -1,0 +1,315 @@
+-- What is known of a net that shows a network is known of the network, and back.
+use Rattle.std.proofs.Common.{◌≡◌, cond, ℕ, zero, suc, ◌+◌, ◌*◌, ◌<◌, ◌≤◌, Bool, List, [], ◌∷◌, ◌++◌, length, get_or}
+use Rattle.std.proofs.Common.{Some, refl, sym, ap, ap₂, ◌∙◌, arith, inl, inr, ◌⊎◌, ⊎_elim}
+use Rattle.std.specs.Prelude.{map, Contains}
+use Rattle.std.specs.List.{All, sum_by}
+use Rattle.std.proofs.lemmas.List.Sums.{sum_by-cons}
+use Rattle.std.proofs.lemmas.List.Sorted.{sum_by-IsPermutation, All-permutation, IsPermutation-sym, length_permutation}
+use Rattle.std.proofs.lemmas.List.Elements.{All-head, All-tail, All-nil, All-cons, All-map, All-contains}
+use Rattle.std.proofs.lemmas.List.Elements.{All-contains_itself}
+use Rattle.firm_net.specs.Row.{Row}
+use Rattle.firm_net.specs.Net.{row_at, arc_count}
+use Rattle.firm_net.specs.declared.row.ArcId.{ArcId}
+use Rattle.firm_paths.specs.Network.{Arc, AreValid, IsValidAt, Tight, StaysInside, IsClosedBut}
+use Rattle.firm_paths.specs.NetArcs.{arc_of, arcs_of}
+use Rattle.firm_paths.specs.Laws.{EachArcHasItsRow, AsManyAsCounted}
+use Rattle.firm_rules.specs.ArenaUse.{arena_arcs}
+use Rattle.firm_graph.specs.Graph.{Graph}
+use Rattle.firm_graph.specs.Ids.{view_of}
+use Rattle.firm_graph.specs.Network.{NetworksAreCounted}
+use Rattle.firm_flow.specs.Flow.{IsWithinBounds, cost_of, carried}
+use Rattle.firm_flow.specs.Balance.{Balanced}
+use Rattle.firm_rules.specs.Placement.{Case}
+use Rattle.firm_graph.specs.declared.network.Node.{Node}
+use Rattle.firm_graph.specs.declared.network.Node.TheVariants.{Sink, Hub, Machine, Owner, Task}
+use Rattle.firm_graph.specs.declared.network.Key.{Key}
+use Rattle.firm_graph.specs.declared.network.Key.TheVariants.{Through, Slot, Exit, Wide, Stay, Delay}
+use Rattle.firm_graph.specs.Network.{gather, arc, slots_of, demand, stay_head, machine_arcs, job_arcs, task_arcs}
+use Rattle.firm_graph.specs.Network.{network, task_nodes}
+use Rattle.firm_graph.specs.Network.{IsSound}
+use Rattle.firm_graph.specs.Network.{runs}
+use Rattle.firm_graph.specs.View.{View, Shows, lows, flows, spot_of, named}
+use Rattle.firm_graph.specs.Network.{IsNodeOf, IsKeyOf}
+use Rattle.firm_canon.specs.inner.Turns.{IsWhole}
+use Rattle.firm_canon.proofs.Parts.{parts, whole, All-gather}
+
+All-unmap : {A B : Type 0} (f : A → B) (P : B → Type 0) (xs : List A) → All P (map f xs) → All (λ x. P (f x)) xs
+All-unmap {A} {B} f P [] h = All-nil (λ (x : A). P (f x))
+All-unmap {A} {B} f P (x ∷ xs) h =
+    All-cons (λ (y : A). P (f y)) x xs (All-head P (f x) (map f xs) h)
+    (All-unmap f P xs (All-tail P (f x) (map f xs) h))
+
+sum_map : {A B : Type 0} (f : A → B) (F : B → ℕ) (xs : List A) → sum_by F (map f xs) ≡ sum_by (λ x. F (f x)) xs
+sum_map {A} {B} f F [] = refl
+sum_map {A} {B} f F (x ∷ xs) = omega (
+  arith,
+  sum_by-cons F (f x) (map f xs),
+  sum_by-cons (λ (y : A). F (f y)) x xs,
+  sum_map f F xs,
+)
+
+length_map : {A B : Type 0} (f : A → B) (xs : List A) → length (map f xs) ≡ length xs
+length_map f [] = refl
+length_map f (x ∷ xs) = omega (arith, length_map f xs)
+
+sums_at : {A : Type 0} (f g : A → ℕ) (xs : List A) → All (λ x. f x ≡ g x) xs → sum_by f xs ≡ sum_by g xs
+sums_at {A} f g [] h = refl
+sums_at {A} f g (x ∷ xs) h = omega (
+  arith,
+  sum_by-cons f x xs,
+  sum_by-cons g x xs,
+  All-head (λ (y : A). f y ≡ g y) x xs h,
+  sums_at f g xs (All-tail (λ (y : A). f y ≡ g y) x xs h),
+)
+
+-- the network reads lower bounds and flows at its own keys alone
+gather_same : {A : Type 0} (f g : ℕ → List A) (n : ℕ) → ((i : ℕ) → i < n → f i ≡ g i) → gather f n ≡ gather g n
+gather_same f g zero h = refl
+gather_same {A} f g (suc n) h = ap₂ (λ (a b : List A). a ++ b) (gather_same f g n (λ i l. h i (omega arith)))
+    (h n (omega arith))
+
+arc_same : (low low' x x' : Key → ℕ) (key : Key) (tail head : Node) (cap cost : ℕ) → low key ≡ low' key → x key ≡ x' key
+    → arc low x key tail head cap cost ≡ arc low' x' key tail head cap cost
+arc_same low low' x x' key tail head cap cost e f =
+    ap₂ (λ (a b : ℕ). let r : Arc Node Key = record
+    { key = key; tail = tail; head = head; low = a; cap = cap; cost = cost; flow = b } in r) e f
+
+pub network_same : (c : Case) (low low' x x' : Key → ℕ) → ((k : Key) → IsKeyOf c k → low k ≡ low' k)
+    → ((k : Key) → IsKeyOf c k → x k ≡ x' k)
+    → network c low x ≡ network c low' x'
+network_same c low low' x x' e f =
+    let same : (key : Key) (tail head : Node) (cap cost : ℕ) → IsKeyOf c key
+    → arc low x key tail head cap cost ≡ arc low' x' key tail head cap cost =
+    λ key tail head cap cost k. arc_same low low' x x' key tail head cap cost (e key k) (f key k) in
+    ap₂ (λ (a b : List (Arc Node Key)). a ++ b)
+    (gather_same (machine_arcs c low x) (machine_arcs c low' x') (length c.slots) (λ j l.
+    ap₂ (λ (a : Arc Node Key) (b : List (Arc Node Key)). a ∷ b) (same (Through j) Hub (Machine j) (slots_of c j) 0 l)
+    (gather_same (λ (k : ℕ). arc low x (Slot j k) (Machine j) Sink 1 (k * c.spread) ∷ [])
+    (λ (k : ℕ). arc low' x' (Slot j k) (Machine j) Sink 1 (k * c.spread) ∷ []) (slots_of c j)
+    (λ k m. ap (λ (a : Arc Node Key). a ∷ []) (same (Slot j k) (Machine j) Sink 1 (k * c.spread) (l, m))))))
+    (ap₂ (λ (a b : List (Arc Node Key)). a ++ b)
+    (gather_same (job_arcs c low x) (job_arcs c low' x') c.jobs
+    (λ k l. ap (λ (a : Arc Node Key). a ∷ []) (same (Exit k) (Owner k) Sink c.limit 0 l)))
+    (gather_same (task_arcs c low x) (task_arcs c low' x') (length c.tasks) (λ i l.
+    ap₂ (λ (a : Arc Node Key) (b : List (Arc Node Key)). a ∷ b) (same (Wide i) (Task i) Hub 1 _ l)
+    (ap₂ (λ (a : Arc Node Key) (b : List (Arc Node Key)). a ∷ b)
+    (same (Stay i) (Task i) (stay_head (demand c i).home) _ 0 l)
+    (ap (λ (a : Arc Node Key). a ∷ []) (same (Delay i) (Task i) (Owner (demand c i).job) 1 _ l))))))
+
+-- each arc of the network has a key and ends of the case
+pub record IsProper (c : Case) (a : Arc Node Key) : Type 0 where
+  pub key : IsKeyOf c a.key
+  pub tail : IsNodeOf c a.tail
+  pub head : IsNodeOf c a.head
+
+pub proper : (c : Case) (low x : Key → ℕ) → IsSound c
+    → ((i : ℕ) → i < length c.tasks → IsNodeOf c (stay_head (demand c i).home))
+    → All (IsProper c) (network c low x)
+proper c low x sound homes =
+    whole (IsProper c) c low x (record {
+      through = λ j l. record { key = l; tail = tt; head = l };
+      slot = λ j k l r. record { key = (l, r); tail = l; head = tt };
+      exit = λ k l. record { key = l; tail = l; head = tt };
+      wides = λ i l. record { key = l; tail = l; head = tt };
+      stays = λ i l. record { key = l; tail = l; head = homes i l };
+      delays = λ i l. record { key = l; tail = l; head = sound.jobs_in i l };
+    })
+
+module _ (v : View) (shows : Shows v) where
+  abbrev arcs : List (Arc Node Key)
+  arcs = network v.case (lows v) (flows v)
+
+  pub to_keyed : (P : Arc ℕ ArcId → Type 0) → All P (arcs_of v.net) → All (λ a. P (named v a)) arcs
+  to_keyed P h = All-unmap (named v) P arcs (All-permutation P (arcs_of v.net) (map (named v) arcs) shows.arcs h)
+
+  to_net : (P : Arc ℕ ArcId → Type 0) → All (λ a. P (named v a)) arcs → All P (arcs_of v.net)
+  to_net P h = All-permutation P (map (named v) arcs) (arcs_of v.net)
+      (IsPermutation-sym (arcs_of v.net) (map (named v) arcs) shows.arcs) (All-map P (named v) arcs h)
+
+  sums_shown : (F : Arc ℕ ArcId → ℕ) → sum_by F (arcs_of v.net) ≡ sum_by (λ a. F (named v a)) arcs
+  sums_shown F = sym (sum_by-IsPermutation F (arcs_of v.net) (map (named v) arcs) shows.arcs) ∙ sum_map (named v) F arcs
+
+  pub cost_shown : cost_of (arcs_of v.net) carried ≡ cost_of arcs carried
+  cost_shown = sums_shown (λ (a : Arc ℕ ArcId). a.cost * a.flow)
+
+  sources_in : (f : ℕ → Node) (n : ℕ) (P : Node → Type 0) → ((i : ℕ) → i < n → P (f i))
+      → All P (gather (λ i. f i ∷ []) n)
+  sources_in f n P h = All-gather P (λ (i : ℕ). f i ∷ []) n (λ i l. All-cons P (f i) [] (h i l) (All-nil P))
+
+  pub whole_keyed : (price : ℕ → ℕ) → IsWhole v.net price (map (spot_of v) (task_nodes v.case)) (spot_of v Sink)
+      → AreValid arcs (λ n. price (spot_of v n)) × IsWithinBounds arcs carried
+      × Balanced arcs (task_nodes v.case) Sink carried
+  whole_keyed price net = (
+    to_keyed (IsValidAt price) net.valid,
+    to_keyed (λ (a : Arc ℕ ArcId). (a.low ≤ a.flow) × (a.flow ≤ a.cap)) net.within,
+    λ w.
+        let ends = proper v.case (lows v) (flows v) shows.sound shows.homes in
+        let g : ℕ → ℕ = λ (z : ℕ). w (shows.role z) in
+        let heads : sum_by (λ (a : Arc ℕ ArcId). g a.head * a.flow) (arcs_of v.net)
+        ≡ sum_by (λ (a : Arc Node Key). w a.head * a.flow) arcs =
+        sums_shown (λ (a : Arc ℕ ArcId). g a.head * a.flow)
+        ∙ sums_at (λ (a : Arc Node Key). g (spot_of v a.head) * a.flow) (λ (a : Arc Node Key). w a.head * a.flow) arcs
+        (λ k d l. ap (λ n. w n * (get_or arcs k d).flow) (shows.role_is (get_or arcs k d).head (ends k d l).head)) in
+        let tails : sum_by (λ (a : Arc ℕ ArcId). g a.tail * a.flow) (arcs_of v.net)
+        ≡ sum_by (λ (a : Arc Node Key). w a.tail * a.flow) arcs =
+        sums_shown (λ (a : Arc ℕ ArcId). g a.tail * a.flow)
+        ∙ sums_at (λ (a : Arc Node Key). g (spot_of v a.tail) * a.flow) (λ (a : Arc Node Key). w a.tail * a.flow) arcs
+        (λ k d l. ap (λ n. w n * (get_or arcs k d).flow) (shows.role_is (get_or arcs k d).tail (ends k d l).tail)) in
+        let from : sum_by g (map (spot_of v) (task_nodes v.case)) ≡ sum_by w (task_nodes v.case) =
+        sum_map (spot_of v) g (task_nodes v.case)
+        ∙ sums_at (λ (s : Node). g (spot_of v s)) w (task_nodes v.case)
+        (sources_in Task (length v.case.tasks) (λ (s : Node). g (spot_of v s) ≡ w s)
+        (λ i l. ap w (shows.role_is (Task i) l))) in
+        omega (
+          arith,
+          net.balanced g,
+          heads,
+          tails,
+          from,
+          ap (λ n. w n * length (map (spot_of v) (task_nodes v.case))) (shows.role_is Sink tt),
+          ap (λ z. w Sink * z) (length_map (spot_of v) (task_nodes v.case)),
+        ),
+  )
+
+  pub whole_net : (price : ℕ → ℕ) → AreValid arcs (λ n. price (spot_of v n)) → IsWithinBounds arcs carried
+      → Balanced arcs (task_nodes v.case) Sink carried
+      → IsWhole v.net price (map (spot_of v) (task_nodes v.case)) (spot_of v Sink)
+  whole_net price valid within balanced = record {
+    valid = to_net (IsValidAt price) valid;
+    within = to_net (λ (a : Arc ℕ ArcId). (a.low ≤ a.flow) × (a.flow ≤ a.cap)) within;
+    balanced = λ w.
+        omega (
+          arith,
+          balanced (λ (n : Node). w (spot_of v n)),
+          sums_shown (λ (a : Arc ℕ ArcId). w a.head * a.flow),
+          sums_shown (λ (a : Arc ℕ ArcId). w a.tail * a.flow),
+          sum_map (spot_of v) w (task_nodes v.case),
+          ap (λ z. w (spot_of v Sink) * z) (length_map (spot_of v) (task_nodes v.case)),
+        );
+  }
+
+  -- the row of an arc of the network
+  pub record IsRowOfArc (a : Arc Node Key) : Type 0 where
+    pub row : Row
+    pub there : row_at v.net (v.arc a.key) ≡ Some row
+    pub is : named v a ≡ arc_of (v.arc a.key) row
+
+  pub row_shown : EachArcHasItsRow → (a : Arc Node Key) → Contains arcs a → IsRowOfArc a
+  row_shown law a c =
+      let listed : Contains (arcs_of v.net) (named v a) =
+      All-contains (λ (b : Arc Node Key). Contains (arcs_of v.net) (named v b)) arcs a
+      (to_keyed (Contains (arcs_of v.net)) (All-contains_itself (arcs_of v.net))) c in
+      let found = law v.net (named v a) listed in
+      record { row = found.0; there = found.1; is = found.2 }
+
+  barred_key : (keys : List Key) (key : Key) → All (IsKeyOf v.case) keys → IsKeyOf v.case key
+      → Contains (map v.arc keys) (v.arc key) → Contains keys key
+  barred_key [] key all own c = absurd (omega (arith, c.1))
+  barred_key (k ∷ keys) key all own c = at (λ b. barred_key keys key (All-tail (IsKeyOf v.case) k keys all) own b)
+      c.0 c.1 c.2
+    where
+      at : (Contains (map v.arc keys) (v.arc key) → Contains keys key) → (i : ℕ) → i < length (map v.arc (k ∷ keys))
+          → get_or (map v.arc (k ∷ keys)) i (v.arc key) ≡ v.arc key → Contains (k ∷ keys) key
+      at further zero l e = (0, omega arith, shows.arcs_apart k key (All-head (IsKeyOf v.case) k keys all) own e)
+      at further (suc i) l e =
+          let rest = further (i, omega (arith, l), e) in
+          (suc rest.0, omega (arith, rest.1), rest.2)
+
+  pub closed_keyed : (price : ℕ → ℕ) (keys : List Key) (inside : ℕ → Bool) → All (IsKeyOf v.case) keys
+      → IsClosedBut (arcs_of v.net) price (Contains (map v.arc keys)) inside
+      → IsClosedBut arcs (λ n. price (spot_of v n)) (Contains keys) (λ n. inside (spot_of v n))
+  closed_keyed price keys inside all closed k d l =
+      let ends = proper v.case (lows v) (flows v) shows.sound shows.homes in
+      let a : Arc Node Key = get_or arcs k d in
+      ⊎_elim
+      (λ (b : Contains (map v.arc keys) (v.arc a.key)). inl (barred_key keys a.key all (ends k d l).key b))
+      (λ (s : Tight price (named v a) → StaysInside inside (named v a)). inr s)
+      (to_keyed (λ (b : Arc ℕ ArcId). Contains (map v.arc keys) b.key ⊎ (Tight price b → StaysInside inside b))
+      closed k d l)
+
+-- the net has as many arcs as the rows take of the arena
+pub arcs_counted : AsManyAsCounted → NetworksAreCounted → (g : Graph) → Shows (view_of g)
+    → arc_count g.net ≡ arena_arcs g.rows
+arcs_counted listed counted g shows =
+    let v : View = view_of g in
+    let arcs : List (Arc Node Key) = network v.case (lows v) (flows v) in
+    sym (listed g.net)
+    ∙ (sym (length_permutation (arcs_of g.net) (map (named v) arcs) shows.arcs)
+    ∙ (length_map (named v) arcs ∙ (counted g.rows).arcs (lows v) (flows v)))
+
+-- the arc of a key
+pub arc_at : (c : Case) (low x : Key → ℕ) → Key → Arc Node Key
+arc_at c low x (Through j) = arc low x (Through j) Hub (Machine j) (slots_of c j) 0
+arc_at c low x (Slot j k) = arc low x (Slot j k) (Machine j) Sink 1 (k * c.spread)
+arc_at c low x (Exit k) = arc low x (Exit k) (Owner k) Sink c.limit 0
+arc_at c low x (Wide i) = arc low x (Wide i) (Task i) Hub 1 (cond (runs (demand c i).home) c.churn 0)
+arc_at c low x (Stay i) = arc low x (Stay i) (Task i) (stay_head (demand c i).home) (cond (runs (demand c i).home) 1 0)
+    0
+arc_at c low x (Delay i) = arc low x (Delay i) (Task i) (Owner (demand c i).job) 1
+    ((demand c i).delay + cond (runs (demand c i).home) c.churn 0)
+
+pub by_key : (c : Case) (low x : Key → ℕ) → All (λ a. a ≡ arc_at c low x a.key) (network c low x)
+unfolding arc_at
+by_key c low x = whole (λ (a : Arc Node Key). a ≡ arc_at c low x a.key) c low x (record {
+  through = λ j l. refl;
+  slot = λ j k l r. refl;
+  exit = λ k l. refl;
+  wides = λ i l. refl;
+  stays = λ i l. refl;
+  delays = λ i l. refl;
+})
+
+pub key_at : (c : Case) (low x : Key → ℕ) (k : Key) → (arc_at c low x k).key ≡ k
+unfolding arc_at
+key_at c low x (Through j) = refl
+key_at c low x (Slot j k) = refl
+key_at c low x (Exit k) = refl
+key_at c low x (Wide i) = refl
+key_at c low x (Stay i) = refl
+key_at c low x (Delay i) = refl
+
+pub flow_at : (c : Case) (low x : Key → ℕ) (k : Key) → (arc_at c low x k).flow ≡ x k
+unfolding arc_at
+flow_at c low x (Through j) = refl
+flow_at c low x (Slot j k) = refl
+flow_at c low x (Exit k) = refl
+flow_at c low x (Wide i) = refl
+flow_at c low x (Stay i) = refl
+flow_at c low x (Delay i) = refl
+
+pub listed_at : (c : Case) (low x : Key → ℕ) (k : Key) → IsKeyOf c k → Contains (network c low x) (arc_at c low x k)
+unfolding arc_at
+listed_at c low x (Through j) l = (parts (Contains (network c low x)) c low x
+    (All-contains_itself (network c low x))).through j l
+listed_at c low x (Slot j k) l = (parts (Contains (network c low x)) c low x
+    (All-contains_itself (network c low x))).slot j k l.0 l.1
+listed_at c low x (Exit k) l = (parts (Contains (network c low x)) c low x (All-contains_itself (network c low x))).exit
+    k l
+listed_at c low x (Wide i) l = (parts (Contains (network c low x)) c low x
+    (All-contains_itself (network c low x))).wides i l
+listed_at c low x (Stay i) l = (parts (Contains (network c low x)) c low x
+    (All-contains_itself (network c low x))).stays i l
+listed_at c low x (Delay i) l = (parts (Contains (network c low x)) c low x
+    (All-contains_itself (network c low x))).delays i l
+
+pub stay_arc : (c : Case) (low x : Key → ℕ) (n : ℕ) → arc_at c low x (Stay n)
+    ≡ record {
+      key = Stay n;
+      tail = Task n;
+      head = stay_head (demand c n).home;
+      low = low (Stay n);
+      cap = cond (runs (demand c n).home) 1 0;
+      cost = 0;
+      flow = x (Stay n);
+    }
+unfolding arc_at
+stay_arc c low x n = refl
+
+pub low_at : (c : Case) (low x : Key → ℕ) (k : Key) → (arc_at c low x k).low ≡ low k
+unfolding arc_at
+low_at c low x (Through j) = refl
+low_at c low x (Slot j k) = refl
+low_at c low x (Exit k) = refl
+low_at c low x (Wide i) = refl
+low_at c low x (Stay i) = refl
+low_at c low x (Delay i) = refl

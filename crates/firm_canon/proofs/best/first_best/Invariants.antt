@@ -1,0 +1,24 @@
+use Rattle.std.proofs.Common.{◌≡◌, ◌≤◌, ◌+◌, ◌*◌, length}
+use Rattle.std.specs.Prelude.{vec_len, vec_capacity}
+use Rattle.firm_paths.specs.PriceTable.{price_of}
+use Rattle.firm_rules.specs.ArenaUse.{arena_arcs}
+use Rattle.firm_canon.specs.Counts.{HasSearchedUpTo}
+use Rattle.firm_graph.specs.Graph.{Graph}
+use Rattle.firm_canon.specs.inner.Graphs.{IsSameGraph}
+use Rattle.firm_canon.specs.inner.Choosing.{Keeps}
+use Rattle.firm_graph.specs.Ids.{view_of}
+use Rattle.firm_canon.proofs.best.first_best.Given as goal
+
+abbrev pub invariant-loop-task : goal.invariant-loop-task
+invariant-loop-task l =
+    let old : Graph = l.initial.graph in
+    let now : Graph = l.graph in
+    record {
+      same : IsSameGraph old now;
+      searched : HasSearchedUpTo l.initial.scratch l.scratch (l.task * (length old.rows.machines + 3))
+          (arena_arcs old.rows);
+      keeps : Keeps (view_of now) (price_of l.prices) l.chosen.items;
+      so_far : length l.chosen.items ≡ l.task;
+      count : vec_len l.chosen ≡ l.task;
+      room : vec_capacity l.initial.chosen ≤ vec_capacity l.chosen;
+    }

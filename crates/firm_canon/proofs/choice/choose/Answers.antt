@@ -1,0 +1,35 @@
+use Rattle.std.proofs.Common.{◌+◌, ℕ, refl, arith, length, sym, ◌∙◌}
+use Rattle.firm_paths.specs.PriceTable.{price_of}
+use Rattle.firm_canon.proofs.Choices.{no_stay_home, chose_own, next_at, home_at}
+use Rattle.firm_graph.specs.View.{View}
+use Rattle.firm_graph.specs.Graph.{Graph}
+use Rattle.firm_graph.specs.Ids.{view_of}
+use Rattle.firm_canon.proofs.Counts.{more_since}
+use Rattle.firm_canon.proofs.Graphs.{same_rows, same_machines}
+use Rattle.firm_canon.proofs.choice.choose.Goals as goal
+
+pub choose_other-requires-clause-stay : goal.choose_other-requires-clause-stay
+choose_other-requires-clause-stay c =
+    no_stay_home (view_of c.args.graph.now) (price_of c.args.prices.now) c.args.chosen.now
+    (length c.args.chosen.now) c.requires.keeps c.requires.next
+    (sym c.home_of-home.ensures ∙ c.in_default.is)
+
+pub returns-then-try_own-clause-chosen : goal.returns-then-try_own-clause-chosen
+returns-then-try_own-clause-chosen c =
+    let old : View = view_of c.args.graph.now in
+    let mid : View = view_of c.try_own.new.graph in
+    let n : ℕ = length c.args.chosen.now in
+    let own = c.if-try_own.ensures in
+    chose_own mid (price_of c.args.prices.now) c.args.chosen.now c.in-Some.own own.keeps
+    (next_at old mid n own.same.case c.requires.next)
+    (sym (home_at old mid n c.home_of-home.result own.same.case c.home_of-home.ensures) ∙ c.in-Some.is) (own.yes refl)
+
+pub returns-clause-searched : goal.returns-clause-searched
+returns-clause-searched c =
+    let old : Graph = c.args.graph.now in
+    let mid : Graph = c.try_own.new.graph in
+    let own = c.if-try_own.ensures in
+    more_since old mid (same_rows old mid own.same)
+    c.args.scratch.now c.try_own.new.scratch c.choose_other-2.new.scratch
+    1 (length mid.rows.machines + 2) _ own.searched c.choose_other-2.ensures.searched
+    (omega (arith, same_machines old mid own.same))

@@ -1,0 +1,113 @@
+use Rattle.std.proofs.Common.{◌≡◌, ◌+◌, ℕ, ◌<◌, length, arith, refl, sym, ap, subst, ◌∙◌}
+use Rattle.firm_paths.specs.PriceTable.{price_of}
+use Rattle.firm_graph.specs.Network.{demand}
+use Rattle.firm_graph.specs.View.{View}
+use Rattle.firm_canon.proofs.Choices.{never_blocked, never_alone, chose_own, chose_wait, next_at, home_at, comes_by_hub}
+use Rattle.firm_canon.proofs.Choices.{found, none_here}
+use Rattle.firm_canon.specs.inner.Choosing.{IsChosen}
+use Rattle.firm_rules.specs.declared.rounds.Choice.TheVariants.{Wait}
+use Rattle.firm_graph.specs.Graph.{Graph}
+use Rattle.firm_canon.specs.inner.Graphs.{IsSameGraph}
+use Rattle.firm_graph.specs.Ids.{view_of}
+use Rattle.firm_canon.proofs.Counts.{more_since}
+use Rattle.firm_canon.proofs.Graphs.{same_on, same_rows, same_machines}
+use Rattle.firm_canon.proofs.choice.choose_other.Goals as goal
+
+pub returns-then-not-try_hub-clause-chosen : goal.returns-then-not-try_hub-clause-chosen
+returns-then-not-try_hub-clause-chosen c =
+    let lost = c.if-not-try_hub.ensures in
+    subst (λ (v : View). IsChosen v c.args.chosen.now Wait) (sym (ap view_of (lost.unchanged refl)))
+    (chose_wait (view_of c.args.graph.now) (price_of c.args.prices.now)
+    c.args.chosen.now c.requires.keeps c.requires.next (lost.none refl) c.requires.stay c.requires.own
+    (lost.shut refl))
+
+pub find_machine-requires-clause-wide : goal.find_machine-requires-clause-wide
+find_machine-requires-clause-wide c =
+    let hub = c.if-not-try_hub.ensures in
+    comes_by_hub (view_of c.try_hub.new.graph) (price_of c.args.prices.now) c.args.chosen.now hub.keeps
+    (next_at (view_of c.args.graph.now) (view_of c.try_hub.new.graph) (length c.args.chosen.now)
+    hub.same.case c.requires.next) (hub.yes refl)
+
+pub returns-in-Some-clause-chosen : goal.returns-in-Some-clause-chosen
+returns-in-Some-clause-chosen c =
+    let hub = c.if-not-try_hub.ensures in
+    let find = c.in-Some.ensures in
+    found (view_of c.args.graph.now) (view_of c.try_hub.new.graph)
+    (view_of c.find_machine.new.graph) (price_of c.args.prices.now) c.args.chosen.now
+    c.args.home c.in-Some.machine hub.same.case find.same.case hub.best find.best find.keeps c.requires.next
+    c.requires.home
+    find.wide c.requires.own find.some
+
+pub unreachable-requires : goal.unreachable-requires
+unreachable-requires c =
+    let old : View = view_of c.args.graph.now in
+    let mid : View = view_of c.try_hub.new.graph in
+    let n : ℕ = length c.args.chosen.now in
+    let hub = c.if-not-try_hub.ensures in
+    let find = c.in_default.ensures in
+    let next : n < length mid.case.tasks = next_at old mid n hub.same.case c.requires.next in
+    let home : c.args.home ≡ (demand mid.case n).home = home_at old mid n c.args.home hub.same.case c.requires.home in
+    never_alone mid (price_of c.args.prices.now) c.args.chosen.now hub.keeps next (sym home ∙ c.in_default-home.is)
+    (comes_by_hub mid (price_of c.args.prices.now) c.args.chosen.now hub.keeps next (hub.yes refl))
+    (none_here mid mid c.args.chosen.now c.args.home refl home find.none)
+
+pub unreachable-requires-then-not-more_stay : goal.unreachable-requires-then-not-more_stay
+unreachable-requires-then-not-more_stay c =
+    let old : View = view_of c.args.graph.now in
+    let mid : View = view_of c.try_hub.new.graph in
+    let new : View = view_of c.find_machine.new.graph in
+    let n : ℕ = length c.args.chosen.now in
+    let hub = c.if-not-try_hub.ensures in
+    let find = c.in_default.ensures in
+    let next : n < length new.case.tasks = next_at mid new n find.same.case
+    (next_at old mid n hub.same.case c.requires.next) in
+    let home : c.args.home ≡ (demand mid.case n).home = home_at old mid n c.args.home hub.same.case c.requires.home in
+    never_blocked new (price_of c.args.prices.now) c.args.chosen.now c.in-Some-home.own find.keeps next
+    (sym (home_at mid new n c.args.home find.same.case home) ∙ c.in-Some-home.is) find.wide
+    (none_here mid new c.args.chosen.now c.args.home (ap view_of find.unchanged) home find.none)
+    (c.if-not-more_stay.ensures.blocked refl)
+
+pub returns-clause-chosen : goal.returns-clause-chosen
+returns-clause-chosen c =
+    let old : View = view_of c.args.graph.now in
+    let mid : View = view_of c.try_hub.new.graph in
+    let new : View = view_of c.find_machine.new.graph in
+    let end : View = view_of c.more_stay.new.graph in
+    let n : ℕ = length c.args.chosen.now in
+    let hub = c.if-not-try_hub.ensures in
+    let find = c.in_default.ensures in
+    let stay = c.if-not-more_stay.ensures in
+    let next : n < length end.case.tasks = next_at new end n stay.same.case
+    (next_at mid new n find.same.case (next_at old mid n hub.same.case c.requires.next)) in
+    let home : c.args.home ≡ (demand end.case n).home =
+    home_at new end n c.args.home stay.same.case
+    (home_at mid new n c.args.home find.same.case (home_at old mid n c.args.home hub.same.case c.requires.home)) in
+    chose_own end (price_of c.args.prices.now) c.args.chosen.now c.in-Some-home.own stay.tried.keeps next
+    (sym home ∙ c.in-Some-home.is) (omega (arith, stay.tried.won refl))
+
+pub returns-in-Some-clause-searched : goal.returns-in-Some-clause-searched
+returns-in-Some-clause-searched c =
+    let old : Graph = c.args.graph.now in
+    let mid : Graph = c.try_hub.new.graph in
+    let hub = c.if-not-try_hub.ensures in
+    more_since old mid (same_rows old mid hub.same)
+    c.args.scratch.now c.try_hub.new.scratch c.find_machine.new.scratch
+    1 (length mid.rows.machines) _ hub.searched c.find_machine.ensures.searched
+    (omega (arith, same_machines old mid hub.same))
+
+pub returns-clause-searched : goal.returns-clause-searched
+returns-clause-searched c =
+    let old : Graph = c.args.graph.now in
+    let mid : Graph = c.try_hub.new.graph in
+    let new : Graph = c.find_machine.new.graph in
+    let hub = c.if-not-try_hub.ensures in
+    let to_new : IsSameGraph old new = same_on old mid new hub.same c.find_machine.ensures.same in
+    more_since old new (same_rows old new to_new)
+    c.args.scratch.now c.find_machine.new.scratch c.more_stay.new.scratch
+    (1 + length mid.rows.machines) 1 _
+    (more_since old mid (same_rows old mid hub.same)
+    c.args.scratch.now c.try_hub.new.scratch c.find_machine.new.scratch
+    1 (length mid.rows.machines) (1 + length mid.rows.machines)
+    hub.searched c.find_machine.ensures.searched (omega arith))
+    c.more_stay.ensures.searched
+    (omega (arith, same_machines old mid hub.same))

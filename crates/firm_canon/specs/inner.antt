@@ -1,0 +1,5 @@
+pub mod Graphs
+pub mod Placed
+pub mod Laws
+pub mod Choosing
+pub mod Turns

@@ -1,0 +1,90 @@
+-- What the choice of a round's placement keeps. No public clause cites this module.
+use Rattle.std.specs.Prelude.{◌≡◌, ◌≢◌, ℕ, ◌+◌, ◌<◌, ◌≤◌, Bool, true, false, List, ◌++◌, ◌∷◌, length, All, Contains}
+use Rattle.std.specs.Prelude.{Some, cond, eqb}
+use Rattle.firm_rules.specs.declared.rounds.Choice.{Choice}
+use Rattle.firm_rules.specs.declared.rounds.Choice.TheVariants.{On}
+use Rattle.firm_rules.specs.Placement.{Case, rank}
+use Rattle.firm_paths.specs.Network.{AreValid}
+use Rattle.firm_flow.specs.Flow.{IsWithinBounds, cost_of, carried}
+use Rattle.firm_flow.specs.Balance.{Balanced}
+use Rattle.firm_graph.specs.declared.network.Node.{Node}
+use Rattle.firm_graph.specs.declared.network.Node.TheVariants.{Sink}
+use Rattle.firm_graph.specs.declared.network.Key.{Key}
+use Rattle.firm_graph.specs.declared.network.Key.TheVariants.{Through, Slot, Exit, Wide, Stay, Delay}
+use Rattle.firm_graph.specs.Network.{network, task_nodes, demand}
+use Rattle.firm_rules.specs.Placement.{IsLegal, IsPlace, placement_cost as cost, comes_before as before}
+use Rattle.firm_graph.specs.View.{View, Shows, lows, flows, spot_of}
+use Rattle.firm_graph.specs.Network.{IsKeyOf}
+use Rattle.firm_canon.specs.inner.Laws.{FlowLaws}
+use Rattle.firm_canon.specs.inner.Placed.{pick, wide, stay, waits, spot, wide_at, stay_at, guests, placed}
+
+-- what the chosen prefix holds of the arcs
+abbrev pub low_of : Case → List Choice → Key → ℕ
+low_of c p (Through j) = guests c p j
+low_of c p (Slot j k) = 0
+low_of c p (Exit k) = 0
+low_of c p (Wide i) = wide_at c p i
+low_of c p (Stay i) = stay_at c p i
+low_of c p (Delay i) = waits (pick p i)
+
+-- what the loop keeps, with the prefix `p` chosen, `x` on the arcs and `price` at the nodes
+pub record Stands (c : Case) (p : List Choice) (x : Key → ℕ) (price : Node → ℕ) : Type 0 where
+  pub valid : AreValid (network c (low_of c p) x) price
+  pub within : IsWithinBounds (network c (low_of c p) x) carried
+  pub balanced : Balanced (network c (low_of c p) x) (task_nodes c) Sink carried
+  pub places : All (IsPlace (length c.slots)) p
+  pub least : (q : List Choice) → IsLegal c q → cost_of (network c (low_of c p) x) carried ≤ cost c q
+  pub first : (q : List Choice) → IsLegal c q → cost c q ≤ cost_of (network c (low_of c p) x) carried
+      → before (length c.slots) c.tasks q p ≡ false
+
+-- no least placement that goes on from the prefix puts more than `n` on the arc of the key
+abbrev pub Capped : Case → List Choice → ℕ → Key → ℕ → Type 0
+Capped c p best key n = (r : List Choice) → IsLegal c (p ++ r) → cost c (p ++ r) ≤ best → placed c (p ++ r) key ≤ n
+
+-- no least placement goes on by this choice
+abbrev pub Barred : Case → List Choice → ℕ → Choice → Type 0
+Barred c p best b = (r : List Choice) → IsLegal c (p ++ b ∷ r) → cost c (p ++ b ∷ r) ≤ best → ⊥
+
+-- what the flow on the net costs
+abbrev pub best : View → List Choice → ℕ
+best v p = cost_of (network v.case (low_of v.case p) (flows v)) carried
+
+-- the net shows a least flow whose lower bounds hold the chosen prefix, and the laws that the next step rests on
+pub record Keeps (v : View) (price : ℕ → ℕ) (p : List Choice) : Type 0 where
+  pub laws : FlowLaws
+  pub shows : Shows v
+  pub lows : (k : Key) → IsKeyOf v.case k → lows v k ≡ low_of v.case p k
+  pub stands : Stands v.case p (flows v) (λ n. price (spot_of v n))
+
+-- what an attempt to send one unit more along an arc leaves, with some arcs barred from the way back
+pub record Tried (old new : View) (price : ℕ → ℕ) (p : List Choice) (barred : List Key) (key : Key)
+    (result : Bool) : Type 0 where
+  pub keeps : Keeps new price p
+  pub same_best : best new p ≡ best old p
+  pub won : result ≡ true → flows new key ≡ flows old key + 1
+  pub kept : (k : Key) → Contains barred k → k ≢ key → flows new k ≡ flows old k
+  pub lost : result ≡ false → (r : List Choice) → IsLegal old.case (p ++ r) → cost old.case (p ++ r) ≤ best old p
+      → ((k : Key) → Contains barred k → k ≢ key → placed old.case (p ++ r) k ≡ flows old k)
+      → placed old.case (p ++ r) key ≤ flows old key
+  pub unchanged : result ≡ false → new ≡ old
+
+-- no least placement goes on by machine `j`
+pub record Shut (v : View) (p : List Choice) (j : ℕ) : Type 0 where
+  pub barred : Barred v.case p (best v p) (On j)
+
+-- what the next choice asks of the flow
+pub record HasRoom (c : Case) (p : List Choice) (o : Choice) (x : Key → ℕ) : Type 0 where
+  pub at_wide : wide (demand c (length p)).home (Some o) ≤ x (Wide (length p))
+  pub at_stay : stay (demand c (length p)).home (Some o) ≤ x (Stay (length p))
+  pub at_delay : waits (Some o) ≤ x (Delay (length p))
+  pub at_through : (j : ℕ) → j < length c.slots
+      → guests c p j + cond (eqb (spot (Some o)) j) (wide (demand c (length p)).home (Some o)) 0 ≤ x (Through j)
+
+-- the flow has room for the choice, and no least placement goes on by a choice that ranks before it
+pub record IsChosen (v : View) (p : List Choice) (o : Choice) : Type 0 where
+  pub place : IsPlace (length v.case.slots) o
+  pub room : HasRoom v.case p o (flows v)
+  pub first : (b : Choice) → IsPlace (length v.case.slots) b
+      → rank (length v.case.slots) (demand v.case (length p)).home b
+      < rank (length v.case.slots) (demand v.case (length p)).home o
+      → Barred v.case p (best v p) b

@@ -1,0 +1,11 @@
+-- The laws that the choice rests on: of balanced flows between the nodes of the network, and of the arcs of a net.
+use Rattle.firm_paths.specs.Laws.{EachArcHasItsRow}
+use Rattle.firm_flow.specs.Laws.{LeastWhereBalanced, SameWhereLoose, NoMoreWhereClosed}
+use Rattle.firm_graph.specs.declared.network.Node.{Node}
+use Rattle.firm_graph.specs.declared.network.Key.{Key}
+
+pub record FlowLaws : Type 0 where
+  pub least : LeastWhereBalanced Node Key
+  pub same : SameWhereLoose Node Key
+  pub no_more : NoMoreWhereClosed Node Key
+  pub rows : EachArcHasItsRow

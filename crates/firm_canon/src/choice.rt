@@ -1,0 +1,205 @@
+//! The choice of one task's place.
+ghost use Rattle.std.specs.Prelude.{◌≡◌, ◌+◌, ◌<◌, ◌≤◌, ℕ, length, true, false, Some, None, IfSome, IfNone};
+ghost use Rattle.firm_paths.specs.NetArcs.{limits_of};
+ghost use Rattle.firm_paths.specs.PriceTable.{price_of};
+ghost use Rattle.firm_rules.specs.ArenaUse.{arena_arcs};
+ghost use Rattle.firm_rules.specs.Placement.{runs_at};
+ghost use Rattle.firm_graph.specs.Network.{demand};
+ghost use Rattle.firm_canon.specs.inner.Placed.{guests};
+ghost use Rattle.firm_canon.specs.Counts.{HasSearchedUpTo};
+ghost use Rattle.firm_graph.specs.View.{flows};
+ghost use Rattle.firm_graph.specs.Ids.{view_of};
+ghost use Rattle.firm_canon.specs.inner.Graphs.{IsSameGraph};
+ghost use Rattle.firm_canon.specs.inner.Choosing.{Keeps, Shut, IsChosen, best};
+ghost use Rattle.firm_graph.specs.declared.network.Key.TheVariants.{Through, Wide, Stay};
+
+use crate::attempts::{more_stay, more_through, more_wide};
+use crate::reads::{flow_on, home_of, low_on, machine_count, stay_arc, through_arc, wide_arc};
+use firm_graph::Graph;
+use firm_paths::{Prices, Scratch};
+use firm_rules::Choice;
+
+/// Tries the hub.
+#[tactic(auto, using(crate::proofs::Counts::none_made))]
+fn try_hub(graph: &mut Graph, prices: &Prices, scratch: &mut Scratch, chosen: &[Choice]) -> bool
+    requires keeps { Keeps (view_of graph.old) (price_of prices.now) chosen.now }
+    requires next { length chosen.now < length (view_of graph.old).case.tasks }
+    requires made_for { (prices.now.limits ≡ limits_of graph.old.net) × (scratch.old.limits ≡ limits_of graph.old.net) }
+    ensures same { IsSameGraph graph.old graph.new }
+    ensures searched { HasSearchedUpTo scratch.old scratch.new 1 (arena_arcs graph.old.rows) }
+    ensures keeps { Keeps (view_of graph.new) (price_of prices.now) chosen.now }
+    ensures best { best (view_of graph.new) chosen.now ≡ best (view_of graph.old) chosen.now }
+    ensures yes { result ≡ true → 1 ≤ flows (view_of graph.new) (Wide (length chosen.now)) }
+    ensures none { result ≡ false → flows (view_of graph.old) (Wide (length chosen.now)) ≡ 0 }
+    ensures shut { result ≡ false → (j : ℕ) → runs_at (demand (view_of graph.old).case (length chosen.now)).home j
+        ≡ false → Shut (view_of graph.old) chosen.now j }
+    ensures unchanged { result ≡ false → graph.new ≡ graph.old }
+{
+    if flow_on(graph.net(), wide_arc(graph, chosen.len())) > 0 {
+        return true;
+    }
+    more_wide(graph, prices, scratch, chosen)
+}
+
+/// Tries the task's own machine.
+#[tactic(auto, using(crate::proofs::Counts::none_made))]
+fn try_own(graph: &mut Graph, prices: &Prices, scratch: &mut Scratch, chosen: &[Choice]) -> bool
+    requires keeps { Keeps (view_of graph.old) (price_of prices.now) chosen.now }
+    requires next { length chosen.now < length (view_of graph.old).case.tasks }
+    requires made_for { (prices.now.limits ≡ limits_of graph.old.net) × (scratch.old.limits ≡ limits_of graph.old.net) }
+    ensures same { IsSameGraph graph.old graph.new }
+    ensures searched { HasSearchedUpTo scratch.old scratch.new 1 (arena_arcs graph.old.rows) }
+    ensures keeps { Keeps (view_of graph.new) (price_of prices.now) chosen.now }
+    ensures best { best (view_of graph.new) chosen.now ≡ best (view_of graph.old) chosen.now }
+    ensures yes { result ≡ true → 1 ≤ flows (view_of graph.new) (Stay (length chosen.now)) }
+    ensures none { result ≡ false → flows (view_of graph.old) (Stay (length chosen.now)) ≡ 0 }
+    ensures shut { result ≡ false → (j : ℕ) → runs_at (demand (view_of graph.old).case (length chosen.now)).home j
+        ≡ true → Shut (view_of graph.old) chosen.now j }
+    ensures unchanged { result ≡ false → graph.new ≡ graph.old }
+{
+    if flow_on(graph.net(), stay_arc(graph, chosen.len())) > 0 {
+        return true;
+    }
+    more_stay(graph, prices, scratch, chosen)
+}
+
+pub(crate) fn is_home(home: Option<u32>, machine: u32) -> bool
+    ensures { result ≡ runs_at home machine }
+{
+    match home {
+        Some(own) => own == machine,
+        None => false,
+    }
+}
+
+/// Tries one machine that is not the task's own.
+#[tactic(auto, using(crate::proofs::Counts::none_made))]
+fn try_machine(
+    graph: &mut Graph,
+    prices: &Prices,
+    scratch: &mut Scratch,
+    chosen: &[Choice],
+    machine: u32,
+) -> bool
+    requires keeps { Keeps (view_of graph.old) (price_of prices.now) chosen.now }
+    requires next { length chosen.now < length (view_of graph.old).case.tasks }
+    requires machine { machine < length (view_of graph.old).case.slots }
+    requires other { runs_at (demand (view_of graph.old).case (length chosen.now)).home machine ≡ false }
+    requires wide { flows (view_of graph.old) (Wide (length chosen.now)) ≡ 1 }
+    requires made_for { (prices.now.limits ≡ limits_of graph.old.net) × (scratch.old.limits ≡ limits_of graph.old.net) }
+    ensures same { IsSameGraph graph.old graph.new }
+    ensures searched { HasSearchedUpTo scratch.old scratch.new 1 (arena_arcs graph.old.rows) }
+    ensures keeps { Keeps (view_of graph.new) (price_of prices.now) chosen.now }
+    ensures best { best (view_of graph.new) chosen.now ≡ best (view_of graph.old) chosen.now }
+    ensures wide { flows (view_of graph.new) (Wide (length chosen.now)) ≡ 1 }
+    ensures yes { result ≡ true → guests (view_of graph.old).case chosen.now machine
+        < flows (view_of graph.new) (Through machine) }
+    ensures none { result ≡ false → flows (view_of graph.old) (Through machine)
+        ≤ guests (view_of graph.old).case chosen.now machine }
+    ensures shut { result ≡ false → Shut (view_of graph.old) chosen.now machine }
+    ensures unchanged { result ≡ false → graph.new ≡ graph.old }
+{
+    let arc = through_arc(graph, machine);
+    if flow_on(graph.net(), arc) > low_on(graph.net(), arc) {
+        return true;
+    }
+    more_through(graph, prices, scratch, chosen, machine)
+}
+
+/// Finds the first machine, but the task's own, to which it can go by the hub.
+fn find_machine(
+    graph: &mut Graph,
+    prices: &Prices,
+    scratch: &mut Scratch,
+    chosen: &[Choice],
+    home: Option<u32>,
+) -> Option<u32>
+    requires keeps { Keeps (view_of graph.old) (price_of prices.now) chosen.now }
+    requires next { length chosen.now < length (view_of graph.old).case.tasks }
+    requires home { home ≡ (demand (view_of graph.old).case (length chosen.now)).home }
+    requires wide { flows (view_of graph.old) (Wide (length chosen.now)) ≡ 1 }
+    requires made_for { (prices.now.limits ≡ limits_of graph.old.net) × (scratch.old.limits ≡ limits_of graph.old.net) }
+    ensures same { IsSameGraph graph.old graph.new }
+    ensures searched { HasSearchedUpTo scratch.old scratch.new (length graph.old.rows.machines)
+        (arena_arcs graph.old.rows) }
+    ensures keeps { Keeps (view_of graph.new) (price_of prices.now) chosen.now }
+    ensures best { best (view_of graph.new) chosen.now ≡ best (view_of graph.old) chosen.now }
+    ensures wide { flows (view_of graph.new) (Wide (length chosen.now)) ≡ 1 }
+    ensures some { IfSome result (λ j. (j < length (view_of graph.old).case.slots) × (runs_at home j ≡ false)
+        × (guests (view_of graph.old).case chosen.now j < flows (view_of graph.new) (Through j))
+        × ((k : ℕ) → k < j → runs_at home k ≡ false → Shut (view_of graph.old) chosen.now k)) }
+    ensures none { IfNone result ((j : ℕ) → j < length (view_of graph.old).case.slots → runs_at home j ≡ false
+        → flows (view_of graph.old) (Through j) ≤ guests (view_of graph.old).case chosen.now j) }
+    ensures unchanged { IfNone result (graph.new ≡ graph.old) }
+{
+    for machine in 0..machine_count(graph) {
+        if is_home(home, machine) {
+            continue;
+        }
+        if try_machine(graph, prices, scratch, chosen, machine) {
+            return Some(machine);
+        }
+    }
+    None
+}
+
+/// Chooses among the next task's choices but its own machine, which it does not go to.
+fn choose_other(
+    graph: &mut Graph,
+    prices: &Prices,
+    scratch: &mut Scratch,
+    chosen: &[Choice],
+    home: Option<u32>,
+) -> Choice
+    requires keeps { Keeps (view_of graph.old) (price_of prices.now) chosen.now }
+    requires next { length chosen.now < length (view_of graph.old).case.tasks }
+    requires home { home ≡ (demand (view_of graph.old).case (length chosen.now)).home }
+    requires own { (j : ℕ) → runs_at (demand (view_of graph.old).case (length chosen.now)).home j ≡ true
+        → Shut (view_of graph.old) chosen.now j }
+    requires stay { flows (view_of graph.old) (Stay (length chosen.now)) ≡ 0 }
+    requires made_for { (prices.now.limits ≡ limits_of graph.old.net) × (scratch.old.limits ≡ limits_of graph.old.net) }
+    ensures same { IsSameGraph graph.old graph.new }
+    ensures searched { HasSearchedUpTo scratch.old scratch.new (length graph.old.rows.machines + 2)
+        (arena_arcs graph.old.rows) }
+    ensures keeps { Keeps (view_of graph.new) (price_of prices.now) chosen.now }
+    ensures chosen { IsChosen (view_of graph.new) chosen.now result }
+{
+    if !try_hub(graph, prices, scratch, chosen) {
+        return Choice::Wait;
+    }
+    if let Some(machine) = find_machine(graph, prices, scratch, chosen, home) {
+        return Choice::On(machine);
+    }
+    // Only the own machine has surplus behind the hub, so the way there is open now.
+    let Some(own) = home else { unreachable!() };
+    if !more_stay(graph, prices, scratch, chosen) {
+        unreachable!()
+    }
+    Choice::On(own)
+}
+
+/// Chooses for the next task: the first of its choices with which a least placement goes on.
+pub(crate) fn choose(
+    graph: &mut Graph,
+    prices: &Prices,
+    scratch: &mut Scratch,
+    chosen: &[Choice],
+) -> Choice
+    requires keeps { Keeps (view_of graph.old) (price_of prices.now) chosen.now }
+    requires next { length chosen.now < length (view_of graph.old).case.tasks }
+    requires made_for { (prices.now.limits ≡ limits_of graph.old.net) × (scratch.old.limits ≡ limits_of graph.old.net) }
+    ensures same { IsSameGraph graph.old graph.new }
+    ensures searched { HasSearchedUpTo scratch.old scratch.new (length graph.old.rows.machines + 3)
+        (arena_arcs graph.old.rows) }
+    ensures keeps { Keeps (view_of graph.new) (price_of prices.now) chosen.now }
+    ensures chosen { IsChosen (view_of graph.new) chosen.now result }
+{
+    let home = home_of(graph, chosen.len());
+    let Some(own) = home else {
+        return choose_other(graph, prices, scratch, chosen, home);
+    };
+    if try_own(graph, prices, scratch, chosen) {
+        return Choice::On(own);
+    }
+    choose_other(graph, prices, scratch, chosen, home)
+}

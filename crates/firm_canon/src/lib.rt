@@ -1,0 +1,11 @@
+//! The placement of a round: the first of the least.
+#![tactic(auto)]
+
+mod attempts;
+mod best;
+mod choice;
+mod holds;
+mod reads;
+mod turns;
+
+pub use best::first_best;

@@ -1,0 +1,89 @@
+//! Units sent round cycles that cost nothing.
+ghost use Rattle.std.specs.Prelude.{◌≡◌, ◌≢◌, ◌+◌, ◌↔◌, true, false, Contains, Some};
+ghost use Rattle.firm_net.specs.Row.{Row};
+ghost use Rattle.firm_net.specs.Net.{IsNode, IsNet, IsArc, row_at};
+ghost use Rattle.firm_paths.specs.NetArcs.{limits_of};
+ghost use Rattle.firm_paths.specs.PriceTable.{price_of};
+ghost use Rattle.firm_rules.specs.ArenaUse.{arena_arcs};
+ghost use Rattle.firm_canon.specs.Counts.{HasSearchedUpTo};
+ghost use Rattle.firm_graph.specs.View.{Shows};
+ghost use Rattle.firm_graph.specs.Ids.{view_of};
+ghost use Rattle.firm_canon.specs.inner.Graphs.{IsSameGraph};
+ghost use Rattle.firm_canon.specs.inner.Turns.{SameLows, SameOff, CarriesOn, Turned, IsBlocked};
+
+use crate::reads::arcs_are_counted;
+use firm_flow::round_a_cycle;
+use firm_graph::Graph;
+use firm_net::{ArcId, ArcRow, Net, Way};
+use firm_paths::{Prices, Scratch, Step, arcs_are_rows, tight_path};
+
+/// Pushes one unit along each step.
+pub(crate) fn push_along(graph: &mut Graph, steps: &[Step])
+    requires shows { Shows (view_of graph.old) }
+    ensures shows { Shows (view_of graph.new) }
+    ensures same { IsSameGraph graph.old graph.new }
+    ensures lows { SameLows graph.old.net graph.new.net }
+    ensures others { SameOff graph.old.net graph.new.net steps.now }
+    ensures carries { CarriesOn graph.old.net steps.now graph.new.net }
+{
+    arcs_are_rows();
+    round_a_cycle();
+    for step in steps {
+        graph.push(step.arc, step.way);
+    }
+}
+
+/// Whether the reduced cost of an arc is 0.
+fn is_tight(net: &Net, prices: &Prices, row: ArcRow) -> bool
+    requires made_for { prices.now.limits ≡ limits_of net.now }
+    requires tail { IsNode net.now row.tail }
+    requires head { IsNode net.now row.head }
+    ensures { (result ≡ true) ↔ (row.cost + price_of prices.now row.tail.id.place
+        ≡ price_of prices.now row.head.id.place) }
+{
+    let (Some(tail), Some(head)) = (prices.get(net, row.tail()), prices.get(net, row.head())) else {
+        unreachable!()
+    };
+    tail <= head && head - tail == u64::from(row.cost())
+}
+
+/// Sends one unit more along an arc, and back from its head to its tail by a way of reduced cost 0 that no barred arc
+/// is on. False, and nothing changes, where there is none.
+pub(crate) fn turn(
+    graph: &mut Graph,
+    prices: &Prices,
+    scratch: &mut Scratch,
+    arc: ArcId,
+    barred: &[ArcId],
+) -> bool
+    requires shows { Shows (view_of graph.old) }
+    requires made_for { (prices.now.limits ≡ limits_of graph.old.net) × (scratch.old.limits ≡ limits_of graph.old.net) }
+    requires barred { Contains barred.now arc }
+    requires there { IsArc graph.old.net arc }
+    ensures shows { Shows (view_of graph.new) }
+    ensures same { IsSameGraph graph.old graph.new }
+    ensures searched { HasSearchedUpTo scratch.old scratch.new 1 (arena_arcs graph.old.rows) }
+    ensures won { result ≡ true → Turned graph.old.net graph.new.net (price_of prices.now) arc barred.now }
+    ensures lost { result ≡ false → IsBlocked graph.old.net (price_of prices.now) arc barred.now }
+    ensures unchanged { result ≡ false → graph.new ≡ graph.old }
+{
+    arcs_are_rows();
+    arcs_are_counted(graph);
+    round_a_cycle();
+    let Some(row) = graph.net().arc(arc) else {
+        unreachable!()
+    };
+    if row.flow() >= row.cap() {
+        return false;
+    }
+    if !is_tight(graph.net(), prices, row) {
+        return false;
+    }
+    let Some(steps) = tight_path(scratch, graph.net(), prices, row.head(), row.tail(), barred)
+    else {
+        return false;
+    };
+    graph.push(arc, Way::Forward);
+    push_along(graph, steps);
+    true
+}

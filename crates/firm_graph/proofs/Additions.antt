@@ -1,0 +1,565 @@
+-- What a graph is once a row was added to it.
+use Rattle.std.proofs.Common.{◌≡◌, ℕ, zero, suc, replicate, get_or, bytes_eq, ◌+◌, ◌^◌, ◌<◌, ◌≤◌, true, Option, Some, None, IfSome, List, [], ◌∷◌, ◌++◌, map, length, arith, refl, sym, ap, ap₂, ◌∙◌, subst, length-append}
+use Rattle.std.specs.List.{sum_by, position, position_or_len, slice_get}
+use Rattle.std.specs.Prelude.{slice_index_or}
+use Rattle.std.proofs.lemmas.List.{map-append, length-replicate, get_or-map}
+use Rattle.std.proofs.lemmas.List.Sums.{sum_by_push, sum_by-cons}
+use Rattle.indexmap.proofs.SetLemmas.{AllZip-push}
+use Rattle.firm_arena.specs.Arena.{capacity_of, entries_from}
+use Rattle.firm_arena.specs.declared.Id.{Id}
+use Rattle.firm_rules.specs.Limits.{TenantLimits}
+use Rattle.firm_graph.proofs.NetEdits.{nodes-sum, spans-sum, node_weight, span_weight}
+use Rattle.firm_net.specs.Net.{Net, IsNode, added_of, node_count, arc_count, empty_net}
+use Rattle.firm_graph.proofs.Found.{job-there}
+use Rattle.firm_net.specs.declared.row.NodeId.{NodeId}
+use Rattle.firm_rules.specs.Book.{TenantRows, opening_rows, machine_names, job_names, with_machine, with_job, with_task}
+use Rattle.firm_rules.specs.Names.{is_among}
+use Rattle.firm_rules.specs.ArenaUse.{arena_nodes, arena_arcs}
+use Rattle.firm_rules.specs.Sound.{AreSound}
+use Rattle.firm_rules.specs.declared.parts.Machine.{Machine}
+use Rattle.firm_rules.specs.declared.parts.Job.{Job}
+use Rattle.firm_rules.specs.declared.parts.Task.{Task}
+use Rattle.firm_net.specs.Edits.{Span, nodes_of, spans_of, IsEdit}
+use Rattle.firm_graph.specs.Parts.{MachineParts}
+use Rattle.firm_graph.specs.declared.parts.JobParts.{JobParts}
+use Rattle.firm_graph.specs.declared.parts.TaskParts.{TaskParts}
+use Rattle.firm_graph.specs.Graph.{Graph, Mirrors, machine_spans, slot_spans, job_spans, task_spans, Target, target_of, home_node, node_under, weight_under, machine_nodes, job_nodes}
+use Rattle.firm_graph.proofs.Totals.{slots-count, nodes-counted, arcs-counted, flat_sum-push, nodes-total, spans-total, tasks-same, sum-one}
+use Rattle.firm_graph.proofs.Lookups.{position-is, node_under-at, weight_under-at, is_among-push, node_under-push, weight_under-push}
+
+length-map : {A B : Type 0} (f : A → B) (xs : List A) → length (map f xs) ≡ length xs
+length-map f [] = refl
+length-map f (x ∷ xs) = omega (arith, length-map f xs)
+
+-- the graph with a job added last
+abbrev pub job_added : Graph → Net → JobParts → List ℕ → ℕ → Graph
+job_added g net parts name weight =
+    record {
+      rows = with_job g.rows name weight;
+      net = net;
+      hub = g.hub;
+      sink = g.sink;
+      machines = g.machines;
+      jobs = g.jobs ++ parts ∷ [];
+      tasks = g.tasks;
+      asked = g.asked + 1;
+    }
+
+job-target : (g : Graph) (net : Net) (parts : JobParts) (name : List ℕ) (weight : ℕ) (task : Task)
+    → length g.jobs ≡ length g.rows.jobs
+    → is_among (job_names g.rows) task.job ≡ true
+    → target_of (job_added g net parts name weight) task ≡ target_of g task
+job-target g net parts name weight task e there =
+    let job : Job = record { name = name; weight = weight } in
+    let lengths : length (job_nodes g) ≡ length (job_names g.rows) =
+    length-map (λ (p : JobParts). p.node) g.jobs ∙ e ∙ sym (length-map (λ (j : Job). j.name) g.rows.jobs) in
+    let owner : node_under (job_names (with_job g.rows name weight))
+    (map (λ (p : JobParts). p.node) (g.jobs ++ parts ∷ [])) g.hub task.job
+    ≡ node_under (job_names g.rows) (job_nodes g) g.hub task.job =
+    ap₂ (λ (ns : List (List ℕ)) (xs : List NodeId). node_under ns xs g.hub task.job)
+    (map-append (λ (j : Job). j.name) g.rows.jobs (job ∷ []))
+    (map-append (λ (p : JobParts). p.node) g.jobs (parts ∷ []))
+    ∙ node_under-push (job_names g.rows) (job_nodes g) name parts.node g.hub task.job lengths there in
+    let weights : weight_under (g.rows.jobs ++ job ∷ []) task.job ≡ weight_under g.rows.jobs task.job =
+    weight_under-push g.rows.jobs job task.job there in
+    ap₂ (λ (n : NodeId) (w : ℕ). let t : Target = record {
+      home = home_node (machine_names g.rows) (machine_nodes g) g.hub task.machine;
+      owner = n;
+      delay = w +
+          task.waited;
+    } in t)
+    owner weights
+
+pub job-added : (g : Graph) (net after : Net) (parts : JobParts) (name : List ℕ) (weight : ℕ) → Mirrors g
+    → AreSound g.rows
+    → IsEdit g.net net [] (parts.node ∷ []) [] []
+    → IsEdit net after [] [] [] (record {
+      arc = parts.exit;
+      tail = parts.node;
+      head = g.sink;
+      cap =
+          g.rows.limits.nodes;
+      cost = 0;
+    } ∷ [])
+    → g.asked < 2 ^ 40 → Mirrors (job_added g after parts name weight)
+job-added g net after parts name weight is sound node arc room =
+    let new : Graph = job_added g after parts name weight in
+    let job : Job = record { name = name; weight = weight } in
+    record {
+      net = arc.net;
+      nodes = record {
+        weighs = λ w. omega (
+          arith,
+          arc.nodes w,
+          node.nodes w,
+          is.nodes.weighs w,
+          nodes-total w g,
+          nodes-total w new,
+          sum_by_push (λ (p : JobParts). w p.node) g.jobs parts,
+          sum-one w parts.node,
+        );
+      };
+      spans = record {
+        weighs = λ w. omega (
+          arith,
+          arc.spans w,
+          node.spans w,
+          is.spans.weighs w,
+          spans-total w g,
+          spans-total w new,
+          flat_sum-push w (job_spans g.sink g.rows.limits.nodes) g.rows.jobs g.jobs job parts is.jobs,
+          tasks-same w g (target_of new) (target_of g)
+              (λ k d below. job-target g after parts name weight (slice_index_or g.rows.tasks k d) is.jobs
+              (sound.jobs_there k d below)),
+        );
+      };
+      slots = is.slots;
+      machines = is.machines;
+      jobs = omega (arith, is.jobs, length-append g.jobs (parts ∷ []), length-append g.rows.jobs (job ∷ []));
+      tasks = is.tasks;
+      node_room = arc.node_room ∙ node.node_room ∙ is.node_room;
+      arc_room = arc.arc_room ∙ node.arc_room ∙ is.arc_room;
+      added = omega (arith, arc.added, node.added, is.added);
+      asked = omega (arith, room);
+    }
+
+-- what is free in the rows is free in the net
+pub room-left : (i now : Graph) (n a : ℕ) → i ≡ now → Mirrors i
+    → (arena_nodes now.rows + n ≤ now.rows.limits.nodes) × (arena_arcs now.rows + a ≤ now.rows.limits.arcs)
+    → (node_count i.net + n ≤ capacity_of i.net.nodes) × (arc_count i.net + a ≤ capacity_of i.net.arcs)
+room-left i now n a e is fits =
+    let P : Graph → Type 0 = λ (g : Graph). (arena_nodes g.rows + n ≤ g.rows.limits.nodes) ×
+    (arena_arcs g.rows + a ≤ g.rows.limits.arcs) in
+    let here = subst P (sym e) fits in
+    (omega (arith, nodes-counted i is, is.node_room, here.0), omega (arith, arcs-counted i is, is.arc_room, here.1))
+
+-- a graph whose rows and parts are said by equations
+pub job-said : (g : Graph) (net : Net) (parts : JobParts) (name : List ℕ) (weight : ℕ) (rows : TenantRows)
+    (jobs : List JobParts)
+    → rows ≡ with_job g.rows name weight → jobs ≡ g.jobs ++ parts ∷ [] → Mirrors (job_added g net parts name weight)
+    → Mirrors (record {
+      rows = rows;
+      net = net;
+      hub = g.hub;
+      sink = g.sink;
+      machines = g.machines;
+      jobs = jobs;
+      tasks =
+          g.tasks;
+      asked = g.asked + 1;
+    })
+job-said g net parts name weight rows jobs e f is =
+    let P : TenantRows → List JobParts → Type 0 =
+    λ (r : TenantRows) (l : List JobParts). Mirrors
+    (record {
+      rows = r;
+      net = net;
+      hub = g.hub;
+      sink = g.sink;
+      machines = g.machines;
+      jobs = l;
+      tasks = g.tasks;
+      asked = g.asked + 1;
+    }) in
+    subst (λ (r : TenantRows). P r jobs) (sym e)
+    (subst (λ (l : List JobParts). P (with_job g.rows name weight) l) (sym f) is)
+
+-- the graph with a waiting task added last
+abbrev pub task_added : Graph → Net → TaskParts → List ℕ → List ℕ → Graph
+task_added g net parts job name =
+    record {
+      rows = with_task g.rows job name;
+      net = net;
+      hub = g.hub;
+      sink = g.sink;
+      machines = g.machines;
+      jobs = g.jobs;
+      tasks = g.tasks ++ parts ∷ [];
+      asked = g.asked + 1;
+    }
+
+pub task-added : (g : Graph) (n1 n2 n3 n4 : Net) (parts : TaskParts) (job name : List ℕ) (owner : NodeId) (weight : ℕ)
+    → Mirrors g
+    → IsEdit g.net n1 [] (parts.node ∷ []) [] []
+    → IsEdit n1 n2 [] [] [] (record { arc = parts.arcs.wide; tail = parts.node; head = g.hub; cap = 1; cost = 0 } ∷ [])
+    → IsEdit n2 n3 [] [] [] (record { arc = parts.arcs.stay; tail = parts.node; head = g.hub; cap = 0; cost = 0 } ∷ [])
+    → IsEdit n3 n4 [] [] [] (record { arc = parts.arcs.wait; tail = parts.node; head = owner; cap = 1; cost = weight }
+    ∷ [])
+    → owner ≡ node_under (job_names g.rows) (job_nodes g) g.hub job → weight ≡ weight_under g.rows.jobs job
+    → g.asked < 2 ^ 40 → Mirrors (task_added g n4 parts job name)
+task-added g n1 n2 n3 n4 parts job name owner weight is node wide stay wait owner_is weight_is room =
+    let new : Graph = task_added g n4 parts job name in
+    let task : Task = record { name = name; job = job; machine = None; waited = 0 } in
+    let cost : weight ≡ weight_under g.rows.jobs job + 0 + 0 = omega (arith, weight_is) in
+    let s1 : Span = record { arc = parts.arcs.wide; tail = parts.node; head = g.hub; cap = 1; cost = 0 } in
+    let s2 : Span = record { arc = parts.arcs.stay; tail = parts.node; head = g.hub; cap = 0; cost = 0 } in
+    let s3 : Span = record { arc = parts.arcs.wait; tail = parts.node; head = owner; cap = 1; cost = weight } in
+    let s4 : Span = record {
+      arc = parts.arcs.wait;
+      tail = parts.node;
+      head = node_under (job_names g.rows)
+          (job_nodes g) g.hub job;
+      cap = 1;
+      cost = weight_under g.rows.jobs job + 0 + 0;
+    } in
+    let same : s3 ≡ s4 = ap₂ (λ (n : NodeId) (c : ℕ). let s : Span = record
+    { arc = parts.arcs.wait; tail = parts.node; head = n; cap = 1; cost = c } in s) owner_is cost in
+    record {
+      net = wait.net;
+      nodes = record {
+        weighs = λ w. omega (
+          arith,
+          wait.nodes w,
+          stay.nodes w,
+          wide.nodes w,
+          node.nodes w,
+          is.nodes.weighs w,
+          nodes-total w g,
+          nodes-total w new,
+          sum_by_push (λ (p : TaskParts). w p.node) g.tasks parts,
+          sum-one w parts.node,
+        );
+      };
+      spans = record {
+        weighs = λ w. omega (
+          arith,
+          wait.spans w,
+          stay.spans w,
+          wide.spans w,
+          node.spans w,
+          is.spans.weighs w,
+          spans-total w g,
+          spans-total w new,
+          flat_sum-push w (task_spans g.hub g.rows.limits.churn (target_of g)) g.rows.tasks g.tasks task parts is.tasks,
+          sum_by-cons w s1 (s2 ∷ s4 ∷ []),
+          sum_by-cons w s2 (s4 ∷ []),
+          sum-one w s4,
+          sum-one w s3,
+          sum-one w s2,
+          sum-one w s1,
+          ap w same,
+        );
+      };
+      slots = is.slots;
+      machines = is.machines;
+      jobs = is.jobs;
+      tasks = omega (arith, is.tasks, length-append g.tasks (parts ∷ []), length-append g.rows.tasks (task ∷ []));
+      node_room = wait.node_room ∙ stay.node_room ∙ wide.node_room ∙ node.node_room ∙ is.node_room;
+      arc_room = wait.arc_room ∙ stay.arc_room ∙ wide.arc_room ∙ node.arc_room ∙ is.arc_room;
+      added = omega (arith, wait.added, stay.added, wide.added, node.added, is.added);
+      asked = omega (arith, room);
+    }
+
+-- the graph with a machine added last
+abbrev pub machine_added : Graph → Net → MachineParts → List ℕ → ℕ → Graph
+machine_added g net parts name slots =
+    record {
+      rows = with_machine g.rows name slots;
+      net = net;
+      hub = g.hub;
+      sink = g.sink;
+      machines = g.machines ++ parts ∷ [];
+      jobs = g.jobs;
+      tasks = g.tasks;
+      asked = g.asked + 1;
+    }
+
+home-push : (g : Graph) (parts : MachineParts) (name : List ℕ) (slots : ℕ) (home : Option (List ℕ))
+    → length g.machines ≡ length g.rows.machines
+    → IfSome home (λ m. is_among (machine_names g.rows) m ≡ true)
+    → home_node (machine_names (with_machine g.rows name slots))
+    (map (λ (p : MachineParts). p.node) (g.machines ++ parts ∷ [])) g.hub home
+    ≡ home_node (machine_names g.rows) (machine_nodes g) g.hub home
+home-push g parts name slots None e there = refl
+home-push g parts name slots (Some m) e there =
+    let machine : Machine = record { name = name; slots = slots } in
+    let lengths : length (machine_nodes g) ≡ length (machine_names g.rows) =
+    length-map (λ (p : MachineParts). p.node) g.machines ∙ e ∙ sym
+    (length-map (λ (j : Machine). j.name) g.rows.machines) in
+    ap₂ (λ (ns : List (List ℕ)) (xs : List NodeId). node_under ns xs g.hub m)
+    (map-append (λ (j : Machine). j.name) g.rows.machines (machine ∷ []))
+    (map-append (λ (p : MachineParts). p.node) g.machines (parts ∷ []))
+    ∙ node_under-push (machine_names g.rows) (machine_nodes g) name parts.node g.hub m lengths there
+
+machine-target : (g : Graph) (net : Net) (parts : MachineParts) (name : List ℕ) (slots : ℕ) (task : Task)
+    → length g.machines ≡ length g.rows.machines
+    → IfSome task.machine (λ m. is_among (machine_names g.rows) m ≡ true)
+    → target_of (machine_added g net parts name slots) task ≡ target_of g task
+machine-target g net parts name slots task e there =
+    ap (λ (n : NodeId). let t : Target = record {
+      home = n;
+      owner = node_under (job_names g.rows) (job_nodes g) g.hub task.job;
+      delay = weight_under
+          g.rows.jobs task.job + task.waited;
+    } in t)
+    (home-push g parts name slots task.machine e there)
+
+still-among : (names : List (List ℕ)) (name : List ℕ) (home : Option (List ℕ))
+    → IfSome home (λ m. is_among names m ≡ true)
+    → IfSome home (λ m. is_among (names ++ name ∷ []) m ≡ true)
+still-among names name None h = h
+still-among names name (Some m) h = is_among-push names (name ∷ []) m h
+
+pub machine-added : (g : Graph) (n1 n2 n3 : Net) (parts : MachineParts) (name : List ℕ) (slots : ℕ) → Mirrors g
+    → AreSound g.rows
+    → IsEdit g.net n1 [] (parts.node ∷ []) [] []
+    → IsEdit n1 n2 [] [] [] (record { arc = parts.through; tail = g.hub; head = parts.node; cap = slots; cost = 0 } ∷
+    [])
+    → IsEdit n2 n3 [] [] [] (slot_spans parts.node g.sink g.rows.limits.spread 0 parts.slots)
+    → length parts.slots ≡ slots → slots ≤ 64
+    → g.asked < 2 ^ 40 → Mirrors (machine_added g n3 parts name slots)
+machine-added g n1 n2 n3 parts name slots is sound node through rest slots_is few room =
+    let new : Graph = machine_added g n3 parts name slots in
+    let machine : Machine = record { name = name; slots = slots } in
+    let s1 : Span = record { arc = parts.through; tail = g.hub; head = parts.node; cap = slots; cost = 0 } in
+    let later : List Span = slot_spans parts.node g.sink g.rows.limits.spread 0 parts.slots in
+    let counted : length later ≡ length parts.slots = slots-count parts.node g.sink g.rows.limits.spread 0 parts.slots
+    in
+    record {
+      net = rest.net;
+      nodes = record {
+        weighs = λ w. omega (
+          arith,
+          rest.nodes w,
+          through.nodes w,
+          node.nodes w,
+          is.nodes.weighs w,
+          nodes-total w g,
+          nodes-total w new,
+          sum_by_push (λ (p : MachineParts). w p.node) g.machines parts,
+          sum-one w parts.node,
+        );
+      };
+      spans = record {
+        weighs = λ w. omega (
+          arith,
+          rest.spans w,
+          through.spans w,
+          node.spans w,
+          is.spans.weighs w,
+          spans-total w g,
+          spans-total w new,
+          flat_sum-push w (machine_spans g.hub g.sink g.rows.limits.spread) g.rows.machines g.machines machine parts
+              is.machines,
+          sum_by-cons w s1 later,
+          sum-one w s1,
+          tasks-same w g (target_of new) (target_of g)
+              (λ k d below. machine-target g n3 parts name slots (slice_index_or g.rows.tasks k d) is.machines
+              (sound.machines_there k d below)),
+        );
+      };
+      slots = AllZip-push (λ (m : Machine) (p : MachineParts). length p.slots ≡ m.slots) g.rows.machines g.machines
+          machine parts is.slots slots_is;
+      machines = omega (
+        arith,
+        is.machines,
+        length-append g.machines (parts ∷ []),
+        length-append g.rows.machines
+            (machine ∷ []),
+      );
+      jobs = is.jobs;
+      tasks = is.tasks;
+      node_room = rest.node_room ∙ through.node_room ∙ node.node_room ∙ is.node_room;
+      arc_room = rest.arc_room ∙ through.arc_room ∙ node.arc_room ∙ is.arc_room;
+      added = omega (arith, rest.added, through.added, node.added, is.added, counted, slots_is, few);
+      asked = omega (arith, room);
+    }
+
+-- a net that has nothing
+none-held : {X : Type 0} (f : Id × X → ℕ) (p n : ℕ) → sum_by f (entries_from {X = X} p (replicate n None)) ≡ 0
+none-held f p zero = refl
+none-held f p (suc n) = none-held f (p + 1) n
+
+pub opened : (n0 n1 n2 : Net) (hub sink : NodeId) (limits : TenantLimits) → n0 ≡ empty_net limits.nodes limits.arcs
+    → IsEdit n0 n1 [] (hub ∷ []) [] [] → IsEdit n1 n2 [] (sink ∷ []) [] []
+    → Mirrors (record {
+      rows = opening_rows limits;
+      net = n2;
+      hub = hub;
+      sink = sink;
+      machines = [];
+      jobs = [];
+      tasks =
+          [];
+      asked = 0;
+    })
+opened n0 n1 n2 hub sink limits empty first second =
+    record {
+      net = second.net;
+      nodes = record {
+        weighs = λ w. omega (
+          arith,
+          second.nodes w,
+          first.nodes w,
+          sum-one w sink,
+          sum-one w hub,
+          sum_by-cons w hub (sink ∷ []),
+          ap (λ (n : Net). sum_by w (nodes_of n)) empty,
+          nodes-sum w (empty_net limits.nodes limits.arcs),
+          none-held (node_weight w) 0 limits.nodes,
+        );
+      };
+      spans = record {
+        weighs = λ w. omega (
+          arith,
+          second.spans w,
+          first.spans w,
+          ap (λ (n : Net). sum_by w (spans_of n)) empty,
+          spans-sum w (empty_net limits.nodes limits.arcs),
+          none-held (span_weight w) 0 limits.arcs,
+        );
+      };
+      slots = tt;
+      machines = refl;
+      jobs = refl;
+      tasks = refl;
+      node_room = second.node_room ∙ first.node_room ∙ ap (λ (n : Net). capacity_of n.nodes) empty ∙ length-replicate
+          limits.nodes None;
+      arc_room = second.arc_room ∙ first.arc_room ∙ ap (λ (n : Net). capacity_of n.arcs) empty ∙ length-replicate
+          limits.arcs None;
+      added = omega (arith, second.added, first.added, ap added_of empty);
+      asked = omega arith;
+    }
+
+-- graphs whose rows and parts are said by equations
+pub open-said : (net : Net) (hub sink : NodeId) (limits : TenantLimits) (rows : TenantRows)
+    (machines : List MachineParts) (jobs : List JobParts) (tasks : List TaskParts)
+    → rows ≡ opening_rows limits → machines ≡ [] → jobs ≡ [] → tasks ≡ []
+    → Mirrors (record {
+      rows = opening_rows limits;
+      net = net;
+      hub = hub;
+      sink = sink;
+      machines = [];
+      jobs = [];
+      tasks
+          = [];
+      asked = 0;
+    })
+    → Mirrors (record {
+      rows = rows;
+      net = net;
+      hub = hub;
+      sink = sink;
+      machines = machines;
+      jobs = jobs;
+      tasks =
+          tasks;
+      asked = 0;
+    })
+open-said net hub sink limits rows machines jobs tasks a b c d is =
+    let P : TenantRows → List MachineParts → List JobParts → List TaskParts → Type 0 =
+    λ (r : TenantRows) (m : List MachineParts) (j : List JobParts) (t : List TaskParts). Mirrors
+    (record { rows = r; net = net; hub = hub; sink = sink; machines = m; jobs = j; tasks = t; asked = 0 }) in
+    subst (λ (r : TenantRows). P r machines jobs tasks) (sym a)
+    (subst (λ (m : List MachineParts). P (opening_rows limits) m jobs tasks) (sym b)
+    (subst (λ (j : List JobParts). P (opening_rows limits) [] j tasks) (sym c)
+    (subst (λ (t : List TaskParts). P (opening_rows limits) [] [] t) (sym d) is)))
+
+pub task-said : (g : Graph) (net : Net) (parts : TaskParts) (job name : List ℕ) (rows : TenantRows)
+    (tasks : List TaskParts)
+    → rows ≡ with_task g.rows job name → tasks ≡ g.tasks ++ parts ∷ [] → Mirrors (task_added g net parts job name)
+    → Mirrors (record {
+      rows = rows;
+      net = net;
+      hub = g.hub;
+      sink = g.sink;
+      machines = g.machines;
+      jobs = g.jobs;
+      tasks
+          = tasks;
+      asked = g.asked + 1;
+    })
+task-said g net parts job name rows tasks e f is =
+    let P : TenantRows → List TaskParts → Type 0 =
+    λ (r : TenantRows) (l : List TaskParts). Mirrors
+    (record {
+      rows = r;
+      net = net;
+      hub = g.hub;
+      sink = g.sink;
+      machines = g.machines;
+      jobs = g.jobs;
+      tasks = l;
+      asked = g.asked + 1;
+    }) in
+    subst (λ (r : TenantRows). P r tasks) (sym e)
+    (subst (λ (l : List TaskParts). P (with_task g.rows job name) l) (sym f) is)
+
+pub machine-said : (g : Graph) (net : Net) (parts : MachineParts) (name : List ℕ) (slots : ℕ) (rows : TenantRows)
+    (machines : List MachineParts)
+    → rows ≡ with_machine g.rows name slots → machines ≡ g.machines ++ parts ∷ []
+    → Mirrors (machine_added g net parts name slots)
+    → Mirrors (record {
+      rows = rows;
+      net = net;
+      hub = g.hub;
+      sink = g.sink;
+      machines = machines;
+      jobs = g.jobs;
+      tasks =
+          g.tasks;
+      asked = g.asked + 1;
+    })
+machine-said g net parts name slots rows machines e f is =
+    let P : TenantRows → List MachineParts → Type 0 =
+    λ (r : TenantRows) (l : List MachineParts). Mirrors
+    (record {
+      rows = r;
+      net = net;
+      hub = g.hub;
+      sink = g.sink;
+      machines = l;
+      jobs = g.jobs;
+      tasks = g.tasks;
+      asked
+          = g.asked + 1;
+    }) in
+    subst (λ (r : TenantRows). P r machines) (sym e)
+    (subst (λ (l : List MachineParts). P (with_machine g.rows name slots) l) (sym f) is)
+
+-- the owner of a job's tasks, and its weight, as the code reads them
+pub owner-read : (g : Graph) (name : List ℕ) (place : ℕ) → position (bytes_eq name) (job_names g.rows) ≡ Some place
+    → length g.jobs ≡ length g.rows.jobs
+    → (d : JobParts) → (get_or g.jobs place d).node ≡ node_under (job_names g.rows) (job_nodes g) g.hub name
+owner-read g name place e lengths d =
+    let at = position-is (bytes_eq name) (job_names g.rows) place e in
+    let same : length (job_nodes g) ≡ length (job_names g.rows) =
+    length-map (λ (p : JobParts). p.node) g.jobs ∙ lengths ∙ sym (length-map (λ (j : Job). j.name) g.rows.jobs) in
+    let below : place < length g.jobs = omega (arith, at.1, lengths, length-map (λ (j : Job). j.name) g.rows.jobs) in
+    sym (get_or-map (λ (p : JobParts). p.node) g.jobs place d g.hub below)
+    ∙ sym (ap (λ (k : ℕ). get_or (job_nodes g) k g.hub) at.0)
+    ∙ sym (node_under-at (job_names g.rows) (job_nodes g) g.hub name same)
+
+pub weight-read : (rows : TenantRows) (name : List ℕ) (place : ℕ) (job : Job)
+    → position (bytes_eq name) (job_names rows) ≡ Some place
+    → Some job ≡ slice_get rows.jobs place → job.weight ≡ weight_under rows.jobs name
+weight-read rows name place job e there =
+    let at = position-is (bytes_eq name) (job_names rows) place e in
+    let below : position_or_len (bytes_eq name) (job_names rows) < length rows.jobs = omega
+    (arith, at.0, at.1, length-map (λ (j : Job). j.name) rows.jobs) in
+    let read : get_or rows.jobs place job ≡ job = got rows.jobs place job there in
+    sym (ap (λ (j : Job). j.weight) read)
+    ∙ sym (ap (λ (k : ℕ). (get_or rows.jobs k job).weight) at.0)
+    ∙ sym (weight_under-at rows.jobs name job below)
+  where
+    got : (jobs : List Job) (i : ℕ) (j : Job) → Some j ≡ slice_get jobs i → get_or jobs i j ≡ j
+    got [] i j h = refl
+    got (x ∷ jobs) zero j h = let s : Some j ≡ Some x = h in cc
+    got (x ∷ jobs) (suc i) j h = got jobs i j h
+
+-- the node of the job at a position is there
+pub job-read : (g : Graph) (place : ℕ) (read : JobParts) → Mirrors g → (name : List ℕ)
+    → position (bytes_eq name) (job_names g.rows) ≡ Some place
+    → read ≡ get_or g.jobs place read → IsNode g.net read.node
+job-read g place read is name e at =
+    let there = position-is (bytes_eq name) (job_names g.rows) place e in
+    let below : place < length g.jobs = omega (arith, there.1, is.jobs, length-map (λ (j : Job). j.name) g.rows.jobs) in
+    let P : JobParts → Type 0 = λ (p : JobParts). IsNode g.net p.node in
+    subst P (sym at) (job-there g place read is below)
+
+-- what a read at an index gave
+pub read-at : {X : Type 0} (xs : List X) (i : ℕ) (x : X) → Some x ≡ slice_get xs i → (d : X) → get_or xs i d ≡ x
+read-at [] i x h d = let none : Some x ≡ None = h in absurd cc
+read-at (y ∷ xs) zero x h d = let s : Some x ≡ Some y = h in let e : y ≡ x = cc in e
+read-at (y ∷ xs) (suc i) x h d = read-at xs i x h d

@@ -1,0 +1,208 @@
+-- The network told by rows, one by one, is the network of their case.
+use Rattle.std.proofs.Common.{◌≡◌, ℕ, zero, suc, ◌+◌, ◌*◌, ◌<◌, Bool, true, false, cond, not, is_some, Option, Some, None, List, [], ◌∷◌, ◌++◌, map, length, get_or, bytes_eq, append_assoc, arith, refl, sym, ap, ap₂, ◌∙◌, ⊎_elim}
+use Rattle.std.specs.List.{position_or_len}
+use Rattle.std.proofs.lemmas.List.{map-append, get_or-map}
+use Rattle.std.proofs.lemmas.Bool.{cases_Bool, cond-true, cond-false, not_from_true, not_from_false}
+use Rattle.firm_paths.specs.Network.{Arc}
+use Rattle.firm_rules.specs.Book.{TenantRows, machine_names, job_names}
+use Rattle.firm_rules.specs.Placement.{Case, Demand}
+use Rattle.firm_rules.specs.Round.{case_of, machine_place, job_place, weight_at}
+use Rattle.firm_rules.specs.declared.parts.Machine.{Machine}
+use Rattle.firm_rules.specs.declared.parts.Job.{Job}
+use Rattle.firm_rules.specs.declared.parts.Task.{Task}
+use Rattle.firm_graph.specs.declared.network.Node.{Node}
+use Rattle.firm_graph.specs.declared.network.Node.TheVariants.{Sink, Hub, Machine as MachineAt, Owner, Task as TaskAt}
+use Rattle.firm_graph.specs.declared.network.Key.{Key}
+use Rattle.firm_graph.specs.declared.network.Key.TheVariants.{Through, Slot, Exit, Wide, Stay, Delay}
+use Rattle.firm_graph.specs.Network.{gather, arc, slots_of, demand, runs, stay_head, machine_arcs, job_arcs, task_arcs, network}
+use Rattle.firm_graph.specs.Graph.{weight_under}
+
+abbrev pub bare : Key → Node → Node → ℕ → ℕ → Arc Node Key
+bare key tail head cap cost = record { key = key; tail = tail; head = head; low = 0; cap = cap; cost = cost; flow = 0 }
+
+abbrev pub slot_rows : ℕ → ℕ → ℕ → ℕ → List (Arc Node Key)
+slot_rows spread j k zero = []
+slot_rows spread j k (suc left) = bare (Slot j k) (MachineAt j) Sink 1 (k * spread) ∷ slot_rows spread j (k + 1) left
+
+abbrev pub machine_rows : ℕ → ℕ → List Machine → List (Arc Node Key)
+machine_rows spread j [] = []
+machine_rows spread j (m ∷ rest) =
+    (bare (Through j) Hub (MachineAt j) m.slots 0 ∷ slot_rows spread j 0 m.slots) ++ machine_rows spread (j + 1) rest
+
+abbrev pub job_rows : ℕ → ℕ → List Job → List (Arc Node Key)
+job_rows limit k [] = []
+job_rows limit k (j ∷ rest) = bare (Exit k) (Owner k) Sink limit 0 ∷ job_rows limit (k + 1) rest
+
+abbrev pub head_of : List (List ℕ) → Option (List ℕ) → Node
+head_of names None = Hub
+head_of names (Some name) = MachineAt (position_or_len (bytes_eq name) names)
+
+abbrev pub task_rows : TenantRows → ℕ → List Task → List (Arc Node Key)
+task_rows rows i [] = []
+task_rows rows i (t ∷ rest) =
+    let leaving : ℕ = cond (is_some t.machine) rows.limits.churn 0 in
+    (bare (Wide i) (TaskAt i) Hub 1 leaving
+    ∷ bare (Stay i) (TaskAt i) (head_of (machine_names rows) t.machine) (cond (is_some t.machine) 1 0) 0
+    ∷ bare (Delay i) (TaskAt i) (Owner (position_or_len (bytes_eq t.job) (job_names rows))) 1
+    (weight_under rows.jobs t.job + t.waited + leaving)
+    ∷ []) ++ task_rows rows (i + 1) rest
+
+abbrev pub rows_network : TenantRows → List (Arc Node Key)
+rows_network rows =
+    machine_rows rows.limits.spread 0 rows.machines ++
+    (job_rows rows.limits.nodes 0 rows.jobs ++ task_rows rows 0 rows.tasks)
+
+-- with these lower bounds and flows
+abbrev pub fill : (Key → ℕ) → (Key → ℕ) → Arc Node Key → Arc Node Key
+fill low x a =
+    record { key = a.key; tail = a.tail; head = a.head; low = low a.key; cap = a.cap; cost = a.cost; flow = x a.key }
+
+-- the lists of f j, f (j + 1) and so on, n of them
+unfoldable pub from : {A : Type 0} → (ℕ → List A) → ℕ → ℕ → List A
+from f j zero = []
+from f j (suc n) = f j ++ from f (j + 1) n
+
+from_last : {A : Type 0} (f : ℕ → List A) (j n : ℕ) → from f j (suc n) ≡ from f j n ++ f (j + n)
+unfolding from
+from_last {A} f j zero = app_none (f j) ∙ ap f (let e : j ≡ j + 0 = omega arith in e)
+  where
+    app_none : {A : Type 0} (xs : List A) → xs ++ [] ≡ xs
+    app_none [] = refl
+    app_none {A} (x ∷ xs) = ap (λ (z : List A). x ∷ z) (app_none xs)
+from_last {A} f j (suc n) =
+    ap (λ (z : List A). f j ++ z) (from_last f (j + 1) n)
+    ∙ (sym (append_assoc (f j) (from f (j + 1) n) (f (j + 1 + n))) ∙ ap (λ (k : ℕ). (f j ++ from f (j + 1) n) ++ f k)
+    (let e : j + 1 + n ≡ j + suc n = omega arith in e))
+
+pub gather_from : {A : Type 0} (f : ℕ → List A) (n : ℕ) → gather f n ≡ from f 0 n
+unfolding from
+gather_from f zero = refl
+gather_from {A} f (suc n) =
+    ap₂ (λ (a b : List A). a ++ b) (gather_from f n) (ap f (let e : n ≡ 0 + n = omega arith in e)) ∙ sym
+    (from_last f 0 n)
+
+module _ (rows : TenantRows) (low x : Key → ℕ) where
+  abbrev c : Case
+  c = case_of rows
+
+  slots_same : (j k left : ℕ) → map (fill low x) (slot_rows rows.limits.spread j k left) ≡ from
+      (λ k. arc low x (Slot j k) (MachineAt j) Sink 1 (k * c.spread) ∷ []) k left
+  unfolding from
+  slots_same j k zero = refl
+  slots_same j k (suc left) = ap (λ (z : List (Arc Node Key)). arc low x (Slot j k) (MachineAt j) Sink 1 (k * c.spread)
+      ∷ z) (slots_same j (k + 1) left)
+
+  machines_same : (j : ℕ) (ms : List Machine) (d : Machine) →
+      ((i : ℕ) → i < length ms → slots_of c (j + i) ≡ (get_or ms i d).slots)
+      → map (fill low x) (machine_rows rows.limits.spread j ms) ≡ from (machine_arcs c low x) j (length ms)
+  unfolding from
+  machines_same j [] d h = refl
+  machines_same j (m ∷ ms) d h =
+      let own : m.slots ≡ slots_of c j = sym (h 0 (omega arith)) ∙ ap (slots_of c)
+      (let e : j + 0 ≡ j = omega arith in e) in
+      map-append (fill low x) (bare (Through j) Hub (MachineAt j) m.slots 0 ∷ slot_rows rows.limits.spread j 0 m.slots)
+      (machine_rows rows.limits.spread (j + 1) ms)
+      ∙ ap₂ (λ (a b : List (Arc Node Key)). a ++ b)
+      (ap₂ (λ (a : Arc Node Key) (b : List (Arc Node Key)). a ∷ b)
+      (ap (λ (n : ℕ). arc low x (Through j) Hub (MachineAt j) n 0) own)
+      (slots_same j 0 m.slots ∙ (sym (gather_from
+      (λ (k : ℕ). arc low x (Slot j k) (MachineAt j) Sink 1 (k * c.spread) ∷ []) m.slots)
+      ∙ ap (gather (λ (k : ℕ). arc low x (Slot j k) (MachineAt j) Sink 1 (k * c.spread) ∷ [])) own)))
+      (machines_same (j + 1) ms d (λ i l. ap (slots_of c) (let e : j + 1 + i ≡ j + suc i = omega arith in e) ∙ h
+      (suc i) (omega (arith, l))))
+
+  jobs_same : (k : ℕ) (js : List Job) → map (fill low x) (job_rows rows.limits.nodes k js) ≡ from (job_arcs c low x) k
+      (length js)
+  unfolding from
+  jobs_same k [] = refl
+  jobs_same k (j ∷ js) = ap (λ (z : List (Arc Node Key)). arc low x (Exit k) (Owner k) Sink c.limit 0 ∷ z)
+      (jobs_same (k + 1) js)
+
+  weight_same : (jobs : List Job) (name : List ℕ) → weight_under jobs name ≡ get_or (map (λ job. job.weight) jobs)
+      (position_or_len (bytes_eq name) (map (λ job. job.name) jobs)) 0
+  weight_same [] name = refl
+  weight_same (job ∷ jobs) name =
+      let b : Bool = bytes_eq name job.name in
+      let ws : List ℕ = map (λ job. job.weight) jobs in
+      let q : ℕ = position_or_len (bytes_eq name) (map (λ job. job.name) jobs) in
+      let at : ℕ = cond (not b) (1 + q) 0 in
+      let all : List ℕ = job.weight ∷ ws in
+      ⊎_elim
+      (λ (t : b ≡ true).
+      let zero_at : at ≡ 0 = cond-false {A = ℕ} (not b) (1 + q) 0 (not_from_true b t) in
+      cond-true b job.weight (weight_under jobs name) t ∙ sym (ap (λ (k : ℕ). get_or all k 0) zero_at))
+      (λ (f : b ≡ false).
+      let next : at ≡ suc q = cond-true {A = ℕ} (not b) (1 + q) 0 (not_from_false b f) ∙
+      (let e : 1 + q ≡ suc q = omega arith in e) in
+      cond-false b job.weight (weight_under jobs name) f ∙
+      (weight_same jobs name ∙ sym (ap (λ (k : ℕ). get_or all k 0) next)))
+      (cases_Bool b)
+
+  runs_same : (home : Option (List ℕ)) → is_some home ≡ runs (machine_place rows home)
+  runs_same None = refl
+  runs_same (Some name) = refl
+
+  head_same : (home : Option (List ℕ)) → head_of (machine_names rows) home ≡ stay_head (machine_place rows home)
+  head_same None = refl
+  head_same (Some name) = refl
+
+  abbrev demand_of : Task → Demand
+  demand_of t = record {
+    home = machine_place rows t.machine;
+    delay = weight_at rows (job_place rows t) + t.waited;
+    job
+        = job_place rows t;
+  }
+
+  tasks_same : (i : ℕ) (ts : List Task) (d : Task) →
+      ((k : ℕ) → k < length ts → demand c (i + k) ≡ demand_of (get_or ts k d))
+      → map (fill low x) (task_rows rows i ts) ≡ from (task_arcs c low x) i (length ts)
+  unfolding from
+  tasks_same i [] d h = refl
+  tasks_same i (t ∷ ts) d h =
+      let own : demand_of t ≡ demand c i = sym (h 0 (omega arith)) ∙ ap (demand c)
+      (let e : i + 0 ≡ i = omega arith in e) in
+      let three : Demand → List (Arc Node Key) = λ (q : Demand).
+      arc low x (Wide i) (TaskAt i) Hub 1 (cond (runs q.home) c.churn 0)
+      ∷ arc low x (Stay i) (TaskAt i) (stay_head q.home) (cond (runs q.home) 1 0) 0
+      ∷ arc low x (Delay i) (TaskAt i) (Owner q.job) 1 (q.delay + cond (runs q.home) c.churn 0) ∷ [] in
+      let mine : Bool → Node → ℕ → List (Arc Node Key) = λ (b : Bool) (n : Node) (w : ℕ).
+      arc low x (Wide i) (TaskAt i) Hub 1 (cond b c.churn 0)
+      ∷ arc low x (Stay i) (TaskAt i) n (cond b 1 0) 0
+      ∷ arc low x (Delay i) (TaskAt i) (Owner (job_place rows t)) 1 (w + t.waited + cond b c.churn 0) ∷ [] in
+      let here : mine (is_some t.machine) (head_of (machine_names rows) t.machine) (weight_under rows.jobs t.job) ≡
+      three (demand c i) =
+      ap (λ (b : Bool). mine b (head_of (machine_names rows) t.machine) (weight_under rows.jobs t.job))
+      (runs_same t.machine)
+      ∙ (ap (λ (n : Node). mine (runs (machine_place rows t.machine)) n (weight_under rows.jobs t.job))
+      (head_same t.machine)
+      ∙ (ap (λ (w : ℕ). mine (runs (machine_place rows t.machine)) (stay_head (machine_place rows t.machine)) w)
+      (weight_same rows.jobs t.job)
+      ∙ ap three own)) in
+      ap₂ (λ (a b : List (Arc Node Key)). a ++ b) here
+      (tasks_same (i + 1) ts d (λ k l. ap (demand c) (let e : i + 1 + k ≡ i + suc k = omega arith in e) ∙ h (suc k)
+      (omega (arith, l))))
+
+  length-map : {A B : Type 0} (f : A → B) (xs : List A) → length (map f xs) ≡ length xs
+  length-map f [] = refl
+  length-map f (x ∷ xs) = omega (arith, length-map f xs)
+
+  pub network_is : map (fill low x) (rows_network rows) ≡ network c low x
+  network_is =
+      let no_machine : Machine = record { name = []; slots = 0 } in
+      let no_task : Task = record { name = []; job = []; machine = None; waited = 0 } in
+      map-append (fill low x) (machine_rows rows.limits.spread 0 rows.machines)
+      (job_rows rows.limits.nodes 0 rows.jobs ++ task_rows rows 0 rows.tasks)
+      ∙ ap₂ (λ (a b : List (Arc Node Key)). a ++ b)
+      (machines_same 0 rows.machines no_machine
+      (λ i l. ap (slots_of c) (let e : 0 + i ≡ i = omega arith in e) ∙ get_or-map (λ (m : Machine). m.slots)
+      rows.machines i no_machine 0 l)
+      ∙ (sym (gather_from (machine_arcs c low x) (length rows.machines)) ∙ ap (gather (machine_arcs c low x))
+      (sym (length-map (λ (m : Machine). m.slots) rows.machines))))
+      (map-append (fill low x) (job_rows rows.limits.nodes 0 rows.jobs) (task_rows rows 0 rows.tasks)
+      ∙ ap₂ (λ (a b : List (Arc Node Key)). a ++ b)
+      (jobs_same 0 rows.jobs ∙ sym (gather_from (job_arcs c low x) (length rows.jobs)))
+      (tasks_same 0 rows.tasks no_task (λ k l. ap (λ (z : ℕ). demand c z) (let e : 0 + k ≡ k = omega arith in e) ∙
+      get_or-map demand_of rows.tasks k no_task (record { home = None; delay = 0; job = 0 }) l)
+      ∙ (sym (gather_from (task_arcs c low x) (length rows.tasks)) ∙ ap (gather (task_arcs c low x))
+      (sym (length-map demand_of rows.tasks)))))

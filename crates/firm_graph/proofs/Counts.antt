@@ -1,0 +1,81 @@
+-- The network of some rows has as many nodes and arcs as they take of the arena.
+use Rattle.std.proofs.Common.{◌≡◌, ℕ, zero, suc, ◌+◌, ◌*◌, List, [], ◌∷◌, ◌++◌, map, length, arith, refl, sym, ap, length-append}
+use Rattle.std.specs.List.{sum_by}
+use Rattle.std.proofs.lemmas.List.Sums.{sum_by-cons}
+use Rattle.firm_paths.specs.Network.{Arc}
+use Rattle.firm_rules.specs.Book.{TenantRows}
+use Rattle.firm_rules.specs.Placement.{Case, Demand}
+use Rattle.firm_rules.specs.Round.{case_of, machine_place, job_place, weight_at}
+use Rattle.firm_rules.specs.declared.parts.Machine.{Machine}
+use Rattle.firm_rules.specs.declared.parts.Job.{Job}
+use Rattle.firm_rules.specs.declared.parts.Task.{Task}
+use Rattle.firm_graph.specs.declared.network.Node.{Node}
+use Rattle.firm_graph.specs.declared.network.Node.TheVariants.{Machine as MachineAt, Owner as JobAt, Task as TaskAt}
+use Rattle.firm_graph.specs.declared.network.Key.{Key}
+use Rattle.firm_graph.specs.Network.{gather, task_nodes, IsCounted}
+use Rattle.firm_graph.proofs.Bridge.{slot_rows, machine_rows, job_rows, task_rows, rows_network, fill, network_is}
+use Rattle.firm_graph.proofs.Shown.{gather-count}
+
+length-map : {A B : Type 0} (f : A → B) (xs : List A) → length (map f xs) ≡ length xs
+length-map f [] = refl
+length-map f (x ∷ xs) = omega (arith, length-map f xs)
+
+slots-count : (spread j k left : ℕ) → length (slot_rows spread j k left) ≡ left
+slots-count spread j k zero = refl
+slots-count spread j k (suc left) = omega (arith, slots-count spread j (k + 1) left)
+
+machines-count : (spread j : ℕ) (ms : List Machine)
+    → length (machine_rows spread j ms) ≡ sum_by (λ machine. 1 + machine.slots) ms
+machines-count spread j [] = refl
+machines-count spread j (m ∷ ms) =
+    let w : Machine → ℕ = λ (machine : Machine). 1 + machine.slots in
+    omega (
+      arith,
+      length-append (slot_rows spread j 0 m.slots) (machine_rows spread (j + 1) ms),
+      slots-count spread j 0 m.slots,
+      machines-count spread (j + 1) ms,
+      sum_by-cons w m ms,
+    )
+
+jobs-count : (limit k : ℕ) (js : List Job) → length (job_rows limit k js) ≡ length js
+jobs-count limit k [] = refl
+jobs-count limit k (j ∷ js) = omega (arith, jobs-count limit (k + 1) js)
+
+tasks-count : (rows : TenantRows) (i : ℕ) (ts : List Task) → length (task_rows rows i ts) ≡ 3 * length ts
+tasks-count rows i [] = refl
+tasks-count rows i (t ∷ ts) = omega (arith, tasks-count rows (i + 1) ts)
+
+pub counted : (rows : TenantRows) → IsCounted rows
+counted rows =
+    let c : Case = case_of rows in
+    let ms : List Node = gather (λ j. MachineAt j ∷ []) (length c.slots) in
+    let js : List Node = gather (λ k. JobAt k ∷ []) c.jobs in
+    record {
+      nodes = omega (
+        arith,
+        length-append ms (js ++ task_nodes c),
+        length-append js (task_nodes c),
+        gather-count MachineAt (length c.slots),
+        gather-count JobAt c.jobs,
+        gather-count TaskAt (length c.tasks),
+        length-map (λ (m : Machine). m.slots) rows.machines,
+        length-map (λ (t : Task). let d : Demand = record {
+          home = machine_place rows t.machine;
+          delay = weight_at rows (job_place rows t) + t.waited;
+          job =
+              job_place rows t;
+        } in d) rows.tasks,
+      );
+      arcs = λ low flow.
+          omega (
+            arith,
+            ap (λ (l : List (Arc Node Key)). length l) (sym (network_is rows low flow)),
+            length-map (fill low flow) (rows_network rows),
+            length-append (machine_rows rows.limits.spread 0 rows.machines)
+                (job_rows rows.limits.nodes 0 rows.jobs ++ task_rows rows 0 rows.tasks),
+            length-append (job_rows rows.limits.nodes 0 rows.jobs) (task_rows rows 0 rows.tasks),
+            machines-count rows.limits.spread 0 rows.machines,
+            jobs-count rows.limits.nodes 0 rows.jobs,
+            tasks-count rows 0 rows.tasks,
+          );
+    }

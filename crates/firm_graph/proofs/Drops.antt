@@ -1,0 +1,555 @@
+-- What a graph is once a row was removed from it, and what its net holds on the way.
+use Rattle.std.proofs.Common.{◌≡◌, ℕ, zero, suc, ◌+◌, ◌*◌, ◌<◌, ◌≤◌, true, false, cond, is_some, ◌⊎◌, inl, inr, ⊎_elim, Option, Some, None, IsSome, List, [], ◌∷◌, ◌++◌, length, get_or, drop, bytes_eq, arith, refl, sym, ap, ◌∙◌, subst, drop-cons}
+use Rattle.std.specs.List.{sum_by, All, Contains, remove}
+use Rattle.std.proofs.lemmas.Bool.{cases_Bool, cond-true, cond-false}
+use Rattle.std.proofs.lemmas.List.Sums.{sum_by-cons, sum_by-append, sum_by-remove}
+use Rattle.std.proofs.lemmas.List.Edits.{length-remove}
+use Rattle.std.proofs.lemmas.List.{get_or-map, length-map}
+use Rattle.std.proofs.lemmas.List.Elements.{All-head, All-tail, All-cons}
+use Rattle.firm_arena.specs.Changes.{find-held}
+use Rattle.firm_arena.specs.Arena.{entries_from}
+use Rattle.firm_arena.specs.declared.Id.{Id}
+use Rattle.firm_net.specs.Row.{Row}
+use Rattle.firm_net.specs.Net.{Net, IsNet, IsNode, IsArc, IsListed, arcs_on, end_of, out_list, in_list, row_at}
+use Rattle.firm_net.specs.declared.row.NodeId.{NodeId}
+use Rattle.firm_net.specs.declared.row.ArcId.{ArcId}
+use Rattle.firm_net.specs.declared.links.Side.{Side}
+use Rattle.firm_net.specs.declared.links.Side.TheVariants.{Out, In}
+use Rattle.firm_rules.specs.Book.{TenantRows, machine_names, job_names}
+use Rattle.firm_graph.specs.Steps.{task_gone, no_task}
+use Rattle.firm_rules.specs.declared.parts.Machine.{Machine}
+use Rattle.firm_rules.specs.declared.parts.Job.{Job}
+use Rattle.firm_rules.specs.declared.parts.Task.{Task}
+use Rattle.firm_net.specs.Edits.{Span, span_of, nodes_of, spans_of, AsOften, IsEdit}
+use Rattle.firm_graph.specs.Steps.{Holds}
+use Rattle.firm_graph.specs.Parts.{MachineParts}
+use Rattle.firm_graph.specs.declared.parts.JobParts.{JobParts}
+use Rattle.firm_graph.specs.declared.parts.TaskParts.{TaskParts}
+use Rattle.firm_graph.specs.Graph.{Graph, Mirrors, flat_zip, machine_spans, slot_spans, job_spans, task_spans, Target, target_of, home_node, node_under, graph_nodes, graph_spans, machine_nodes, job_nodes, task_nodes}
+use Rattle.firm_graph.proofs.Entries.{sum-slot}
+use Rattle.firm_arena.specs.Sums.{sum-without}
+use Rattle.firm_graph.proofs.NetEdits.{nodes-sum, spans-sum, span_weight, sum-map, arc-below}
+use Rattle.firm_graph.proofs.Found.{Contains-skip, node-there, span-there, HasRow, ones, same_id, same_id-true, same_id-refl}
+use Rattle.firm_graph.proofs.Totals.{nodes-total, spans-total, sum-one}
+
+pub holds-start : (g : Graph) → Mirrors g → (ss : List Span) → AsOften (graph_spans g) ss
+    → Holds g.net g.net (graph_nodes g) ss
+holds-start g is ss same =
+    record {
+      net = is.net;
+      nodes = is.nodes;
+      spans = record { weighs = λ w. is.spans.weighs w ∙ same.weighs w };
+      node_room = refl;
+      arc_room = refl;
+      added = omega arith;
+    }
+
+-- the first arc is there, and what is left once it is removed
+pub holds-row : (base net : Net) (ns : List NodeId) (s : Span) (ss : List Span) → Holds base net ns (s ∷ ss)
+    → HasRow net s
+holds-row base net ns s ss h = span-there net (s ∷ ss) s h.spans (0, omega arith, refl)
+
+pub holds-arc : (base net : Net) (ns : List NodeId) (s : Span) (ss : List Span) → Holds base net ns (s ∷ ss)
+    → IsArc net s.arc
+holds-arc base net ns s ss h =
+    let r = holds-row base net ns s ss h in
+    let P : Option Row → Type 0 = λ (o : Option Row). IsSome o in
+    subst P (sym r.there) refl
+
+pub holds-unlinked : (base old new : Net) (ns : List NodeId) (s : Span) (ss : List Span) → Holds base old ns (s ∷ ss)
+    → ((row : Row) → row_at old s.arc ≡ Some row → IsEdit old new [] [] (span_of s.arc row ∷ []) [])
+    → Holds base new ns ss
+holds-unlinked base old new ns s ss h edits =
+    let r = holds-row base old ns s ss h in
+    let P : Span → Type 0 = λ (t : Span). IsEdit old new [] [] (t ∷ []) [] in
+    let edit : IsEdit old new [] [] (s ∷ []) [] = subst P r.is (edits r.row r.there) in
+    record {
+      net = edit.net;
+      nodes = record { weighs = λ w. omega (arith, edit.nodes w, h.nodes.weighs w) };
+      spans = record { weighs = λ w. omega (arith, edit.spans w, h.spans.weighs w, sum-one w s, sum_by-cons w s ss) };
+      node_room = edit.node_room ∙ h.node_room;
+      arc_room = edit.arc_room ∙ h.arc_room;
+      added = omega (arith, edit.added, h.added);
+    }
+
+-- an id is that of one entry at most
+pub once-from : {X : Type 0} (id : Id) (p : ℕ) (held : List (Option (ℕ × X)))
+    → (id.place < p → sum_by (λ e. ones (same_id e.0 id)) (entries_from p held) ≡ 0) ×
+    (sum_by (λ e. ones (same_id e.0 id)) (entries_from p held) ≤ 1)
+once-from id p [] = (λ _. refl, omega arith)
+once-from id p (None ∷ held) =
+    let rest = once-from id (p + 1) held in
+    (λ h. rest.0 (omega (arith, h)), rest.1)
+once-from {X} id p (Some own ∷ held) =
+    let w : Id × X → ℕ = λ (e : Id × X). ones (same_id e.0 id) in
+    let here : Id = record { place = p; stamp = own.0 } in
+    let rest = once-from id (p + 1) held in
+    let sum : sum_by w (entries_from p (Some own ∷ held)) ≡ ones (same_id here id) + sum_by w
+    (entries_from (p + 1) held) = sum-slot w p (Some own) held in (
+      λ h. ⊎_elim
+          (λ (t : same_id here id ≡ true). absurd (let e : p ≡ id.place = ap (λ (i : Id). i.place)
+          (same_id-true here id t) in omega (arith, e, h)))
+          (λ (f : same_id here id ≡ false).
+          let none : ones (same_id here id) ≡ ones false = ap ones f in
+          let later : sum_by w (entries_from (p + 1) held) ≡ 0 = rest.0 (omega (arith, h)) in
+          let e : sum_by w (entries_from p (Some own ∷ held)) ≡ 0 = omega (arith, sum, none, later) in
+          e)
+          (cases_Bool (same_id here id)),
+      ⊎_elim
+          (λ (t : same_id here id ≡ true).
+          let one : ones (same_id here id) ≡ ones true = ap ones t in
+          let e : p ≡ id.place = ap (λ (i : Id). i.place) (same_id-true here id t) in
+          let later : sum_by w (entries_from (p + 1) held) ≡ 0 = rest.0 (omega (arith, e)) in
+          let most : sum_by w (entries_from p (Some own ∷ held)) ≤ 1 = omega (arith, sum, one, later) in
+          most)
+          (λ (f : same_id here id ≡ false).
+          let none : ones (same_id here id) ≡ ones false = ap ones f in
+          let most : sum_by w (entries_from p (Some own ∷ held)) ≤ 1 = omega (arith, sum, none, rest.1) in
+          most)
+          (cases_Bool (same_id here id)),
+    )
+
+-- a node stands once at most among those that a net holds
+abbrev pub is_node : NodeId → NodeId → ℕ
+is_node n m = ones (same_id m.id n.id)
+
+pub node-once : (net : Net) (ns : List NodeId) (n : NodeId) → AsOften (nodes_of net) ns → sum_by (is_node n) ns ≤ 1
+node-once net ns n often =
+    omega (arith, often.weighs (is_node n), nodes-sum (is_node n) net, (once-from n.id 0 net.nodes.held).1)
+
+-- the ends of a graph's arcs are among its nodes: where these weigh nothing, those do neither
+abbrev pub end_weight : (NodeId → ℕ) → Span → ℕ
+end_weight w s = w s.tail + w s.head
+
+under-weight : (w : NodeId → ℕ) (names : List (List ℕ)) (nodes : List NodeId) (other : NodeId) (name : List ℕ)
+    → w (node_under names nodes other name) ≤ w other + sum_by w nodes
+under-weight w [] nodes other name = omega arith
+under-weight w (n ∷ names) [] other name = omega arith
+under-weight w (n ∷ names) (node ∷ nodes) other name = ⊎_elim
+    (λ (t : bytes_eq name n ≡ true).
+    omega (
+      arith,
+      ap w (cond-true (bytes_eq name n) node (node_under names nodes other name) t),
+      sum_by-cons w node
+          nodes,
+    ))
+    (λ (f : bytes_eq name n ≡ false).
+    omega (
+      arith,
+      ap w (cond-false (bytes_eq name n) node (node_under names nodes other name) f),
+      sum_by-cons w node
+          nodes,
+      under-weight w names nodes other name,
+    ))
+    (cases_Bool (bytes_eq name n))
+
+pub home-weight : (w : NodeId → ℕ) (names : List (List ℕ)) (nodes : List NodeId) (hub : NodeId) (home : Option (List ℕ))
+    → w (home_node names nodes hub home) ≤ w hub + sum_by w nodes
+home-weight w names nodes hub None = omega arith
+home-weight w names nodes hub (Some name) = under-weight w names nodes hub name
+
+slots-weight : (w : NodeId → ℕ) (node sink : NodeId) (spread k : ℕ) (slots : List ArcId) → w node ≡ 0 → w sink ≡ 0
+    → sum_by (end_weight w) (slot_spans node sink spread k slots) ≡ 0
+slots-weight w node sink spread k [] a b = refl
+slots-weight w node sink spread k (arc ∷ slots) a b =
+    omega (
+      arith,
+      sum_by-cons (end_weight w) (record { arc = arc; tail = node; head = sink; cap = 1; cost = k * spread })
+          (slot_spans node sink spread (k + 1) slots),
+      slots-weight w node sink spread (k + 1) slots a b,
+    )
+
+machines-weight : (w : NodeId → ℕ) (hub sink : NodeId) (spread : ℕ) (ms : List Machine) (ps : List MachineParts)
+    → w hub ≡ 0 → w sink ≡ 0
+    → sum_by (λ p. w p.node) ps ≡ 0 → sum_by (end_weight w) (flat_zip (machine_spans hub sink spread) ms ps) ≡ 0
+machines-weight w hub sink spread [] ps a b c = refl
+machines-weight w hub sink spread (m ∷ ms) [] a b c = refl
+machines-weight w hub sink spread (m ∷ ms) (p ∷ ps) a b c =
+    let v : MachineParts → ℕ = λ (q : MachineParts). w q.node in
+    let own : w p.node ≡ 0 = omega (arith, c, sum_by-cons v p ps) in
+    let rest : sum_by v ps ≡ 0 = omega (arith, c, sum_by-cons v p ps) in
+    omega (
+      arith,
+      sum_by-append (end_weight w) (machine_spans hub sink spread m p) (flat_zip (machine_spans hub sink spread) ms ps),
+      sum_by-cons (end_weight w) (record { arc = p.through; tail = hub; head = p.node; cap = m.slots; cost = 0 })
+          (slot_spans p.node sink spread 0 p.slots),
+      slots-weight w p.node sink spread 0 p.slots own b,
+      machines-weight w hub sink spread ms ps a b rest,
+      own,
+    )
+
+jobs-weight : (w : NodeId → ℕ) (sink : NodeId) (limit : ℕ) (js : List Job) (ps : List JobParts) → w sink ≡ 0
+    → sum_by (λ p. w p.node) ps ≡ 0 → sum_by (end_weight w) (flat_zip (job_spans sink limit) js ps) ≡ 0
+jobs-weight w sink limit [] ps b c = refl
+jobs-weight w sink limit (j ∷ js) [] b c = refl
+jobs-weight w sink limit (j ∷ js) (p ∷ ps) b c =
+    let v : JobParts → ℕ = λ (q : JobParts). w q.node in
+    let own : w p.node ≡ 0 = omega (arith, c, sum_by-cons v p ps) in
+    let rest : sum_by v ps ≡ 0 = omega (arith, c, sum_by-cons v p ps) in
+    omega (
+      arith,
+      sum_by-cons (end_weight w) (record { arc = p.exit; tail = p.node; head = sink; cap = limit; cost = 0 })
+          (flat_zip (job_spans sink limit) js ps),
+      jobs-weight w sink limit js ps b rest,
+      own,
+    )
+
+tasks-weight : (w : NodeId → ℕ) (hub : NodeId) (churn : ℕ) (target : Task → Target) (ts : List Task)
+    (ps : List TaskParts) → w hub ≡ 0
+    → ((t : Task) → (w (target t).home ≡ 0) × (w (target t).owner ≡ 0))
+    → sum_by (λ p. w p.node) ps ≡ 0 → sum_by (end_weight w) (flat_zip (task_spans hub churn target) ts ps) ≡ 0
+tasks-weight w hub churn target [] ps a t c = refl
+tasks-weight w hub churn target (x ∷ ts) [] a t c = refl
+tasks-weight w hub churn target (x ∷ ts) (p ∷ ps) a t c =
+    let v : TaskParts → ℕ = λ (q : TaskParts). w q.node in
+    let own : w p.node ≡ 0 = omega (arith, c, sum_by-cons v p ps) in
+    let rest : sum_by v ps ≡ 0 = omega (arith, c, sum_by-cons v p ps) in
+    let more : List Span = flat_zip (task_spans hub churn target) ts ps in
+    let runs = is_some x.machine in
+    let leaving : ℕ = cond runs churn 0 in
+    let s1 : Span = record { arc = p.arcs.wide; tail = p.node; head = hub; cap = 1; cost = leaving } in
+    let s2 : Span = record { arc = p.arcs.stay; tail = p.node; head = (target x).home; cap = cond runs 1 0; cost = 0 }
+    in
+    let s3 : Span = record {
+      arc = p.arcs.wait;
+      tail = p.node;
+      head = (target x).owner;
+      cap = 1;
+      cost =
+          (target x).delay + leaving;
+    } in
+    omega (
+      arith,
+      sum_by-cons (end_weight w) s1 (s2 ∷ s3 ∷ more),
+      sum_by-cons (end_weight w) s2 (s3 ∷ more),
+      sum_by-cons (end_weight w) s3 more,
+      tasks-weight w hub churn target ts ps a t rest,
+      own,
+      (t x).0,
+      (t x).1,
+    )
+
+pub ends-free : (w : NodeId → ℕ) (g : Graph) → sum_by w (graph_nodes g) ≡ 0 → sum_by (end_weight w) (graph_spans g) ≡ 0
+ends-free w g none =
+    let parts = nodes-total w g in
+    let hub : w g.hub ≡ 0 = omega (arith, none, parts) in
+    let sink : w g.sink ≡ 0 = omega (arith, none, parts) in
+    let machines : sum_by (λ p. w p.node) g.machines ≡ 0 = omega (arith, none, parts) in
+    let jobs : sum_by (λ p. w p.node) g.jobs ≡ 0 = omega (arith, none, parts) in
+    let tasks : sum_by (λ p. w p.node) g.tasks ≡ 0 = omega (arith, none, parts) in
+    let targets : (t : Task) → (w (target_of g t).home ≡ 0) × (w (target_of g t).owner ≡ 0) =
+    λ t. (
+      omega (
+        arith,
+        hub,
+        machines,
+        home-weight w (machine_names g.rows) (machine_nodes g) g.hub t.machine,
+        sum-map w
+            (λ (p : MachineParts). p.node) g.machines,
+      ),
+      omega (
+        arith,
+        hub,
+        jobs,
+        under-weight w (job_names g.rows) (job_nodes g) g.hub t.job,
+        sum-map w
+            (λ (p : JobParts). p.node) g.jobs,
+      ),
+    ) in
+    omega (
+      arith,
+      spans-total (end_weight w) g,
+      machines-weight w g.hub g.sink g.rows.limits.spread g.rows.machines g.machines hub sink machines,
+      jobs-weight w g.sink g.rows.limits.nodes g.rows.jobs g.jobs sink jobs,
+      tasks-weight w g.hub g.rows.limits.churn (target_of g) g.rows.tasks g.tasks hub targets tasks,
+    )
+
+-- a net whose arcs have no end at a node lists none there
+listed-weight : (net : Net) (a : ArcId) (row : Row) (w : Span → ℕ) → IsNet net → row_at net a ≡ Some row
+    → w (span_of a row) ≤ sum_by w (spans_of net)
+listed-weight net a row w sound there =
+    omega (
+      arith,
+      spans-sum w net,
+      sum-without (span_weight w) net.arcs a.id.place a.id.stamp row (arc-below net a row there)
+          (find-held net.arcs a.id row there),
+    )
+
+none-or-some : (xs : List ArcId) → (xs ≡ []) ⊎ ((a : ArcId) × Contains xs a)
+none-or-some [] = inl refl
+none-or-some (a ∷ xs) = inr (a, (0, omega arith, refl))
+
+end-heavy : (n : NodeId) (side : Side) (row : Row) (a : ArcId) → end_of side row ≡ n
+    → 0 < end_weight (is_node n) (span_of a row)
+end-heavy n Out row a e =
+    let own : is_node n row.tail ≡ ones true = ap (is_node n) e ∙ ap ones (same_id-refl n.id) in
+    omega (arith, own)
+end-heavy n In row a e =
+    let own : is_node n row.head ≡ ones true = ap (is_node n) e ∙ ap ones (same_id-refl n.id) in
+    omega (arith, own)
+
+no-list : (net : Net) (n : NodeId) (side : Side) → IsNet net → IsListed side net
+    → sum_by (end_weight (is_node n)) (spans_of net) ≡ 0 → arcs_on side net n ≡ []
+no-list net n side sound listed none =
+    elim (none-or-some (arcs_on side net n)) [
+      | inl empty ↦ empty
+      | inr some ↦
+          let at = listed.arcs n some.0 some.1 in
+          let heavy = end-heavy n side at.0 some.0 at.2 in
+          absurd (omega (arith, none, heavy, listed-weight net some.0 at.0 (end_weight (is_node n)) sound at.1))
+    ]
+
+-- once the arcs of a node that leaves are removed, it has none: those that are left lead between the others
+pub record IsFree (net : Net) (n : NodeId) : Type 0 where
+  pub there : IsNode net n
+  pub out : out_list net n ≡ []
+  pub into : in_list net n ≡ []
+
+pub free : (base now : Net) (n : NodeId) (ns : List NodeId) (g : Graph) → Holds base now ns (graph_spans g)
+    → ((w : NodeId → ℕ) → sum_by w ns ≡ w n + sum_by w (graph_nodes g)) → Contains ns n → IsFree now n
+free base now n ns g h parts listed =
+    let own : is_node n n ≡ ones true = ap ones (same_id-refl n.id) in
+    let others : sum_by (is_node n) (graph_nodes g) ≡ 0 = omega
+    (arith, node-once now ns n h.nodes, parts (is_node n), own) in
+    let none : sum_by (end_weight (is_node n)) (spans_of now) ≡ 0 = h.spans.weighs (end_weight (is_node n)) ∙ ends-free
+    (is_node n) g others in
+    record {
+      there = node-there now ns n h.nodes listed;
+      out = no-list now n Out h.net h.net.outgoing none;
+      into = no-list now n In h.net h.net.incoming none;
+    }
+
+-- what one pair weighs in two lists of one length
+pub flat_sum-remove : {A B C : Type 0} (w : C → ℕ) (f : A → B → List C) (xs : List A) (ys : List B) (i : ℕ) (d : A)
+    (e : B) → i < length xs → length ys ≡ length xs
+    → sum_by w (flat_zip f (remove xs i) (remove ys i)) + sum_by w (f (get_or xs i d) (get_or ys i e)) ≡ sum_by w
+    (flat_zip f xs ys)
+flat_sum-remove w f [] ys i d e below same = absurd (omega arith)
+flat_sum-remove w f (x ∷ xs) [] i d e below same = absurd (omega arith)
+flat_sum-remove w f (x ∷ xs) (y ∷ ys) zero d e below same = omega (arith, sum_by-append w (f x y) (flat_zip f xs ys))
+flat_sum-remove w f (x ∷ xs) (y ∷ ys) (suc i) d e below same =
+    omega (
+      arith,
+      sum_by-append w (f x y) (flat_zip f xs ys),
+      sum_by-append w (f x y) (flat_zip f (remove xs i) (remove ys i)),
+      flat_sum-remove w f xs ys i d e (omega arith) (omega arith),
+    )
+
+All-remove : {X : Type 0} (P : X → Type 0) (xs : List X) (i : ℕ) → All P xs → All P (remove xs i)
+All-remove P [] zero h = h
+All-remove P [] (suc i) h = h
+All-remove P (x ∷ xs) zero h = All-tail P x xs h
+All-remove P (x ∷ xs) (suc i) h = All-cons P x (remove xs i) (All-head P x xs h) (All-remove P xs i (All-tail P x xs h))
+
+-- the graph without the task at a place
+abbrev pub task_dropped : Graph → Net → ℕ → Graph
+task_dropped g net place =
+    record {
+      rows = task_gone g.rows place;
+      net = net;
+      hub = g.hub;
+      sink = g.sink;
+      machines = g.machines;
+      jobs = g.jobs;
+      tasks = remove g.tasks place;
+      asked = g.asked;
+    }
+
+abbrev pub task_at : Graph → ℕ → Task
+task_at g place = get_or g.rows.tasks place no_task
+
+abbrev pub wide_of : Graph → ℕ → TaskParts → Span
+wide_of g place parts =
+    record {
+      arc = parts.arcs.wide;
+      tail = parts.node;
+      head = g.hub;
+      cap = 1;
+      cost = cond
+          (is_some (task_at g place).machine) g.rows.limits.churn 0;
+    }
+
+abbrev pub stay_of : Graph → ℕ → TaskParts → Span
+stay_of g place parts =
+    record {
+      arc = parts.arcs.stay;
+      tail = parts.node;
+      head = (target_of g (task_at g place)).home;
+      cap = cond
+          (is_some (task_at g place).machine) 1 0;
+      cost = 0;
+    }
+
+abbrev pub wait_of : Graph → ℕ → TaskParts → Span
+wait_of g place parts =
+    record {
+      arc = parts.arcs.wait;
+      tail = parts.node;
+      head = (target_of g (task_at g place)).owner;
+      cap = 1;
+      cost = (target_of g (task_at g place)).delay + cond (is_some (task_at g place).machine) g.rows.limits.churn 0;
+    }
+
+pub task-start : (g : Graph) (net : Net) (place : ℕ) (parts : TaskParts) → Mirrors g → place < length g.tasks
+    → parts ≡ get_or g.tasks place parts
+    → Holds g.net g.net (graph_nodes g) (wide_of g place parts ∷ stay_of g place parts ∷ wait_of g place parts ∷
+    graph_spans (task_dropped g net place))
+task-start g net place parts is below at =
+    let f = task_spans g.hub g.rows.limits.churn (target_of g) in
+    let rest : List Span = graph_spans (task_dropped g net place) in
+    let s1 : Span = wide_of g place parts in
+    let s2 : Span = stay_of g place parts in
+    let s3 : Span = wait_of g place parts in
+    let here : place < length g.rows.tasks = omega (arith, below, is.tasks) in
+    holds-start g is (s1 ∷ s2 ∷ s3 ∷ rest)
+    (record {
+      weighs = λ w. omega (
+        arith,
+        sum_by-cons w s1 (s2 ∷ s3 ∷ rest),
+        sum_by-cons w s2 (s3 ∷ rest),
+        sum_by-cons w s3 rest,
+        sum_by-cons w s1 (s2 ∷ s3 ∷ []),
+        sum_by-cons w s2 (s3 ∷ []),
+        sum-one w s3,
+        spans-total w g,
+        spans-total w (task_dropped g net place),
+        flat_sum-remove w f g.rows.tasks g.tasks place no_task parts here is.tasks,
+        ap (λ (p : TaskParts). sum_by w (f (task_at g place) p)) at,
+      );
+    })
+
+pub task-nodes : (g : Graph) (net : Net) (place : ℕ) (parts : TaskParts) → place < length g.tasks
+    → parts ≡ get_or g.tasks place parts
+    → (w : NodeId → ℕ) → sum_by w (graph_nodes g) ≡ w parts.node + sum_by w (graph_nodes (task_dropped g net place))
+task-nodes g net place parts below at w =
+    omega (
+      arith,
+      nodes-total w g,
+      nodes-total w (task_dropped g net place),
+      sum_by-remove (λ (p : TaskParts). w p.node) g.tasks place parts below,
+      ap (λ (p : TaskParts). w p.node) at,
+    )
+
+pub task-dropped : (g : Graph) (before after : Net) (place : ℕ) (parts : TaskParts) → Mirrors g
+    → place < length g.tasks → parts ≡ get_or g.tasks place parts
+    → Holds g.net before (graph_nodes g) (graph_spans (task_dropped g after place))
+    → IsEdit before after (parts.node ∷ []) [] [] []
+    → Mirrors (task_dropped g after place)
+task-dropped g before after place parts is below at h edit =
+    let here : place < length g.rows.tasks = omega (arith, below, is.tasks) in
+    record {
+      net = edit.net;
+      nodes = record {
+        weighs = λ w. omega (
+          arith,
+          edit.nodes w,
+          sum-one w parts.node,
+          h.nodes.weighs w,
+          task-nodes g
+              after place parts below at w,
+        );
+      };
+      spans = record { weighs = λ w. omega (arith, edit.spans w, h.spans.weighs w) };
+      slots = is.slots;
+      machines = is.machines;
+      jobs = is.jobs;
+      tasks = omega (arith, is.tasks, length-remove g.tasks place below, length-remove g.rows.tasks place here);
+      node_room = edit.node_room ∙ h.node_room ∙ is.node_room;
+      arc_room = edit.arc_room ∙ h.arc_room ∙ is.arc_room;
+      added = omega (arith, edit.added, h.added, is.added);
+      asked = is.asked;
+    }
+
+Contains-place : {X : Type 0} (xs : List X) (i : ℕ) (x : X) → i < length xs → x ≡ get_or xs i x → Contains xs x
+Contains-place xs i x below at = (i, below, sym at)
+
+-- the node of a task is among the graph's
+pub task-listed : (g : Graph) (place : ℕ) (parts : TaskParts) → place < length g.tasks
+    → parts ≡ get_or g.tasks place parts → Contains (graph_nodes g) parts.node
+task-listed g place parts below at =
+    let n : NodeId = parts.node in
+    let listed : place < length (task_nodes g) = omega (arith, below, length-map g.tasks (λ (p : TaskParts). p.node)) in
+    let own : get_or (task_nodes g) place n ≡ n = get_or-map (λ (p : TaskParts). p.node) g.tasks place parts n below ∙
+    ap (λ (p : TaskParts). p.node) (sym at) in
+    Contains-skip (g.hub ∷ g.sink ∷ machine_nodes g) (job_nodes g ++ task_nodes g) n
+    (Contains-skip (job_nodes g) (task_nodes g) n (place, listed, own))
+
+-- what the net holds once the three arcs of a task were removed
+pub task-unlinked : (g : Graph) (n1 n2 n3 : Net) (place : ℕ) (parts : TaskParts) → Mirrors g → place < length g.tasks
+    → parts ≡ get_or g.tasks place parts
+    → ((row : Row) → row_at g.net parts.arcs.wide ≡ Some row → IsEdit g.net n1 [] [] (span_of parts.arcs.wide row ∷ [])
+    [])
+    → ((row : Row) → row_at n1 parts.arcs.stay ≡ Some row → IsEdit n1 n2 [] [] (span_of parts.arcs.stay row ∷ []) [])
+    → ((row : Row) → row_at n2 parts.arcs.wait ≡ Some row → IsEdit n2 n3 [] [] (span_of parts.arcs.wait row ∷ []) [])
+    → Holds g.net n3 (graph_nodes g) (graph_spans (task_dropped g g.net place))
+task-unlinked g n1 n2 n3 place parts is below at one two three =
+    let rest : List Span = graph_spans (task_dropped g g.net place) in
+    holds-unlinked g.net n2 n3 (graph_nodes g) (wait_of g place parts) rest
+    (holds-unlinked g.net n1 n2 (graph_nodes g) (stay_of g place parts) (wait_of g place parts ∷ rest)
+    (holds-unlinked g.net g.net n1 (graph_nodes g) (wide_of g place parts)
+    (stay_of g place parts ∷ wait_of g place parts ∷ rest)
+    (task-start g g.net place parts is below at) one) two) three
+
+pub task-free : (g : Graph) (now : Net) (place : ℕ) (parts : TaskParts) → place < length g.tasks
+    → parts ≡ get_or g.tasks place parts
+    → Holds g.net now (graph_nodes g) (graph_spans (task_dropped g g.net place)) → IsFree now parts.node
+task-free g now place parts below at h =
+    free g.net now parts.node (graph_nodes g) (task_dropped g g.net place) h (task-nodes g g.net place parts below at)
+    (task-listed g place parts below at)
+
+pub task-said : (g : Graph) (net : Net) (place : ℕ) (rows : TenantRows) (tasks : List TaskParts)
+    → rows ≡ task_gone g.rows place → tasks ≡ remove g.tasks place → Mirrors (task_dropped g net place)
+    → Mirrors (record {
+      rows = rows;
+      net = net;
+      hub = g.hub;
+      sink = g.sink;
+      machines = g.machines;
+      jobs = g.jobs;
+      tasks
+          = tasks;
+      asked = g.asked;
+    })
+task-said g net place rows tasks e f is =
+    let P : TenantRows → List TaskParts → Type 0 =
+    λ (r : TenantRows) (l : List TaskParts). Mirrors
+    (record {
+      rows = r;
+      net = net;
+      hub = g.hub;
+      sink = g.sink;
+      machines = g.machines;
+      jobs = g.jobs;
+      tasks = l;
+      asked = g.asked;
+    }) in
+    subst (λ (r : TenantRows). P r tasks) (sym e)
+    (subst (λ (l : List TaskParts). P (task_gone g.rows place) l) (sym f) is)
+
+-- a step of the loop that removes the arcs of slots
+pub slots-step : (base old new : Net) (ns : List NodeId) (ss : List Span) (node sink : NodeId) (spread i : ℕ)
+    (slots : List ArcId) (d : ArcId) → i < length slots
+    → Holds base old ns (slot_spans node sink spread i (drop i slots) ++ ss)
+    → ((row : Row) → row_at old (get_or slots i d) ≡ Some row → IsEdit old new [] []
+    (span_of (get_or slots i d) row ∷ []) [])
+    → Holds base new ns (slot_spans node sink spread (i + 1) (drop (i + 1) slots) ++ ss)
+slots-step base old new ns ss node sink spread i slots d below h edits =
+    let s : Span = record { arc = get_or slots i d; tail = node; head = sink; cap = 1; cost = i * spread } in
+    let front : drop i slots ≡ get_or slots i d ∷ drop (suc i) slots = drop-cons slots i d below in
+    let next : suc i ≡ i + 1 = omega arith in
+    let was : Holds base old ns (s ∷ slot_spans node sink spread (i + 1) (drop (i + 1) slots) ++ ss) =
+    subst (λ (k : ℕ). Holds base old ns (s ∷ slot_spans node sink spread (i + 1) (drop k slots) ++ ss)) next
+    (subst (λ (l : List ArcId). Holds base old ns (slot_spans node sink spread i l ++ ss)) front h) in
+    holds-unlinked base old new ns s (slot_spans node sink spread (i + 1) (drop (i + 1) slots) ++ ss) was edits
+
+pub slots-end : (base now : Net) (ns : List NodeId) (ss : List Span) (node sink : NodeId) (spread i : ℕ)
+    (slots : List ArcId) → length slots ≤ i
+    → Holds base now ns (slot_spans node sink spread i (drop i slots) ++ ss) → Holds base now ns ss
+slots-end base now ns ss node sink spread i slots all h =
+    subst (λ (l : List ArcId). Holds base now ns (slot_spans node sink spread i l ++ ss)) (past slots i all) h
+  where
+    past : (xs : List ArcId) (k : ℕ) → length xs ≤ k → drop k xs ≡ []
+    past [] zero below = refl
+    past [] (suc k) below = refl
+    past (x ∷ xs) zero below = absurd (omega arith)
+    past (x ∷ xs) (suc k) below = past xs k (omega arith)

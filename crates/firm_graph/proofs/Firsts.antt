@@ -1,0 +1,144 @@
+-- Steps of a loop that changes the elements of a list in turn.
+use Rattle.std.proofs.Common.{◌≡◌, ℕ, zero, suc, ◌+◌, ◌<◌, ◌≤◌, true, false, ⊎_elim, Option, None, List, [], ◌∷◌, map, length, get_or, arith, refl, sym, ap, ap₂, ◌∙◌}
+use Rattle.std.specs.List.{All}
+use Rattle.std.proofs.lemmas.Bool.{cond-true, cond-false, cases_Bool}
+use Rattle.std.proofs.lemmas.List.Elements.{All-nil, All-cons}
+use Rattle.firm_rules.specs.Book.{TenantRows, is_on, evicted}
+use Rattle.firm_rules.specs.Round.{task_after, rows_after, zipped}
+use Rattle.firm_rules.specs.declared.parts.Task.{Task}
+use Rattle.firm_rules.specs.declared.rounds.Choice.{Choice}
+use Rattle.firm_rules.specs.declared.rounds.Choice.TheVariants.{On, Wait}
+use Rattle.firm_graph.specs.Steps.{update_at, placed, with_task_at, changed_first, evicted_first, settled_first, no_task, task_at}
+
+module _ {X : Type 0} (f : ℕ → X → X) where
+  pub length-first : (i n : ℕ) (xs : List X) → length (changed_first f i n xs) ≡ length xs
+  length-first i zero xs = refl
+  length-first i (suc n) [] = refl
+  length-first i (suc n) (x ∷ xs) = omega (arith, length-first (i + 1) n xs)
+
+  -- the next element is as it was
+  pub first-read : (i n : ℕ) (xs : List X) (d : X) → get_or (changed_first f i n xs) n d ≡ get_or xs n d
+  first-read i zero xs d = refl
+  first-read i (suc n) [] d = refl
+  first-read i (suc n) (x ∷ xs) d = first-read (i + 1) n xs d
+
+  first-suc : (i n : ℕ) (xs : List X) (d : X) (g : X → X) → n < length xs → g (get_or xs n d) ≡ f (i + n)
+      (get_or xs n d)
+      → update_at (changed_first f i n xs) n g ≡ changed_first f i (suc n) xs
+  first-suc i n [] d g below e = absurd (omega arith)
+  first-suc i zero (x ∷ xs) d g below e =
+      ap (λ (y : X). y ∷ xs) (e ∙ ap (λ (k : ℕ). f k x) (let z : i + 0 ≡ i = omega arith in z))
+  first-suc i (suc n) (x ∷ xs) d g below e =
+      ap (λ (l : List X). f i x ∷ l)
+      (first-suc (i + 1) n xs d g (omega arith)
+      (e ∙ ap (λ (k : ℕ). f k (get_or xs n d)) (let z : i + suc n ≡ i + 1 + n = omega arith in z)))
+
+  pub first-more : (n : ℕ) (xs : List X) (d : X) (g : X → X) → n < length xs → g (get_or xs n d) ≡ f n (get_or xs n d)
+      → update_at (changed_first f 0 n xs) n g ≡ changed_first f 0 (n + 1) xs
+  first-more n xs d g below e =
+      first-suc 0 n xs d g below (e ∙ ap (λ (k : ℕ). f k (get_or xs n d)) (let z : n ≡ 0 + n = omega arith in z))
+      ∙ ap (λ (k : ℕ). changed_first f 0 k xs) (let z : suc n ≡ n + 1 = omega arith in z)
+
+  stays-suc : (i n : ℕ) (xs : List X) (d : X) → n < length xs → f (i + n) (get_or xs n d) ≡ get_or xs n d
+      → changed_first f i (suc n) xs ≡ changed_first f i n xs
+  stays-suc i n [] d below e = absurd (omega arith)
+  stays-suc i zero (x ∷ xs) d below e =
+      ap (λ (y : X). y ∷ xs) (ap (λ (k : ℕ). f k x) (let z : i ≡ i + 0 = omega arith in z) ∙ e)
+  stays-suc i (suc n) (x ∷ xs) d below e =
+      ap (λ (l : List X). f i x ∷ l)
+      (stays-suc (i + 1) n xs d (omega arith) (ap (λ (k : ℕ). f k (get_or xs n d))
+      (let z : i + 1 + n ≡ i + suc n = omega arith in z) ∙ e))
+
+  pub first-stays : (n : ℕ) (xs : List X) (d : X) → n < length xs → f n (get_or xs n d) ≡ get_or xs n d
+      → changed_first f 0 (n + 1) xs ≡ changed_first f 0 n xs
+  first-stays n xs d below e =
+      ap (λ (k : ℕ). changed_first f 0 k xs) (let z : n + 1 ≡ suc n = omega arith in z)
+      ∙ stays-suc 0 n xs d below (ap (λ (k : ℕ). f k (get_or xs n d)) (let z : 0 + n ≡ n = omega arith in z) ∙ e)
+
+pub first-all : {X : Type 0} (g : X → X) (i n : ℕ) (xs : List X) → length xs ≤ n
+    → changed_first (λ _. g) i n xs ≡ map g xs
+first-all g i zero [] h = refl
+first-all g i zero (x ∷ xs) h = absurd (omega arith)
+first-all g i (suc n) [] h = refl
+first-all {X} g i (suc n) (x ∷ xs) h = ap (λ (l : List X). g x ∷ l) (first-all g (i + 1) n xs (omega arith))
+
+pub first-zipped : {A C : Type 0} (f : A → C → A) (h : ℕ → C) (i n : ℕ) (xs : List A) (cs : List C) (d : C)
+    → length cs ≡ length xs → length xs ≤ n
+    → ((k : ℕ) → k < length cs → h (i + k) ≡ get_or cs k d) → changed_first (λ k x. f x (h k)) i n xs ≡ zipped f xs cs
+first-zipped f h i zero [] [] d e all at = refl
+first-zipped f h i (suc n) [] [] d e all at = refl
+first-zipped f h i n [] (c ∷ cs) d e all at = absurd (omega arith)
+first-zipped f h i n (x ∷ xs) [] d e all at = absurd (omega arith)
+first-zipped f h i zero (x ∷ xs) (c ∷ cs) d e all at = absurd (omega arith)
+first-zipped {A} f h i (suc n) (x ∷ xs) (c ∷ cs) d e all at =
+    let own : h i ≡ c = ap h (let z : i ≡ i + 0 = omega arith in z) ∙ at 0 (omega arith) in
+    ap₂ (λ (y : A) (l : List A). y ∷ l) (ap (f x) own)
+    (first-zipped f h (i + 1) n xs cs d (omega arith) (omega arith)
+    (λ k below. ap h (let z : i + 1 + k ≡ i + suc k = omega arith in z) ∙ at (suc k) (omega (arith, below))))
+
+-- the rows, in a step of the loop that throws tasks out
+pub evict-yes : (rows : TenantRows) (name : List ℕ) (n : ℕ) → n < length rows.tasks
+    → is_on name (task_at rows n).machine ≡ true
+    → with_task_at (evicted_first rows name n) n None 0 ≡ evicted_first rows name (n + 1)
+evict-yes rows name n below t =
+    ap (λ (l : List Task). let s : TenantRows = record rows { tasks = l } in s)
+    (first-more (λ (_ : ℕ). evicted name) n rows.tasks no_task (placed None 0) below
+    (sym (cond-true (is_on name (task_at rows n).machine) (placed None 0 (task_at rows n)) (task_at rows n) t)))
+
+pub evict-no : (rows : TenantRows) (name : List ℕ) (n : ℕ) → n < length rows.tasks
+    → is_on name (task_at rows n).machine ≡ false
+    → evicted_first rows name (n + 1) ≡ evicted_first rows name n
+evict-no rows name n below f =
+    ap (λ (l : List Task). let s : TenantRows = record rows { tasks = l } in s)
+    (first-stays (λ (_ : ℕ). evicted name) n rows.tasks no_task below
+    (cond-false (is_on name (task_at rows n).machine) (placed None 0 (task_at rows n)) (task_at rows n) f))
+
+pub evict-end : (rows : TenantRows) (name : List ℕ) (n : ℕ) → length rows.tasks ≤ n
+    → evicted_first rows name n ≡ record rows { tasks = map (evicted name) rows.tasks }
+evict-end rows name n all =
+    ap (λ (l : List Task). let s : TenantRows = record rows { tasks = l } in s)
+    (first-all (evicted name) 0 n rows.tasks all)
+
+-- no task runs on a machine whose tasks were thrown out
+thrown-out : (name : List ℕ) (task : Task) → is_on name (evicted name task).machine ≡ false
+thrown-out name task = ⊎_elim
+    (λ (t : is_on name task.machine ≡ true). ap (λ (x : Task). is_on name x.machine)
+    (cond-true (is_on name task.machine) (placed None 0 task) task t))
+    (λ (f : is_on name task.machine ≡ false). ap (λ (x : Task). is_on name x.machine)
+    (cond-false (is_on name task.machine) (placed None 0 task) task f) ∙ f)
+    (cases_Bool (is_on name task.machine))
+
+pub all-out : (name : List ℕ) (tasks : List Task)
+    → All (λ task. is_on name task.machine ≡ false) (map (evicted name) tasks)
+all-out name [] = All-nil (λ (t : Task). is_on name t.machine ≡ false)
+all-out name (t ∷ tasks) =
+    All-cons (λ (x : Task). is_on name x.machine ≡ false) (evicted name t) (map (evicted name) tasks)
+    (thrown-out name t) (all-out name tasks)
+
+-- the rows, in a step of the loop that settles a round
+pub settle-step : (rows : TenantRows) (choices : List Choice) (n : ℕ) (choice : Choice) (home : Option (List ℕ))
+    (waited : ℕ) → n < length rows.tasks
+    → get_or choices n Wait ≡ choice
+    → home ≡ (task_after rows (task_at rows n) choice).machine
+    → waited ≡ (task_after rows (task_at rows n) choice).waited
+    → with_task_at (settled_first rows choices n) n home waited ≡ settled_first rows choices (n + 1)
+settle-step rows choices n choice home waited below is h w =
+    let task : Task = task_at rows n in
+    let after : placed home waited task ≡ task_after rows task (get_or choices n Wait) =
+    ap₂ (λ (a : Option (List ℕ)) (b : ℕ). placed a b task) h w ∙ same rows task choice ∙ ap (task_after rows task)
+    (sym is) in
+    ap (λ (l : List Task). let s : TenantRows = record rows { tasks = l } in s)
+    (first-more (λ (i : ℕ) (t : Task). task_after rows t (get_or choices i Wait)) n rows.tasks no_task
+    (placed home waited) below after)
+  where
+    same : (rows : TenantRows) (task : Task) (choice : Choice) → placed (task_after rows task choice).machine
+        (task_after rows task choice).waited task ≡ task_after rows task choice
+    same rows task (On j) = refl
+    same rows task Wait = refl
+
+pub settle-end : (rows : TenantRows) (choices : List Choice) (n : ℕ) → length choices ≡ length rows.tasks
+    → length rows.tasks ≤ n → settled_first rows choices n ≡ rows_after rows choices
+settle-end rows choices n e all =
+    ap (λ (l : List Task). let s : TenantRows = record rows { tasks = l } in s)
+    (first-zipped (task_after rows) (λ (k : ℕ). get_or choices k Wait) 0 n rows.tasks choices Wait e all
+    (λ k below. ap (λ (i : ℕ). get_or choices i Wait) (let z : 0 + k ≡ k = omega arith in z)))

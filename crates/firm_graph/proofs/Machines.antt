@@ -1,0 +1,293 @@
+-- What a graph is once a machine was removed from it.
+use Rattle.std.proofs.Common.{◌≡◌, ℕ, zero, suc, ◌+◌, ◌<◌, Bool, true, false, true≢false, cond, ◌||◌, ⊎_elim, Option, Some, None, List, [], ◌∷◌, ◌++◌, map, length, get_or, bytes_eq, arith, refl, sym, ap, ap₂, ◌∙◌, subst}
+use Rattle.std.specs.List.{sum_by, All, AllZip, Contains, remove, position, position_or_len, list_any}
+use Rattle.std.specs.Prelude.{slice_index_or}
+use Rattle.std.proofs.lemmas.Bool.{cases_Bool, cond-false}
+use Rattle.std.proofs.lemmas.List.{get_or-map, length-map}
+use Rattle.std.proofs.lemmas.List.Sums.{sum_by-append, sum_by-remove, passes_at_first}
+use Rattle.std.proofs.lemmas.List.Edits.{length-remove}
+use Rattle.std.proofs.lemmas.Slice.Eq.{bytes_eq-Decides}
+use Rattle.indexmap.proofs.SetLemmas.{map-remove}
+use Rattle.firm_net.specs.Row.{Row}
+use Rattle.firm_net.specs.Net.{Net, row_at}
+use Rattle.firm_net.specs.declared.row.NodeId.{NodeId}
+use Rattle.firm_rules.specs.Book.{TenantRows, machine_names, job_names, is_on}
+use Rattle.firm_graph.specs.Steps.{machine_gone}
+use Rattle.firm_rules.specs.Names.{is_among}
+use Rattle.firm_rules.specs.declared.parts.Machine.{Machine}
+use Rattle.firm_rules.specs.declared.parts.Task.{Task}
+use Rattle.firm_net.specs.Edits.{Span, span_of, IsEdit}
+use Rattle.firm_graph.specs.Steps.{Holds}
+use Rattle.firm_graph.specs.Parts.{MachineParts}
+use Rattle.firm_graph.specs.Graph.{Graph, Mirrors, machine_spans, slot_spans, Target, target_of, home_node, node_under, weight_under, graph_nodes, graph_spans, machine_nodes, job_nodes, task_nodes}
+use Rattle.firm_graph.proofs.Found.{Contains-skip, Contains-front}
+use Rattle.firm_graph.proofs.Totals.{nodes-total, spans-total, tasks-same, sum-one}
+use Rattle.firm_graph.proofs.Lookups.{position-is}
+use Rattle.firm_graph.proofs.Drops.{holds-start, holds-unlinked, flat_sum-remove, free, IsFree}
+
+or-true : (a b : Bool) → a ≡ true → a || b ≡ true
+or-true a b e = ap (λ (x : Bool). x || b) e
+
+or-false : (a b : Bool) → a ≡ false → a || b ≡ b
+or-false a b e = ap (λ (x : Bool). x || b) e
+
+-- look-ups of another name, once a name is removed
+pub node_under-remove : (names : List (List ℕ)) (nodes : List NodeId) (i : ℕ) (other : NodeId) (name : List ℕ)
+    → length nodes ≡ length names → i < length names
+    → bytes_eq name (get_or names i []) ≡ false
+    → node_under (remove names i) (remove nodes i) other name ≡ node_under names nodes other name
+node_under-remove [] nodes i other name e below f = absurd (omega arith)
+node_under-remove (m ∷ names) [] i other name e below f = absurd (omega arith)
+node_under-remove (m ∷ names) (n ∷ nodes) zero other name e below f =
+    sym (cond-false (bytes_eq name m) n (node_under names nodes other name) f)
+node_under-remove (m ∷ names) (n ∷ nodes) (suc i) other name e below f =
+    ap (λ (x : NodeId). cond (bytes_eq name m) n x)
+    (node_under-remove names nodes i other name (omega arith) (omega arith) f)
+
+pub is_among-remove : (names : List (List ℕ)) (i : ℕ) (name : List ℕ) → i < length names
+    → bytes_eq name (get_or names i []) ≡ false
+    → is_among names name ≡ true → is_among (remove names i) name ≡ true
+is_among-remove [] i name below f h = absurd (omega arith)
+is_among-remove (m ∷ names) zero name below f h =
+    sym (or-false (bytes_eq name m) (list_any (bytes_eq name) names) f) ∙ h
+is_among-remove (m ∷ names) (suc i) name below f h = ⊎_elim
+    (λ (t : bytes_eq name m ≡ true). or-true (bytes_eq name m) (list_any (bytes_eq name) (remove names i)) t)
+    (λ (g : bytes_eq name m ≡ false).
+    or-false (bytes_eq name m) (list_any (bytes_eq name) (remove names i)) g
+    ∙ is_among-remove names i name (omega arith) f
+    (sym (or-false (bytes_eq name m) (list_any (bytes_eq name) names) g) ∙ h))
+    (cases_Bool (bytes_eq name m))
+
+-- the graph without the machine at a place
+abbrev pub machine_dropped : Graph → Net → ℕ → Graph
+machine_dropped g net place =
+    record {
+      rows = machine_gone g.rows place;
+      net = net;
+      hub = g.hub;
+      sink = g.sink;
+      machines = remove g.machines place;
+      jobs = g.jobs;
+      tasks = g.tasks;
+      asked = g.asked;
+    }
+
+-- two names differ either way
+pub bytes_eq-swap : (a b : List ℕ) → bytes_eq a b ≡ false → bytes_eq b a ≡ false
+bytes_eq-swap a b f = ⊎_elim
+    (λ (t : bytes_eq b a ≡ true).
+    let clash : false ≡ true = sym f ∙ (bytes_eq-Decides a b).1 (sym ((bytes_eq-Decides b a).0 t)) in
+    absurd (true≢false (sym clash)))
+    (λ (e : bytes_eq b a ≡ false). e)
+    (cases_Bool (bytes_eq b a))
+
+-- the machine of a name stands at its position
+pub name-at : (names : List (List ℕ)) (name : List ℕ) (place : ℕ) → position (bytes_eq name) names ≡ Some place
+    → (get_or names place [] ≡ name) × (place < length names)
+name-at names name place e =
+    let at = position-is (bytes_eq name) names place e in
+    let below : position_or_len (bytes_eq name) names < length names = omega (arith, at.0, at.1) in
+    let t : bytes_eq name (get_or names place []) ≡ true =
+    ap (λ (k : ℕ). bytes_eq name (get_or names k [])) (sym at.0) ∙ passes_at_first (bytes_eq name) names [] below in
+    (sym ((bytes_eq-Decides name (get_or names place [])).0 t), at.1)
+
+home-elsewhere : (g : Graph) (place : ℕ) (name : List ℕ) (home : Option (List ℕ))
+    → length g.machines ≡ length g.rows.machines
+    → position (bytes_eq name) (machine_names g.rows) ≡ Some place → is_on name home ≡ false
+    → home_node (machine_names (machine_gone g.rows place))
+    (map (λ (p : MachineParts). p.node) (remove g.machines place)) g.hub home
+    ≡ home_node (machine_names g.rows) (machine_nodes g) g.hub home
+home-elsewhere g place name None e at off = refl
+home-elsewhere g place name (Some m) e at off =
+    let n = name-at (machine_names g.rows) name place at in
+    let lengths : length (machine_nodes g) ≡ length (machine_names g.rows) =
+    length-map g.machines (λ (p : MachineParts). p.node) ∙ e ∙ sym
+    (length-map g.rows.machines (λ (j : Machine). j.name)) in
+    ap₂ (λ (ns : List (List ℕ)) (xs : List NodeId). node_under ns xs g.hub m)
+    (map-remove (λ (j : Machine). j.name) g.rows.machines place)
+    (map-remove (λ (p : MachineParts). p.node) g.machines place)
+    ∙ node_under-remove (machine_names g.rows) (machine_nodes g) place g.hub m lengths n.1
+    (ap (λ (x : List ℕ). bytes_eq m x) n.0 ∙ bytes_eq-swap name m off)
+
+AllZip-remove : {A B : Type 0} (R : A → B → Type 0) (xs : List A) (ys : List B) (i : ℕ) → AllZip R xs ys
+    → AllZip R (remove xs i) (remove ys i)
+AllZip-remove R [] [] zero h = h
+AllZip-remove R [] [] (suc i) h = h
+AllZip-remove R [] (y ∷ ys) i h = absurd h
+AllZip-remove R (x ∷ xs) [] i h = absurd h
+AllZip-remove R (x ∷ xs) (y ∷ ys) zero h = h.1
+AllZip-remove R (x ∷ xs) (y ∷ ys) (suc i) h = (h.0, AllZip-remove R xs ys i h.1)
+
+abbrev no_machine : Machine
+no_machine = record { name = []; slots = 0 }
+
+abbrev pub through_of : Graph → ℕ → MachineParts → Span
+through_of g place parts =
+    record {
+      arc = parts.through;
+      tail = g.hub;
+      head = parts.node;
+      cap =
+          (get_or g.rows.machines place no_machine).slots;
+      cost = 0;
+    }
+
+module _ (g : Graph) (net : Net) (place : ℕ) (name : List ℕ) (parts : MachineParts) (is : Mirrors g)
+    (below : place < length g.machines)
+    (at : parts ≡ get_or g.machines place parts) (named : position (bytes_eq name) (machine_names g.rows) ≡ Some place)
+    (off : All (λ task. is_on name task.machine ≡ false) g.rows.tasks) where
+  new : Graph
+  new = machine_dropped g net place
+
+  pub machine-target : All (λ task. target_of (machine_dropped g net place) task ≡ target_of g task) g.rows.tasks
+  machine-target k d here =
+      let task : Task = slice_index_or g.rows.tasks k d in
+      ap (λ (n : NodeId). let t : Target = record {
+        home = n;
+        owner = node_under (job_names g.rows) (job_nodes g) g.hub task.job;
+        delay = weight_under
+            g.rows.jobs task.job + task.waited;
+      } in t)
+      (home-elsewhere g place name task.machine is.machines named (off k d here))
+
+  pub machine-start : Holds g.net g.net (graph_nodes g)
+      (through_of g place parts ∷ slot_spans parts.node g.sink g.rows.limits.spread 0 parts.slots ++ graph_spans
+      (machine_dropped g net place))
+  machine-start =
+      let f = machine_spans g.hub g.sink g.rows.limits.spread in
+      let rest : List Span = graph_spans (machine_dropped g net place) in
+      let slots : List Span = slot_spans parts.node g.sink g.rows.limits.spread 0 parts.slots in
+      let s : Span = through_of g place parts in
+      let here : place < length g.rows.machines = omega (arith, below, is.machines) in
+      holds-start g is (s ∷ slots ++ rest)
+      (record {
+        weighs = λ w. omega (
+          arith,
+          sum_by-append w (s ∷ slots) rest,
+          spans-total w g,
+          spans-total w (machine_dropped g net place),
+          flat_sum-remove w f g.rows.machines g.machines place no_machine parts here is.machines,
+          ap (λ (p : MachineParts). sum_by w (f (get_or g.rows.machines place no_machine) p)) at,
+          tasks-same w g (target_of (machine_dropped g net place)) (target_of g) machine-target,
+        );
+      })
+
+  pub machine-nodes : (w : NodeId → ℕ) → sum_by w (graph_nodes g) ≡ w parts.node + sum_by w
+      (graph_nodes (machine_dropped g net place))
+  machine-nodes w =
+      omega (
+        arith,
+        nodes-total w g,
+        nodes-total w (machine_dropped g net place),
+        sum_by-remove (λ (p : MachineParts). w p.node) g.machines place parts below,
+        ap (λ (p : MachineParts). w p.node) at,
+      )
+
+  pub machine-listed : Contains (graph_nodes g) parts.node
+  machine-listed =
+      let n : NodeId = parts.node in
+      let listed : place < length (machine_nodes g) = omega
+      (arith, below, length-map g.machines (λ (p : MachineParts). p.node)) in
+      let own : get_or (machine_nodes g) place n ≡ n = get_or-map (λ (p : MachineParts). p.node) g.machines place parts
+      n below ∙ ap (λ (p : MachineParts). p.node) (sym at) in
+      Contains-skip (g.hub ∷ g.sink ∷ []) (machine_nodes g ++ (job_nodes g ++ task_nodes g)) n
+      (Contains-front (machine_nodes g) (job_nodes g ++ task_nodes g) n (place, listed, own))
+
+  pub machine-free : (now : Net) → Holds g.net now (graph_nodes g) (graph_spans (machine_dropped g net place)) → IsFree
+      now parts.node
+  machine-free now h = free g.net now parts.node (graph_nodes g) (machine_dropped g net place) h machine-nodes
+      machine-listed
+
+  pub machine-dropped : (before : Net) → Holds g.net before (graph_nodes g) (graph_spans (machine_dropped g net place))
+      → IsEdit before net (parts.node ∷ []) [] [] []
+      → Mirrors (machine_dropped g net place)
+  machine-dropped before h edit =
+      let here : place < length g.rows.machines = omega (arith, below, is.machines) in
+      record {
+        net = edit.net;
+        nodes = record {
+          weighs = λ w. omega (
+            arith,
+            edit.nodes w,
+            sum-one w parts.node,
+            h.nodes.weighs w,
+            machine-nodes w,
+          );
+        };
+        spans = record { weighs = λ w. omega (arith, edit.spans w, h.spans.weighs w) };
+        slots = AllZip-remove (λ (m : Machine) (p : MachineParts). length p.slots ≡ m.slots) g.rows.machines g.machines
+            place is.slots;
+        machines = omega (
+          arith,
+          is.machines,
+          length-remove g.machines place below,
+          length-remove g.rows.machines place
+              here,
+        );
+        jobs = is.jobs;
+        tasks = is.tasks;
+        node_room = edit.node_room ∙ h.node_room ∙ is.node_room;
+        arc_room = edit.arc_room ∙ h.arc_room ∙ is.arc_room;
+        added = omega (arith, edit.added, h.added, is.added);
+        asked = is.asked;
+      }
+
+  pub machine-unlinked : (n1 n2 : Net)
+      → ((row : Row) → row_at g.net parts.through ≡ Some row → IsEdit g.net n1 [] [] (span_of parts.through row ∷ [])
+      [])
+      → ((ns : List NodeId) (ss : List Span) (node sink : NodeId) (spread : ℕ) → Holds n1 n1 ns
+      (slot_spans node sink spread 0 parts.slots ++ ss) → Holds n1 n2 ns ss)
+      → Holds g.net n2 (graph_nodes g) (graph_spans (machine_dropped g net place))
+  machine-unlinked n1 n2 one rest =
+      let slots : List Span = slot_spans parts.node g.sink g.rows.limits.spread 0 parts.slots in
+      let first = holds-unlinked g.net g.net n1 (graph_nodes g) (through_of g place parts)
+      (slots ++ graph_spans (machine_dropped g net place)) machine-start one in
+      let second = rest (graph_nodes g) (graph_spans (machine_dropped g net place)) parts.node g.sink
+      g.rows.limits.spread
+      (record {
+        net = first.net;
+        nodes = first.nodes;
+        spans = first.spans;
+        node_room = refl;
+        arc_room = refl;
+        added =
+            omega arith;
+      }) in
+      record {
+        net = second.net;
+        nodes = second.nodes;
+        spans = second.spans;
+        node_room = second.node_room ∙ first.node_room;
+        arc_room = second.arc_room ∙ first.arc_room;
+        added = omega (arith, second.added, first.added);
+      }
+
+pub machine-said : (g : Graph) (net : Net) (place : ℕ) (rows : TenantRows) (machines : List MachineParts)
+    → rows ≡ machine_gone g.rows place → machines ≡ remove g.machines place → Mirrors (machine_dropped g net place)
+    → Mirrors (record {
+      rows = rows;
+      net = net;
+      hub = g.hub;
+      sink = g.sink;
+      machines = machines;
+      jobs = g.jobs;
+      tasks =
+          g.tasks;
+      asked = g.asked;
+    })
+machine-said g net place rows machines e f is =
+    let P : TenantRows → List MachineParts → Type 0 =
+    λ (r : TenantRows) (l : List MachineParts). Mirrors
+    (record {
+      rows = r;
+      net = net;
+      hub = g.hub;
+      sink = g.sink;
+      machines = l;
+      jobs = g.jobs;
+      tasks = g.tasks;
+      asked
+          = g.asked;
+    }) in
+    subst (λ (r : TenantRows). P r machines) (sym e)
+    (subst (λ (l : List MachineParts). P (machine_gone g.rows place) l) (sym f) is)

@@ -1,0 +1,69 @@
+-- What the calls of a net take away and bring.
+use Rattle.std.proofs.Common.{◌≡◌, ℕ, suc, ◌*◌, ◌++◌, length-append, ◌+◌, ◌<◌, Some, List, [], ◌∷◌, map, length, arith, refl, sym, ap, ◌∙◌}
+use Rattle.std.specs.List.{sum_by}
+use Rattle.std.proofs.lemmas.List.Sums.{sum_by_push, sum_by-cons}
+use Rattle.firm_arena.specs.Arena.{entries, capacity_of}
+use Rattle.firm_arena.specs.declared.Id.{Id}
+use Rattle.firm_net.specs.Row.{Row}
+use Rattle.firm_net.specs.Net.{Net, Lists, row_at}
+use Rattle.firm_net.specs.declared.row.NodeId.{NodeId}
+use Rattle.firm_net.specs.declared.row.ArcId.{ArcId}
+use Rattle.firm_graph.specs.Graph.{slot_spans}
+use Rattle.firm_net.specs.Edits.{Span, span_of, nodes_of, spans_of, IsEdit}
+use Rattle.firm_arena.specs.Laws.{found_within}
+use Rattle.firm_arena.specs.Changes.{some-is}
+
+pub sum-map : {A B : Type 0} (f : B → ℕ) (g : A → B) (xs : List A) → sum_by f (map g xs) ≡ sum_by (λ x. f (g x)) xs
+sum-map f g [] = refl
+sum-map f g (x ∷ xs) =
+    sum_by-cons f (g x) (map g xs) ∙ ap (λ (n : ℕ). f (g x) + n) (sum-map f g xs) ∙ sym
+    (sum_by-cons (λ y. f (g y)) x xs)
+
+-- what an entry weighs as a node, and as an arc apart from its flow
+abbrev pub node_weight : (NodeId → ℕ) → Id × Lists → ℕ
+node_weight w e = w (record { id = e.0 })
+
+abbrev pub span_weight : (Span → ℕ) → Id × Row → ℕ
+span_weight w e = w (span_of (record { id = e.0 }) e.1)
+
+pub nodes-sum : (w : NodeId → ℕ) (net : Net) → sum_by w (nodes_of net) ≡ sum_by (node_weight w) (entries net.nodes)
+nodes-sum w net = sum-map w (λ (e : Id × Lists). let n : NodeId = record { id = e.0 } in n) (entries net.nodes)
+
+pub spans-sum : (w : Span → ℕ) (net : Net) → sum_by w (spans_of net) ≡ sum_by (span_weight w) (entries net.arcs)
+spans-sum w net = sum-map w (λ (e : Id × Row). span_of (record { id = e.0 }) e.1) (entries net.arcs)
+
+one : {X : Type 0} (w : X → ℕ) (x : X) → sum_by w (x ∷ []) ≡ w x
+one w x = sum_by-cons w x [] ∙ (let e : w x + 0 ≡ w x = omega arith in e)
+
+-- an arc that is there lies at its place
+pub arc-below : (net : Net) (a : ArcId) (row : Row) → row_at net a ≡ Some row → a.id.place < capacity_of net.arcs
+arc-below net a row there = found_within net.arcs a.id (some-is (row_at net a) row there)
+
+-- one arc more after an edit that brings arcs
+pub edit-more : (a b c : Net) (ss : List Span) (s : Span) → IsEdit a b [] [] [] ss → IsEdit b c [] [] [] (s ∷ [])
+    → IsEdit a c [] [] [] (ss ++ s ∷ [])
+edit-more a b c ss s before more =
+    record {
+      nodes = λ w. omega (arith, before.nodes w, more.nodes w);
+      spans = λ w. omega (arith, before.spans w, more.spans w, one w s, sum_by_push w ss s);
+      counted_nodes = omega (arith, before.counted_nodes, more.counted_nodes);
+      counted_arcs = omega (arith, before.counted_arcs, more.counted_arcs, length-append ss (s ∷ []));
+      node_room = more.node_room ∙ before.node_room;
+      arc_room = more.arc_room ∙ before.arc_room;
+      added = omega (arith, before.added, more.added, length-append ss (s ∷ []));
+      net = more.net;
+    }
+
+pub slots-push : (node sink : NodeId) (spread k : ℕ) (slots : List ArcId) (arc : ArcId)
+    → slot_spans node sink spread k (slots ++ arc ∷ []) ≡ slot_spans node sink spread k slots ++ record
+    { arc = arc; tail = node; head = sink; cap = 1; cost = (k + length slots) * spread } ∷ []
+slots-push node sink spread k [] arc =
+    ap (λ (n : ℕ). let s : Span = record { arc = arc; tail = node; head = sink; cap = 1; cost = n * spread } in s ∷ [])
+    (let e : k ≡ k + 0 = omega arith in e)
+slots-push node sink spread k (a ∷ slots) arc =
+    ap (λ (l : List Span). let s : Span = record { arc = a; tail = node; head = sink; cap = 1; cost = k * spread } in s
+    ∷ l)
+    (slots-push node sink spread (k + 1) slots arc
+    ∙ ap (λ (n : ℕ). let s : Span = record { arc = arc; tail = node; head = sink; cap = 1; cost = n * spread } in
+    slot_spans node sink spread (k + 1) slots ++ s ∷ [])
+    (let e : k + 1 + length slots ≡ k + suc (length slots) = omega arith in e))

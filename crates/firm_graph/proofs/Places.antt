@@ -1,0 +1,435 @@
+-- What a graph is once it is said anew where a task runs.
+use Rattle.std.proofs.Common.{◌≡◌, ◌≢◌, ℕ, zero, suc, ◌+◌, ◌<◌, ◌≤◌, true, false, cond, is_some, ⊎_elim, Option, Some, None, List, [], ◌∷◌, ◌++◌, length, get_or, bytes_eq, arith, refl, sym, ap, ap₂, ◌∙◌, subst}
+use Rattle.std.specs.List.{sum_by, All, Contains, remove}
+use Rattle.std.proofs.lemmas.Bool.{cases_Bool, cond-true, cond-false}
+use Rattle.std.proofs.lemmas.List.Sums.{sum_by-cons, sum_by-append, sum_by-remove}
+use Rattle.std.proofs.lemmas.List.Elements.{All-head, All-tail, All-cons}
+use Rattle.firm_net.specs.Row.{Row}
+use Rattle.firm_net.specs.Net.{Net, IsNode, HasOtherTail, row_at, added_of}
+use Rattle.firm_net.specs.declared.row.NodeId.{NodeId}
+use Rattle.firm_net.specs.declared.row.ArcId.{ArcId}
+use Rattle.firm_rules.specs.Book.{TenantRows, machine_names}
+use Rattle.firm_graph.specs.Steps.{update_at, placed, with_task_at, no_task}
+use Rattle.firm_rules.specs.declared.parts.Task.{Task}
+use Rattle.firm_net.specs.Edits.{Span, span_of, nodes_of, AsOften, IsEdit}
+use Rattle.firm_graph.specs.Steps.{Holds}
+use Rattle.firm_graph.specs.Parts.{MachineParts}
+use Rattle.firm_graph.specs.declared.parts.TaskParts.{TaskParts}
+use Rattle.firm_graph.specs.Graph.{Graph, Mirrors, flat_zip, task_spans, target_of, home_node, node_under, weight_under, graph_nodes, graph_spans, machine_nodes, job_nodes, task_nodes}
+use Rattle.firm_graph.proofs.NetEdits.{sum-map}
+use Rattle.firm_graph.proofs.Found.{ones, same_id-refl, node-there, Contains-front}
+use Rattle.firm_graph.proofs.Totals.{nodes-total, spans-total, sum-one}
+use Rattle.firm_graph.proofs.Drops.{holds-row, task-start, task_dropped, task_at, wide_of, stay_of, wait_of, is_node, node-once, home-weight}
+
+pub length-updated : {X : Type 0} (xs : List X) (place : ℕ) (f : X → X) → length (update_at xs place f) ≡ length xs
+length-updated [] place f = refl
+length-updated (x ∷ xs) zero f = refl
+length-updated (x ∷ xs) (suc place) f = omega (arith, length-updated xs place f)
+
+All-updated : {X : Type 0} (P : X → Type 0) (xs : List X) (i : ℕ) (f : X → X) → All P xs → ((x : X) → P x → P (f x))
+    → All P (update_at xs i f)
+All-updated P [] i f h step = h
+All-updated P (x ∷ xs) zero f h step = All-cons P (f x) xs (step x (All-head P x xs h)) (All-tail P x xs h)
+All-updated P (x ∷ xs) (suc i) f h step =
+    All-cons P x (update_at xs i f) (All-head P x xs h) (All-updated P xs i f (All-tail P x xs h) step)
+
+flat_sum-update : {A B C : Type 0} (w : C → ℕ) (f : A → B → List C) (h : A → A) (xs : List A) (ys : List B) (i : ℕ)
+    (d : A) (e : B) → i < length xs → length ys ≡ length xs
+    → sum_by w (flat_zip f (update_at xs i h) ys) ≡ sum_by w (flat_zip f (remove xs i) (remove ys i)) + sum_by w
+    (f (h (get_or xs i d)) (get_or ys i e))
+flat_sum-update w f h [] ys i d e below same = absurd (omega arith)
+flat_sum-update w f h (x ∷ xs) [] i d e below same = absurd (omega arith)
+flat_sum-update w f h (x ∷ xs) (y ∷ ys) zero d e below same =
+    omega (arith, sum_by-append w (f (h x) y) (flat_zip f xs ys))
+flat_sum-update w f h (x ∷ xs) (y ∷ ys) (suc i) d e below same =
+    omega (
+      arith,
+      sum_by-append w (f x y) (flat_zip f (update_at xs i h) ys),
+      sum_by-append w (f x y) (flat_zip f (remove xs i) (remove ys i)),
+      flat_sum-update w f h xs ys i d e (omega arith) (omega arith),
+    )
+
+-- a net in which one arc was changed
+pub holds-changed : (base old new : Net) (ns : List NodeId) (s t : Span) (ss : List Span) → Holds base old ns (s ∷ ss)
+    → IsEdit old new [] [] (s ∷ []) (t ∷ []) → added_of new ≤ added_of old → Holds base new ns (t ∷ ss)
+holds-changed base old new ns s t ss h edit none =
+    record {
+      net = edit.net;
+      nodes = record { weighs = λ w. omega (arith, edit.nodes w, h.nodes.weighs w) };
+      spans = record {
+        weighs = λ w. omega (
+          arith,
+          edit.spans w,
+          h.spans.weighs w,
+          sum-one w s,
+          sum-one w t,
+          sum_by-cons w s ss,
+          sum_by-cons w t ss,
+        );
+      };
+      node_room = edit.node_room ∙ h.node_room;
+      arc_room = edit.arc_room ∙ h.arc_room;
+      added = omega (arith, none, h.added);
+    }
+
+pub holds-swap : (base now : Net) (ns : List NodeId) (s t : Span) (ss : List Span) → Holds base now ns (s ∷ t ∷ ss)
+    → Holds base now ns (t ∷ s ∷ ss)
+holds-swap base now ns s t ss h =
+    record {
+      net = h.net;
+      nodes = h.nodes;
+      spans = record {
+        weighs = λ w. omega (
+          arith,
+          h.spans.weighs w,
+          sum_by-cons w s (t ∷ ss),
+          sum_by-cons w t ss,
+          sum_by-cons w t (s ∷ ss),
+          sum_by-cons w s ss,
+        );
+      };
+      node_room = h.node_room;
+      arc_room = h.arc_room;
+      added = h.added;
+    }
+
+pub holds-back : (base now : Net) (ns : List NodeId) (s t u : Span) (ss : List Span)
+    → Holds base now ns (s ∷ t ∷ u ∷ ss) → Holds base now ns (u ∷ s ∷ t ∷ ss)
+holds-back base now ns s t u ss h =
+    record {
+      net = h.net;
+      nodes = h.nodes;
+      spans = record {
+        weighs = λ w. omega (
+          arith,
+          h.spans.weighs w,
+          sum_by-cons w s (t ∷ u ∷ ss),
+          sum_by-cons w t (u ∷ ss),
+          sum_by-cons w u ss,
+          sum_by-cons w u (s ∷ t ∷ ss),
+          sum_by-cons w s (t ∷ ss),
+          sum_by-cons w t ss,
+        );
+      };
+      node_room = h.node_room;
+      arc_room = h.arc_room;
+      added = h.added;
+    }
+
+-- an arc's numbers, and its head, said anew
+abbrev pub rated : ℕ → ℕ → Span → Span
+rated cap cost s = record { arc = s.arc; tail = s.tail; head = s.head; cap = cap; cost = cost }
+
+abbrev pub led : NodeId → Span → Span
+led head s = record { arc = s.arc; tail = s.tail; head = head; cap = s.cap; cost = s.cost }
+
+pub holds-rated : (base old new : Net) (ns : List NodeId) (s : Span) (ss : List Span) (cap cost : ℕ)
+    → Holds base old ns (s ∷ ss)
+    → ((row : Row) → row_at old s.arc ≡ Some row → IsEdit old new [] [] (span_of s.arc row ∷ [])
+    (record { arc = s.arc; tail = row.tail; head = row.head; cap = cap; cost = cost } ∷ []))
+    → added_of new ≤ added_of old → Holds base new ns (rated cap cost s ∷ ss)
+holds-rated base old new ns s ss cap cost h edits none =
+    let r = holds-row base old ns s ss h in
+    let P : Span → Type 0 = λ (t : Span). IsEdit old new [] [] (t ∷ [])
+    (record { arc = s.arc; tail = t.tail; head = t.head; cap = cap; cost = cost } ∷ []) in
+    holds-changed base old new ns s (rated cap cost s) ss h (subst P r.is (edits r.row r.there)) none
+
+pub holds-led : (base old new : Net) (ns : List NodeId) (s : Span) (ss : List Span) (head : NodeId)
+    → Holds base old ns (s ∷ ss)
+    → ((row : Row) → row_at old s.arc ≡ Some row → IsEdit old new [] [] (span_of s.arc row ∷ [])
+    (record { arc = s.arc; tail = row.tail; head = head; cap = row.cap; cost = row.cost } ∷ []))
+    → added_of new ≤ added_of old → Holds base new ns (led head s ∷ ss)
+holds-led base old new ns s ss head h edits none =
+    let r = holds-row base old ns s ss h in
+    let P : Span → Type 0 = λ (t : Span). IsEdit old new [] [] (t ∷ [])
+    (record { arc = s.arc; tail = t.tail; head = head; cap = t.cap; cost = t.cost } ∷ []) in
+    holds-changed base old new ns s (led head s) ss h (subst P r.is (edits r.row r.there)) none
+
+pub holds-tail : (base now : Net) (ns : List NodeId) (s : Span) (ss : List Span) (n : NodeId)
+    → Holds base now ns (s ∷ ss) → s.tail ≢ n → HasOtherTail (row_at now s.arc) n
+holds-tail base now ns s ss n h other =
+    let r = holds-row base now ns s ss h in
+    let P : Option Row → Type 0 = λ (o : Option Row). HasOtherTail o n in
+    let e : r.row.tail ≡ s.tail = ap (λ (t : Span). t.tail) r.is in
+    subst P (sym r.there) (λ f. other (sym e ∙ f))
+
+-- a task's home is there, and is not the task's own node
+under-listed : (names : List (List ℕ)) (nodes : List NodeId) (other : NodeId) (name : List ℕ)
+    → Contains (other ∷ nodes) (node_under names nodes other name)
+under-listed [] nodes other name = (0, omega arith, refl)
+under-listed (n ∷ names) [] other name = (0, omega arith, refl)
+under-listed (n ∷ names) (node ∷ nodes) other name = ⊎_elim
+    (λ (t : bytes_eq name n ≡ true).
+    let e : node_under (n ∷ names) (node ∷ nodes) other name ≡ node = cond-true (bytes_eq name n) node
+    (node_under names nodes other name) t in
+    subst (Contains (other ∷ node ∷ nodes)) (sym e) (1, omega arith, refl))
+    (λ (f : bytes_eq name n ≡ false).
+    let e : node_under (n ∷ names) (node ∷ nodes) other name ≡ node_under names nodes other name = cond-false
+    (bytes_eq name n) node (node_under names nodes other name) f in
+    subst (Contains (other ∷ node ∷ nodes)) (sym e)
+    (skip other node nodes (node_under names nodes other name) (under-listed names nodes other name)))
+    (cases_Bool (bytes_eq name n))
+  where
+    skip-at : (other node : NodeId) (nodes : List NodeId) (x : NodeId) (k : ℕ) → k < length (other ∷ nodes) → get_or
+        (other ∷ nodes) k x ≡ x → Contains (other ∷ node ∷ nodes) x
+    skip-at other node nodes x zero below at = (0, omega arith, at)
+    skip-at other node nodes x (suc k) below at = (suc (suc k), omega (arith, below), at)
+
+    skip : (other node : NodeId) (nodes : List NodeId) (x : NodeId) → Contains (other ∷ nodes) x → Contains
+        (other ∷ node ∷ nodes) x
+    skip other node nodes x c = skip-at other node nodes x c.0 c.1 c.2
+
+home-listed : (names : List (List ℕ)) (nodes : List NodeId) (hub : NodeId) (home : Option (List ℕ))
+    → Contains (hub ∷ nodes) (home_node names nodes hub home)
+home-listed names nodes hub None = (0, omega arith, refl)
+home-listed names nodes hub (Some name) = under-listed names nodes hub name
+
+spread-at : (hub sink : NodeId) (nodes rest : List NodeId) (x : NodeId) (k : ℕ) → k < length (hub ∷ nodes)
+    → get_or (hub ∷ nodes) k x ≡ x → Contains (hub ∷ sink ∷ nodes ++ rest) x
+spread-at hub sink nodes rest x zero below at = (0, omega arith, at)
+spread-at hub sink nodes rest x (suc k) below at =
+    let front : Contains (nodes ++ rest) x = Contains-front nodes rest x (k, omega (arith, below), at) in
+    (suc (suc front.0), omega (arith, front.1), front.2)
+
+pub home-there : (g : Graph) (net : Net) (home : Option (List ℕ)) → AsOften (nodes_of net) (graph_nodes g)
+    → IsNode net (home_node (machine_names g.rows) (machine_nodes g) g.hub home)
+home-there g net home often =
+    let c = home-listed (machine_names g.rows) (machine_nodes g) g.hub home in
+    let n : NodeId = home_node (machine_names g.rows) (machine_nodes g) g.hub home in
+    node-there net (graph_nodes g) n often (spread-at g.hub g.sink (machine_nodes g) (job_nodes g ++ task_nodes g) n
+    c.0 c.1 c.2)
+
+pub home-other : (g : Graph) (place : ℕ) (parts : TaskParts) (home : Option (List ℕ)) → Mirrors g
+    → place < length g.tasks → parts ≡ get_or g.tasks place parts
+    → parts.node ≢ home_node (machine_names g.rows) (machine_nodes g) g.hub home
+home-other g place parts home is below at e =
+    let n : NodeId = parts.node in
+    let w : NodeId → ℕ = is_node n in
+    let own : w n ≡ ones true = ap ones (same_id-refl n.id) in
+    let there : w (home_node (machine_names g.rows) (machine_nodes g) g.hub home) ≡ w n = ap w (sym e) in
+    absurd (omega (
+      arith,
+      own,
+      there,
+      node-once g.net (graph_nodes g) n is.nodes,
+      nodes-total w g,
+      home-weight w (machine_names g.rows) (machine_nodes g) g.hub home,
+      sum-map w (λ (p : MachineParts). p.node) g.machines,
+      sum_by-remove (λ (p : TaskParts). w p.node) g.tasks place parts below,
+      ap (λ (p : TaskParts). w p.node) at,
+    ))
+
+-- the graph with a task said anew
+abbrev pub task_placed : Graph → Net → ℕ → Option (List ℕ) → ℕ → Graph
+task_placed g net place home waited =
+    record {
+      rows = with_task_at g.rows place home waited;
+      net = net;
+      hub = g.hub;
+      sink = g.sink;
+      machines = g.machines;
+      jobs = g.jobs;
+      tasks = g.tasks;
+      asked = g.asked;
+    }
+
+abbrev pub wide_to : Graph → Option (List ℕ) → TaskParts → Span
+wide_to g home parts =
+    record {
+      arc = parts.arcs.wide;
+      tail = parts.node;
+      head = g.hub;
+      cap = 1;
+      cost = cond (is_some home)
+          g.rows.limits.churn 0;
+    }
+
+abbrev pub stay_to : Graph → Option (List ℕ) → TaskParts → Span
+stay_to g home parts =
+    record {
+      arc = parts.arcs.stay;
+      tail = parts.node;
+      head = home_node (machine_names g.rows) (machine_nodes g) g.hub
+          home;
+      cap = cond (is_some home) 1 0;
+      cost = 0;
+    }
+
+abbrev pub wait_to : Graph → ℕ → Option (List ℕ) → ℕ → TaskParts → Span
+wait_to g place home waited parts =
+    record {
+      arc = parts.arcs.wait;
+      tail = parts.node;
+      head = (target_of g (task_at g place)).owner;
+      cap = 1;
+      cost = weight_under g.rows.jobs (task_at g place).job + waited + cond (is_some home) g.rows.limits.churn 0;
+    }
+
+pub task-placed : (g : Graph) (after : Net) (place : ℕ) (parts : TaskParts) (home : Option (List ℕ)) (waited : ℕ)
+    → Mirrors g
+    → place < length g.tasks → parts ≡ get_or g.tasks place parts
+    → Holds g.net after (graph_nodes g) (wide_to g home parts ∷ stay_to g home parts ∷ wait_to g place home waited
+    parts ∷ graph_spans (task_dropped g g.net place))
+    → Mirrors (task_placed g after place home waited)
+task-placed g after place parts home waited is below at h =
+    let new : Graph = task_placed g after place home waited in
+    let f = task_spans g.hub g.rows.limits.churn (target_of g) in
+    let rest : List Span = graph_spans (task_dropped g g.net place) in
+    let s1 : Span = wide_to g home parts in
+    let s2 : Span = stay_to g home parts in
+    let s3 : Span = wait_to g place home waited parts in
+    let here : place < length g.rows.tasks = omega (arith, below, is.tasks) in
+    let said : Task → Task = placed home waited in
+    record {
+      net = h.net;
+      nodes = h.nodes;
+      spans = record {
+        weighs = λ w. omega (
+          arith,
+          h.spans.weighs w,
+          sum_by-cons w s1 (s2 ∷ s3 ∷ rest),
+          sum_by-cons w s2 (s3 ∷ rest),
+          sum_by-cons w s3 rest,
+          sum_by-cons w s1 (s2 ∷ s3 ∷ []),
+          sum_by-cons w s2 (s3 ∷ []),
+          sum-one w s3,
+          spans-total w new,
+          spans-total w (task_dropped g g.net place),
+          flat_sum-update w f said g.rows.tasks g.tasks place no_task parts here is.tasks,
+          ap (λ (p : TaskParts). sum_by w (f (said (task_at g place)) p)) at,
+        );
+      };
+      slots = is.slots;
+      machines = is.machines;
+      jobs = is.jobs;
+      tasks = omega (arith, is.tasks, length-updated g.rows.tasks place said);
+      node_room = h.node_room ∙ is.node_room;
+      arc_room = h.arc_room ∙ is.arc_room;
+      added = omega (arith, h.added, is.added);
+      asked = is.asked;
+    }
+
+-- what an edit says that changes the numbers of an arc, or its head
+abbrev pub Rates : Net → Net → ArcId → ℕ → ℕ → Type 0
+Rates old new arc cap cost = (row : Row) → row_at old arc ≡ Some row
+    → IsEdit old new [] [] (span_of arc row ∷ [])
+    (record { arc = arc; tail = row.tail; head = row.head; cap = cap; cost = cost } ∷ [])
+
+abbrev pub Leads : Net → Net → ArcId → NodeId → Type 0
+Leads old new arc head = (row : Row) → row_at old arc ≡ Some row
+    → IsEdit old new [] [] (span_of arc row ∷ [])
+    (record { arc = arc; tail = row.tail; head = head; cap = row.cap; cost = row.cost } ∷ [])
+
+-- what the net holds at each step of the change
+abbrev pub rest_of : Graph → ℕ → List Span
+rest_of g place = graph_spans (task_dropped g g.net place)
+
+pub step-1 : (g : Graph) (place : ℕ) (parts : TaskParts) (n1 : Net) (leaving : ℕ) → Mirrors g
+    → place < length g.tasks → parts ≡ get_or g.tasks place parts
+    → Rates g.net n1 parts.arcs.wide 1 leaving → added_of n1 ≤ added_of g.net
+    → Holds g.net n1 (graph_nodes g) (stay_of g place parts ∷ rated 1 leaving (wide_of g place parts) ∷ wait_of g place
+    parts ∷ rest_of g place)
+step-1 g place parts n1 leaving is below at edit none =
+    holds-swap g.net n1 (graph_nodes g) (rated 1 leaving (wide_of g place parts)) (stay_of g place parts)
+    (wait_of g place parts ∷ rest_of g place)
+    (holds-rated g.net g.net n1 (graph_nodes g) (wide_of g place parts)
+    (stay_of g place parts ∷ wait_of g place parts ∷ rest_of g place) 1 leaving
+    (task-start g g.net place parts is below at) edit none)
+
+pub step-2 : (g : Graph) (place : ℕ) (parts : TaskParts) (n1 n2 : Net) (leaving cap : ℕ)
+    → Holds g.net n1 (graph_nodes g) (stay_of g place parts ∷ rated 1 leaving (wide_of g place parts) ∷ wait_of g place
+    parts ∷ rest_of g place)
+    → Rates n1 n2 parts.arcs.stay cap 0 → added_of n2 ≤ added_of n1
+    → Holds g.net n2 (graph_nodes g) (rated cap 0 (stay_of g place parts) ∷ rated 1 leaving (wide_of g place parts) ∷
+    wait_of g place parts ∷ rest_of g place)
+step-2 g place parts n1 n2 leaving cap h edit none =
+    holds-rated g.net n1 n2 (graph_nodes g) (stay_of g place parts)
+    (rated 1 leaving (wide_of g place parts) ∷ wait_of g place parts ∷ rest_of g place) cap 0 h edit none
+
+pub step-3 : (g : Graph) (place : ℕ) (parts : TaskParts) (n2 n3 : Net) (leaving cap : ℕ) (node : NodeId)
+    → Holds g.net n2 (graph_nodes g) (rated cap 0 (stay_of g place parts) ∷ rated 1 leaving (wide_of g place parts) ∷
+    wait_of g place parts ∷ rest_of g place)
+    → Leads n2 n3 parts.arcs.stay node → added_of n3 ≤ added_of n2
+    → Holds g.net n3 (graph_nodes g) (wait_of g place parts ∷ led node (rated cap 0 (stay_of g place parts)) ∷ rated 1
+    leaving (wide_of g place parts) ∷ rest_of g place)
+step-3 g place parts n2 n3 leaving cap node h edit none =
+    holds-back g.net n3 (graph_nodes g) (led node (rated cap 0 (stay_of g place parts)))
+    (rated 1 leaving (wide_of g place parts)) (wait_of g place parts) (rest_of g place)
+    (holds-led g.net n2 n3 (graph_nodes g) (rated cap 0 (stay_of g place parts))
+    (rated 1 leaving (wide_of g place parts) ∷ wait_of g place parts ∷ rest_of g place) node h edit none)
+
+pub step-4 : (g : Graph) (place : ℕ) (parts : TaskParts) (n3 n4 : Net) (home : Option (List ℕ)) (node : NodeId)
+    (waited leaving cap weight : ℕ)
+    → Holds g.net n3 (graph_nodes g) (wait_of g place parts ∷ led node (rated cap 0 (stay_of g place parts)) ∷ rated 1
+    leaving (wide_of g place parts) ∷ rest_of g place)
+    → Rates n3 n4 parts.arcs.wait 1 (weight + waited + leaving) → added_of n4 ≤ added_of n3
+    → node ≡ home_node (machine_names g.rows) (machine_nodes g) g.hub home
+    → leaving ≡ cond (is_some home) g.rows.limits.churn 0 → cap ≡ cond (is_some home) 1 0
+    → weight ≡ weight_under g.rows.jobs (task_at g place).job
+    → Holds g.net n4 (graph_nodes g) (wide_to g home parts ∷ stay_to g home parts ∷ wait_to g place home waited parts ∷
+    rest_of g place)
+step-4 g place parts n3 n4 home node waited leaving cap weight h edit none node_is leaving_is cap_is weight_is =
+    let was = holds-rated g.net n3 n4 (graph_nodes g) (wait_of g place parts)
+    (led node (rated cap 0 (stay_of g place parts)) ∷ rated 1 leaving (wide_of g place parts) ∷ rest_of g place) 1
+    (weight + waited + leaving) h edit none in
+    let s1 : Span = rated 1 leaving (wide_of g place parts) in
+    let s2 : Span = led node (rated cap 0 (stay_of g place parts)) in
+    let s3 : Span = rated 1 (weight + waited + leaving) (wait_of g place parts) in
+    let t1 : Span = wide_to g home parts in
+    let t2 : Span = stay_to g home parts in
+    let t3 : Span = wait_to g place home waited parts in
+    let rest : List Span = rest_of g place in
+    let e1 : s1 ≡ t1 = ap (λ (c : ℕ). rated 1 c (wide_of g place parts)) leaving_is in
+    let e2 : s2 ≡ t2 = ap₂ (λ (n : NodeId) (c : ℕ). led n (rated c 0 (stay_of g place parts))) node_is cap_is in
+    let e3 : s3 ≡ t3 = ap₂ (λ (a b : ℕ). rated 1 (a + waited + b) (wait_of g place parts)) weight_is leaving_is in
+    record {
+      net = was.net;
+      nodes = was.nodes;
+      spans = record {
+        weighs = λ w. omega (
+          arith,
+          was.spans.weighs w,
+          ap w e1,
+          ap w e2,
+          ap w e3,
+          sum_by-cons w s3 (s2 ∷ s1 ∷ rest),
+          sum_by-cons w s2 (s1 ∷ rest),
+          sum_by-cons w s1 rest,
+          sum_by-cons w t1 (t2 ∷ t3 ∷ rest),
+          sum_by-cons w t2 (t3 ∷ rest),
+          sum_by-cons w t3 rest,
+        );
+      };
+      node_room = was.node_room;
+      arc_room = was.arc_room;
+      added = was.added;
+    }
+
+pub placed-said : (g : Graph) (net : Net) (place : ℕ) (home : Option (List ℕ)) (waited : ℕ) (rows : TenantRows)
+    → rows ≡ with_task_at g.rows place home waited
+    → Mirrors (task_placed g net place home waited)
+    → Mirrors (record {
+      rows = rows;
+      net = net;
+      hub = g.hub;
+      sink = g.sink;
+      machines = g.machines;
+      jobs = g.jobs;
+      tasks
+          = g.tasks;
+      asked = g.asked;
+    })
+placed-said g net place home waited rows e is =
+    let P : TenantRows → Type 0 = λ (r : TenantRows). Mirrors
+    (record {
+      rows = r;
+      net = net;
+      hub = g.hub;
+      sink = g.sink;
+      machines = g.machines;
+      jobs = g.jobs;
+      tasks =
+          g.tasks;
+      asked = g.asked;
+    }) in
+    subst P (sym e) is

@@ -1,0 +1,459 @@
+-- The net of a graph shows the network of the case of its rows.
+use Rattle.std.proofs.Common.{◌≡◌, ℕ, zero, suc, ◌+◌, ◌*◌, ◌<◌, ◌≤◌, ◌==◌, Bool, true, false, not, cond, ◌||◌, inl, inr, ⊎_elim, Option, Some, None, IfSome, List, [], ◌∷◌, ◌++◌, map, length, get_or, bytes_eq, arith, refl, sym, ap, ap₂, ◌∙◌, subst, length-append}
+use Rattle.std.specs.List.{sum_by, Contains, position_or_len, list_any}
+use Rattle.std.proofs.lemmas.Bool.{cases_Bool, cases_lt, eqb-true, eq-eqb}
+use Rattle.std.proofs.lemmas.List.{map-append, get_or-map, get_or_default}
+use Rattle.std.proofs.lemmas.List.Sums.{position_or_len_is}
+use Rattle.firm_arena.specs.Arena.{entries_from}
+use Rattle.firm_arena.specs.declared.Id.{Id}
+use Rattle.firm_net.specs.Net.{IsNode}
+use Rattle.firm_net.specs.Edits.{Span}
+use Rattle.firm_net.specs.declared.row.NodeId.{NodeId}
+use Rattle.firm_net.specs.declared.row.ArcId.{ArcId}
+use Rattle.firm_paths.specs.Network.{Arc}
+use Rattle.firm_rules.specs.Book.{machine_names, job_names}
+use Rattle.firm_rules.specs.Names.{is_among}
+use Rattle.firm_rules.specs.Placement.{Case, Demand}
+use Rattle.firm_rules.specs.Round.{machine_place, job_place, weight_at}
+use Rattle.firm_rules.specs.declared.parts.Machine.{Machine}
+use Rattle.firm_rules.specs.declared.parts.Job.{Job}
+use Rattle.firm_rules.specs.declared.parts.Task.{Task}
+use Rattle.firm_graph.specs.Parts.{MachineParts}
+use Rattle.firm_graph.specs.declared.parts.JobParts.{JobParts}
+use Rattle.firm_graph.specs.declared.parts.TaskParts.{TaskParts}
+use Rattle.firm_graph.specs.declared.network.Node.{Node}
+use Rattle.firm_graph.specs.declared.network.Node.TheVariants.{Sink, Hub, Machine as MachineAt, Owner as JobAt, Task as TaskAt}
+use Rattle.firm_graph.specs.declared.network.Key.{Key}
+use Rattle.firm_graph.specs.declared.network.Key.TheVariants.{Through, Slot, Exit, Wide, Stay, Delay}
+use Rattle.firm_graph.specs.Network.{gather, arc, slots_of, demand, runs, stay_head, machine_arcs, job_arcs, task_arcs, network, nodes, task_nodes as case_tasks, IsNodeOf, IsKeyOf, IsSound}
+use Rattle.firm_graph.specs.View.{View, Shows, lows, flows, spot_of}
+use Rattle.firm_graph.specs.Graph.{Graph, IsGraph, graph_nodes, machine_nodes, job_nodes, task_nodes}
+use Rattle.firm_graph.specs.Ids.{node_id, arc_id, view_of}
+use Rattle.firm_graph.specs.Steps.{no_task}
+use Rattle.firm_graph.proofs.Entries.{sum-slot}
+use Rattle.firm_graph.proofs.NetEdits.{sum-map, nodes-sum, spans-sum}
+use Rattle.firm_graph.proofs.Found.{ones, same_id, same_id-refl, node-there, Contains-skip, Contains-front}
+use Rattle.firm_graph.proofs.Drops.{once-from}
+use Rattle.firm_graph.proofs.Cuts.{two}
+use Rattle.firm_graph.proofs.Bridge.{from, gather_from, fill, rows_network, network_is}
+use Rattle.firm_graph.proofs.Networks.{shown, graph-shown}
+use Rattle.firm_graph.proofs.Permutes.{is-network}
+
+length-map : {A B : Type 0} (f : A → B) (xs : List A) → length (map f xs) ≡ length xs
+length-map f [] = refl
+length-map f (x ∷ xs) = omega (arith, length-map f xs)
+
+-- gathered lists
+gather-map : {A B : Type 0} (g : A → B) (f : ℕ → List A) (n : ℕ) → map g (gather f n) ≡ gather (λ i. map g (f i)) n
+gather-map g f zero = refl
+gather-map {A} {B} g f (suc n) =
+    map-append g (gather f n) (f n) ∙ ap (λ (l : List B). l ++ map g (f n)) (gather-map g f n)
+
+from-list : {X : Type 0} (h : ℕ → X) (j : ℕ) (xs : List X) (d : X)
+    → ((i : ℕ) → i < length xs → h (j + i) ≡ get_or xs i d) → from (λ i. h i ∷ []) j (length xs) ≡ xs
+unfolding from
+from-list h j [] d at = refl
+from-list {X} h j (x ∷ xs) d at =
+    let own : h j ≡ x = ap h (let z : j ≡ j + 0 = omega arith in z) ∙ at 0 (omega arith) in
+    ap₂ (λ (y : X) (l : List X). y ∷ l) own
+    (from-list h (j + 1) xs d (λ i below. ap h (let z : j + 1 + i ≡ j + suc i = omega arith in z) ∙ at (suc i)
+    (omega (arith, below))))
+
+pub gather-list : {X : Type 0} (xs : List X) (d : X) → gather (λ i. get_or xs i d ∷ []) (length xs) ≡ xs
+gather-list {X} xs d =
+    gather_from (λ (i : ℕ). get_or xs i d ∷ []) (length xs)
+    ∙ from-list (λ (i : ℕ). get_or xs i d) 0 xs d
+    (λ i below. ap (λ (k : ℕ). get_or xs k d) (let z : 0 + i ≡ i = omega arith in z))
+
+contains-gather : {X : Type 0} (f : ℕ → List X) (n i : ℕ) (x : X) → i < n → Contains (f i) x → Contains (gather f n) x
+contains-gather f zero i x below c = absurd (omega arith)
+contains-gather {X} f (suc n) i x below c =
+    elim (cases_lt i n) [
+      | inl earlier ↦ Contains-front (gather f n) (f n) x (contains-gather f n i x earlier c)
+      | inr last ↦
+          let e : i ≡ n = omega (arith, below, last) in
+          Contains-skip (gather f n) (f n) x (subst (λ (k : ℕ). Contains (f k) x) e c)
+    ]
+
+pub gather-count : {X : Type 0} (h : ℕ → X) (n : ℕ) → length (gather (λ i. h i ∷ []) n) ≡ n
+gather-count h zero = refl
+gather-count h (suc n) = omega (arith, length-append (gather (λ i. h i ∷ []) n) (h n ∷ []), gather-count h n)
+
+first-of : {X : Type 0} (x : X) (xs : List X) → Contains (x ∷ xs) x
+first-of x xs = (0, omega arith, refl)
+
+second-of : {X : Type 0} (y x : X) (xs : List X) → Contains (y ∷ x ∷ xs) x
+second-of y x xs = (1, omega arith, refl)
+
+third-of : {X : Type 0} (z y x : X) (xs : List X) → Contains (z ∷ y ∷ x ∷ xs) x
+third-of z y x xs = (2, omega arith, refl)
+
+-- where the weights come to 1 at most, two elements that weigh something are one
+apart : {X : Type 0} (w : X → ℕ) (xs : List X) (i j : ℕ) (d : X) → sum_by w xs ≤ 1 → i < length xs → j < length xs
+    → 0 < w (get_or xs i d) → 0 < w (get_or xs j d) → i ≡ j
+apart w xs i j d few below_i below_j heavy_i heavy_j =
+    elim (cases_lt i j) [
+      | inl before ↦ absurd (omega (arith, few, heavy_i, heavy_j, two w xs i j d before below_j))
+      | inr rest ↦
+          elim (cases_lt j i) [
+            | inl before ↦ absurd (omega (arith, few, heavy_i, heavy_j, two w xs j i d before below_i))
+            | inr other ↦ let e : i ≡ j = omega (arith, rest, other) in e
+          ]
+    ]
+
+-- a place is that of one entry at most
+place-once : {X : Type 0} (q : ℕ) (p : ℕ) (held : List (Option (ℕ × X)))
+    → (q < p → sum_by (λ e. ones (e.0.place == q)) (entries_from p held) ≡ 0) ×
+    (sum_by (λ e. ones (e.0.place == q)) (entries_from p held) ≤ 1)
+place-once q p [] = (λ _. refl, omega arith)
+place-once q p (None ∷ held) =
+    let rest = place-once q (p + 1) held in
+    (λ h. rest.0 (omega (arith, h)), rest.1)
+place-once {X} q p (Some own ∷ held) =
+    let w : Id × X → ℕ = λ (e : Id × X). ones (e.0.place == q) in
+    let rest = place-once q (p + 1) held in
+    let sum : sum_by w (entries_from p (Some own ∷ held)) ≡ ones (p == q) + sum_by w (entries_from (p + 1) held) =
+    sum-slot w p (Some own) held in (
+      λ h. ⊎_elim
+          (λ (t : p == q ≡ true). absurd (let e : p ≡ q = eqb-true p q t in omega (arith, e, h)))
+          (λ (f : p == q ≡ false).
+          let none : ones (p == q) ≡ ones false = ap ones f in
+          let later : sum_by w (entries_from (p + 1) held) ≡ 0 = rest.0 (omega (arith, h)) in
+          let e : sum_by w (entries_from p (Some own ∷ held)) ≡ 0 = omega (arith, sum, none, later) in
+          e)
+          (cases_Bool (p == q)),
+      ⊎_elim
+          (λ (t : p == q ≡ true).
+          let one : ones (p == q) ≡ ones true = ap ones t in
+          let e : p ≡ q = eqb-true p q t in
+          let later : sum_by w (entries_from (p + 1) held) ≡ 0 = rest.0 (omega (arith, e)) in
+          let most : sum_by w (entries_from p (Some own ∷ held)) ≤ 1 = omega (arith, sum, one, later) in
+          most)
+          (λ (f : p == q ≡ false).
+          let none : ones (p == q) ≡ ones false = ap ones f in
+          let most : sum_by w (entries_from p (Some own ∷ held)) ≤ 1 = omega (arith, sum, none, rest.1) in
+          most)
+          (cases_Bool (p == q)),
+    )
+
+-- a name that is there has a place
+among-below : (names : List (List ℕ)) (name : List ℕ) → is_among names name ≡ true
+    → position_or_len (bytes_eq name) names < length names
+among-below [] name h = let clash : false ≡ true = h in absurd cc
+among-below (m ∷ names) name h =
+    let later : ℕ = position_or_len (bytes_eq name) names in
+    let at : ℕ = position_or_len (bytes_eq name) (m ∷ names) in
+    ⊎_elim
+    (λ (t : bytes_eq name m ≡ true).
+    let zero_at : at ≡ 0 = ap (λ (b : Bool). cond (not b) (1 + later) 0) t in
+    let below : at < length (m ∷ names) = omega (arith, zero_at) in
+    below)
+    (λ (f : bytes_eq name m ≡ false).
+    let next : at ≡ 1 + later = ap (λ (b : Bool). cond (not b) (1 + later) 0) f in
+    let rest : is_among names name ≡ true = sym (ap (λ (b : Bool). b || list_any (bytes_eq name) names) f) ∙ h in
+    let below : at < length (m ∷ names) = omega (arith, next, among-below names name rest) in
+    below)
+    (cases_Bool (bytes_eq name m))
+
+-- each node and each key of a case is that of the network
+pub node-listed : (c : Case) (n : Node) → IsNodeOf c n → Contains (nodes c) n
+node-listed c Sink h =
+    second-of Hub Sink (gather (λ j. MachineAt j ∷ []) (length c.slots) ++
+    (gather (λ k. JobAt k ∷ []) c.jobs ++ case_tasks c))
+node-listed c Hub h =
+    first-of Hub (Sink ∷ gather (λ j. MachineAt j ∷ []) (length c.slots) ++
+    (gather (λ k. JobAt k ∷ []) c.jobs ++ case_tasks c))
+node-listed c (MachineAt j) h =
+    Contains-skip (Hub ∷ Sink ∷ []) (gather (λ j. MachineAt j ∷ []) (length c.slots) ++
+    (gather (λ k. JobAt k ∷ []) c.jobs ++ case_tasks c)) (MachineAt j)
+    (Contains-front (gather (λ j. MachineAt j ∷ []) (length c.slots))
+    (gather (λ k. JobAt k ∷ []) c.jobs ++ case_tasks c) (MachineAt j)
+    (contains-gather (λ j. MachineAt j ∷ []) (length c.slots) j (MachineAt j) h (first-of (MachineAt j) [])))
+node-listed c (JobAt k) h =
+    Contains-skip (Hub ∷ Sink ∷ gather (λ j. MachineAt j ∷ []) (length c.slots))
+    (gather (λ k. JobAt k ∷ []) c.jobs ++ case_tasks c) (JobAt k)
+    (Contains-front (gather (λ k. JobAt k ∷ []) c.jobs) (case_tasks c) (JobAt k)
+    (contains-gather (λ k. JobAt k ∷ []) c.jobs k (JobAt k) h (first-of (JobAt k) [])))
+node-listed c (TaskAt i) h =
+    Contains-skip (Hub ∷ Sink ∷ gather (λ j. MachineAt j ∷ []) (length c.slots))
+    (gather (λ k. JobAt k ∷ []) c.jobs ++ case_tasks c) (TaskAt i)
+    (Contains-skip (gather (λ k. JobAt k ∷ []) c.jobs) (case_tasks c) (TaskAt i)
+    (contains-gather (λ i. TaskAt i ∷ []) (length c.tasks) i (TaskAt i) h (first-of (TaskAt i) [])))
+
+record HasArc (c : Case) (low x : Key → ℕ) (key : Key) : Type 0 where
+  its : Arc Node Key
+  listed : Contains (network c low x) its
+  keyed : its.key ≡ key
+
+module _ (c : Case) (low x : Key → ℕ) where
+  abbrev machines : List (Arc Node Key)
+  machines = gather (machine_arcs c low x) (length c.slots)
+
+  abbrev jobs : List (Arc Node Key)
+  jobs = gather (job_arcs c low x) c.jobs
+
+  abbrev tasks : List (Arc Node Key)
+  tasks = gather (task_arcs c low x) (length c.tasks)
+
+  of-machine : (j : ℕ) (a : Arc Node Key) (key : Key) → j < length c.slots → Contains (machine_arcs c low x j) a →
+      a.key ≡ key → HasArc c low x key
+  of-machine j a key below has is =
+      record {
+        its = a;
+        listed = Contains-front machines (jobs ++ tasks) a
+            (contains-gather (machine_arcs c low x) (length c.slots) j a below has);
+        keyed = is;
+      }
+
+  of-task : (i : ℕ) (a : Arc Node Key) (key : Key) → i < length c.tasks → Contains (task_arcs c low x i) a → a.key ≡
+      key → HasArc c low x key
+  of-task i a key below has is =
+      record {
+        its = a;
+        listed = Contains-skip machines (jobs ++ tasks) a
+            (Contains-skip jobs tasks a (contains-gather (task_arcs c low x) (length c.tasks) i a below has));
+        keyed = is;
+      }
+
+  abbrev wide_arc : ℕ → Arc Node Key
+  wide_arc i = arc low x (Wide i) (TaskAt i) Hub 1 (cond (runs (demand c i).home) c.churn 0)
+
+  abbrev stay_arc : ℕ → Arc Node Key
+  stay_arc i = arc low x (Stay i) (TaskAt i) (stay_head (demand c i).home) (cond (runs (demand c i).home) 1 0) 0
+
+  abbrev delay_arc : ℕ → Arc Node Key
+  delay_arc i = arc low x (Delay i) (TaskAt i) (JobAt (demand c i).job) 1
+      ((demand c i).delay + cond (runs (demand c i).home) c.churn 0)
+
+  key-listed : (key : Key) → IsKeyOf c key → HasArc c low x key
+  key-listed (Through j) h =
+      of-machine j (arc low x (Through j) Hub (MachineAt j) (slots_of c j) 0) (Through j) h
+      (first-of (arc low x (Through j) Hub (MachineAt j) (slots_of c j) 0)
+      (gather (λ k. arc low x (Slot j k) (MachineAt j) Sink 1 (k * c.spread) ∷ []) (slots_of c j))) refl
+  key-listed (Slot j k) h =
+      let a : Arc Node Key = arc low x (Slot j k) (MachineAt j) Sink 1 (k * c.spread) in
+      of-machine j a (Slot j k) h.0
+      (Contains-skip (arc low x (Through j) Hub (MachineAt j) (slots_of c j) 0 ∷ [])
+      (gather (λ k. arc low x (Slot j k) (MachineAt j) Sink 1 (k * c.spread) ∷ []) (slots_of c j)) a
+      (contains-gather (λ k. arc low x (Slot j k) (MachineAt j) Sink 1 (k * c.spread) ∷ []) (slots_of c j) k a h.1
+      (first-of a []))) refl
+  key-listed (Exit k) h =
+      let a : Arc Node Key = arc low x (Exit k) (JobAt k) Sink c.limit 0 in
+      record {
+        its = a;
+        listed = Contains-skip machines (jobs ++ tasks) a
+            (Contains-front jobs tasks a (contains-gather (job_arcs c low x) c.jobs k a h (first-of a [])));
+        keyed = refl;
+      }
+  key-listed (Wide i) h = of-task i (wide_arc i) (Wide i) h (first-of (wide_arc i) (stay_arc i ∷ delay_arc i ∷ [])) refl
+  key-listed (Stay i) h = of-task i (stay_arc i) (Stay i) h (second-of (wide_arc i) (stay_arc i) (delay_arc i ∷ []))
+      refl
+  key-listed (Delay i) h = of-task i (delay_arc i) (Delay i) h (third-of (wide_arc i) (stay_arc i) (delay_arc i) [])
+      refl
+
+module _ (g : Graph) (is : IsGraph g) where
+  abbrev v : View
+  v = view_of g
+
+  -- the nodes of the network are the graph's, one by one
+  abbrev machine_count : length v.case.slots ≡ length (machine_nodes g)
+  machine_count =
+      length-map (λ (m : Machine). m.slots) g.rows.machines ∙ sym is.mirrors.machines ∙ sym
+      (length-map (λ (p : MachineParts). p.node) g.machines)
+
+  abbrev job_count : v.case.jobs ≡ length (job_nodes g)
+  job_count = sym is.mirrors.jobs ∙ sym (length-map (λ (p : JobParts). p.node) g.jobs)
+
+  abbrev task_count : length v.case.tasks ≡ length (task_nodes g)
+  task_count =
+      length-map (λ (t : Task). let d : Demand = record {
+        home = machine_place g.rows t.machine;
+        delay = weight_at g.rows (job_place g.rows t) + t.waited;
+        job =
+            job_place g.rows t;
+      } in d) g.rows.tasks
+      ∙ sym is.mirrors.tasks ∙ sym (length-map (λ (p : TaskParts). p.node) g.tasks)
+
+  pub task-count : length v.case.tasks ≡ length (task_nodes g)
+  task-count = task_count
+
+  pub sources-named : map (node_id g) (case_tasks v.case) ≡ task_nodes g
+  sources-named =
+      gather-map (node_id g) (λ i. TaskAt i ∷ []) (length v.case.tasks)
+      ∙ ap (gather (λ i. get_or (task_nodes g) i g.hub ∷ [])) task_count
+      ∙ gather-list (task_nodes g) g.hub
+
+  pub nodes-named : map (node_id g) (nodes v.case) ≡ graph_nodes g
+  nodes-named =
+      let ms : List Node = gather (λ j. MachineAt j ∷ []) (length v.case.slots) in
+      let js : List Node = gather (λ k. JobAt k ∷ []) v.case.jobs in
+      let machines : map (node_id g) ms ≡ machine_nodes g =
+      gather-map (node_id g) (λ j. MachineAt j ∷ []) (length v.case.slots)
+      ∙ ap (gather (λ i. get_or (machine_nodes g) i g.hub ∷ [])) machine_count
+      ∙ gather-list (machine_nodes g) g.hub in
+      let jobs : map (node_id g) js ≡ job_nodes g =
+      gather-map (node_id g) (λ k. JobAt k ∷ []) v.case.jobs
+      ∙ ap (gather (λ i. get_or (job_nodes g) i g.hub ∷ [])) job_count
+      ∙ gather-list (job_nodes g) g.hub in
+      ap (λ (l : List NodeId). g.hub ∷ g.sink ∷ l)
+      (map-append (node_id g) ms (js ++ case_tasks v.case)
+      ∙ ap₂ (λ (a b : List NodeId). a ++ b) machines
+      (map-append (node_id g) js (case_tasks v.case) ∙ ap₂ (λ (a b : List NodeId). a ++ b) jobs sources-named))
+
+  mapped-there : {A B : Type 0} (f : A → B) (xs : List A) (x : A) → Contains xs x → Contains (map f xs) (f x)
+  mapped-there f xs x c = (c.0, omega (arith, c.1, length-map f xs), get_or-map f xs c.0 x (f x) c.1 ∙ ap f c.2)
+
+  pub node-of : (n : Node) → IsNodeOf v.case n → IsNode g.net (node_id g n)
+  node-of n h =
+      node-there g.net (graph_nodes g) (node_id g n) is.mirrors.nodes
+      (subst (λ (l : List NodeId). Contains l (node_id g n)) nodes-named
+      (mapped-there (node_id g) (nodes v.case) n (node-listed v.case n h)))
+
+  -- the node at a place of the net
+  abbrev at_spot : ℕ → Node → Bool
+  at_spot p n = spot_of v n == p
+
+  abbrev pub role : ℕ → Node
+  role p = get_or (nodes v.case) (position_or_len (at_spot p) (nodes v.case)) Hub
+
+  spots-once : (p : ℕ) → sum_by (λ n. ones (at_spot p n)) (nodes v.case) ≤ 1
+  spots-once p =
+      let w : NodeId → ℕ = λ (n : NodeId). ones (n.id.place == p) in
+      omega (
+        arith,
+        sum-map w (node_id g) (nodes v.case),
+        ap (λ (l : List NodeId). sum_by w l) nodes-named,
+        is.mirrors.nodes.weighs w,
+        nodes-sum w g.net,
+        (place-once p 0 g.net.nodes.held).1,
+      )
+
+  pub role-is : (n : Node) → IsNodeOf v.case n → role (spot_of v n) ≡ n
+  role-is n h =
+      let p : ℕ = spot_of v n in
+      let q : Node → Bool = at_spot p in
+      let w : Node → ℕ = λ (m : Node). ones (q m) in
+      let c = node-listed v.case n h in
+      let all : List Node = nodes v.case in
+      let own : get_or all c.0 n ≡ n = c.2 in
+      let own_hub : get_or all c.0 Hub ≡ n = get_or_default all c.0 Hub n c.1 ∙ own in
+      let yes : q (get_or all c.0 Hub) ≡ true = ap q own_hub ∙ eq-eqb p p refl in
+      let heavy : w (get_or all c.0 Hub) ≡ ones true = ap ones yes in
+      let first : position_or_len q all ≡ c.0 =
+      position_or_len_is q all c.0 Hub (omega (arith, c.1))
+      (λ k before. ⊎_elim
+      (λ (t : q (get_or all k Hub) ≡ true).
+      let other : w (get_or all k Hub) ≡ ones true = ap ones t in
+      absurd (omega (
+        arith,
+        before,
+        apart w all k c.0 Hub (spots-once p) (omega (arith, before, c.1)) c.1
+            (omega (arith, other)) (omega (arith, heavy)),
+      )))
+      (λ (f : q (get_or all k Hub) ≡ false). f)
+      (cases_Bool (q (get_or all k Hub))))
+      (λ _. yes) in
+      ap (λ (k : ℕ). get_or all k Hub) first ∙ own_hub
+
+  -- different keys have different arcs
+  ids-once : (i : Id) → sum_by (λ a. ones (same_id (arc_id g a.key).id i)) (network v.case (lows v) (flows v)) ≤ 1
+  ids-once i =
+      let w : Span → ℕ = λ (s : Span). ones (same_id s.arc.id i) in
+      let u : Arc Node Key → ℕ = λ (a : Arc Node Key). ones (same_id (arc_id g a.key).id i) in
+      omega (
+        arith,
+        ap (λ (l : List (Arc Node Key)). sum_by u l) (sym (network_is g.rows (lows v) (flows v))),
+        sum-map u (fill (lows v) (flows v)) (rows_network g.rows),
+        sum-map w (shown (node_id g) (arc_id g)) (rows_network g.rows),
+        ap (λ (l : List Span). sum_by w l) (graph-shown g is.mirrors),
+        is.mirrors.spans.weighs w,
+        spans-sum w g.net,
+        (once-from i 0 g.net.arcs.held).1,
+      )
+
+  pub arcs-apart : (a b : Key) → IsKeyOf v.case a → IsKeyOf v.case b → arc_id g a ≡ arc_id g b → a ≡ b
+  arcs-apart a b ha hb same =
+      let low : Key → ℕ = lows v in
+      let x : Key → ℕ = flows v in
+      let i : Id = (arc_id g a).id in
+      let all : List (Arc Node Key) = network v.case low x in
+      let u : Arc Node Key → ℕ = λ (r : Arc Node Key). ones (same_id (arc_id g r.key).id i) in
+      let one = key-listed v.case low x a ha in
+      let other = key-listed v.case low x b hb in
+      let read_one : get_or all one.listed.0 one.its ≡ one.its = one.listed.2 in
+      let read_other : get_or all other.listed.0 one.its ≡ other.its = get_or_default all other.listed.0 one.its
+      other.its other.listed.1 ∙ other.listed.2 in
+      let at_one : u (get_or all one.listed.0 one.its) ≡ ones true =
+      ap u read_one ∙ ap (λ (k : Key). ones (same_id (arc_id g k).id i)) one.keyed ∙ ap ones (same_id-refl i) in
+      let at_other : u (get_or all other.listed.0 one.its) ≡ ones true =
+      ap u read_other ∙ ap (λ (k : Key). ones (same_id (arc_id g k).id i)) other.keyed
+      ∙ ap (λ (m : ArcId). ones (same_id m.id i)) (sym same) ∙ ap ones (same_id-refl i) in
+      let e : one.listed.0 ≡ other.listed.0 =
+      apart u all one.listed.0 other.listed.0 one.its (ids-once i) one.listed.1 other.listed.1 (omega (arith, at_one))
+      (omega (arith, at_other)) in
+      let its : one.its ≡ other.its = sym read_one ∙ ap (λ (k : ℕ). get_or all k one.its) e ∙ read_other in
+      sym one.keyed ∙ ap (λ (r : Arc Node Key). r.key) its ∙ other.keyed
+
+  -- each task's job is there, and so is its machine
+  abbrev demand_of : Task → Demand
+  demand_of t = record {
+    home = machine_place g.rows t.machine;
+    delay = weight_at g.rows (job_place g.rows t) +
+        t.waited;
+    job = job_place g.rows t;
+  }
+
+  read-demand : (i : ℕ) → i < length v.case.tasks → (i < length g.rows.tasks) ×
+      (demand v.case i ≡ demand_of (get_or g.rows.tasks i no_task))
+  read-demand i below =
+      let here : i < length g.rows.tasks = omega (arith, below, length-map demand_of g.rows.tasks) in
+      (here, get_or-map demand_of g.rows.tasks i no_task (record { home = None; delay = 0; job = 0 }) here)
+
+  job-below : (i : ℕ) → i < length v.case.tasks → (demand v.case i).job < v.case.jobs
+  job-below i below =
+      let r = read-demand i below in
+      let job : (demand v.case i).job ≡ job_place g.rows (get_or g.rows.tasks i no_task) = ap (λ (d : Demand). d.job)
+      r.1 in
+      omega (
+        arith,
+        job,
+        among-below (job_names g.rows) (get_or g.rows.tasks i no_task).job (is.sound.jobs_there i no_task r.0),
+        length-map (λ (j : Job). j.name) g.rows.jobs,
+      )
+
+  home-below : (home : Option (List ℕ)) → IfSome home (λ name. is_among (machine_names g.rows) name ≡ true) → IsNodeOf
+      v.case (stay_head (machine_place g.rows home))
+  home-below None h = tt
+  home-below (Some name) h =
+      omega (
+        arith,
+        among-below (machine_names g.rows) name h,
+        length-map (λ (m : Machine). m.name) g.rows.machines,
+        length-map (λ (m : Machine). m.slots) g.rows.machines,
+      )
+
+  home-there : (i : ℕ) → i < length v.case.tasks → IsNodeOf v.case (stay_head (demand v.case i).home)
+  home-there i below =
+      let r = read-demand i below in
+      subst (λ (d : Demand). IsNodeOf v.case (stay_head d.home)) (sym r.1)
+      (home-below (get_or g.rows.tasks i no_task).machine (is.sound.machines_there i no_task r.0))
+
+  pub case-sound : IsSound v.case
+  case-sound = record {
+    jobs_in = job-below;
+    limit_fits = omega
+        (arith, is.sound.fits.nodes, length-map demand_of g.rows.tasks);
+  }
+
+  pub graph-shows : Shows (view_of g)
+  graph-shows =
+      record {
+        net = is.mirrors.net;
+        arcs = is-network g is.mirrors;
+        nodes = node-of;
+        role = role;
+        role_is = role-is;
+        arcs_apart = arcs-apart;
+        sound = case-sound;
+        homes = home-there;
+      }

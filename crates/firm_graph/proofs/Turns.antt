@@ -1,0 +1,159 @@
+-- What a net holds once the arcs of a task were changed.
+use Rattle.std.proofs.Common.{◌≡◌, ◌≢◌, ℕ, zero, suc, ◌+◌, ◌<◌, true, false, Option, Some, None, List, [], ◌∷◌, map, length, get_or, bytes_eq, arith, refl, sym, ap, ◌∙◌, subst}
+use Rattle.std.specs.List.{AllByRecursion, IsDistinct}
+use Rattle.std.proofs.lemmas.Bool.{cond-true, cond-false}
+use Rattle.std.proofs.lemmas.List.{get_or-map, length-map, get_or_default}
+use Rattle.std.proofs.lemmas.Map.Keys.{IsDistinct-head, IsDistinct-tail}
+use Rattle.std.proofs.lemmas.Slice.Eq.{bytes_eq-Decides}
+use Rattle.firm_net.specs.Row.{Row}
+use Rattle.firm_net.specs.Net.{Net, IsNode, row_at}
+use Rattle.firm_net.specs.declared.row.NodeId.{NodeId}
+use Rattle.firm_rules.specs.Book.{TenantRows, machine_names, is_on, evicted}
+use Rattle.firm_rules.specs.Round.{task_after}
+use Rattle.firm_rules.specs.declared.parts.Task.{Task}
+use Rattle.firm_rules.specs.declared.parts.Machine.{Machine}
+use Rattle.firm_rules.specs.declared.rounds.Choice.{Choice}
+use Rattle.firm_rules.specs.declared.rounds.Choice.TheVariants.{Wait}
+use Rattle.firm_net.specs.Edits.{Span}
+use Rattle.firm_graph.specs.Parts.{MachineParts}
+use Rattle.firm_graph.specs.declared.parts.TaskParts.{TaskParts}
+use Rattle.firm_graph.specs.declared.parts.Stand.{Stand}
+use Rattle.firm_graph.specs.Graph.{Graph, Mirrors, graph_nodes, home_node, node_under, machine_nodes}
+use Rattle.firm_graph.specs.Steps.{IsPlacing, Stands, Holds, moved, with_task_at, evicted_first, settled_first, no_task, task_at}
+use Rattle.firm_graph.proofs.Machines.{bytes_eq-swap}
+use Rattle.firm_graph.proofs.Drops.{holds-row}
+use Rattle.firm_graph.proofs.Places.{home-there, home-other}
+use Rattle.firm_graph.proofs.Firsts.{first-read, evict-yes, settle-step}
+
+-- the home of a task is there, and is not the tail of the arc that is led to it
+pub leads-home : (g : Graph) (place : ℕ) (parts : TaskParts) (home : Option (List ℕ)) (net : Net) (head : NodeId)
+    (s : Span) (ss : List Span) → Mirrors g
+    → place < length g.tasks → parts ≡ get_or g.tasks place parts
+    → head ≡ home_node (machine_names g.rows) (machine_nodes g) g.hub home
+    → s.tail ≡ parts.node → Holds g.net net (graph_nodes g) (s ∷ ss) → (row : Row) → row_at net s.arc ≡ Some row
+    → IsNode net head × (row.tail ≢ head)
+leads-home g place parts home net head s ss is below at head_is tail_is h row there =
+    let r = holds-row g.net net (graph_nodes g) s ss h in
+    let same : Some r.row ≡ Some row = sym r.there ∙ there in
+    let own : r.row ≡ row = cc in
+    let tail : row.tail ≡ parts.node = sym (ap (λ (x : Row). x.tail) own) ∙ ap (λ (t : Span). t.tail) r.is ∙ tail_is in (
+      subst (λ (n : NodeId). IsNode net n) (sym head_is) (home-there g net home h.nodes),
+      λ e. home-other g place parts home is below at (sym tail ∙ e ∙ head_is),
+    )
+
+-- what is read of a list that equals another
+pub parts-at : {X : Type 0} (xs ys : List X) (place : ℕ) (d : X) → xs ≡ ys → place < length ys
+    → get_or ys place d ≡ get_or xs place (get_or ys place d)
+parts-at {X} xs ys place d e below =
+    get_or_default ys place d (get_or ys place d) below ∙ ap (λ (l : List X). get_or l place (get_or ys place d))
+    (sym e)
+
+-- the step of a loop that throws a task out
+pub evict-next : (g : Graph) (rows : TenantRows) (name : List ℕ) (place : ℕ) (parts : TaskParts) (stand : Stand)
+    (before after : Net)
+    → g.rows ≡ rows → g.hub ≡ stand.node → stand.runs ≡ false → stand.waited ≡ 0 → place < length rows.tasks
+    → place < length g.tasks
+    → parts ≡ get_or g.tasks place parts → is_on name (task_at rows place).machine ≡ true
+    → Mirrors (moved g (evicted_first g.rows name place) before)
+    → ((h : Graph) (home : Option (List ℕ)) → IsPlacing h before rows parts place stand home → Mirrors
+    (moved h (with_task_at h.rows place home stand.waited) after))
+    → Mirrors (moved g (evicted_first g.rows name (place + 1)) after)
+evict-next g rows name place parts stand before after rows_is hub_is runs_is waited_is here below at on mirrors step =
+    let old : Graph = moved g (evicted_first g.rows name place) before in
+    let there : place < length g.rows.tasks = omega (arith, here, ap (λ (r : TenantRows). length r.tasks) rows_is) in
+    let read : task_at old.rows place ≡ task_at rows place = first-read (λ (_ : ℕ). evicted name) 0 place g.rows.tasks
+    no_task ∙ ap (λ (r : TenantRows). task_at r place) rows_is in
+    let made = step old None (record {
+      mirrors = mirrors;
+      over = refl;
+      below = below;
+      its_parts = at;
+      its_job = ap (λ (t : Task). t.job) read;
+      jobs = ap (λ (r : TenantRows). r.jobs) rows_is;
+      limits = ap (λ (r : TenantRows). r.limits) rows_is;
+      node = sym hub_is;
+      runs = runs_is;
+    }) in
+    let zero_waited : Mirrors (moved g (with_task_at (evicted_first g.rows name place) place None 0) after) =
+    subst (λ (n : ℕ). Mirrors (moved g (with_task_at (evicted_first g.rows name place) place None n) after)) waited_is
+    made in
+    subst (λ (r : TenantRows). Mirrors (moved g r after))
+    (evict-yes g.rows name place there (ap (λ (r : TenantRows). is_on name (task_at r place).machine) rows_is ∙ on))
+    zero_waited
+
+-- the step of a loop that settles a task
+pub settle-next : (g : Graph) (rows : TenantRows) (machines : List MachineParts) (hub : NodeId) (choices : List Choice)
+    (place : ℕ) (choice : Choice) (parts : TaskParts) (stand : Stand) (before after : Net)
+    → g.rows ≡ rows → g.machines ≡ machines → g.hub ≡ hub → place < length rows.tasks → place < length g.tasks
+    → parts ≡ get_or g.tasks place parts → get_or choices place Wait ≡ choice
+    → Stands rows (map (λ p. p.node) machines) hub (task_at rows place) choice stand
+    → Mirrors (moved g (settled_first g.rows choices place) before)
+    → ((h : Graph) (home : Option (List ℕ)) → IsPlacing h before rows parts place stand home → Mirrors
+    (moved h (with_task_at h.rows place home stand.waited) after))
+    → Mirrors (moved g (settled_first g.rows choices (place + 1)) after)
+settle-next g rows machines hub choices place choice parts stand before after rows_is machines_is hub_is here below at
+    choice_is stands mirrors step =
+    let old : Graph = moved g (settled_first g.rows choices place) before in
+    let there : place < length g.rows.tasks = omega (arith, here, ap (λ (r : TenantRows). length r.tasks) rows_is) in
+    let S : TenantRows → List MachineParts → NodeId → Type 0 =
+    λ (r : TenantRows) (m : List MachineParts) (n : NodeId). Stands r (map (λ (p : MachineParts). p.node) m) n
+    (task_at r place) choice stand in
+    let its : S g.rows g.machines g.hub =
+    subst (λ (r : TenantRows). S r g.machines g.hub) (sym rows_is)
+    (subst (λ (m : List MachineParts). S rows m g.hub) (sym machines_is)
+    (subst (λ (n : NodeId). S rows machines n) (sym hub_is) stands)) in
+    let home : Option (List ℕ) = (task_after g.rows (task_at g.rows place) choice).machine in
+    let read : task_at old.rows place ≡ task_at rows place =
+    first-read (λ (i : ℕ) (t : Task). task_after g.rows t (get_or choices i Wait)) 0 place g.rows.tasks no_task ∙ ap
+    (λ (r : TenantRows). task_at r place) rows_is in
+    let made = step old home (record {
+      mirrors = mirrors;
+      over = refl;
+      below = below;
+      its_parts = at;
+      its_job = ap (λ (t : Task). t.job) read;
+      jobs = ap (λ (r : TenantRows). r.jobs) rows_is;
+      limits = ap (λ (r : TenantRows). r.limits) rows_is;
+      node = its.node;
+      runs = its.runs;
+    }) in
+    subst (λ (r : TenantRows). Mirrors (moved g r after))
+    (settle-step g.rows choices place choice home stand.waited there choice_is refl its.waited) made
+
+-- where names differ, the name at a place is looked up at that place
+all-at : {X : Type 0} (P : X → Type 0) (xs : List X) (i : ℕ) (d : X) → AllByRecursion P xs → i < length xs
+    → P (get_or xs i d)
+all-at P [] i d h below = absurd (omega arith)
+all-at P (x ∷ xs) zero d h below = h.0
+all-at P (x ∷ xs) (suc i) d h below = all-at P xs i d h.1 (omega arith)
+
+pub node_under-own : (names : List (List ℕ)) (nodes : List NodeId) (other : NodeId) (place : ℕ)
+    → IsDistinct bytes_eq names → length nodes ≡ length names
+    → place < length names → node_under names nodes other (get_or names place []) ≡ get_or nodes place other
+node_under-own [] nodes other place d e below = absurd (omega arith)
+node_under-own (m ∷ names) [] other place d e below = absurd (omega arith)
+node_under-own (m ∷ names) (n ∷ nodes) other zero d e below =
+    cond-true (bytes_eq m m) n (node_under names nodes other m) ((bytes_eq-Decides m m).1 refl)
+node_under-own (m ∷ names) (n ∷ nodes) other (suc place) d e below =
+    let name : List ℕ = get_or names place [] in
+    let differ : bytes_eq name m ≡ false = bytes_eq-swap m name
+    (all-at (λ (y : List ℕ). bytes_eq m y ≡ false) names place [] (IsDistinct-head bytes_eq m names d)
+    (omega arith)) in
+    cond-false (bytes_eq name m) n (node_under names nodes other name) differ
+    ∙ node_under-own names nodes other place (IsDistinct-tail bytes_eq m names d) (omega arith) (omega arith)
+
+-- the node of the machine at a place, by its name
+pub stand-node : (rows : TenantRows) (machines : List MachineParts) (hub node : NodeId) (place : ℕ)
+    (read : MachineParts) → IsDistinct bytes_eq (machine_names rows)
+    → length machines ≡ length rows.machines → place < length rows.machines → read ≡ get_or machines place read
+    → node ≡ read.node
+    → node ≡ node_under (machine_names rows) (map (λ p. p.node) machines) hub (get_or (machine_names rows) place [])
+stand-node rows machines hub node place read differ lengths below at is =
+    let names : length (machine_names rows) ≡ length rows.machines = length-map rows.machines (λ (m : Machine). m.name)
+    in
+    let nodes : length (map (λ (p : MachineParts). p.node) machines) ≡ length machines = length-map machines
+    (λ (p : MachineParts). p.node) in
+    is ∙ ap (λ (p : MachineParts). p.node) at
+    ∙ sym (get_or-map (λ (p : MachineParts). p.node) machines place read hub (omega (arith, below, lengths)))
+    ∙ sym (node_under-own (machine_names rows) (map (λ (p : MachineParts). p.node) machines) hub place differ
+    (omega (arith, nodes, lengths, names)) (omega (arith, below, names)))

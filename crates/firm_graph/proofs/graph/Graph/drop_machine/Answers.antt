@@ -1,0 +1,155 @@
+use Rattle.std.proofs.Common.{◌≡◌, ◌<◌, ℕ, Some, length, map, get_or, bytes_eq, arith, refl, ap, subst, sym, ◌∙◌, List, ◌++◌}
+use Rattle.std.specs.List.{position}
+use Rattle.firm_net.specs.Net.{Net}
+use Rattle.firm_net.specs.Edits.{Span}
+use Rattle.firm_net.specs.declared.row.NodeId.{NodeId}
+use Rattle.firm_net.specs.declared.row.ArcId.{ArcId}
+use Rattle.firm_rules.specs.Book.{machine_names, without_machine, evicted}
+use Rattle.firm_graph.specs.Parts.{MachineParts}
+use Rattle.firm_graph.specs.Graph.{Graph, Mirrors, graph_nodes, graph_spans, slot_spans}
+use Rattle.firm_graph.specs.Steps.{Holds, moved}
+use Rattle.firm_graph.specs.Inside.{graph_of}
+use Rattle.firm_graph.proofs.Drops.{IsFree}
+use Rattle.firm_graph.proofs.Firsts.{all-out}
+use Rattle.firm_graph.proofs.Machines.{machine-unlinked, machine-free, machine-dropped, machine-said, machine_dropped}
+use Rattle.firm_graph.proofs.Names.{machine-rows}
+use Rattle.firm_graph.proofs.graph.Graph.drop_machine.Goals as goal
+
+abbrev Left : Net → Net → List ArcId → Type 0
+Left old new slots =
+    (ns : List NodeId) (ss : List Span) (node sink : NodeId) (spread : ℕ) → Holds old old ns
+    (slot_spans node sink spread 0 slots ++ ss) → Holds old new ns ss
+
+-- what the net holds once the machine's tasks were thrown out and its arcs removed
+record Emptied (g : Graph) (net after : Net) (place : ℕ) (name : List ℕ) (parts : MachineParts) : Type 0 where
+  mirrors : Mirrors (moved g (record g.rows { tasks = map (evicted name) g.rows.tasks }) net)
+  below : place < length g.machines
+  at : parts ≡ get_or g.machines place parts
+  named : position (bytes_eq name) (machine_names g.rows) ≡ Some place
+  held : Holds net after (graph_nodes (moved g (record g.rows { tasks = map (evicted name) g.rows.tasks }) net))
+      (graph_spans (machine_dropped (moved g (record g.rows { tasks = map (evicted name) g.rows.tasks }) net) net
+      place))
+
+emptied : (c : goal.After-drop_node-arg-2-1)
+    → Emptied (graph_of c.self.inside) c.evict_tasks.new.net c.unlink_slots.new.net c.in-Some.place c.args.name
+    (record { node = c.parts.inside.node; through = c.parts.inside.through; slots = c.parts.inside.slots.items })
+emptied c =
+    let g : Graph = graph_of c.self.inside in
+    let place : ℕ = c.in-Some.place in
+    let net : Net = c.evict_tasks.new.net in
+    let now : Graph = moved g (record g.rows { tasks = map (evicted c.args.name) g.rows.tasks }) net in
+    let parts : MachineParts = record {
+      node = c.parts.inside.node;
+      through = c.parts.inside.through;
+      slots =
+          c.parts.inside.slots.items;
+    } in
+    let mirrors : Mirrors now = c.evict_tasks.ensures.evicted g c.self.invariant.graph.mirrors refl refl
+    (sym c.deref.ensures.value) refl in
+    let below : place < length g.machines = omega
+    (arith, c.in-Some.ensures.below, c.self.invariant.graph.mirrors.machines) in
+    let P : MachineParts → Type 0 = λ (p : MachineParts). p ≡ get_or g.machines place p in
+    let at : parts ≡ get_or g.machines place parts = subst P (sym c.parts.view_is) c.remove-parts.ensures.value in
+    let named : position (bytes_eq c.args.name) (machine_names g.rows) ≡ Some place = sym c.in-Some.ensures.place in
+    let left : Left c.unlink.new.net c.unlink_slots.new.net parts.slots =
+    subst (λ (l : List ArcId). Left c.unlink.new.net c.unlink_slots.new.net l) c.deref-2.ensures.value
+    c.unlink_slots.ensures.left in
+    record {
+      mirrors = mirrors;
+      below = below;
+      at = at;
+      named = named;
+      held = machine-unlinked now net place c.args.name parts mirrors below at named (all-out c.args.name g.rows.tasks)
+          c.unlink.new.net c.unlink_slots.new.net c.unlink.ensures.edit left;
+    }
+
+emptied_end : (c : goal.After-drop-parts-inside)
+    → Emptied (graph_of c.self.inside) c.evict_tasks.new.net c.unlink_slots.new.net c.in-Some.place c.args.name
+    (record { node = c.parts.inside.node; through = c.parts.inside.through; slots = c.parts.inside.slots.items })
+emptied_end c =
+    let g : Graph = graph_of c.self.inside in
+    let place : ℕ = c.in-Some.place in
+    let net : Net = c.evict_tasks.new.net in
+    let now : Graph = moved g (record g.rows { tasks = map (evicted c.args.name) g.rows.tasks }) net in
+    let parts : MachineParts = record {
+      node = c.parts.inside.node;
+      through = c.parts.inside.through;
+      slots =
+          c.parts.inside.slots.items;
+    } in
+    let mirrors : Mirrors now = c.evict_tasks.ensures.evicted g c.self.invariant.graph.mirrors refl refl
+    (sym c.deref.ensures.value) refl in
+    let below : place < length g.machines = omega
+    (arith, c.in-Some.ensures.below, c.self.invariant.graph.mirrors.machines) in
+    let P : MachineParts → Type 0 = λ (p : MachineParts). p ≡ get_or g.machines place p in
+    let at : parts ≡ get_or g.machines place parts = subst P (sym c.parts.view_is) c.remove-parts.ensures.value in
+    let named : position (bytes_eq c.args.name) (machine_names g.rows) ≡ Some place = sym c.in-Some.ensures.place in
+    let left : Left c.unlink.new.net c.unlink_slots.new.net parts.slots =
+    subst (λ (l : List ArcId). Left c.unlink.new.net c.unlink_slots.new.net l) c.deref-2.ensures.value
+    c.unlink_slots.ensures.left in
+    record {
+      mirrors = mirrors;
+      below = below;
+      at = at;
+      named = named;
+      held = machine-unlinked now net place c.args.name parts mirrors below at named (all-out c.args.name g.rows.tasks)
+          c.unlink.new.net c.unlink_slots.new.net c.unlink.ensures.edit left;
+    }
+
+free : (g : Graph) (net after : Net) (place : ℕ) (name : List ℕ) (parts : MachineParts)
+    → Emptied g net after place name parts → IsFree after parts.node
+free g net after place name parts e =
+    machine-free (moved g (record g.rows { tasks = map (evicted name) g.rows.tasks }) net) net place name parts
+    e.mirrors e.below e.at e.named (all-out name g.rows.tasks) after e.held
+
+pub drop_node-requires-clause-there : goal.drop_node-requires-clause-there
+drop_node-requires-clause-there c = (free _ _ _ _ _ _ (emptied c)).there
+
+pub drop_node-requires-clause-out : goal.drop_node-requires-clause-out
+drop_node-requires-clause-out c = (free _ _ _ _ _ _ (emptied c)).out
+
+pub drop_node-requires-clause-into : goal.drop_node-requires-clause-into
+drop_node-requires-clause-into c = (free _ _ _ _ _ _ (emptied c)).into
+
+kept : (c : goal.After-drop-parts-inside)
+    → Mirrors (record {
+      rows = c.drain-evicted.new.self;
+      net = c.drop_node.new.net;
+      hub = c.self.inside.hub;
+      sink =
+          c.self.inside.sink;
+      machines = c.remove-parts.new.self.items;
+      jobs = c.self.inside.jobs.items;
+      tasks =
+          c.self.inside.tasks.items;
+      asked = c.self.inside.asked;
+    })
+kept c =
+    let g : Graph = graph_of c.self.inside in
+    let place : ℕ = c.in-Some.place in
+    let net : Net = c.evict_tasks.new.net in
+    let now : Graph = moved g (record g.rows { tasks = map (evicted c.args.name) g.rows.tasks }) net in
+    let parts : MachineParts = record {
+      node = c.parts.inside.node;
+      through = c.parts.inside.through;
+      slots =
+          c.parts.inside.slots.items;
+    } in
+    let e = emptied_end c in
+    let rows = c.drain-evicted.ensures.rows ∙ ap (λ (n : List ℕ). without_machine g.rows n) c.in-Some.ensures.named in
+    machine-said now c.drop_node.new.net place c.drain-evicted.new.self c.remove-parts.new.self.items
+    (machine-rows c.drain-evicted.new.self g.rows c.args.name place rows c.drain-evicted.ensures.machines)
+    c.remove-parts.ensures.items
+    (machine-dropped now c.drop_node.new.net place c.args.name parts e.mirrors e.below e.at e.named
+    (all-out c.args.name g.rows.tasks) c.unlink_slots.new.net e.held c.drop_node.ensures.edit)
+
+pub invariant_of-self : goal.invariant_of-self
+invariant_of-self c =
+    record {
+      graph = record { sound = c.drain-evicted.ensures.sound; mirrors = kept c };
+      sources =
+          c.self.invariant.sources;
+    }
+
+pub returns-clause-graph : goal.returns-clause-graph
+returns-clause-graph c = record { sound = c.drain-evicted.ensures.sound; mirrors = kept c }

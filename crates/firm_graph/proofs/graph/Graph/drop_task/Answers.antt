@@ -1,0 +1,81 @@
+use Rattle.std.proofs.Common.{◌<◌, length, map, arith, ap, sym, ◌∙◌, List}
+use Rattle.std.specs.List.{remove}
+use Rattle.indexmap.proofs.SetLemmas.{map-remove}
+use Rattle.firm_net.specs.declared.row.NodeId.{NodeId}
+use Rattle.firm_graph.specs.Graph.{Graph, Mirrors}
+use Rattle.firm_graph.specs.Inside.{graph_of}
+use Rattle.firm_graph.specs.declared.parts.TaskParts.{TaskParts}
+use Rattle.firm_graph.proofs.Drops.{task-dropped, task-said, task-unlinked, task-free}
+use Rattle.firm_graph.proofs.Names.{task-rows}
+use Rattle.firm_graph.proofs.graph.Graph.drop_task.Goals as goal
+
+pub drop_node-requires-clause-there : goal.drop_node-requires-clause-there
+drop_node-requires-clause-there c =
+    let g : Graph = graph_of c.self.inside in
+    let below : c.in-Some.place < length g.tasks = omega
+    (arith, c.in-Some.ensures.below, c.self.invariant.graph.mirrors.tasks) in
+    (task-free g c.unlink-3.new.net c.in-Some.place c.remove-parts.result below c.remove-parts.ensures.value
+    (task-unlinked g c.unlink.new.net c.unlink-2.new.net c.unlink-3.new.net c.in-Some.place c.remove-parts.result
+    c.self.invariant.graph.mirrors below c.remove-parts.ensures.value
+    c.unlink.ensures.edit c.unlink-2.ensures.edit c.unlink-3.ensures.edit)).there
+
+pub drop_node-requires-clause-out : goal.drop_node-requires-clause-out
+drop_node-requires-clause-out c =
+    let g : Graph = graph_of c.self.inside in
+    let below : c.in-Some.place < length g.tasks = omega
+    (arith, c.in-Some.ensures.below, c.self.invariant.graph.mirrors.tasks) in
+    (task-free g c.unlink-3.new.net c.in-Some.place c.remove-parts.result below c.remove-parts.ensures.value
+    (task-unlinked g c.unlink.new.net c.unlink-2.new.net c.unlink-3.new.net c.in-Some.place c.remove-parts.result
+    c.self.invariant.graph.mirrors below c.remove-parts.ensures.value
+    c.unlink.ensures.edit c.unlink-2.ensures.edit c.unlink-3.ensures.edit)).out
+
+pub drop_node-requires-clause-into : goal.drop_node-requires-clause-into
+drop_node-requires-clause-into c =
+    let g : Graph = graph_of c.self.inside in
+    let below : c.in-Some.place < length g.tasks = omega
+    (arith, c.in-Some.ensures.below, c.self.invariant.graph.mirrors.tasks) in
+    (task-free g c.unlink-3.new.net c.in-Some.place c.remove-parts.result below c.remove-parts.ensures.value
+    (task-unlinked g c.unlink.new.net c.unlink-2.new.net c.unlink-3.new.net c.in-Some.place c.remove-parts.result
+    c.self.invariant.graph.mirrors below c.remove-parts.ensures.value
+    c.unlink.ensures.edit c.unlink-2.ensures.edit c.unlink-3.ensures.edit)).into
+
+kept : (c : goal.After-drop_node)
+    → Mirrors (record {
+      rows = c.remove_task.new.self;
+      net = c.drop_node.new.net;
+      hub = c.self.inside.hub;
+      sink =
+          c.self.inside.sink;
+      machines = c.self.inside.machines.items;
+      jobs = c.self.inside.jobs.items;
+      tasks =
+          c.remove-parts.new.self.items;
+      asked = c.self.inside.asked;
+    })
+kept c =
+    let g : Graph = graph_of c.self.inside in
+    let below : c.in-Some.place < length g.tasks = omega
+    (arith, c.in-Some.ensures.below, c.self.invariant.graph.mirrors.tasks) in
+    task-said g c.drop_node.new.net c.in-Some.place c.remove_task.new.self c.remove-parts.new.self.items
+    (task-rows c.remove_task.new.self g.rows _ c.in-Some.place c.remove_task.ensures.rows
+    c.remove_task.ensures.tasks) c.remove-parts.ensures.items
+    (task-dropped g c.unlink-3.new.net c.drop_node.new.net c.in-Some.place c.remove-parts.result
+    c.self.invariant.graph.mirrors below c.remove-parts.ensures.value
+    (task-unlinked g c.unlink.new.net c.unlink-2.new.net c.unlink-3.new.net c.in-Some.place c.remove-parts.result
+    c.self.invariant.graph.mirrors below c.remove-parts.ensures.value
+    c.unlink.ensures.edit c.unlink-2.ensures.edit c.unlink-3.ensures.edit)
+    c.drop_node.ensures.edit)
+
+pub invariant_of-self : goal.invariant_of-self
+invariant_of-self c =
+    let node : TaskParts → NodeId = λ (p : TaskParts). p.node in
+    record {
+      graph = record { sound = c.remove_task.ensures.sound; mirrors = kept c };
+      sources = c.remove.ensures.items
+          ∙ ap (λ (l : List NodeId). remove l c.in-Some.place) c.self.invariant.sources
+          ∙ sym (map-remove node c.self.inside.tasks.items c.in-Some.place)
+          ∙ sym (ap (λ (l : List TaskParts). map node l) c.remove-parts.ensures.items);
+    }
+
+pub returns-clause-graph : goal.returns-clause-graph
+returns-clause-graph c = record { sound = c.remove_task.ensures.sound; mirrors = kept c }

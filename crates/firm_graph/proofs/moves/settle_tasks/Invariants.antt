@@ -1,0 +1,11 @@
+use Rattle.std.proofs.Common.{◌≡◌}
+use Rattle.firm_graph.specs.Graph.{Graph, Mirrors}
+use Rattle.firm_graph.specs.Steps.{moved, settled_first}
+use Rattle.firm_graph.proofs.moves.settle_tasks.Given as goal
+
+abbrev pub invariant-loop-place : goal.invariant-loop-place
+invariant-loop-place l = record {
+  so_far : (g : Graph) → Mirrors g → g.net ≡ l.initial.net → g.rows ≡ l.rows → g.machines ≡ l.machines → g.tasks ≡
+      l.tasks → g.hub ≡ l.hub
+      → Mirrors (moved g (settled_first g.rows l.choices l.place) l.net);
+}

@@ -1,0 +1,7 @@
+pub mod Parts
+pub mod Graph
+pub mod Network
+pub mod View
+pub mod Ids
+pub mod Steps
+pub mod Inside

@@ -1,0 +1,96 @@
+-- Rows and graphs on the way from one to the next. No public clause cites this module.
+use Rattle.std.specs.Prelude.{◌≡◌, ℕ, zero, suc, ◌+◌, ◌<◌, ◌≤◌, List, [], ◌∷◌, length, slice_index_or, Option, None, is_some}
+use Rattle.std.specs.List.{remove}
+use Rattle.firm_arena.specs.Arena.{capacity_of}
+use Rattle.firm_net.specs.Net.{Net, IsNet, added_of}
+use Rattle.firm_net.specs.Edits.{Span, nodes_of, spans_of, AsOften}
+use Rattle.firm_net.specs.declared.row.NodeId.{NodeId}
+use Rattle.firm_rules.specs.Book.{TenantRows, machine_names, evicted}
+use Rattle.firm_rules.specs.Round.{task_after}
+use Rattle.firm_rules.specs.declared.rounds.Choice.{Choice}
+use Rattle.firm_rules.specs.declared.rounds.Choice.TheVariants.{Wait}
+use Rattle.firm_rules.specs.declared.parts.Task.{Task}
+use Rattle.firm_graph.specs.declared.parts.TaskParts.{TaskParts}
+use Rattle.firm_graph.specs.declared.parts.Stand.{Stand}
+use Rattle.firm_graph.specs.Graph.{Graph, Mirrors, home_node, machine_nodes}
+
+-- the list with the element at a place changed
+abbrev pub update_at : {X : Type 0} → List X → ℕ → (X → X) → List X
+update_at [] place f = []
+update_at (x ∷ xs) zero f = f x ∷ xs
+update_at (x ∷ xs) (suc place) f = x ∷ update_at xs place f
+
+-- the first so many elements changed, the first of them as that of number i
+abbrev pub changed_first : {X : Type 0} → (ℕ → X → X) → ℕ → ℕ → List X → List X
+changed_first f i zero xs = xs
+changed_first f i (suc n) [] = []
+changed_first f i (suc n) (x ∷ xs) = f i x ∷ changed_first f (i + 1) n xs
+
+-- the rows with the machine, the job or the task at a place removed
+abbrev pub machine_gone : TenantRows → ℕ → TenantRows
+machine_gone rows place = record rows { machines = remove rows.machines place }
+
+abbrev pub job_gone : TenantRows → ℕ → TenantRows
+job_gone rows place = record rows { jobs = remove rows.jobs place }
+
+abbrev pub task_gone : TenantRows → ℕ → TenantRows
+task_gone rows place = record rows { tasks = remove rows.tasks place }
+
+-- the task, where it runs and how many rounds left it waiting said anew
+abbrev pub placed : Option (List ℕ) → ℕ → Task → Task
+placed machine waited task = record { name = task.name; job = task.job; machine = machine; waited = waited }
+
+-- the rows with the task at a place said anew
+abbrev pub with_task_at : TenantRows → ℕ → Option (List ℕ) → ℕ → TenantRows
+with_task_at rows place machine waited = record rows { tasks = update_at rows.tasks place (placed machine waited) }
+
+-- the rows, the first so many tasks of which were thrown out of the machine
+abbrev pub evicted_first : TenantRows → List ℕ → ℕ → TenantRows
+evicted_first rows name n = record rows { tasks = changed_first (λ _. evicted name) 0 n rows.tasks }
+
+-- the rows, the first so many tasks of which are as a round leaves them
+abbrev pub settled_first : TenantRows → List Choice → ℕ → TenantRows
+settled_first rows choices n =
+    let settled : ℕ → Task → Task = λ i task. task_after rows task (slice_index_or choices i Wait) in
+    record rows { tasks = changed_first settled 0 n rows.tasks }
+
+abbrev pub no_task : Task
+no_task = record { name = []; job = []; machine = None; waited = 0 }
+
+abbrev pub task_at : TenantRows → ℕ → Task
+task_at rows place = slice_index_or rows.tasks place no_task
+
+-- the graph with another net and other rows
+abbrev pub moved : Graph → TenantRows → Net → Graph
+moved g rows net = record g { rows = rows; net = net }
+
+-- the graph stands over this net, its rows have the jobs and limits of these, its task at a place has these parts and is of
+-- the same job as theirs, and a task that runs at this home, or waits, stands so
+pub record IsPlacing (g : Graph) (net : Net) (rows : TenantRows) (parts : TaskParts) (place : ℕ) (stand : Stand)
+    (home : Option (List ℕ)) : Type 0 where
+  pub mirrors : Mirrors g
+  pub over : g.net ≡ net
+  pub below : place < length g.tasks
+  pub its_parts : parts ≡ slice_index_or g.tasks place parts
+  pub its_job : (task_at g.rows place).job ≡ (task_at rows place).job
+  pub jobs : g.rows.jobs ≡ rows.jobs
+  pub limits : g.rows.limits ≡ rows.limits
+  pub node : stand.node ≡ home_node (machine_names g.rows) (machine_nodes g) g.hub home
+  pub runs : stand.runs ≡ is_some home
+
+-- how a task stands after a round that makes this choice for it: at the machine of the choice, by the node of its name, or
+-- at the hub, once more left waiting
+pub record Stands (rows : TenantRows) (nodes : List NodeId) (hub : NodeId) (task : Task) (choice : Choice)
+    (stand : Stand) : Type 0 where
+  pub node : stand.node ≡ home_node (machine_names rows) nodes hub (task_after rows task choice).machine
+  pub runs : stand.runs ≡ is_some (task_after rows task choice).machine
+  pub waited : stand.waited ≡ (task_after rows task choice).waited
+
+-- the net holds these nodes and arcs, on the way from another that had as much room
+pub record Holds (base now : Net) (ns : List NodeId) (ss : List Span) : Type 0 where
+  pub net : IsNet now
+  pub nodes : AsOften (nodes_of now) ns
+  pub spans : AsOften (spans_of now) ss
+  pub node_room : capacity_of now.nodes ≡ capacity_of base.nodes
+  pub arc_room : capacity_of now.arcs ≡ capacity_of base.arcs
+  pub added : added_of now ≤ added_of base

@@ -1,0 +1,146 @@
+//! Edits of a net, each with what it takes away and brings.
+ghost use Rattle.std.specs.Prelude.{◌≡◌, ◌≢◌, ◌+◌, ◌^◌, ◌<◌, ◌≤◌, None, Some, [], ◌∷◌, ◌++◌, vec_len, vec_capacity, length};
+ghost use Rattle.firm_arena.specs.Arena.{capacity_of};
+ghost use Rattle.firm_net.specs.Row.{Row};
+ghost use Rattle.firm_net.specs.Net.{IsNet, IsNode, lists_at, row_at, out_list, in_list, added_of, node_count, arc_count};
+ghost use Rattle.std.specs.Prelude.{ℕ, List};
+ghost use Rattle.firm_net.specs.declared.row.NodeId.{NodeId as NodeIdRow};
+ghost use Rattle.firm_graph.specs.Graph.{slot_spans};
+ghost use Rattle.firm_net.specs.Edits.{Span, IsEdit, span_of};
+ghost use Rattle.firm_graph.specs.Steps.{Holds};
+
+use firm_net::{ArcId, ArcRow, Net, NodeId};
+
+/// Adds a node to a net with room for it.
+pub(crate) fn put_node(net: &mut Net) -> NodeId
+    requires room { node_count net.old < capacity_of net.old.nodes }
+    requires stamps { added_of net.old < 2 ^ 62 }
+    ensures edit { IsEdit net.old net.new [] (result ∷ []) [] [] }
+    ensures fresh { lists_at net.old result ≡ None }
+    ensures there { IsNode net.new result }
+    ensures nodes { (n : NodeId) → IsNode net.old n → IsNode net.new n }
+{
+    let Ok(node) = net.add_node() else {
+        unreachable!()
+    };
+    node
+}
+
+/// Adds an arc without flow to a net with room for it.
+pub(crate) fn link(net: &mut Net, tail: NodeId, head: NodeId, cap: u32, cost: u32) -> ArcId
+    requires tail { IsNode net.old tail }
+    requires head { IsNode net.old head }
+    requires ends { tail ≢ head }
+    requires cap { cap ≤ 4096 }
+    requires cost { cost ≤ 3000000 }
+    requires room { arc_count net.old < capacity_of net.old.arcs }
+    requires stamps { added_of net.old < 2 ^ 62 }
+    ensures edit { IsEdit net.old net.new [] [] []
+        (record { arc = result; tail = tail; head = head; cap = cap; cost = cost } ∷ []) }
+    ensures nodes { (n : NodeId) → IsNode net.old n → IsNode net.new n }
+{
+    let Some(row) = ArcRow::new(tail, head, 0, cap, cost, 0) else {
+        unreachable!()
+    };
+    let Ok(arc) = net.add_arc(row) else {
+        unreachable!()
+    };
+    arc
+}
+
+/// Removes an arc.
+pub(crate) fn unlink(net: &mut Net, arc: ArcId)
+    ensures edit { (row : Row) → row_at net.old arc ≡ Some row
+        → IsEdit net.old net.new [] [] (span_of arc row ∷ []) [] }
+    ensures net { IsNet net.new }
+{
+    net.remove_arc(arc);
+}
+
+/// Removes a node without arcs.
+pub(crate) fn drop_node(net: &mut Net, node: NodeId)
+    requires there { IsNode net.old node }
+    requires out { out_list net.old node ≡ [] }
+    requires into { in_list net.old node ≡ [] }
+    ensures edit { IsEdit net.old net.new (node ∷ []) [] [] [] }
+{
+    let Ok(()) = net.remove_node(node) else {
+        unreachable!()
+    };
+}
+
+/// Gives an arc that is there another capacity and cost, and no flow.
+pub(crate) fn rate(net: &mut Net, arc: ArcId, cap: u32, cost: u32)
+    requires cap { cap ≤ 4096 }
+    requires cost { cost ≤ 3000000 }
+    ensures edit { (row : Row) → row_at net.old arc ≡ Some row
+        → IsEdit net.old net.new [] [] (span_of arc row ∷ [])
+        (record { arc = arc; tail = row.tail; head = row.head; cap = cap; cost = cost } ∷ []) }
+    ensures added { added_of net.new ≤ added_of net.old }
+    ensures net { IsNet net.new }
+{
+    net.set(arc, 0, cap, cost, 0);
+}
+
+/// Moves the head of an arc that is there to a node other than its tail.
+pub(crate) fn lead(net: &mut Net, arc: ArcId, head: NodeId)
+    ensures edit { (row : Row) → row_at net.old arc ≡ Some row → IsNode net.old head → row.tail ≢ head
+        → IsEdit net.old net.new [] [] (span_of arc row ∷ [])
+        (record { arc = arc; tail = row.tail; head = head; cap = row.cap; cost = row.cost } ∷ []) }
+    ensures added { added_of net.new ≤ added_of net.old }
+    ensures net { IsNet net.new }
+{
+    net.retarget(arc, head);
+}
+
+/// Adds a value to a list with room for it.
+pub(crate) fn push_reserved<T: Drop>(list: &mut Vec<T>, value: T)
+    requires { vec_len list.old < vec_capacity list.old }
+    ensures items { list.new.items ≡ list.old.items ++ value ∷ [] }
+    ensures capacity { vec_capacity list.old ≤ vec_capacity list.new }
+    ensures len { vec_len list.new ≡ vec_len list.old + 1 }
+{
+    let Ok(()) = list.push(value) else {
+        unreachable!()
+    };
+}
+
+/// Adds the arcs of a machine's slots, each dearer by the spread than the one before.
+pub(crate) fn link_slots(
+    net: &mut Net,
+    node: NodeId,
+    sink: NodeId,
+    spread: u32,
+    count: u32,
+    slots: &mut Vec<ArcId>,
+)
+    requires node { IsNode net.old node }
+    requires sink { IsNode net.old sink }
+    requires ends { node ≢ sink }
+    requires spread { spread ≤ 1000 }
+    requires count { count ≤ 64 }
+    requires empty { slots.old.items ≡ [] }
+    requires reserved { count ≤ vec_capacity slots.old }
+    requires room { arc_count net.old + count ≤ capacity_of net.old.arcs }
+    requires stamps { added_of net.old + count < 2 ^ 62 }
+    requires net { IsNet net.old }
+    ensures edit { IsEdit net.old net.new [] [] [] (slot_spans node sink spread 0 slots.new.items) }
+    ensures count { length slots.new.items ≡ count }
+{
+    for k in 0..count {
+        let arc = link(net, node, sink, 1, k * spread);
+        push_reserved(slots, arc);
+    }
+}
+
+/// Removes the arcs of a machine's slots.
+pub(crate) fn unlink_slots(net: &mut Net, slots: &[ArcId])
+    requires net { IsNet net.old }
+    ensures net { IsNet net.new }
+    ensures left { (ns : List NodeIdRow) (ss : List Span) (node sink : NodeIdRow) (spread : ℕ)
+        → Holds net.old net.old ns (slot_spans node sink spread 0 slots.now ++ ss) → Holds net.old net.new ns ss }
+{
+    for arc in slots {
+        unlink(net, *arc);
+    }
+}

@@ -1,0 +1,442 @@
+//! The network of a tenant.
+ghost use Rattle.std.specs.Prelude.{◌≡◌, ◌+◌, ◌^◌, ◌<◌, ◌≤◌, ◌↔◌, false, true, [], IfOk, OnOk, OnErr, IsTrue, ℕ, length, map, pos};
+ghost use Rattle.std.specs.List.{All};
+ghost use Rattle.firm_net.specs.Net.{CountsAre, arc_count, without_flow, CanPush, SameOtherRows, row_at, with_row, with_unit};
+ghost use Rattle.firm_paths.specs.Network.{AreValid};
+ghost use Rattle.firm_paths.specs.NetArcs.{arcs_of, limits_of};
+ghost use Rattle.firm_paths.specs.PriceTable.{price_of};
+ghost use Rattle.firm_paths.specs.Workspace.{HasSearched};
+ghost use Rattle.firm_flow.specs.NetFlow.{SameButFlow, IsLeastFlow};
+ghost use Rattle.firm_flow.specs.Flow.{cost_of, carried};
+ghost use Rattle.firm_rules.specs.Book.{opening_rows, machine_names, job_names, task_names, with_machine, with_job, with_task, without_machine, without_job, without_task, running_on, has_tasks};
+ghost use Rattle.firm_rules.specs.Names.{is_among};
+ghost use Rattle.firm_rules.specs.ArenaUse.{arena_nodes, arena_arcs};
+ghost use Rattle.firm_rules.specs.Placement.{is_legal};
+ghost use Rattle.firm_rules.specs.Round.{case_of, rows_after};
+ghost use Rattle.firm_graph.specs.Graph.{IsGraph, LackNodes, LackArcs};
+ghost use Rattle.firm_graph.specs.Ids.{view_of};
+ghost use Rattle.firm_graph.specs.Network.{task_nodes};
+ghost use Rattle.firm_graph.specs.View.{Shows, IsSameCase, CanHold, with_low, spot_of};
+ghost use Rattle.firm_graph.specs.declared.network.Node.TheVariants.{Sink, Hub};
+ghost use Rattle.firm_graph.specs.declared.network.Key.TheVariants.{Through, Wide, Stay, Delay};
+
+use crate::edits::{drop_node, link, link_slots, push_reserved, put_node, unlink, unlink_slots};
+use crate::moves::{evict_tasks, settle_tasks};
+use crate::parts::{GraphRefusal, JobParts, MachineIds, TaskArcs, TaskParts};
+use firm_flow::solve;
+use firm_net::{ArcId, Net, NodeId, Way};
+use firm_paths::{Prices, Scratch};
+use firm_rules::{Choice, Limits, Name, Rows, Slots, Weight, legality_is_judged};
+use std::alloc::{AllocError, Global};
+use std::marker::Model;
+
+/// The rows of a tenant, and a net that is kept equal to the network that they make.
+#[derive(Drop)]
+pub struct Graph {
+    rows: Rows,
+    net: Net,
+    hub: NodeId,
+    sink: NodeId,
+    machines: Vec<MachineIds>,
+    jobs: Vec<JobParts>,
+    tasks: Vec<TaskParts>,
+    sources: Vec<NodeId>,
+    asked: u64,
+}
+
+impl Model for Graph {
+    ghost use Rattle.firm_graph.specs.Graph.{Graph as Network};
+
+    ghost Value = { Network };
+
+    ghost use Rattle.firm_graph.specs.Inside.{graph_of, IsKept};
+
+    ghost view = { graph_of };
+
+    ghost invariant = { IsKept };
+}
+
+impl Graph {
+    /// The graph of a tenant that has nothing yet. The error comes for want of memory alone.
+    pub fn open(alloc: Global, limits: Limits) -> Result<Graph, AllocError>
+        ensures rows { IfOk result (λ graph. graph.rows ≡ opening_rows limits) }
+        ensures asked { IfOk result (λ graph. graph.asked ≡ 0) }
+        ensures graph { IfOk result (λ graph. IsGraph graph) }
+    {
+        let mut net = Net::new(alloc, limits.nodes() as u32, limits.arcs() as u32)?;
+        let hub = put_node(&mut net);
+        let sink = put_node(&mut net);
+        Ok(Graph {
+            rows: Rows::new(alloc, limits),
+            net,
+            hub,
+            sink,
+            machines: Vec::new(alloc),
+            jobs: Vec::new(alloc),
+            tasks: Vec::new(alloc),
+            sources: Vec::new(alloc),
+            asked: 0,
+        })
+    }
+
+    /// How many rows were added.
+    pub fn asked(&self) -> u64
+        ensures value { result ≡ self.now.asked }
+        ensures graph { IsGraph self.now }
+    {
+        self.asked
+    }
+
+    /// The rows of the tenant.
+    pub fn rows(&self) -> &Rows
+        ensures value { result.now ≡ self.now.rows }
+        ensures graph { IsGraph self.now }
+    {
+        &self.rows
+    }
+
+    /// The net. It shows the network of the rows, and has as many nodes and arcs as they take.
+    pub fn net(&self) -> &Net
+        ensures value { result.now ≡ self.now.net }
+        ensures graph { IsGraph self.now }
+        ensures counts { CountsAre self.now.net (arena_nodes self.now.rows) (arena_arcs self.now.rows) }
+        ensures shows { Shows (view_of self.now) }
+    {
+        &self.net
+    }
+
+    /// Adds a job last. `Nodes` exactly where its node does not fit the limits, else `Arcs` exactly where its arc does
+    /// not, else `Memory` only where memory is refused. A refusal changes nothing.
+    pub fn add_job(&mut self, name: Name, weight: Weight) -> Result<(), GraphRefusal>
+        requires new_name { is_among (job_names self.old.rows) name ≡ false }
+        requires asked { self.old.asked < 2 ^ 40 }
+        ensures ok { OnOk result (self.new.rows ≡ with_job self.old.rows name weight) }
+        ensures counted { OnOk result (self.new.asked ≡ self.old.asked + 1) }
+        ensures nodes { (result ≡ Err GraphRefusal.Nodes) ↔ LackNodes (with_job self.old.rows name weight) }
+        ensures arcs { (result ≡ Err GraphRefusal.Arcs) ↔ LackArcs (with_job self.old.rows name weight) }
+        ensures unchanged { OnErr result (self.new ≡ self.old) }
+        ensures graph { IsGraph self.new }
+    {
+        self.find_room(1, 1)?;
+        let limits = self.rows.limits();
+        let Ok(()) = self.jobs.reserve(1) else {
+            return Err(GraphRefusal::Memory);
+        };
+        let Ok(()) = self.rows.add_job(name, weight) else {
+            return Err(GraphRefusal::Memory);
+        };
+        let node = put_node(&mut self.net);
+        let exit = link(&mut self.net, node, self.sink, limits.nodes() as u32, 0);
+        push_reserved(&mut self.jobs, JobParts { node, exit });
+        self.asked += 1;
+        Ok(())
+    }
+
+    /// Adds a waiting task of the job last. `Nodes` exactly where its node does not fit the limits, else `Arcs` exactly
+    /// where its three arcs do not, else `Memory` only where memory is refused. A refusal changes nothing.
+    pub fn add_task(&mut self, job: Name, name: Name) -> Result<(), GraphRefusal>
+        requires job_there { is_among (job_names self.old.rows) job ≡ true }
+        requires new_name { is_among (task_names self.old.rows) name ≡ false }
+        requires asked { self.old.asked < 2 ^ 40 }
+        ensures ok { OnOk result (self.new.rows ≡ with_task self.old.rows job name) }
+        ensures counted { OnOk result (self.new.asked ≡ self.old.asked + 1) }
+        ensures nodes { (result ≡ Err GraphRefusal.Nodes) ↔ LackNodes (with_task self.old.rows job name) }
+        ensures arcs { (result ≡ Err GraphRefusal.Arcs) ↔ LackArcs (with_task self.old.rows job name) }
+        ensures unchanged { OnErr result (self.new ≡ self.old) }
+        ensures graph { IsGraph self.new }
+    {
+        self.find_room(1, 3)?;
+        let Ok(()) = self.tasks.reserve(1) else {
+            return Err(GraphRefusal::Memory);
+        };
+        let Ok(()) = self.sources.reserve(1) else {
+            return Err(GraphRefusal::Memory);
+        };
+        let Some(place) = self.rows.job_place(job) else {
+            unreachable!()
+        };
+        let Some(row) = self.rows.job_at(place) else {
+            unreachable!()
+        };
+        let Ok(()) = self.rows.add_task(job, name) else {
+            return Err(GraphRefusal::Memory);
+        };
+        let owner = self.jobs[place].node;
+        let node = put_node(&mut self.net);
+        let wide = link(&mut self.net, node, self.hub, 1, 0);
+        let stay = link(&mut self.net, node, self.hub, 0, 0);
+        let wait = link(&mut self.net, node, owner, 1, row.weight.get());
+        let arcs = TaskArcs { wide, stay, wait };
+        push_reserved(&mut self.sources, node);
+        push_reserved(&mut self.tasks, TaskParts { node, arcs });
+        self.asked += 1;
+        Ok(())
+    }
+
+    /// Adds a machine last. `Nodes` exactly where its node does not fit the limits, else `Arcs` exactly where its arcs
+    /// do not, else `Memory` only where memory is refused. A refusal changes nothing.
+    pub fn add_machine(
+        &mut self,
+        alloc: Global,
+        name: Name,
+        slots: Slots,
+    ) -> Result<(), GraphRefusal>
+        requires new_name { is_among (machine_names self.old.rows) name ≡ false }
+        requires asked { self.old.asked < 2 ^ 40 }
+        ensures ok { OnOk result (self.new.rows ≡ with_machine self.old.rows name slots) }
+        ensures counted { OnOk result (self.new.asked ≡ self.old.asked + 1) }
+        ensures nodes { (result ≡ Err GraphRefusal.Nodes) ↔ LackNodes (with_machine self.old.rows name slots) }
+        ensures arcs { (result ≡ Err GraphRefusal.Arcs) ↔ LackArcs (with_machine self.old.rows name slots) }
+        ensures unchanged { OnErr result (self.new ≡ self.old) }
+        ensures graph { IsGraph self.new }
+    {
+        let count = slots.get();
+        self.find_room(1, 1 + count)?;
+        let limits = self.rows.limits();
+        let Ok(mut arcs) = Vec::with_capacity(alloc, count as usize) else {
+            return Err(GraphRefusal::Memory);
+        };
+        let Ok(()) = self.machines.reserve(1) else {
+            return Err(GraphRefusal::Memory);
+        };
+        let Ok(()) = self.rows.add_machine(name, slots) else {
+            return Err(GraphRefusal::Memory);
+        };
+        let node = put_node(&mut self.net);
+        let through = link(&mut self.net, self.hub, node, count, 0);
+        let spread = limits.spread() as u32;
+        link_slots(&mut self.net, node, self.sink, spread, count, &mut arcs);
+        push_reserved(
+            &mut self.machines,
+            MachineIds {
+                node,
+                through,
+                slots: arcs,
+            },
+        );
+        self.asked += 1;
+        Ok(())
+    }
+
+    /// Removes a task, running or waiting.
+    pub fn drop_task(&mut self, name: Name)
+        requires there { is_among (task_names self.old.rows) name ≡ true }
+        ensures rows { self.new.rows ≡ without_task self.old.rows name }
+        ensures asked { self.new.asked ≡ self.old.asked }
+        ensures graph { IsGraph self.new }
+    {
+        let Some(place) = self.rows.task_place(name) else {
+            unreachable!()
+        };
+        let parts = self.tasks.remove(place);
+        self.sources.remove(place);
+        self.rows.remove_task(place);
+        unlink(&mut self.net, parts.arcs.wide);
+        unlink(&mut self.net, parts.arcs.stay);
+        unlink(&mut self.net, parts.arcs.wait);
+        drop_node(&mut self.net, parts.node);
+    }
+
+    /// Readies the net for a round: no arc carries flow, and none needs any.
+    pub fn prepare(&mut self)
+        ensures net { self.new ≡ record self.old { net = without_flow self.old.net } }
+        ensures case { IsSameCase (view_of self.old) (view_of self.new) }
+        ensures limits { limits_of self.new.net ≡ limits_of self.old.net }
+        ensures graph { IsGraph self.new }
+        ensures shows { Shows (view_of self.new) }
+    {
+        self.net.clear_flow();
+    }
+
+    /// Makes the net carry a flow of least cost, one unit from each task to the sink, and gives its cost. Makes
+    /// at most one search for each task. Takes no memory.
+    pub fn least(&mut self, prices: &mut Prices, scratch: &mut Scratch) -> i64
+        requires made_for { (prices.old.limits ≡ limits_of self.old.net)
+            × (scratch.old.limits ≡ limits_of self.old.net) }
+        ensures same { self.new ≡ record self.old { net = self.new.net } }
+        ensures flow { SameButFlow self.old.net self.new.net }
+        ensures case { IsSameCase (view_of self.old) (view_of self.new) }
+        ensures limits { limits_of self.new.net ≡ limits_of self.old.net }
+        ensures prices { prices.new.limits ≡ prices.old.limits }
+        ensures scratch { scratch.new.limits ≡ scratch.old.limits }
+        ensures counts { (made : ℕ) × (made ≤ length (view_of self.old).case.tasks)
+            × HasSearched scratch.old scratch.new made (arc_count self.old.net) }
+        ensures lows { All (λ a. a.low ≡ 0) (arcs_of self.new.net) }
+        ensures least { IsLeastFlow self.new.net
+            (map (spot_of (view_of self.new)) (task_nodes (view_of self.new).case)) (spot_of (view_of self.new) Sink) }
+        ensures valid { AreValid (arcs_of self.new.net) (price_of prices.new) }
+        ensures cost { result ≡ pos (cost_of (arcs_of self.new.net) carried) }
+        ensures graph { IsGraph self.new }
+        ensures shows { Shows (view_of self.new) }
+    {
+        let Ok(cost) = solve(&mut self.net, prices, scratch, &self.sources, self.sink) else {
+            unreachable!()
+        };
+        cost
+    }
+
+    /// Moves one unit of flow along an arc, forward or back. False, and nothing changes, exactly where the arc is not
+    /// there or has no room.
+    pub fn push(&mut self, arc: ArcId, way: Way) -> bool
+        ensures allowed { IsTrue result ↔ CanPush way (row_at self.old.net arc) }
+        ensures pushes { IsTrue result
+            → self.new ≡ record self.old { net = with_row self.old.net arc (with_unit way) } }
+        ensures unchanged { result ≡ false → self.new ≡ self.old }
+        ensures others { SameOtherRows self.old.net self.new.net arc }
+        ensures limits { limits_of self.new.net ≡ limits_of self.old.net }
+        ensures graph { IsGraph self.new }
+        ensures shows { Shows (view_of self.new) }
+    {
+        self.net.push(arc, way)
+    }
+
+    /// Sets how much must flow along an arc. False, and nothing changes, exactly where the arc is not there or
+    /// less flows.
+    pub fn hold(&mut self, arc: ArcId, low: u32) -> bool
+        ensures allowed { IsTrue result ↔ CanHold low (row_at self.old.net arc) }
+        ensures holds { IsTrue result → self.new ≡ record self.old { net = with_row self.old.net arc (with_low low) } }
+        ensures unchanged { result ≡ false → self.new ≡ self.old }
+        ensures others { SameOtherRows self.old.net self.new.net arc }
+        ensures limits { limits_of self.new.net ≡ limits_of self.old.net }
+        ensures graph { IsGraph self.new }
+        ensures shows { Shows (view_of self.new) }
+    {
+        let Some(row) = self.net.arc(arc) else {
+            return false;
+        };
+        self.net.set(arc, low, row.cap(), row.cost(), row.flow())
+    }
+
+    /// The hub, through which each task can reach each machine.
+    pub fn hub(&self) -> NodeId
+        ensures value { result ≡ (view_of self.now).node Hub }
+        ensures graph { IsGraph self.now }
+    {
+        self.hub
+    }
+
+    /// The sink.
+    pub fn sink(&self) -> NodeId
+        ensures value { result ≡ (view_of self.now).node Sink }
+        ensures graph { IsGraph self.now }
+    {
+        self.sink
+    }
+
+    /// The nodes of the tasks, in order of submission.
+    pub fn sources(&self) -> &[NodeId]
+        ensures value { result.now ≡ map (view_of self.now).node (task_nodes (view_of self.now).case) }
+        ensures graph { IsGraph self.now }
+    {
+        &self.sources
+    }
+
+    /// The arcs of the task at a place.
+    pub fn task_arcs(&self, place: usize) -> TaskArcs
+        requires { place < length self.now.rows.tasks }
+        ensures wide { result.wide ≡ (view_of self.now).arc (Wide place) }
+        ensures stay { result.stay ≡ (view_of self.now).arc (Stay place) }
+        ensures wait { result.wait ≡ (view_of self.now).arc (Delay place) }
+        ensures graph { IsGraph self.now }
+    {
+        self.tasks[place].arcs
+    }
+
+    /// The arc from the hub to the machine at a place.
+    pub fn hub_arc(&self, place: usize) -> ArcId
+        requires { place < length self.now.rows.machines }
+        ensures value { result ≡ (view_of self.now).arc (Through place) }
+        ensures graph { IsGraph self.now }
+    {
+        self.machines[place].through
+    }
+
+    /// Removes a job that has no tasks.
+    pub fn drop_job(&mut self, name: Name)
+        requires there { is_among (job_names self.old.rows) name ≡ true }
+        requires empty { has_tasks self.old.rows name ≡ false }
+        ensures rows { self.new.rows ≡ without_job self.old.rows name }
+        ensures asked { self.new.asked ≡ self.old.asked }
+        ensures graph { IsGraph self.new }
+    {
+        let Some(place) = self.rows.job_place(name) else {
+            unreachable!()
+        };
+        let parts = self.jobs.remove(place);
+        self.rows.close(place);
+        unlink(&mut self.net, parts.exit);
+        drop_node(&mut self.net, parts.node);
+    }
+
+    /// Removes a machine. The tasks that run on it wait again, and how many they are is the answer.
+    pub fn drop_machine(&mut self, name: Name) -> u32
+        requires there { is_among (machine_names self.old.rows) name ≡ true }
+        ensures rows { self.new.rows ≡ without_machine self.old.rows name }
+        ensures count { result ≡ running_on self.old.rows name }
+        ensures asked { self.new.asked ≡ self.old.asked }
+        ensures graph { IsGraph self.new }
+    {
+        let Some(place) = self.rows.machine_place(name) else {
+            unreachable!()
+        };
+        evict_tasks(&mut self.net, &self.rows, &self.tasks, self.hub, name);
+        let evicted = self.rows.drain(place);
+        let parts = self.machines.remove(place);
+        unlink(&mut self.net, parts.through);
+        unlink_slots(&mut self.net, &parts.slots);
+        drop_node(&mut self.net, parts.node);
+        evicted
+    }
+
+    /// Makes the rows those after a round of these choices, one for each task, and moves the tasks' stay arcs.
+    pub fn settle(&mut self, choices: &[Choice])
+        requires legal { is_legal (case_of self.old.rows) choices.now ≡ true }
+        ensures rows { self.new.rows ≡ rows_after self.old.rows choices.now }
+        ensures asked { self.new.asked ≡ self.old.asked }
+        ensures graph { IsGraph self.new }
+    {
+        legality_is_judged();
+        settle_tasks(
+            &mut self.net,
+            &self.rows,
+            &self.machines,
+            &self.tasks,
+            self.hub,
+            choices,
+        );
+        self.rows.settle(choices);
+    }
+
+    // How many nodes and arcs more the net has room for.
+    fn room(&self) -> (u32, u32)
+        ensures nodes { result.0 + arena_nodes self.now.rows ≡ self.now.rows.limits.nodes }
+        ensures arcs { result.1 + arena_arcs self.now.rows ≡ self.now.rows.limits.arcs }
+        ensures graph { IsGraph self.now }
+    {
+        self.net.room()
+    }
+
+    // Whether the net has room for so many nodes and arcs more.
+    fn find_room(&self, nodes: u32, arcs: u32) -> Result<(), GraphRefusal>
+        requires nodes { nodes ≤ 1 }
+        requires arcs { arcs ≤ 65 }
+        ensures graph { IsGraph self.now }
+        ensures fits { OnOk result ((arena_nodes self.now.rows + nodes ≤ self.now.rows.limits.nodes)
+            × (arena_arcs self.now.rows + arcs ≤ self.now.rows.limits.arcs)) }
+        ensures nodes { (result ≡ Err GraphRefusal.Nodes)
+            ↔ (self.now.rows.limits.nodes < arena_nodes self.now.rows + nodes) }
+        ensures arcs { (result ≡ Err GraphRefusal.Arcs)
+            ↔ (arena_nodes self.now.rows + nodes ≤ self.now.rows.limits.nodes)
+            × (self.now.rows.limits.arcs < arena_arcs self.now.rows + arcs) }
+        ensures memory { result ≡ Err GraphRefusal.Memory → ⊥ }
+    {
+        let (free_nodes, free_arcs) = self.room();
+        if free_nodes < nodes {
+            return Err(GraphRefusal::Nodes);
+        }
+        if free_arcs < arcs {
+            return Err(GraphRefusal::Arcs);
+        }
+        Ok(())
+    }
+}

@@ -1,0 +1,14 @@
+//! The network of a tenant: its rows, and the net that is kept equal to what they make.
+#![tactic(auto)]
+
+mod edits;
+mod graph;
+mod laws;
+mod moves;
+mod network;
+mod parts;
+
+pub use graph::Graph;
+pub use laws::{every_graph_shows, networks_are_counted};
+pub use network::{Key, Node};
+pub use parts::{GraphRefusal, TaskArcs};

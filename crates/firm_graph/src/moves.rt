@@ -1,0 +1,170 @@
+//! The arcs of tasks that start, move, or are thrown out of their machine.
+ghost use Rattle.std.specs.Prelude.{◌≡◌, ◌≤◌, ◌<◌, ◌+◌, length, slice_index_or, min, List, ℕ, Option, None, Some, if◌then◌else◌, map, All};
+ghost use Rattle.firm_rules.specs.Book.{is_on, evicted};
+ghost use Rattle.firm_rules.specs.Placement.{IsPlace};
+ghost use Rattle.firm_rules.specs.Round.{rows_after};
+ghost use Rattle.firm_graph.specs.Graph.{Graph as GraphRow, Mirrors, weight_under};
+ghost use Rattle.firm_graph.specs.Steps.{IsPlacing, Stands, moved, with_task_at, evicted_first, task_at};
+
+use crate::edits::{lead, rate};
+use crate::parts::{MachineIds, Stand, TaskParts};
+use firm_net::{Net, NodeId};
+use firm_rules::{Choice, Name, Rows};
+
+/// Gives the arcs of the task at a place the ends, capacities and costs of one that stands so.
+pub(crate) fn place_task(net: &mut Net, rows: &Rows, parts: TaskParts, place: usize, stand: Stand)
+    requires place { place < length rows.now.tasks }
+    requires waited { stand.waited ≤ 1000000 }
+    ensures placed { (g : GraphRow) (home : Option (List ℕ)) → IsPlacing g net.old rows.now parts place stand home
+        → Mirrors (moved g (with_task_at g.rows place home stand.waited) net.new) }
+{
+    let leaving = where_runs(stand.runs, rows.limits().churn() as u32);
+    let weight = weight_of(rows, place);
+    rate(net, parts.arcs.wide, 1, leaving);
+    rate(net, parts.arcs.stay, where_runs(stand.runs, 1), 0);
+    lead(net, parts.arcs.stay, stand.node);
+    rate(net, parts.arcs.wait, 1, weight + stand.waited + leaving);
+}
+
+/// Gives the arcs of the tasks that run on the machine of a name those of tasks that wait.
+pub(crate) fn evict_tasks(net: &mut Net, rows: &Rows, tasks: &[TaskParts], hub: NodeId, name: Name)
+    requires tasks { length tasks.now ≡ length rows.now.tasks }
+    ensures evicted { (g : GraphRow) → Mirrors g → g.net ≡ net.old → g.rows ≡ rows.now → g.tasks ≡ tasks.now
+        → g.hub ≡ hub
+        → Mirrors (moved g (record g.rows { tasks = map (evicted name) g.rows.tasks }) net.new) }
+{
+    for (place, parts) in tasks.iter().enumerate() {
+        evict_task(net, rows, *parts, place, hub, name);
+    }
+}
+
+// Gives the arcs of the task at a place those of one that waits if it runs on the machine of a name.
+fn evict_task(net: &mut Net, rows: &Rows, parts: TaskParts, place: usize, hub: NodeId, name: Name)
+    requires place { place < length rows.now.tasks }
+    ensures step { (g : GraphRow) → Mirrors (moved g (evicted_first g.rows name place) net.old) → g.rows ≡ rows.now
+        → g.hub ≡ hub
+        → place < length g.tasks → parts ≡ slice_index_or g.tasks place parts
+        → Mirrors (moved g (evicted_first g.rows name (place + 1)) net.new) }
+{
+    if !runs_on(rows, place, name) {
+        return;
+    }
+    let stand = Stand {
+        node: hub,
+        runs: false,
+        waited: 0,
+    };
+    place_task(net, rows, parts, place, stand);
+}
+
+/// Gives the arcs of all tasks those that go with the choices of a round.
+pub(crate) fn settle_tasks(
+    net: &mut Net,
+    rows: &Rows,
+    machines: &[MachineIds],
+    tasks: &[TaskParts],
+    hub: NodeId,
+    choices: &[Choice],
+)
+    requires machines { length machines.now ≡ length rows.now.machines }
+    requires tasks { length tasks.now ≡ length rows.now.tasks }
+    requires one_each { length choices.now ≡ length rows.now.tasks }
+    requires places { All (IsPlace (length rows.now.machines)) choices.now }
+    ensures settled { (g : GraphRow) → Mirrors g → g.net ≡ net.old → g.rows ≡ rows.now → g.machines ≡ machines.now
+        → g.tasks ≡ tasks.now → g.hub ≡ hub
+        → Mirrors (moved g (rows_after g.rows choices.now) net.new) }
+{
+    for (place, choice) in choices.iter().enumerate() {
+        let stand = stand_of(rows, machines, hub, place, *choice);
+        place_task(net, rows, tasks[place], place, stand);
+    }
+}
+
+// How the task at a place stands after a round that makes this choice for it.
+fn stand_of(
+    rows: &Rows,
+    machines: &[MachineIds],
+    hub: NodeId,
+    place: usize,
+    choice: Choice,
+) -> Stand
+    requires place { place < length rows.now.tasks }
+    requires machines { length machines.now ≡ length rows.now.machines }
+    requires there { IsPlace (length rows.now.machines) choice }
+    ensures waited { result.waited ≤ 1000000 }
+    ensures stands { Stands rows.now (map (λ parts. parts.node) machines.now) hub (task_at rows.now place) choice
+        result }
+{
+    rows.limits();
+    match choice {
+        Choice::On(machine) => {
+            let parts = &machines[machine as usize];
+            Stand {
+                node: parts.node,
+                runs: true,
+                waited: 0,
+            }
+        }
+        Choice::Wait => Stand {
+            node: hub,
+            runs: false,
+            waited: waited_after(rows, place),
+        },
+    }
+}
+
+// How many rounds will have left the task at a place waiting, after one more.
+fn waited_after(rows: &Rows, place: usize) -> u32
+    requires { place < length rows.now.tasks }
+    ensures value { result ≡ min 1000000 ((task_at rows.now place).waited + 1) }
+    ensures most { result ≤ 1000000 }
+{
+    let Some(task) = rows.task_at(place) else {
+        unreachable!()
+    };
+    if task.waited < 1_000_000 {
+        task.waited + 1
+    } else {
+        1_000_000
+    }
+}
+
+// Whether the task at a place runs on the machine of a name.
+fn runs_on(rows: &Rows, place: usize, name: Name) -> bool
+    requires { place < length rows.now.tasks }
+    ensures { result ≡ is_on name (task_at rows.now place).machine }
+{
+    let Some(task) = rows.task_at(place) else {
+        unreachable!()
+    };
+    match task.machine {
+        Some(machine) => name == machine,
+        None => false,
+    }
+}
+
+// The weight of the job of the task at a place.
+fn weight_of(rows: &Rows, place: usize) -> u32
+    requires { place < length rows.now.tasks }
+    ensures value { result ≡ weight_under rows.now.jobs (task_at rows.now place).job }
+    ensures most { result ≤ 1000000 }
+{
+    rows.limits();
+    let Some(task) = rows.task_at(place) else {
+        unreachable!()
+    };
+    let Some(owner) = rows.job_place(task.job) else {
+        unreachable!()
+    };
+    let Some(job) = rows.job_at(owner) else {
+        unreachable!()
+    };
+    job.weight.get()
+}
+
+// The amount where a task runs, 0 while it waits.
+fn where_runs(runs: bool, amount: u32) -> u32
+    ensures { result ≡ (if runs then amount else 0) }
+{
+    if runs { amount } else { 0 }
+}

@@ -1,0 +1,209 @@
+-- How many arcs leave or enter a node, and how many those of the settled nodes are together.
+use Rattle.std.proofs.Common.{◌≡◌, ℕ, ◌+◌, ◌*◌, ◌<◌, ◌≤◌, ◌==◌, Bool, true, false, cond, eqb, eqb-true, ap₂, Option, Some, None, List, [], ◌∷◌, length, set, arith, refl, sym, ap, subst, ◌∙◌, ⊎_elim}
+use Rattle.std.specs.Prelude.{Contains, is_some, not, ◌&&◌}
+use Rattle.std.specs.List.{count_by}
+use Rattle.std.proofs.lemmas.List.{get_or-set_other, get_or-set_same}
+use Rattle.std.proofs.lemmas.List.Sums.{sum_by-cons, count_by-le-length}
+use Rattle.std.proofs.lemmas.Bool.{cases_Bool, cases_eq, cond-true, cond-false, eq-eqb, ne_eqb}
+use Rattle.firm_net.specs.Row.{Row}
+use Rattle.firm_net.specs.Net.{Net, IsNet, row_at, rows_of, with_its_row, arcs_on, same_arc, EachOnce}
+use Rattle.firm_net.specs.Laws.{rows_counted}
+use Rattle.firm_net.specs.declared.row.NodeId.{NodeId}
+use Rattle.firm_net.specs.declared.row.ArcId.{ArcId}
+use Rattle.firm_net.specs.declared.row.Way.{Way}
+use Rattle.firm_net.specs.declared.row.Way.TheVariants.{Forward, Backward}
+use Rattle.firm_paths.specs.Network.{Arc}
+use Rattle.firm_paths.specs.NetArcs.{arc_of, arcs_of}
+use Rattle.firm_paths.specs.inner.Search.{state, settled, IsLowered}
+use Rattle.firm_arena.specs.Arena.{capacity_of}
+use Rattle.firm_net.specs.declared.links.Side.TheVariants.{Out, In}
+use Rattle.firm_paths.specs.declared.search.NodeState.{NodeState}
+use Rattle.firm_paths.proofs.Listed.{listed}
+use Rattle.firm_paths.specs.inner.Search.{side_of}
+use Rattle.firm_paths.proofs.Walks.{cons_cases, cons_more, cons_first}
+
+-- the test, but not of arc `a`
+abbrev but : (Arc ℕ ArcId → Bool) → ArcId → Arc ℕ ArcId → Bool
+but P a x = P x && not (same_arc x.key a)
+
+same_arc-self : (a : ArcId) → same_arc a a ≡ true
+same_arc-self a = and_both (a.id.place == a.id.place) (a.id.stamp == a.id.stamp) (eq-eqb a.id.place a.id.place refl) (eq-eqb a.id.stamp a.id.stamp refl)
+  where
+    and_both : (p q : Bool) → p ≡ true → q ≡ true → (p && q) ≡ true
+    and_both true true e f = refl
+    and_both true false e f = absurd cc
+    and_both false q e f = absurd cc
+
+same_arc-other : (a b : ArcId) → (a ≡ b → ⊥) → same_arc a b ≡ false
+same_arc-other a b other = ⊎_elim (λ (t : same_arc a b ≡ true).
+    let parts = and_parts (a.id.place == b.id.place) (a.id.stamp == b.id.stamp) t in
+    absurd (other (ap₂ (λ (p s : ℕ). let made : ArcId = record { id = record { place = p; stamp = s } } in made)
+    (eqb-true a.id.place b.id.place parts.0) (eqb-true a.id.stamp b.id.stamp parts.1))))
+    (λ (f : same_arc a b ≡ false). f) (cases_Bool (same_arc a b))
+  where
+    and_parts : (p q : Bool) → (p && q) ≡ true → (p ≡ true) × (q ≡ true)
+    and_parts true q e = (refl, e)
+    and_parts false q e = absurd cc
+
+and_le : (p q : Bool) → cond {A = ℕ} (p && q) 1 0 ≤ cond {A = ℕ} p 1 0
+and_le true true = omega arith
+and_le true false = omega arith
+and_le false q = omega arith
+
+and_both : (p q : Bool) → p ≡ true → q ≡ false → (p && not q) ≡ true
+and_both true false e f = refl
+and_both true true e f = absurd cc
+and_both false q e f = absurd cc
+
+and_out : (p q : Bool) → q ≡ true → cond {A = ℕ} (p && not q) 1 0 ≡ 0
+and_out true true e = refl
+and_out true false e = absurd cc
+and_out false q e = refl
+
+fewer : (P : Arc ℕ ArcId → Bool) (a : ArcId) (xs : List (Arc ℕ ArcId)) → count_by (but P a) xs ≤ count_by P xs
+fewer P a [] = omega arith
+fewer P a (x ∷ xs) =
+    omega (
+      arith,
+      sum_by-cons (λ (m : Arc ℕ ArcId). cond {A = ℕ} (but P a m) 1 0) x xs,
+      sum_by-cons (λ (m : Arc ℕ ArcId). cond {A = ℕ} (P m) 1 0) x xs,
+      fewer P a xs,
+      and_le (P x) (not (same_arc x.key a)),
+    )
+
+drop_one : (P : Arc ℕ ArcId → Bool) (a : ArcId) (xs : List (Arc ℕ ArcId)) (y : Arc ℕ ArcId) → Contains xs y → P y ≡ true → y.key ≡ a
+    → count_by (but P a) xs + 1 ≤ count_by P xs
+drop_one P a [] y c t e = absurd (omega (arith, c.1))
+drop_one P a (x ∷ xs) y c t e =
+    let l = sum_by-cons (λ (m : Arc ℕ ArcId). cond {A = ℕ} (but P a m) 1 0) x xs in
+    let r = sum_by-cons (λ (m : Arc ℕ ArcId). cond {A = ℕ} (P m) 1 0) x xs in
+    ⊎_elim
+    (λ (s : x ≡ y).
+    let same : same_arc x.key a ≡ true = subst (λ (z : ArcId). same_arc z a ≡ true) (sym (ap (λ (m : Arc ℕ ArcId). m.key) s ∙ e)) (same_arc-self a) in
+    omega (
+      arith,
+      l,
+      r,
+      fewer P a xs,
+      and_out (P x) (same_arc x.key a) same,
+      cond-true {A = ℕ} (P x) 1 0 (ap P s ∙ t),
+    ))
+    (λ (d : Contains xs y). omega (arith, l, r, drop_one P a xs y d t e, and_le (P x) (not (same_arc x.key a))))
+    (cons_cases x xs y c)
+
+-- as many arcs as a list has, each once, pass a test that each of them passes
+pub many : (P : Arc ℕ ArcId → Bool) (xs : List (Arc ℕ ArcId)) (net : Net) (ids : List ArcId) → EachOnce ids
+    → ((id : ArcId) (row : Row) → Contains ids id → row_at net id ≡ Some row → Contains xs (arc_of id row) × (P (arc_of id row) ≡ true))
+    → length (rows_of net ids) ≤ count_by P xs
+many P xs net [] once all = omega arith
+many P xs net (a ∷ ids) once all =
+    let step : (o : Option Row) → row_at net a ≡ o → length (with_its_row net a o (rows_of net ids)) ≤ count_by P xs =
+    λ o. elim o as (λ o. row_at net a ≡ o → length (with_its_row net a o (rows_of net ids)) ≤ count_by P xs) [
+      | None ↦ λ e. many P xs net ids once.1 (λ id row c is. all id row (cons_more a ids id c) is)
+      | Some r ↦ λ e.
+          let current = all a r (cons_first a ids) e in
+          let rest = many (but P a) xs net ids once.1 (λ id row c is.
+          let was = all id row (cons_more a ids id c) is in
+          (was.0, and_both (P (arc_of id row)) (same_arc id a) was.1 (same_arc-other id a (λ same. once.0 (subst (Contains ids) same c))))) in
+          omega (arith, rest, drop_one P a xs (arc_of a r) current.0 current.1 refl)
+    ] in
+    step (row_at net a) refl
+
+-- the place of the node that an arc leaves, read one way
+abbrev pub start_place : Way → Arc ℕ ArcId → ℕ
+start_place Forward a = a.tail
+start_place Backward a = a.head
+
+pub degree : (way : Way) (net : Net) (node : NodeId) → IsNet net
+    → length (rows_of net (arcs_on (side_of way) net node)) ≤ count_by (λ (a : Arc ℕ ArcId). eqb (start_place way a) node.id.place) (arcs_of net)
+degree Forward net node net_is =
+    many (λ (a : Arc ℕ ArcId). eqb a.tail node.id.place) (arcs_of net) net (arcs_on (side_of Forward) net node) (net_is.outgoing.once node)
+    (λ id row c is.
+    let at = net_is.outgoing.arcs node id c in
+    let same : at.0 ≡ row = let e : Some at.0 ≡ Some row = sym at.1 ∙ is in cc in
+    (listed net id row is, eq-eqb row.tail.id.place node.id.place (ap (λ (r : Row). r.tail.id.place) (sym same) ∙ ap (λ (n : NodeId). n.id.place) at.2)))
+degree Backward net node net_is =
+    many (λ (a : Arc ℕ ArcId). eqb a.head node.id.place) (arcs_of net) net (arcs_on (side_of Backward) net node) (net_is.incoming.once node)
+    (λ id row c is.
+    let at = net_is.incoming.arcs node id c in
+    let same : at.0 ≡ row = let e : Some at.0 ≡ Some row = sym at.1 ∙ is in cc in
+    (listed net id row is, eq-eqb row.head.id.place node.id.place (ap (λ (r : Row). r.head.id.place) (sym same) ∙ ap (λ (n : NodeId). n.id.place) at.2)))
+
+-- the arcs that leave settled nodes, read one way
+abbrev pub followed_from : Way → Net → List NodeState → ℕ
+followed_from way net ms = count_by (λ (a : Arc ℕ ArcId). settled ms (start_place way a)) (arcs_of net)
+
+pub followed_few : (way : Way) (net : Net) (ms : List NodeState) → followed_from way net ms ≤ length (arcs_of net)
+followed_few way net ms = count_by-le-length (λ (a : Arc ℕ ArcId). settled ms (start_place way a)) (arcs_of net)
+
+pub count_sum : (P Q R : Arc ℕ ArcId → Bool) (xs : List (Arc ℕ ArcId))
+    → ((x : Arc ℕ ArcId) → cond {A = ℕ} (P x) 1 0 + cond {A = ℕ} (Q x) 1 0 ≤ cond {A = ℕ} (R x) 1 0)
+    → count_by P xs + count_by Q xs ≤ count_by R xs
+count_sum P Q R [] h = omega arith
+count_sum P Q R (x ∷ xs) h =
+    omega (
+      arith,
+      sum_by-cons (λ (m : Arc ℕ ArcId). cond {A = ℕ} (P m) 1 0) x xs,
+      sum_by-cons (λ (m : Arc ℕ ArcId). cond {A = ℕ} (Q m) 1 0) x xs,
+      sum_by-cons (λ (m : Arc ℕ ArcId). cond {A = ℕ} (R m) 1 0) x xs,
+      count_sum P Q R xs h,
+      h x,
+    )
+
+-- one node more is settled: its arcs are added
+pub followed_more : (way : Way) (net : Net) (old new : List NodeState) (u : ℕ) → settled old u ≡ false → settled new u ≡ true
+    → ((v : ℕ) → (v ≡ u → ⊥) → settled new v ≡ settled old v)
+    → followed_from way net old + count_by (λ (a : Arc ℕ ArcId). eqb (start_place way a) u) (arcs_of net) ≤ followed_from way net new
+followed_more way net old new u open_ done others =
+    count_sum (λ (a : Arc ℕ ArcId). settled old (start_place way a)) (λ (a : Arc ℕ ArcId). eqb (start_place way a) u) (λ (a : Arc ℕ ArcId). settled new (start_place way a)) (arcs_of net)
+    (λ x. let v : ℕ = start_place way x in
+    ⊎_elim
+    (λ (e : v ≡ u).
+    omega (
+      arith,
+      cond-true {A = ℕ} (settled new v) 1 0 (ap (settled new) e ∙ done),
+      cond-false {A = ℕ} (settled old v) 1 0 (ap (settled old) e ∙ open_),
+      cond-true {A = ℕ} (eqb v u) 1 0 (eq-eqb v u e),
+    ))
+    (λ (ne : v ≡ u → ⊥).
+    omega (
+      arith,
+      ap (λ (b : Bool). cond {A = ℕ} b 1 0) (others v ne),
+      cond-false {A = ℕ} (eqb v u) 1 0 (ne_eqb v u ne),
+    ))
+    (cases_eq v u))
+
+-- a round counts no more looks than the arcs of the node that it settles
+pub round_counted : (net : Net) (ms m2 m3 : List NodeState) (u : ℕ) (node : NodeId) (looks base : ℕ) → IsNet net → node.id.place ≡ u → u < length ms → settled ms u ≡ false
+    → IsLowered (set ms u (record (state ms u) { settled = true })) m2 → IsLowered m2 m3
+    → looks ≤ base + (followed_from Forward net ms + followed_from Backward net ms)
+    → looks + length (rows_of net (arcs_on Out net node)) + length (rows_of net (arcs_on In net node)) ≤ base + (followed_from Forward net m3 + followed_from Backward net m3)
+round_counted net ms m2 m3 u node looks base net_is at listed open_ low2 low3 few =
+    let none_ : NodeState = record { node = None; label = 0; settled = false; predecessor = None } in
+    let done : NodeState = record (state ms u) { settled = true } in
+    let current : settled m3 u ≡ true = low3.settled u ∙ (low2.settled u ∙ ap (λ (m : NodeState). m.settled) (get_or-set_same ms u done none_ listed)) in
+    let others : (v : ℕ) → (v ≡ u → ⊥) → settled m3 v ≡ settled ms v =
+    λ v ne. low3.settled v ∙ (low2.settled v ∙ ap (λ (m : NodeState). m.settled) (get_or-set_other ms u v done none_ ne)) in
+    omega (
+      arith,
+      few,
+      followed_more Forward net ms m3 u open_ current others,
+      followed_more Backward net ms m3 u open_ current others,
+      subst (λ (z : ℕ). length (rows_of net (arcs_on Out net node)) ≤ count_by (λ (a : Arc ℕ ArcId). eqb (start_place Forward a) z) (arcs_of net)) at (degree Forward net node net_is),
+      subst (λ (z : ℕ). length (rows_of net (arcs_on In net node)) ≤ count_by (λ (a : Arc ℕ ArcId). eqb (start_place Backward a) z) (arcs_of net)) at (degree Backward net node net_is),
+    )
+
+-- there are no more arcs than places
+pub arcs_few : (net : Net) → length (arcs_of net) ≤ capacity_of net.arcs
+arcs_few net = omega (arith, rows_counted arc_of net, count_by-le-length (λ (o : Option (ℕ × Row)). is_some o) net.arcs.held)
+
+pub start_counted : (net : Net) (looks : ℕ) (ms : List NodeState) → looks ≤ looks + (followed_from Forward net ms + followed_from Backward net ms)
+start_counted net looks ms = omega arith
+
+pub all_counted : (net : Net) (ms : List NodeState) (looks base : ℕ) → looks ≤ base + (followed_from Forward net ms + followed_from Backward net ms)
+    → looks ≤ base + 2 * length (arcs_of net)
+all_counted net ms looks base few = omega (arith, few, followed_few Forward net ms, followed_few Backward net ms)
+
+pub degree_few : (way : Way) (net : Net) (node : NodeId) → IsNet net → length (rows_of net (arcs_on (side_of way) net node)) ≤ length (arcs_of net)
+degree_few way net node net_is =
+    omega (arith, degree way net node net_is, count_by-le-length (λ (a : Arc ℕ ArcId). eqb (start_place way a) node.id.place) (arcs_of net))

@@ -1,0 +1,16 @@
+use Rattle.std.proofs.Common.{◌≡◌, ◌+◌, length}
+use Rattle.firm_net.specs.Net.{rows_of, arcs_on}
+use Rattle.firm_paths.specs.inner.Search.{side_of}
+use Rattle.std.specs.Prelude.{slice_index}
+use Rattle.firm_paths.specs.inner.Queue.{IsQueued}
+use Rattle.firm_paths.proofs.Walks.{IsLooking}
+use Rattle.firm_paths.proofs.shortest.relax_arcs.Given as goal
+
+abbrev pub invariant-loop-arc : goal.invariant-loop-arc
+invariant-loop-arc l = record {
+  can_next : (goal.iterator-loop-arc).can_next l.arc-iterator;
+  is_finite : (goal.iterator-loop-arc).is_finite l.arc-iterator;
+  looking : IsLooking l.net l.current l.way l.initial.states l.states l.arc-iterator;
+  counted : l.looks + length l.arc-iterator ≡ l.fn.looks + length (rows_of l.net (arcs_on (side_of l.fn.way) l.net l.fn.node));
+  queued : IsQueued (slice_index l.prices.prices) l.states l.queue;
+}

@@ -1,0 +1,119 @@
+//! An ordered queue of places, each with a key: a tournament of keys.
+ghost use Rattle.std.specs.Prelude.{◌≡◌, ℕ, ◌+◌, ◌*◌, ◌<◌, ◌≤◌, ◌^◌, length, drop, replicate, IfOk, MatchOption};
+ghost use Rattle.std.specs.Prelude.{slice_index, slice_set};
+ghost use Rattle.firm_paths.specs.inner.Queue.{IsTournament, IsLeastKey};
+
+use std::alloc::{AllocError, Global};
+use std::marker::Model;
+
+/// The key of a place that is not in the queue.
+pub const ABSENT: u64 = u64::MAX;
+
+/// A key for each place; the least is at hand.
+#[derive(Drop)]
+pub struct Queue {
+    places: usize,
+    keys: Vec<u64>,
+}
+
+impl Model for Queue {
+    ghost use Rattle.std.specs.Prelude.{ℕ, List, drop};
+    ghost use Rattle.firm_paths.specs.inner.Queue.{IsTournament};
+
+    ghost Value = { List ℕ };
+
+    ghost view = { λ q. drop q.places q.keys.items };
+
+    ghost invariant = { λ q. IsTournament q.places q.keys.items };
+}
+
+impl Queue {
+    /// An empty queue of so many places. `Err` only where memory is refused.
+    pub fn new(alloc: Global, places: u32) -> Result<Queue, AllocError>
+        ensures { IfOk result (λ q. q ≡ replicate places 18446744073709551615) }
+    {
+        let places = places as usize;
+        Ok(Queue {
+            places,
+            keys: vec![in alloc; ABSENT; 2 * places]?,
+        })
+    }
+
+    /// Gives a place another key.
+    pub fn set(&mut self, place: usize, key: u64)
+        requires { place < length self.old }
+        ensures { self.new ≡ slice_set self.old place key }
+    {
+        set_key(&mut self.keys, self.places, place, key);
+    }
+
+    /// The key of a place.
+    pub fn key(&self, place: usize) -> u64
+        requires { place < length self.now }
+        ensures { result ≡ slice_index self.now place }
+    {
+        self.keys[self.places + place]
+    }
+
+    /// Makes every place absent.
+    pub fn clear(&mut self)
+        ensures { self.new ≡ replicate (length self.old) 18446744073709551615 }
+    {
+        self.keys.fill(ABSENT);
+    }
+
+    /// The place of the least key; `None` where every place is absent.
+    pub fn least(&self) -> Option<usize>
+        ensures { MatchOption result
+            ((v : ℕ) → v < length self.now → slice_index self.now v ≡ 18446744073709551615)
+            (IsLeastKey self.now) }
+    {
+        least_place(&self.keys, self.places)
+    }
+}
+
+/// Gives a place another key, and each node above it that changes.
+fn set_key(keys: &mut [u64], places: usize, place: usize, key: u64)
+    requires tournament { IsTournament places keys.old }
+    requires place { place < places }
+    ensures tournament { IsTournament places keys.new }
+    ensures sets { drop places keys.new ≡ slice_set (drop places keys.old) place key }
+{
+    let mut at = places + place;
+    keys[at] = key;
+    while at > 1 {
+        at = at / 2;
+        let left = keys[2 * at];
+        let right = keys[2 * at + 1];
+        let least = if left <= right { left } else { right };
+        if keys[at] == least {
+            return;
+        }
+        keys[at] = least;
+    }
+}
+
+/// The place of the least key, found from the top down.
+fn least_place(keys: &[u64], places: usize) -> Option<usize>
+    requires tournament { IsTournament places keys.now }
+    ensures { MatchOption result
+        ((v : ℕ) → v < places → slice_index keys.now (places + v) ≡ 18446744073709551615)
+        (λ u. (u < places) × ((v : ℕ) → v < places → slice_index keys.now (places + u) ≤ slice_index keys.now (places + v))
+        × (slice_index keys.now (places + u) < 18446744073709551615)) }
+{
+    if places == 0 {
+        return None;
+    }
+    let top = keys[1];
+    if top == ABSENT {
+        return None;
+    }
+    let mut at = 1;
+    while at < places {
+        at = 2 * at;
+        if keys[at] != top {
+            at += 1;
+        }
+    }
+    Some(at - places)
+}

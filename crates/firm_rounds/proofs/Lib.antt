@@ -1,0 +1,7 @@
+pub mod Weighs
+pub mod Caps
+pub mod Fairs
+pub mod Cutting
+pub mod Gathered
+pub mod Opened
+pub mod Alls

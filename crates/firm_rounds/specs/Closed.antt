@@ -1,0 +1,45 @@
+-- What the passes that are handed in have put and got.
+use Rattle.std.specs.Prelude.{◌≡◌, ℕ, ◌+◌, ◌<◌, ◌≤◌, ◌^◌, List, [], length}
+use Rattle.firm_rules.specs.declared.tickets.Ticket.{Ticket}
+use Rattle.firm_rounds.specs.declared.protocol.Sight.{Sight}
+use Rattle.firm_rounds.specs.declared.protocol.Share.{Share}
+use Rattle.firm_rounds.specs.Rounds.{weigh, share, numbered, put_by, got_by, is_at, beyond}
+use Rattle.firm_rounds.specs.Passes.{PutIs, PopIs, JobIs}
+
+-- the weight of what these passes put
+abbrev pub put_weight : (Ticket → ℕ) → List PutIs → ℕ
+put_weight h puts = weigh (λ p. weigh h (numbered p.place p.put)) puts
+
+-- the weight of what these passes got
+abbrev pub got_weight : (Ticket → ℕ) → List PopIs → ℕ
+got_weight h pops = weigh (λ p. weigh h p.got) pops
+
+abbrev pub job_weight : (Ticket → ℕ) → List JobIs → ℕ
+job_weight h jobs = weigh (λ j. h j.ticket) jobs
+
+-- how many of these passes are of the place
+abbrev pub of_place : ℕ → List PutIs → ℕ
+of_place place puts = weigh (λ p. is_at place (share p.place p.put [])) puts
+
+-- what these shares put is, each as often, what they got and what is left; and each place has one of them at most
+pub record Settled (shares : List Share) (jobs : List JobIs) : Type 0 where
+  pub balanced : (h : Ticket → ℕ) → weigh (put_by h) shares ≡ weigh (got_by h) shares + job_weight h jobs
+  pub placed : (place : ℕ) → place < beyond → weigh (is_at place) shares ≤ 1
+  pub few : weigh (got_by (λ t. 1)) shares ≤ 2 ^ 61
+
+pub record Adds (v w : Sight) (pops : List PopIs) : Type 0 where
+  pub puts : (h : Ticket → ℕ) → weigh (put_by h) w.shares ≡ weigh (put_by h) v.shares
+  pub gots : (h : Ticket → ℕ) → weigh (got_by h) w.shares ≡ weigh (got_by h) v.shares + got_weight h pops
+  pub count : weigh (λ x. 1) w.shares ≡ weigh (λ x. 1) v.shares + length pops
+  pub places : (place : ℕ) → weigh (is_at place) v.shares ≤ weigh (is_at place) w.shares
+
+pub record HasAll (v : Sight) (puts : List PutIs) (pops : List PopIs) : Type 0 where
+  pub put : (h : Ticket → ℕ) → weigh (put_by h) v.shares ≡ put_weight h puts
+  pub got : (h : Ticket → ℕ) → weigh (got_by h) v.shares ≡ got_weight h pops
+  pub count : length v.shares ≡ length puts + length pops
+  pub places : (place : ℕ) → of_place place puts ≤ weigh (is_at place) v.shares
+
+-- what was put is, each as often, what was got and what is left; and each place has one pass at most
+pub record AsOften (puts : List PutIs) (pops : List PopIs) (jobs : List JobIs) : Type 0 where
+  pub balanced : (h : Ticket → ℕ) → put_weight h puts ≡ got_weight h pops + job_weight h jobs
+  pub placed : (place : ℕ) → place < beyond → of_place place puts ≤ 1

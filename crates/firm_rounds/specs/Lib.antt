@@ -1,0 +1,5 @@
+pub mod Rounds
+pub mod Passes
+pub mod Closed
+pub mod Faults
+pub mod Turning

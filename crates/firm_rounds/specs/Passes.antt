@@ -1,0 +1,73 @@
+-- What contracts see of a queue, its passes and its jobs.
+use Rattle.std.specs.Prelude.{◌≡◌, ℕ, zero, suc, ◌+◌, List, [], ◌∷◌, ◌++◌, Option}
+use Rattle.atomic_table.specs.Seated.{TableId}
+use Rattle.atomic_table.specs.declared.shared.Seat.{Seat}
+use Rattle.crossbeam_queue.specs.declared.array_queue.Doing.{Doing}
+use Rattle.crossbeam_queue.specs.Passes.{view}
+use Rattle.firm_rounds.specs.declared.protocol.JobParts.{JobParts}
+use Rattle.firm_rounds.specs.declared.protocol.Sight.{Sight}
+use Rattle.firm_rounds.specs.declared.protocol.Share.{Share}
+use Rattle.firm_tray.specs.Sides.{Side}
+use Rattle.firm_rules.specs.declared.tickets.Ticket.{Ticket}
+
+-- which queue it is, and how many passes it has
+pub record QueueId : Type 0 where
+  pub table : TableId
+  pub all : ℕ
+
+pub record QueueIs : Type 0 where
+  pub id : QueueId
+  pub puts : ℕ
+  pub pops : ℕ
+
+-- a queue whose passes are handed in, and the shares that it has so far
+pub record ClosingIs : Type 0 where
+  pub id : QueueId
+  pub shares : List Share
+
+abbrev pub closing_is : QueueId → List Share → ClosingIs
+closing_is id shares = record { id = id; shares = shares }
+
+-- a pass of a place, and how many tickets it put
+pub record PutIs : Type 0 where
+  pub queue : QueueId
+  pub place : ℕ
+  pub put : ℕ
+
+-- a pass, and the tickets that it got
+pub record PopIs : Type 0 where
+  pub queue : QueueId
+  pub got : List Ticket
+
+pub record JobIs : Type 0 where
+  pub ticket : Ticket
+  pub side : Side
+
+abbrev pub put_is : QueueId → ℕ → ℕ → PutIs
+put_is queue place put = record { queue = queue; place = place; put = put }
+
+abbrev pub pop_is : QueueId → List Ticket → PopIs
+pop_is queue got = record { queue = queue; got = got }
+
+-- passes of the first places that put nothing yet
+abbrev pub new_puts : QueueId → ℕ → List PutIs
+new_puts queue zero = []
+new_puts queue (suc n) = new_puts queue n ++ put_is queue n 0 ∷ []
+
+abbrev pub new_pops : QueueId → ℕ → List PopIs
+new_pops queue zero = []
+new_pops queue (suc n) = new_pops queue n ++ pop_is queue [] ∷ []
+
+-- the queue of a seat
+abbrev pub queue_of : Seat (Option JobParts) (Doing JobParts Sight) → QueueId
+queue_of s = record { table = s.table_id; all = (view s).all }
+
+-- a pass whose queue has ended
+abbrev pub no_queue : QueueId → QueueId
+no_queue q = record { table = q.table; all = 0 }
+
+abbrev pub spent_put : PutIs → PutIs
+spent_put p = put_is (no_queue p.queue) p.place p.put
+
+abbrev pub spent_pop : PopIs → PopIs
+spent_pop p = pop_is (no_queue p.queue) p.got

@@ -1,0 +1,133 @@
+//! What lies in the queue, what a pass knows, and the rule over both.
+ghost use Rattle.std.specs.Prelude.{◌≡◌};
+
+use crossbeam_queue::protocol::{Join, Lesson, Outcome, Protocol, Split};
+use crossbeam_queue::{Pass, RuledArrayQueue};
+use firm_rules::Ticket;
+use firm_tenant::Tenant;
+use firm_tray::AnswerSide;
+use std::collections::LinkedList;
+
+/// What a job is made of. It may be dropped, so that a queue with jobs may be.
+#[derive(Drop)]
+pub struct JobParts {
+    pub ticket: Ticket,
+    pub tenant: Tenant,
+    pub side: AnswerSide,
+    pub ghost same_book: { side.book ≡ tenant },
+}
+
+/// What one pass has done: how many tickets of its place it put, and the tickets that it got. No value of it is made.
+pub struct Share {
+    pub place: u64,
+    pub put: u64,
+    pub got: LinkedList<Ticket>,
+}
+
+/// What a seat knows: its shares, and how many there are in all. No value of it is made.
+pub struct Sight {
+    pub all: u64,
+    pub shares: LinkedList<Share>,
+    /// The shares that it had, once they were given away.
+    pub memo: LinkedList<Share>,
+}
+
+pub struct TicketRule;
+
+impl Protocol<JobParts, Sight> for TicketRule {
+    ghost use Rattle.firm_rounds.specs.Rounds.{Fair, opening};
+
+    ghost holds = { Fair };
+
+    ghost first = { opening };
+}
+
+/// One share more, and a seat with none.
+pub struct Grow;
+
+impl Split<Sight> for Grow {
+    ghost use Rattle.firm_rounds.specs.Rounds.{grown, nothing};
+
+    ghost left = { grown };
+
+    ghost right = { λ v. nothing };
+}
+
+/// The second share goes to the new seat.
+pub struct Cut;
+
+impl Split<Sight> for Cut {
+    ghost use Rattle.firm_rounds.specs.Rounds.{left_over, cut_off};
+
+    ghost left = { left_over };
+
+    ghost right = { cut_off };
+}
+
+/// All shares go to a new seat.
+pub struct Give;
+
+impl Split<Sight> for Give {
+    ghost use Rattle.firm_rounds.specs.Rounds.{ended};
+
+    ghost left = { ended };
+
+    ghost right = { λ v. v };
+}
+
+/// All shares go to one seat.
+pub struct Whole;
+
+impl Join<Sight> for Whole {
+    ghost use Rattle.firm_rounds.specs.Rounds.{joined, nothing};
+
+    ghost both = { joined };
+
+    ghost spent = { nothing };
+}
+
+pub struct Puts;
+
+impl Outcome<JobParts, Sight> for Puts {
+    ghost use Rattle.std.specs.Prelude.{◌≡◌};
+    ghost use Rattle.firm_rounds.specs.Rounds.{after_put};
+
+    ghost then = { λ v x w. w ≡ after_put v };
+}
+
+impl Lesson<JobParts, Sight> for Puts {
+    ghost fact = { λ v items. Unit {0} };
+}
+
+pub struct Pops;
+
+impl Outcome<JobParts, Sight> for Pops {
+    ghost use Rattle.std.specs.Prelude.{◌≡◌};
+    ghost use Rattle.firm_rounds.specs.Rounds.{after_pop, FewGot};
+
+    ghost then = { λ v x w. (w ≡ after_pop x.ticket v) × FewGot w };
+}
+
+impl Lesson<JobParts, Sight> for Pops {
+    ghost fact = { λ v items. Unit {0} };
+}
+
+/// What the seat with every share learns.
+pub struct Ends;
+
+impl Outcome<JobParts, Sight> for Ends {
+    ghost use Rattle.std.specs.Prelude.{◌≡◌};
+    ghost use Rattle.firm_rounds.specs.Rounds.{after_pop};
+
+    ghost then = { λ v x w. w ≡ after_pop x.ticket v };
+}
+
+impl Lesson<JobParts, Sight> for Ends {
+    ghost use Rattle.firm_rounds.specs.Rounds.{Holds};
+
+    ghost fact = { Holds };
+}
+
+pub type Ring = RuledArrayQueue<JobParts, Sight, TicketRule>;
+
+pub type QueueSeat = Pass<JobParts, Sight>;

@@ -1,0 +1,192 @@
+//! The round queue.
+ghost use Rattle.std.specs.Prelude.{◌≡◌, ℕ, ◌+◌, ◌<◌, ◌≤◌, ◌^◌, [], ◌∷◌, ◌++◌, All, IfOk, MatchOption, MatchResult, vec_capacity};
+ghost use Rattle.firm_rounds.specs.Rounds.{ticket, share};
+ghost use Rattle.firm_rounds.specs.Closed.{AsOften};
+ghost use Rattle.firm_rounds.specs.Faults.{IsFault};
+ghost use Rattle.firm_rounds.specs.Passes.{put_is, pop_is, new_puts, new_pops, closing_is, spent_pop};
+
+use crate::close::{drain, gather};
+use crate::closing::Closing;
+use crate::cuts::{cut_pops, cut_puts, grow};
+use crate::job::Job;
+use crate::passes::{PopPass, PutPass};
+use crate::protocol::Ring;
+use std::alloc::{AllocError, Global};
+use std::marker::Model;
+use std::sync::{Mutex, Wait};
+
+const ROOM: usize = 8;
+
+// Room for what `close` finds.
+pub(crate) struct Room {
+    jobs: Vec<Job>,
+    ghost empty: { jobs.items ≡ [] },
+    ghost reserved: { 8 ≤ vec_capacity jobs },
+}
+
+/// A queue of at most 8 rounds, which threads share with no lock. Contracts see which queue it is and how many passes it has.
+#[derive(Drop)]
+pub struct Queue {
+    ring: Ring,
+    puts: usize,
+    pops: usize,
+    // The lock is there for `Sync` alone, since a job may not be shared.
+    left: Mutex<Room>,
+}
+
+/// Why a queue could not be closed, or what it still held.
+pub enum QueueFault {
+    /// Fewer passes were handed in than the queue has. All is given back.
+    Missing(Queue, Vec<PutPass>, Vec<PopPass>),
+    /// These jobs stood in the queue, front first. The queue has ended.
+    Left(Vec<PutPass>, Vec<PopPass>, Vec<Job>),
+}
+
+impl Model for Queue {
+    ghost use Rattle.std.specs.Prelude.{◌≡◌, ◌+◌, ◌<◌};
+    ghost use Rattle.crossbeam_queue.specs.Passes.{ruled_capacity};
+    ghost use Rattle.firm_rounds.specs.Passes.{QueueIs};
+
+    ghost Value = { QueueIs };
+
+    ghost view = { λ q. record { id = record { table = q.ring.table.shared.table_id; all = q.puts + q.pops }; puts = q.puts; pops = q.pops } };
+
+    ghost invariant = { λ q. (ruled_capacity q.ring ≡ 8) × (0 < q.pops) };
+}
+
+impl Queue {
+    /// A queue with a pass for each of so many places, at most 64, and so many passes to get jobs, at least one. All its memory is
+    /// taken here; the error comes for want of it alone.
+    pub fn open(
+        alloc: Global,
+        puts: usize,
+        pops: usize,
+    ) -> Result<(Queue, Vec<PutPass>, Vec<PopPass>), AllocError>
+        requires { (puts ≤ 64) × (0 < pops) }
+        ensures counts { IfOk result (λ r. (r.0.puts ≡ puts) × (r.0.pops ≡ pops)) }
+        ensures passes { IfOk result (λ r. (r.1.items ≡ new_puts r.0.id puts) × (r.2.items ≡ new_pops r.0.id pops)) }
+        ensures of_this { IfOk result (λ r. All (λ p. p.queue ≡ r.0.id) r.1.items × All (λ p. p.queue ≡ r.0.id) r.2.items) }
+        ensures unused { IfOk result (λ r. All (λ p. p.put ≡ 0) r.1.items) }
+    {
+        let (ring, mut keep) = Ring::ruled(alloc, ROOM)?;
+        grow(&ring, &mut keep, puts);
+        grow(&ring, &mut keep, pops - 1);
+        let put_passes = cut_puts(alloc, &ring, &mut keep, puts)?;
+        let pop_passes = cut_pops(alloc, &ring, keep, puts, pops)?;
+        let left = Mutex::new(Room {
+            jobs: Vec::with_capacity(alloc, ROOM)?,
+        });
+        let queue = Queue {
+            ring,
+            puts,
+            pops,
+            left,
+        };
+        Ok((queue, put_passes, pop_passes))
+    }
+
+    /// How many passes there are to put jobs.
+    pub fn puts(&self) -> usize
+        ensures { result ≡ self.now.puts }
+    {
+        self.puts
+    }
+
+    /// How many passes there are to get jobs.
+    pub fn pops(&self) -> usize
+        ensures { result ≡ self.now.pops }
+    {
+        self.pops
+    }
+
+    /// Puts the job, whose ticket is the pass's next, at the back. Where the queue is full it yields and tries again. It takes no
+    /// memory.
+    pub fn put<R: Wait>(&self, rt: &R, pass: &mut PutPass, job: Job)
+        requires of { pass.old.queue ≡ self.now.id }
+        requires next { job.ticket ≡ ticket pass.old.place (pass.old.put + 1) }
+        requires room { pass.old.put < 2 ^ 55 }
+        ensures { pass.new ≡ put_is pass.old.queue pass.old.place (pass.old.put + 1) }
+    {
+        pass.put(rt, &self.ring, job.into_parts());
+    }
+
+    /// The job at the front. `None` only where the queue was empty at one step of the call. It takes no memory.
+    pub fn pop<R: Wait>(&self, rt: &R, pass: &mut PopPass) -> Option<Job>
+        requires { pass.old.queue ≡ self.now.id }
+        ensures { MatchOption result (pass.new ≡ pass.old) (λ x. pass.new ≡ pop_is pass.old.queue (pass.old.got ++ x.ticket ∷ [])) }
+    {
+        match pass.pop(rt, &self.ring) {
+            Some(parts) => Some(Job::of_parts(parts)),
+            None => None,
+        }
+    }
+
+    /// Begins to end the queue, with one pass. The others are handed in one at a time.
+    pub fn closing(self, first: &mut PopPass) -> Closing
+        requires { (first.old.queue ≡ self.id) × (0 < self.id.all) }
+        ensures closing { (p : ℕ) × (result ≡ closing_is self.id (share p 0 first.old.got ∷ [])) }
+        ensures pass { first.new ≡ spent_pop first.old }
+    {
+        let Queue {
+            ring,
+            puts: _,
+            pops: _,
+            left,
+        } = self;
+        let keep = first.give(&ring);
+        Closing { ring, keep, left }
+    }
+
+    /// Ends the queue, with all its passes. Ok says that what was put is, each as often, what was got. It takes no memory.
+    pub fn close<R: Wait>(
+        self,
+        rt: &R,
+        puts: Vec<PutPass>,
+        pops: Vec<PopPass>,
+    ) -> Result<(), QueueFault>
+        requires puts { All (λ p. p.queue ≡ self.id) puts.items }
+        requires pops { All (λ p. p.queue ≡ self.id) pops.items }
+        ensures { MatchResult result (λ _. AsOften puts.items pops.items []) (IsFault self puts.items pops.items) }
+    {
+        if puts.len() < self.puts || pops.len() < self.pops {
+            return Err(QueueFault::Missing(self, puts, pops));
+        }
+        let Queue {
+            ring,
+            puts: put_count,
+            pops: pop_count,
+            left,
+        } = self;
+        let mut puts = puts;
+        let mut pops = pops;
+        let keep = gather(
+            &ring,
+            put_count,
+            pop_count,
+            puts.as_mut_slice(),
+            pops.as_mut_slice(),
+        );
+        let jobs = drain(rt, &ring, keep, left.into_inner().into_jobs());
+        if jobs.is_empty() {
+            jobs.destroy_empty();
+            return Ok(());
+        }
+        Err(QueueFault::Left(puts, pops, jobs))
+    }
+}
+
+impl Room {
+    pub(crate) fn into_jobs(self) -> Vec<Job>
+        ensures { (result.items ≡ []) × (8 ≤ vec_capacity result) }
+    {
+        let Self { jobs } = self;
+        jobs
+    }
+}
+
+impl Drop for Room {
+    fn drop(self) {
+        let Self { jobs } = self;
+        jobs.destroy_empty();
+    }
+}

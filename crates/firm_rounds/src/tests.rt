@@ -1,0 +1,272 @@
+ghost use Rattle.std.specs.Prelude.{◌≡◌, ◌+◌, ◌<◌, ◌≤◌, ◌^◌, All, IfOk, IfSome};
+ghost use Rattle.std.specs.Thread.{IsSync};
+ghost use Rattle.firm_rounds.specs.Passes.{put_is};
+
+use super::*;
+use firm_rules::{Limits, Ticket};
+use firm_tenant::Tenant;
+use firm_tray::{AskSide, Polled, Tray};
+use std::alloc::{AllocError, Global};
+use std::sync::Wait;
+use std::sync::atomic::{AtomicU64, Ordering};
+use std::test::*;
+use std::thread;
+use std::thread::{Scope, Threads};
+
+// A job of a tenant that has nothing and answers one command, and the side that asks for it.
+fn new_job(alloc: Global, ticket: Ticket) -> Result<Option<(AskSide, Job)>, AllocError>
+    ensures { IfOk result (λ made. IfSome made (λ sides. sides.1.ticket ≡ ticket)) }
+{
+    let Some(limits) = Limits::check(2, 0, 1, 0, 0) else {
+        return Ok(None);
+    };
+    let tenant = Tenant::admit(alloc, limits)?;
+    let (ask, side) = Tray::open(alloc, &tenant)?;
+    Ok(Some((ask, Job::new(ticket, tenant, side))))
+}
+
+// Puts the next ticket of the pass.
+fn ask<R: Wait>(
+    rt: &R,
+    alloc: Global,
+    queue: &Queue,
+    pass: &mut PutPass,
+) -> Result<Option<AskSide>, AllocError>
+    requires { (pass.old.queue ≡ queue.now.id) × (pass.old.put < 2 ^ 55) }
+    ensures queue { pass.new.queue ≡ pass.old.queue }
+    ensures put { IfOk result (λ made. IfSome made (λ _. pass.new ≡ put_is pass.old.queue pass.old.place (pass.old.put + 1))) }
+{
+    let Some((side, job)) = new_job(alloc, pass.next())? else {
+        return Ok(None);
+    };
+    queue.put(rt, pass, job);
+    Ok(Some(side))
+}
+
+// Gets a job and finishes it.
+fn serve<R: Wait>(rt: &R, alloc: Global, queue: &Queue, pass: &mut PopPass) -> Option<Ticket>
+    requires { pass.old.queue ≡ queue.now.id }
+    ensures { pass.new.queue ≡ pass.old.queue }
+{
+    let job = queue.pop(rt, pass)?;
+    let ticket = job.ticket();
+    let _spent = job.finish(alloc);
+    Some(ticket)
+}
+
+fn finish_all(alloc: Global, mut jobs: Vec<Job>) {
+    while let Some(job) = jobs.pop() {
+        let _spent = job.finish(alloc);
+    }
+    jobs.destroy_empty();
+}
+
+fn ticket(place: u32, number: u64) -> Ticket {
+    Ticket { place, number }
+}
+
+// Two places put a ticket each, which are got in order; then the queue is empty and closes. None where anything else comes.
+fn put_and_got<R: Wait>(rt: &R, alloc: Global) -> Result<Option<()>, AllocError> {
+    let (queue, mut puts, mut pops) = Queue::open(alloc, 2, 1)?;
+    let first = &mut puts[0];
+    let Some(early) = ask(rt, alloc, &queue, first)? else {
+        return Ok(None);
+    };
+    let Polled::Not(early) = early.poll() else {
+        return Ok(None);
+    };
+    let second = &mut puts[1];
+    let other = ask(rt, alloc, &queue, second)?;
+    let pass = &mut pops[0];
+    let got = [
+        serve(rt, alloc, &queue, pass),
+        serve(rt, alloc, &queue, pass),
+        serve(rt, alloc, &queue, pass),
+    ];
+    let in_order = got == [Some(ticket(0, 1)), Some(ticket(1, 1)), None];
+    let counted = pass.count() == 2;
+    let Polled::Back(solved) = early.poll() else {
+        return Ok(None);
+    };
+    let back = solved.reply.number == 1 && other.is_some();
+    match queue.close(rt, puts, pops) {
+        Ok(()) if in_order && counted && back => Ok(Some(())),
+        Ok(()) => Ok(None),
+        Err(QueueFault::Missing(_queue, _puts, _pops)) => Ok(None),
+        Err(QueueFault::Left(_puts, _pops, jobs)) => {
+            finish_all(alloc, jobs);
+            Ok(None)
+        }
+    }
+}
+
+// Two tickets are put, the queue is closed with them, and both jobs come back, the first one first.
+fn put_and_left<R: Wait>(rt: &R, alloc: Global) -> Result<Option<()>, AllocError> {
+    let (queue, mut puts, pops) = Queue::open(alloc, 2, 1)?;
+    let first = &mut puts[0];
+    let one = ask(rt, alloc, &queue, first)?;
+    let second = &mut puts[1];
+    let other = ask(rt, alloc, &queue, second)?;
+    match queue.close(rt, puts, pops) {
+        Ok(()) => Ok(None),
+        Err(QueueFault::Missing(_queue, _puts, _pops)) => Ok(None),
+        Err(QueueFault::Left(_puts, _pops, jobs)) => {
+            let both = jobs.len() == 2;
+            let first_is_first = jobs.first().is_some_and(|job| job.ticket() == ticket(0, 1));
+            finish_all(alloc, jobs);
+            let asked = one.is_some() && other.is_some();
+            Ok((both && first_is_first && asked).then_some(()))
+        }
+    }
+}
+
+#[test]
+fn tickets_are_got_in_the_order_in_which_they_were_put(rt: HostRuntime) -> Result<(), Fail> {
+    assert!(rt; put_and_got(&rt, rt.alloc())?.is_some());
+    Ok(())
+}
+
+#[test]
+fn jobs_that_are_left_come_back(rt: HostRuntime) -> Result<(), Fail> {
+    assert!(rt; put_and_left(&rt, rt.alloc())?.is_some());
+    Ok(())
+}
+
+const PLACES: usize = 4;
+
+const EACH: u64 = 2_500;
+
+// How often each ticket was got, and how many are still to come.
+#[derive(Drop)]
+struct Tally {
+    got: Vec<AtomicU64>,
+    left: AtomicU64,
+}
+
+fn new_tally(alloc: Global) -> Result<Tally, AllocError> {
+    let count = EACH * PLACES as u64;
+    let mut got = Vec::new(alloc);
+    for _ in 0..count {
+        got.push(AtomicU64::new(0))?;
+    }
+    Ok(Tally {
+        got,
+        left: AtomicU64::new(count),
+    })
+}
+
+impl Tally {
+    fn note(&self, ticket: Ticket) {
+        let at = u64::from(ticket.place)
+            .saturating_mul(EACH)
+            .saturating_add(ticket.number);
+        if let Some(count) = self.got.get((at as usize).wrapping_sub(1)) {
+            count.fetch_add(1, Ordering::SeqCst);
+        }
+        self.left.fetch_sub(1, Ordering::SeqCst);
+    }
+
+    fn has_each_once(&self) -> bool {
+        self.got
+            .iter()
+            .all(|count| count.load(Ordering::SeqCst) == 1)
+    }
+}
+
+fn put_all<R: Wait>(rt: &R, alloc: Global, queue: &Queue, pass: PutPass)
+    requires { (pass.queue ≡ queue.now.id) × (pass.put ≡ 0) }
+{
+    let mut pass = pass;
+    for _ in 0..EACH {
+        let Ok(Some((_ask, job))) = new_job(alloc, pass.next()) else {
+            return;
+        };
+        queue.put(rt, &mut pass, job);
+    }
+}
+
+fn get_all<R: Wait>(rt: &R, alloc: Global, queue: &Queue, pass: PopPass, tally: &Tally)
+    requires { pass.queue ≡ queue.now.id }
+{
+    let mut pass = pass;
+    for _ in rt.forever() {
+        match serve(rt, alloc, queue, &mut pass) {
+            Some(ticket) => tally.note(ticket),
+            None if tally.left.load(Ordering::SeqCst) == 0 => return,
+            None => thread::yield_now(),
+        }
+    }
+}
+
+// A thread for each pass that puts.
+fn start_puts<'s, E: 's, R: Wait + Sync>(
+    scope: &Scope<'s, E>,
+    rt: &'s R,
+    alloc: Global,
+    queue: &'s Queue,
+    passes: Vec<PutPass>,
+) -> bool
+    requires { All (λ p. p.queue ≡ queue.now.id) passes.items × All (λ p. p.put ≡ 0) passes.items }
+{
+    for pass in passes {
+        let started = scope.spawn(
+            move ||
+                requires { (pass.queue ≡ queue.now.id) × (pass.put ≡ 0) }
+            { put_all(rt, alloc, queue, pass) },
+        );
+        if started.is_err() {
+            return false;
+        }
+    }
+    true
+}
+
+// A thread for each pass that gets.
+fn start_gets<'s, E: 's, R: Wait + Sync>(
+    scope: &Scope<'s, E>,
+    rt: &'s R,
+    alloc: Global,
+    queue: &'s Queue,
+    passes: Vec<PopPass>,
+    tally: &'s Tally,
+) -> bool
+    requires { All (λ p. p.queue ≡ queue.now.id) passes.items }
+{
+    for pass in passes {
+        let started = scope.spawn(
+            move ||
+                requires { pass.queue ≡ queue.now.id }
+            { get_all(rt, alloc, queue, pass, tally) },
+        );
+        if started.is_err() {
+            return false;
+        }
+    }
+    true
+}
+
+fn put_and_get<R: Threads + Wait + Sync>(rt: &R, alloc: Global) -> Result<bool, AllocError> {
+    let (queue, puts, pops) = Queue::open(alloc, PLACES, PLACES)?;
+    let tally = new_tally(alloc)?;
+    let queue = &queue;
+    let all = &tally;
+    let started = thread::scope(
+        thread::scope_env(),
+        rt,
+        move |scope| -> bool
+            requires threads { IsSync R.row }
+            requires puts { All (λ p. p.queue ≡ queue.now.id) puts.items × All (λ p. p.put ≡ 0) puts.items }
+            requires pops { All (λ p. p.queue ≡ queue.now.id) pops.items }
+        {
+            start_gets(scope, rt, alloc, queue, pops, all)
+                && start_puts(scope, rt, alloc, queue, puts)
+        },
+    );
+    Ok(started && tally.has_each_once())
+}
+
+#[test]
+fn four_threads_put_and_four_get_each_ticket_once(rt: HostRuntime) -> Result<(), Fail> {
+    assert!(rt; put_and_get(&rt, rt.alloc())?);
+    Ok(())
+}

@@ -1,0 +1,45 @@
+-- The place of a name in a list of names.
+use Rattle.std.proofs.Common.{◌≡◌, ℕ, ◌<◌, ◌≤◌, Bool, not, ltb, List, length, map, get_or, bytes_eq, Option, Some, None, sym, ap, ◌∙◌, arith, ⊎_elim}
+use Rattle.std.specs.Prelude.{position, slice_get}
+use Rattle.std.specs.List.{position_or_len}
+use Rattle.std.specs.Option.{unwrap_or, option_map}
+use Rattle.std.proofs.lemmas.List.{length-map}
+use Rattle.firm_rules.specs.Book.{TenantRows, job_names}
+use Rattle.firm_rules.specs.Round.{weight_at}
+use Rattle.firm_rules.specs.declared.parts.Job.{Job}
+use Rattle.std.proofs.lemmas.Bool.{cases_lt, cond-true, cond-false, lt-ltb, le-ltb}
+use Rattle.std.proofs.lemmas.List.Sums.{prefix_len-le-length}
+use Rattle.std.proofs.lemmas.Option.{slice_get-map, unwrap_or-slice_get}
+
+module _ {X : Type 0} (p : X → Bool) (xs : List X) where
+  abbrev first : ℕ
+  first = position_or_len p xs
+
+  pub position_or_all : (n : ℕ) → n ≡ length xs → unwrap_or (position p xs) n ≡ position_or_len p xs
+  position_or_all n e =
+      ⊎_elim
+      (λ (l : first < length xs).
+      ap (λ r. unwrap_or r n) (cond-true (ltb first (length xs)) (Some first) None (lt-ltb first (length xs) l)))
+      (λ (l : length xs ≤ first).
+      ap (λ r. unwrap_or r n) (cond-false (ltb first (length xs)) (Some first) None (le-ltb first (length xs) l))
+      ∙ (let all : n ≡ first = omega (arith, e, prefix_len-le-length (λ (x : X). not (p x)) xs) in all))
+      (cases_lt first (length xs))
+
+-- a number of each row, read at a place, and past the end 0
+pub read_at : {X : Type 0} (f : X → ℕ) (xs : List X) (i : ℕ) (r : Option X) → r ≡ slice_get xs i
+    → unwrap_or (option_map f r) 0 ≡ get_or (map f xs) i 0
+read_at f xs i r e =
+    ap (λ r. unwrap_or (option_map f r) 0) e ∙ ap (λ r. unwrap_or r 0) (sym (slice_get-map f xs i))
+    ∙ unwrap_or-slice_get (map f xs) i 0
+
+-- a job's place, looked up, and its weight, read there
+pub weight_read : (rows : TenantRows) (name : List ℕ) (found : Option ℕ) (count place : ℕ) (row : Option Job)
+    → found ≡ position (bytes_eq name) (job_names rows) → count ≡ length rows.jobs → place ≡ unwrap_or found count
+    → row ≡ slice_get rows.jobs place
+    → unwrap_or (option_map (λ (job : Job). job.weight) row) 0
+    ≡ weight_at rows (position_or_len (bytes_eq name) (job_names rows))
+weight_read rows name found count place row f n p r =
+    read_at (λ (job : Job). job.weight) rows.jobs place row r
+    ∙ ap (weight_at rows)
+    (p ∙ ap (λ r. unwrap_or r count) f
+    ∙ position_or_all (bytes_eq name) (job_names rows) count (n ∙ sym (length-map rows.jobs (λ (job : Job). job.name))))

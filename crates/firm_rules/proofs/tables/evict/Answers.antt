@@ -1,0 +1,55 @@
+use Rattle.std.proofs.Common.{length, map, count_by, arith, refl, ap, ◌∙◌}
+use Rattle.indexmap.specs.IndexMap.{values}
+use Rattle.std.proofs.lemmas.List.{length-map, take_all}
+use Rattle.firm_rules.specs.Book.{evicted}
+use Rattle.firm_rules.proofs.TaskWrites.{written-length, written-all, evicted-next, no_task, as-many-values, ran}
+use Rattle.firm_rules.proofs.tables.evict.Goals as goal
+
+pub loop-place-init : goal.loop-place-init
+loop-place-init g c = (refl, refl, refl)
+
+pub evict_at-count-requires : goal.evict_at-count-requires
+evict_at-count-requires g c =
+    let old = values c.args.tasks.now in
+    record {
+      there = omega (
+        arith,
+        c.loop-place-test.true,
+        c.len-place-end.ensures.len,
+        as-many-values c.args.tasks.now.entries,
+        ap length c.loop-place.invariant.1,
+        written-length (map (evicted c.args.name) old) old c.loop-place.place (length-map old (evicted c.args.name)),
+      );
+    }
+
+pub overflow_add-count : goal.overflow_add-count
+overflow_add-count g c =
+    let next = evicted-next c.args.name (values c.args.tasks.now) (values c.loop-place.tasks) (values c.evict_at-count.new.tasks) c.loop-place.place
+    c.loop-place.count c.evict_at-count.result c.loop-place.invariant.1
+    (omega (arith, c.loop-place-test.true, c.len-place-end.ensures.len, as-many-values c.args.tasks.now.entries))
+    (c.evict_at-count.ensures.tasks no_task) c.loop-place.invariant.2 (c.evict_at-count.ensures.count no_task) in
+    omega (arith, next.2, c.requires.few)
+
+pub loop-place-preserved : goal.loop-place-preserved
+loop-place-preserved g c =
+    let next = evicted-next c.args.name (values c.args.tasks.now) (values c.loop-place.tasks) (values c.evict_at-count.new.tasks) c.loop-place.place
+    c.loop-place.count c.evict_at-count.result c.loop-place.invariant.1
+    (omega (arith, c.loop-place-test.true, c.len-place-end.ensures.len, as-many-values c.args.tasks.now.entries))
+    (c.evict_at-count.ensures.tasks no_task) c.loop-place.invariant.2 (c.evict_at-count.ensures.count no_task) in
+    (c.evict_at-count.ensures.names ∙ c.loop-place.invariant.0, next.0, next.1)
+
+pub returns-clause-names : goal.returns-clause-names
+returns-clause-names g c = c.loop-place.invariant.0
+
+pub returns-clause-tasks : goal.returns-clause-tasks
+returns-clause-tasks g c =
+    let old = values c.args.tasks.now in
+    c.loop-place.invariant.1
+    ∙ written-all (map (evicted c.args.name) old) old c.loop-place.place (length-map old (evicted c.args.name))
+    (omega (arith, c.loop-place-test.false, c.len-place-end.ensures.len, as-many-values c.args.tasks.now.entries))
+
+pub returns-clause-count : goal.returns-clause-count
+returns-clause-count g c =
+    c.loop-place.invariant.2
+    ∙ ap (count_by (ran c.args.name (values c.args.tasks.now)))
+    (take_all c.loop-place.place (values c.args.tasks.now) (omega (arith, c.loop-place-test.false, c.len-place-end.ensures.len, as-many-values c.args.tasks.now.entries)))

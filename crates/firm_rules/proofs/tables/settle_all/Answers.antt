@@ -1,0 +1,61 @@
+use Rattle.std.proofs.Common.{length, arith, refl, ap, sym, ◌∙◌}
+use Rattle.indexmap.specs.IndexMap.{values}
+use Rattle.std.proofs.lemmas.List.{take_all}
+use Rattle.firm_rules.specs.Book.{running_count}
+use Rattle.firm_rules.specs.Round.{zipped}
+use Rattle.firm_rules.specs.Tables.{settled}
+use Rattle.firm_rules.proofs.SoundRows.{length-zipped}
+use Rattle.firm_rules.proofs.TaskWrites.{written-length, written-all, settled-next, no_task, round}
+use Rattle.firm_rules.proofs.tables.settle_all.Goals as goal
+
+pub loop-place-init : goal.loop-place-init
+loop-place-init g c = (refl, refl, refl)
+
+pub settle_at-running-requires-clause-there : goal.settle_at-running-requires-clause-there
+settle_at-running-requires-clause-there g c =
+    let old = values c.args.tasks.now in
+    let target = round (values c.args.machines.now) old c.args.choices.now c.requires.one_each in
+    omega (
+      arith,
+      c.loop-place-test.true,
+      c.requires.one_each,
+      ap length c.loop-place.invariant.1,
+      written-length target old c.loop-place.place (length-zipped (settled (values c.args.machines.now)) old c.args.choices.now c.requires.one_each),
+    )
+
+pub overflow_add-running : goal.overflow_add-running
+overflow_add-running g c =
+    let next = settled-next (values c.args.machines.now) (values c.args.tasks.now) c.args.choices.now c.requires.one_each (values c.loop-place.tasks)
+    (values c.settle_at-running.new.tasks) c.loop-place.place c.loop-place.running c.settle_at-running.result c.loop-place.invariant.1
+    (omega (arith, c.loop-place-test.true, c.requires.one_each)) (c.settle_at-running.ensures.tasks no_task) c.loop-place.invariant.2
+    (c.settle_at-running.ensures.running) in
+    omega (arith, next.2, c.requires.one_each)
+
+pub loop-place-preserved : goal.loop-place-preserved
+loop-place-preserved g c =
+    let next = settled-next (values c.args.machines.now) (values c.args.tasks.now) c.args.choices.now c.requires.one_each (values c.loop-place.tasks)
+    (values c.settle_at-running.new.tasks) c.loop-place.place c.loop-place.running c.settle_at-running.result c.loop-place.invariant.1
+    (omega (arith, c.loop-place-test.true, c.requires.one_each)) (c.settle_at-running.ensures.tasks no_task) c.loop-place.invariant.2
+    (c.settle_at-running.ensures.running) in
+    (c.settle_at-running.ensures.names ∙ c.loop-place.invariant.0, next.0, next.1)
+
+pub returns-clause-names : goal.returns-clause-names
+returns-clause-names g c = c.loop-place.invariant.0
+
+pub returns-clause-tasks : goal.returns-clause-tasks
+returns-clause-tasks g c =
+    let old = values c.args.tasks.now in
+    c.loop-place.invariant.1
+    ∙ written-all (zipped (settled (values c.args.machines.now)) old c.args.choices.now) old c.loop-place.place
+    (length-zipped (settled (values c.args.machines.now)) old c.args.choices.now c.requires.one_each)
+    (omega (arith, c.loop-place-test.false, c.requires.one_each))
+
+pub returns-clause-running : goal.returns-clause-running
+returns-clause-running g c =
+    let old = values c.args.tasks.now in
+    let target = zipped (settled (values c.args.machines.now)) old c.args.choices.now in
+    let long = length-zipped (settled (values c.args.machines.now)) old c.args.choices.now c.requires.one_each in
+    c.loop-place.invariant.2
+    ∙ ap running_count (take_all c.loop-place.place target (omega (arith, long, c.loop-place-test.false, c.requires.one_each)))
+    ∙ ap running_count (sym (c.loop-place.invariant.1
+    ∙ written-all target old c.loop-place.place long (omega (arith, c.loop-place-test.false, c.requires.one_each))))

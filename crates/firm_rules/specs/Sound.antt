@@ -1,0 +1,24 @@
+-- What holds of the rows of a tenant at all times.
+use Rattle.std.specs.Prelude.{◌≡◌, ◌≤◌, true, All, IfSome, bytes_eq}
+use Rattle.std.specs.List.{IsDistinct}
+use Rattle.firm_rules.specs.Names.{is_among}
+use Rattle.firm_rules.specs.Book.{TenantRows, machine_names, job_names, task_names, running_on}
+use Rattle.firm_rules.specs.ArenaUse.{FitsLimits}
+
+-- names differ in each list; each task's job is there, and so is the machine of each that runs; no machine runs more tasks
+-- than it has slots; no task has waited for more than 1,000,000 rounds; the counts fit the limits; each number is in its range
+pub record AreSound (rows : TenantRows) : Type 0 where
+  pub machine_names_differ : IsDistinct bytes_eq (machine_names rows)
+  pub job_names_differ : IsDistinct bytes_eq (job_names rows)
+  pub task_names_differ : IsDistinct bytes_eq (task_names rows)
+  pub jobs_there : All (λ task. is_among (job_names rows) task.job ≡ true) rows.tasks
+  pub machines_there : All (λ task. IfSome task.machine (λ name. is_among (machine_names rows) name ≡ true)) rows.tasks
+  pub room : All (λ machine. running_on rows machine.name ≤ machine.slots) rows.machines
+  pub waited : All (λ task. task.waited ≤ 1000000) rows.tasks
+  pub fits : FitsLimits rows
+  pub slots : All (λ machine. (1 ≤ machine.slots) × (machine.slots ≤ 64)) rows.machines
+  pub weights : All (λ job. (1 ≤ job.weight) × (job.weight ≤ 1000000)) rows.jobs
+  pub most_nodes : rows.limits.nodes ≤ 4096
+  pub most_arcs : rows.limits.arcs ≤ 65536
+  pub most_spread : rows.limits.spread ≤ 1000
+  pub most_churn : rows.limits.churn ≤ 1000000

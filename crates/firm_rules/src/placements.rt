@@ -1,0 +1,194 @@
+//! Whether a placement is legal, what it costs, and which of two comes first. None of these calls takes memory.
+ghost use Rattle.std.specs.Prelude.{◌≡◌, ◌*◌, ◌^◌, ◌≤◌, true, pos, nat_le, length, slice_index, bytes_eq};
+ghost use Rattle.std.specs.List.{list_all, position_or_len};
+ghost use Rattle.firm_rules.specs.Book.{job_names};
+ghost use Rattle.firm_rules.specs.Placement.{numbers, total, goes_to, load, is_place, is_legal, leaves, load_cost, task_cost, tasks_cost, placement_cost, rank, comes_before};
+ghost use Rattle.firm_rules.specs.Round.{case_of, demand_of, machine_place, weight_at};
+
+use crate::names::Name;
+use crate::parts::Task;
+use crate::rounds::Choice;
+use crate::tables::Rows;
+use std::alloc::Allocator;
+
+/// Whether there is one choice for each task, each a machine or to wait, and no machine has more tasks than slots.
+pub fn legal<A: Allocator>(rows: &Rows<A>, placement: &[Choice]) -> bool
+    ensures { result ≡ is_legal (case_of rows.now) placement.now }
+{
+    placement.len() == rows.task_count()
+        && are_places(placement, rows.machine_count())
+        && have_room(rows, placement)
+}
+
+/// What a legal placement costs: for each machine what its load costs, for each task that waits its job's weight and the
+/// rounds that left it waiting, and churn for each running task that does not stay.
+pub fn cost_of<A: Allocator>(rows: &Rows<A>, placement: &[Choice]) -> i64
+    requires { is_legal (case_of rows.now) placement.now ≡ true }
+    ensures { result ≡ pos (placement_cost (case_of rows.now) placement.now) }
+{
+    // The rows fit the limits, so no sum wraps.
+    prove!(rows.task_count() as u64 <= rows.limits().nodes() && rows.limits().nodes() <= 4_096);
+    let cost = load_costs(rows, placement) + task_costs(rows, placement);
+    cost as i64
+}
+
+/// Whether the first of two legal placements comes before the second: at the first task on which they differ, it has the
+/// choice that ranks first, its own machine before the others in order of addition, and waiting last.
+pub fn ranks_before<A: Allocator>(rows: &Rows<A>, first: &[Choice], second: &[Choice]) -> bool
+    requires first_legal { is_legal (case_of rows.now) first.now ≡ true }
+    requires second_legal { is_legal (case_of rows.now) second.now ≡ true }
+    ensures { result ≡ comes_before (length rows.now.machines) (case_of rows.now).tasks first.now second.now }
+{
+    let machines = rows.machine_count();
+    // The rows fit the limits, so no rank wraps.
+    prove!(machines as u64 <= rows.limits().nodes() && rows.limits().nodes() <= 4_096);
+    for (place, task) in rows.tasks().enumerate() {
+        let home = home_of(rows, task);
+        let one = rank_of(machines, home, first[place]);
+        let other = rank_of(machines, home, second[place]);
+        if one != other {
+            return one < other;
+        }
+    }
+    false
+}
+
+fn are_places(placement: &[Choice], machines: usize) -> bool
+    ensures { result ≡ list_all (is_place machines) placement.now }
+{
+    placement.iter().all(|choice| match choice {
+        Choice::On(place) => (*place as usize) < machines,
+        Choice::Wait => true,
+    })
+}
+
+// Whether no machine has more tasks than slots.
+fn have_room<A: Allocator>(rows: &Rows<A>, placement: &[Choice]) -> bool
+    ensures { result ≡ list_all (λ j. nat_le (load placement.now j) (slice_index (case_of rows.now).slots j))
+        (numbers (length rows.now.machines)) }
+{
+    for (place, machine) in rows.machines().enumerate() {
+        if (machine.slots.get() as usize) < load_of(placement, place) {
+            return false;
+        }
+    }
+    true
+}
+
+// How many tasks the placement has on the machine at this place.
+fn load_of(placement: &[Choice], place: usize) -> usize
+    ensures load { result ≡ load placement.now place }
+    ensures most { result ≤ length placement.now }
+{
+    placement
+        .iter()
+        .filter(|choice| is_at(**choice, place))
+        .count()
+}
+
+fn is_at(choice: Choice, machine: usize) -> bool
+    ensures { result ≡ goes_to machine choice }
+{
+    match choice {
+        Choice::On(place) => place as usize == machine,
+        Choice::Wait => false,
+    }
+}
+
+// What the loads of all machines cost.
+fn load_costs<A: Allocator>(rows: &Rows<A>, placement: &[Choice]) -> u64
+    requires { length placement.now ≤ 4096 }
+    ensures cost { result ≡ total (λ j. load_cost rows.now.limits.spread (load placement.now j)) (length rows.now.machines) }
+    ensures most { result ≤ 2 ^ 45 }
+{
+    let spread = rows.limits().spread();
+    let mut cost = 0;
+    for place in 0..rows.machine_count() {
+        cost += cost_of_load(spread, load_of(placement, place) as u64);
+    }
+    cost
+}
+
+// Nothing for the first task, and for each further one `spread` more than for the one before.
+fn cost_of_load(spread: u64, tasks: u64) -> u64
+    requires least_spread { spread ≤ 1000 }
+    requires few_tasks { tasks ≤ 4096 }
+    ensures cost { result ≡ load_cost spread tasks }
+    ensures most { result ≤ 2 ^ 33 }
+{
+    spread * (tasks * tasks.saturating_sub(1) / 2)
+}
+
+// What their choices cost all tasks.
+fn task_costs<A: Allocator>(rows: &Rows<A>, placement: &[Choice]) -> u64
+    requires one_each { length placement.now ≡ length rows.now.tasks }
+    requires few { length placement.now ≤ 4096 }
+    ensures cost { result ≡ tasks_cost (case_of rows.now) (case_of rows.now).tasks placement.now }
+    ensures most { result ≤ 2 ^ 46 }
+{
+    let mut cost = 0;
+    for (place, task) in rows.tasks().enumerate() {
+        cost += cost_of_choice(rows, task, placement[place]);
+    }
+    cost
+}
+
+// What a choice costs the task itself.
+fn cost_of_choice<A: Allocator>(rows: &Rows<A>, task: &Task, choice: Choice) -> u64
+    ensures cost { result ≡ task_cost (case_of rows.now) (demand_of rows.now task.now) choice }
+    ensures most { result ≤ 2 ^ 34 }
+{
+    let churn = if leaves_home(home_of(rows, task), choice) {
+        rows.limits().churn()
+    } else {
+        0
+    };
+    match choice {
+        Choice::On(_) => churn,
+        Choice::Wait => u64::from(weight_of(rows, task.job)) + u64::from(task.waited) + churn,
+    }
+}
+
+// Whether the choice takes a running task from its machine.
+fn leaves_home(home: Option<usize>, choice: Choice) -> bool
+    ensures { result ≡ leaves home choice }
+{
+    match (home, choice) {
+        (None, _) => false,
+        (Some(own), Choice::On(place)) => own != place as usize,
+        (Some(_), Choice::Wait) => true,
+    }
+}
+
+// The place of the machine that a task runs on.
+fn home_of<A: Allocator>(rows: &Rows<A>, task: &Task) -> Option<usize>
+    ensures { result ≡ machine_place rows.now task.now.machine }
+{
+    match task.machine {
+        Some(name) => Some(rows.machine_place(name).unwrap_or(rows.machine_count())),
+        None => None,
+    }
+}
+
+// The weight of the job of this name.
+fn weight_of<A: Allocator>(rows: &Rows<A>, job: Name) -> u32
+    ensures { result ≡ weight_at rows.now (position_or_len (bytes_eq job) (job_names rows.now)) }
+{
+    let place = rows.job_place(job).unwrap_or(rows.job_count());
+    match rows.job_at(place) {
+        Some(row) => row.weight.get(),
+        None => 0,
+    }
+}
+
+// How a choice ranks among those of a task.
+fn rank_of(machines: usize, home: Option<usize>, choice: Choice) -> usize
+    requires { machines ≤ 4096 }
+    ensures { result ≡ rank machines home choice }
+{
+    match choice {
+        Choice::On(place) if home == Some(place as usize) => 0,
+        Choice::On(place) => place as usize + 1,
+        Choice::Wait => machines + 1,
+    }
+}

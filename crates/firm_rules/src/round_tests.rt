@@ -1,0 +1,197 @@
+//! Rounds worked by hand.
+use crate::tests::{name, with_job, with_machine, with_task};
+use crate::{
+    Change, Changes, Choice, Limits, RecentCosts, Rows, Slots, Weight, changes_of, cost_of, legal,
+    ranks_before,
+};
+use Choice::{On, Wait};
+use std::alloc::Global;
+use std::process::Abort;
+use std::test::Fail;
+
+fn rows_of(alloc: Global, spread: u64, churn: u64) -> Result<Rows, &'static str> {
+    let limits = Limits::check(8, 30, 100, spread, churn).ok_or("limits")?;
+    Ok(Rows::new(alloc, limits))
+}
+
+fn add_machine(rt: &impl Abort, rows: &mut Rows, bytes: &[u8], slots: u64) -> Result<(), Fail> {
+    let slots = Slots::check(slots).ok_or("slots")?;
+    with_machine(rt, rows, name(bytes)?, slots)?;
+    Ok(())
+}
+
+fn add_job(rt: &impl Abort, rows: &mut Rows, bytes: &[u8], weight: u64) -> Result<(), Fail> {
+    let weight = Weight::check(weight).ok_or("weight")?;
+    with_job(rt, rows, name(bytes)?, weight)?;
+    Ok(())
+}
+
+fn add_task(rt: &impl Abort, rows: &mut Rows, job: &[u8], bytes: &[u8]) -> Result<(), Fail> {
+    with_task(rt, rows, name(job)?, name(bytes)?)?;
+    Ok(())
+}
+
+fn settle(rt: &impl Abort, rows: &mut Rows, placement: &[Choice]) {
+    assert!(rt; legal(rows, placement), "{placement:?}");
+    rows.settle(placement);
+}
+
+// These are legal, each with its cost, and each comes before the next one.
+fn expect_placements(rt: &impl Abort, rows: &Rows, wanted: &[([Choice; 2], i64)]) {
+    for (place, (placement, cost)) in wanted.iter().enumerate() {
+        assert!(rt; legal(rows, placement), "{placement:?}");
+        assert_eq!(rt; cost_of(rows, placement), *cost, "{placement:?}");
+        for (other_place, (other, _)) in wanted.iter().enumerate() {
+            assert!(rt; legal(rows, other));
+            let before = ranks_before(rows, placement, other);
+            assert_eq!(rt; before, place < other_place, "{placement:?} {other:?}");
+        }
+    }
+}
+
+fn expect_changes(
+    rt: &impl Abort,
+    alloc: Global,
+    rows: &Rows,
+    placement: &[Choice],
+    wanted: &[Change],
+) -> Result<(), Fail> {
+    assert!(rt; legal(rows, placement), "{placement:?}");
+    let changes = changes_of(alloc, rows, placement)?;
+    assert_eq!(rt; changes.as_slice(), wanted);
+    assert!(rt; changes == Changes::from(Vec::from_slice(alloc, wanted)?));
+    Ok(())
+}
+
+#[test]
+fn a_wait_grows_to_the_cost_of_a_load(rt: HostRuntime) -> Result<(), Fail> {
+    let mut rows = rows_of(rt.alloc(), 10, 20)?;
+    add_machine(&rt, &mut rows, b"m1", 2)?;
+    add_job(&rt, &mut rows, b"j", 1)?;
+    add_task(&rt, &mut rows, b"j", b"x")?;
+    add_task(&rt, &mut rows, b"j", b"y")?;
+    let first = [
+        ([On(0), On(0)], 10),
+        ([On(0), Wait], 1),
+        ([Wait, On(0)], 1),
+        ([Wait, Wait], 2),
+    ];
+    expect_placements(&rt, &rows, &first);
+    for _ in 0..9 {
+        settle(&rt, &mut rows, &[On(0), Wait]);
+    }
+    let tenth = [
+        ([On(0), On(0)], 10),
+        ([On(0), Wait], 10),
+        ([Wait, On(0)], 21),
+        ([Wait, Wait], 31),
+    ];
+    expect_placements(&rt, &rows, &tenth);
+    let start = Change::Start(name(b"y")?, name(b"m1")?);
+    expect_changes(&rt, rt.alloc(), &rows, &[On(0), On(0)], &[start])
+}
+
+#[test]
+fn a_task_that_waits_for_more_preempts(rt: HostRuntime) -> Result<(), Fail> {
+    let mut rows = rows_of(rt.alloc(), 0, 3)?;
+    add_machine(&rt, &mut rows, b"m1", 1)?;
+    add_job(&rt, &mut rows, b"low", 2)?;
+    add_task(&rt, &mut rows, b"low", b"l")?;
+    settle(&rt, &mut rows, &[On(0)]);
+    add_job(&rt, &mut rows, b"high", 20)?;
+    add_task(&rt, &mut rows, b"high", b"h")?;
+    let wanted = [([On(0), Wait], 20), ([Wait, On(0)], 5), ([Wait, Wait], 25)];
+    expect_placements(&rt, &rows, &wanted);
+    assert!(rt; !legal(&rows, &[On(0), On(0)]));
+    let (l, h, m1) = (name(b"l")?, name(b"h")?, name(b"m1")?);
+    let changes = [Change::Preempt(l, m1), Change::Start(h, m1)];
+    expect_changes(&rt, rt.alloc(), &rows, &[Wait, On(0)], &changes)
+}
+
+// Two tasks run on the first of two machines.
+fn crowded(rt: &impl Abort, alloc: Global, churn: u64) -> Result<Rows, Fail> {
+    let mut rows = rows_of(alloc, 10, churn)?;
+    add_machine(rt, &mut rows, b"m1", 2)?;
+    add_job(rt, &mut rows, b"j", 50)?;
+    add_task(rt, &mut rows, b"j", b"p")?;
+    add_task(rt, &mut rows, b"j", b"q")?;
+    settle(rt, &mut rows, &[On(0), On(0)]);
+    add_machine(rt, &mut rows, b"m2", 2)?;
+    Ok(rows)
+}
+
+#[test]
+fn one_of_two_tasks_moves(rt: HostRuntime) -> Result<(), Fail> {
+    let rows = crowded(&rt, rt.alloc(), 3)?;
+    let wanted = [
+        ([On(0), On(0)], 10),
+        ([On(0), On(1)], 3),
+        ([On(0), Wait], 53),
+        ([On(1), On(0)], 3),
+        ([On(1), On(1)], 16),
+        ([On(1), Wait], 56),
+        ([Wait, On(0)], 53),
+        ([Wait, On(1)], 56),
+        ([Wait, Wait], 106),
+    ];
+    expect_placements(&rt, &rows, &wanted);
+    let moved = Change::Move(name(b"q")?, name(b"m1")?, name(b"m2")?);
+    expect_changes(&rt, rt.alloc(), &rows, &[On(0), On(1)], &[moved])
+}
+
+#[test]
+fn without_churn_a_move_costs_nothing(rt: HostRuntime) -> Result<(), Fail> {
+    let rows = crowded(&rt, rt.alloc(), 0)?;
+    let wanted = [
+        ([On(0), On(0)], 10),
+        ([On(0), On(1)], 0),
+        ([On(1), On(0)], 0),
+        ([On(1), On(1)], 10),
+    ];
+    expect_placements(&rt, &rows, &wanted);
+    Ok(())
+}
+
+#[test]
+fn the_own_machine_ranks_first(rt: HostRuntime) -> Result<(), Fail> {
+    let mut rows = crowded(&rt, rt.alloc(), 0)?;
+    settle(&rt, &mut rows, &[On(1), On(0)]);
+    let wanted = [
+        ([On(1), On(0)], 0),
+        ([On(1), On(1)], 10),
+        ([On(0), On(0)], 10),
+        ([On(0), On(1)], 0),
+    ];
+    expect_placements(&rt, &rows, &wanted);
+    Ok(())
+}
+
+#[test]
+fn a_list_of_another_length_or_place_is_not_legal(rt: HostRuntime) -> Result<(), Fail> {
+    let rows = crowded(&rt, rt.alloc(), 3)?;
+    let bad: [&[Choice]; 5] = [
+        &[],
+        &[On(0)],
+        &[On(0), On(1), Wait],
+        &[On(0), On(2)],
+        &[On(u32::MAX), Wait],
+    ];
+    for placement in bad {
+        assert!(rt; !legal(&rows, placement), "{placement:?}");
+    }
+    Ok(())
+}
+
+#[test]
+fn the_last_eight_costs_are_kept(rt: HostRuntime) {
+    let mut costs = RecentCosts::new();
+    assert!(rt; costs.as_slice().is_empty());
+    for cost in 1..=8 {
+        costs.push(cost);
+    }
+    assert_eq!(rt; costs.as_slice(), [1, 2, 3, 4, 5, 6, 7, 8].as_slice());
+    let eight = costs;
+    costs.push(9);
+    assert_eq!(rt; costs.as_slice(), [2, 3, 4, 5, 6, 7, 8, 9].as_slice());
+    assert!(rt; costs != eight);
+}

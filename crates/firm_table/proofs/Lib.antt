@@ -1,0 +1,16 @@
+pub mod Lookups
+pub mod Alones
+pub mod Stays
+mod Unmarked
+mod Lines
+mod SameRow
+mod Examples
+mod Prefixes
+mod Books
+mod Pieces
+mod Progress
+mod Stops
+mod Stations
+mod Machine
+mod Agreeing
+mod Interleaved

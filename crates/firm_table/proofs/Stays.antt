@@ -1,0 +1,112 @@
+-- Each tenant gets the replies of one that is alone.
+use Rattle.std.proofs.Common.{◌≡◌, ℕ, List, [], ◌∷◌, ◌++◌, refl, sym, ap, ◌∙◌}
+use Rattle.std.specs.Prelude.{Bool, true, false, Option, Some, None, map, bytes_eq, option_map}
+use Rattle.firm_rules.specs.declared.commands.Command.{Command}
+use Rattle.firm_rules.specs.declared.replies.Reply.{Reply}
+use Rattle.firm_tenant.specs.Step.{step}
+use Rattle.firm_tenant.specs.Alone.{replies_from}
+use Rattle.firm_text.specs.Rosters.{Admitted}
+use Rattle.firm_text.specs.declared.inputs.Line.TheVariants.{Nothing, Long, Nameless, For}
+use Rattle.firm_table.specs.Places.{Given, MarkedLine, Stay, Place, new_stay, place_of_row, opening_places, stay_of, with_command, commanded, after_line, after_lines}
+use Rattle.firm_table.specs.Answers.{Answer, replied, reply_answer, answer_to_command, answer_of}
+use Rattle.firm_table.specs.Output.{answers_from, replies_with, replies_behind}
+use Rattle.firm_table.specs.Isolation.{AnswersLineByLine, RepliesAreAlone, StaysAreIsolated, StaysAreServedAlone, line_to}
+use Rattle.firm_table.proofs.Lookups.{Which, same, other, which, eq_same, stay_of-commanded, stay_of-commanded-other}
+use Rattle.firm_table.proofs.Alones.{replies_in, replies_in-more, book_of-more, last_reply-more}
+use Rattle.firm_table.specs.inner.Progress.{book_of}
+
+-- lines behind lines
+pub after_lines-append : (places : List Place) (lines more : List MarkedLine) → after_lines places (lines ++ more) ≡ after_lines (after_lines places lines) more
+after_lines-append places [] more = refl
+after_lines-append places (given ∷ rest) more = after_lines-append (after_line places given) rest more
+
+pub answers_from-append : (places : List Place) (lines more : List MarkedLine)
+    → answers_from places (lines ++ more) ≡ answers_from places lines ++ answers_from (after_lines places lines) more
+answers_from-append places [] more = refl
+answers_from-append places (given ∷ rest) more =
+    ap (λ (answers : List Answer). answer_of places given ∷ answers) (answers_from-append (after_line places given) rest more)
+
+pub line_by_line : AnswersLineByLine
+line_by_line roster lines given = answers_from-append (opening_places roster) lines (given ∷ [])
+
+-- the tenant, if it stays, has these replies
+abbrev Has : List ℕ → List Reply → List Place → Type 0
+Has name replies places = (stay : Stay) → stay_of places name ≡ Some stay → replies ≡ replies_in stay
+
+module _ (name : List ℕ) (replies : List Reply) (places : List Place) (has : Has name replies places) where
+  -- the same places, as far as this tenant goes
+  alike : (after : List Place) → stay_of after name ≡ stay_of places name → Has name replies after
+  alike after e stay is = has stay (sym e ∙ is)
+
+  -- an answer to a command of another tenant
+  quiet : (tenant : List ℕ) (stay : Option Stay) (given : Given) → bytes_eq tenant name ≡ false
+      → replies_with name replies (answer_to_command tenant stay given) ≡ replies
+  quiet tenant None given out = refl
+  quiet tenant (Some stay) given out = rw (last_reply-more stay given, out) refl
+
+  heard_same : (given : Given) (stay : Option Stay) → stay_of places name ≡ stay
+      → Has name (replies_with name replies (answer_to_command name stay given)) (map (commanded name given) places)
+  heard_same given None none stay is =
+      let no : stay_of (map (commanded name given) places) name ≡ None = stay_of-commanded places name given ∙ ap (option_map (with_command given)) none in
+      cc
+  heard_same given (Some now) some stay is =
+      let after : stay_of (map (commanded name given) places) name ≡ Some (with_command given now) =
+      stay_of-commanded places name given ∙ ap (option_map (with_command given)) some in
+      let same_stay : with_command given now ≡ stay = cc in
+      rw (last_reply-more now given, eq_same name)
+      (ap (λ (rs : List Reply). rs ++ (step (book_of now) given.0 given.1).0 ∷ []) (has now some)
+      ∙ sym (replies_in-more now given) ∙ ap replies_in same_stay)
+
+  heard_command : (tenant : List ℕ) (command : Command) (mark : Bool) → Which tenant name
+      → Has name (replies_with name replies (answer_of places (For tenant command, mark))) (after_line places (For tenant command, mark))
+  heard_command tenant command mark (same _) = heard_same (command, mark) (stay_of places name) refl
+  heard_command tenant command mark (other _ _ out back) =
+      rw (quiet tenant (stay_of places tenant) (command, mark) out)
+      (alike (map (commanded tenant (command, mark)) places) (stay_of-commanded-other places tenant name (command, mark) out))
+
+  heard : (given : MarkedLine) → Has name (replies_with name replies (answer_of places given)) (after_line places given)
+  heard (Nothing, mark) = has
+  heard (Long, mark) = has
+  heard (Nameless, mark) = has
+  heard (For tenant command, mark) = heard_command tenant command mark (which tenant name)
+
+heard_all : (name : List ℕ) (replies : List Reply) (places : List Place) (lines : List MarkedLine) → Has name replies places
+    → Has name (replies_behind name replies (answers_from places lines)) (after_lines places lines)
+heard_all name replies places [] has = has
+heard_all name replies places (given ∷ rest) has =
+    heard_all name (replies_with name replies (answer_of places given)) (after_line places given) rest (heard name replies places has given)
+
+-- before the first line nobody has replies
+begins_empty : (name : List ℕ) (roster : List Admitted) → Has name [] (map place_of_row roster)
+begins_empty name [] stay is = cc
+begins_empty name (tenant ∷ rest) stay is = elim (bytes_eq tenant.0 name) as (λ b. bytes_eq tenant.0 name ≡ b → [] ≡ replies_in stay) [
+  | true ↦ λ e. let first : new_stay tenant.0 tenant.1 ≡ stay = let it = rw e at is in cc in ap replies_in first
+  | false ↦ λ e. begins_empty name rest stay (rw e at is)
+] refl
+
+pub replies_are_alone : RepliesAreAlone
+replies_are_alone roster lines name stay is = heard_all name [] (opening_places roster) lines (begins_empty name roster) stay is
+
+pub stays_are_isolated : StaysAreIsolated
+stays_are_isolated roster other_roster lines other_lines name stay is other_is =
+    replies_are_alone roster lines name stay is ∙ sym (replies_are_alone other_roster other_lines name stay other_is)
+
+-- a tenant that is given commands alone
+alone_answers : (name : List ℕ) (places : List Place) (stay : Stay) (commands : List Given) → stay_of places name ≡ Some stay
+    → answers_from places (map (line_to name) commands) ≡ map (replied name) (replies_from (book_of stay) commands)
+alone_answers name places stay [] is = refl
+alone_answers name places stay (given ∷ rest) is =
+    let reply = (step (book_of stay) given.0 given.1).0 in
+    let here : answer_of places (line_to name given) ≡ replied name reply =
+    ap (λ (s : Option Stay). answer_to_command name s given) is ∙ ap (reply_answer name) (last_reply-more stay given) in
+    let after : stay_of (map (commanded name given) places) name ≡ Some (with_command given stay) =
+    stay_of-commanded places name given ∙ ap (option_map (with_command given)) is in
+    ap (λ (a : Answer). a ∷ answers_from (map (commanded name given) places) (map (line_to name) rest)) here
+    ∙ ap (λ (answers : List Answer). replied name reply ∷ answers) (alone_answers name (map (commanded name given) places) (with_command given stay) rest after)
+    ∙ ap (λ book. replied name reply ∷ map (replied name) (replies_from book rest)) (book_of-more stay given)
+
+pub stays_are_served_alone : StaysAreServedAlone
+stays_are_served_alone roster lines name stay is =
+    let opening : stay_of (opening_places ((name, stay.limits) ∷ [])) name ≡ Some (new_stay name stay.limits) = rw (eq_same name) refl in
+    ap (map (replied name)) (replies_are_alone roster lines name stay is)
+    ∙ sym (alone_answers name (opening_places ((name, stay.limits) ∷ [])) (new_stay name stay.limits) stay.commands opening)

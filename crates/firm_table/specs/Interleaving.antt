@@ -1,0 +1,180 @@
+-- The table of tenants as a machine: what each event is answered, and what it changes.
+use Rattle.std.specs.Prelude.{ℕ, zero, suc, ◌+◌, Bool, true, false, ◌&&◌, ◌==◌, not, nat_lt, nat_le, List, [], ◌∷◌, ◌++◌, map, Option, Some, None, option_map, slice_get, if◌then◌else◌}
+use Rattle.std.specs.List.{list_any}
+use Rattle.firm_rules.specs.Book.{Book, opening_book}
+use Rattle.firm_rules.specs.declared.commands.Command.{Command}
+use Rattle.firm_rules.specs.declared.commands.Command.TheVariants.{Round}
+use Rattle.firm_rules.specs.declared.replies.Reply.{Reply}
+use Rattle.firm_rules.specs.declared.tickets.Ticket.{Ticket}
+use Rattle.firm_tenant.specs.Step.{step}
+use Rattle.firm_text.specs.Rosters.{Admitted}
+use Rattle.firm_table.specs.declared.events.Event.{Event}
+use Rattle.firm_table.specs.declared.events.Event.TheVariants.{Post, Ask, Take, Answer, Collect}
+use Rattle.firm_table.specs.declared.events.Answer.{Answer as EventAnswer}
+use Rattle.firm_table.specs.declared.events.Answer.TheVariants.{Replied, Queued, Took, Solved, NotNow}
+
+-- whether a command is the round
+abbrev pub is_round : Command → Bool
+is_round Round = true
+is_round _ = false
+
+-- what stands at a place: a tenant at home with its book; its round queued; held by a worker; or answered, with the book behind the reply
+pub data Station : Type 0 where
+  home : Book → Station
+  queued : Book → Ticket → Station
+  held : Book → Ticket → ℕ → Station
+  answered : Book → Reply → Station
+
+-- a place: what stands there, and how many rounds it queued
+pub record Seat : Type 0 where
+  pub station : Station
+  pub rounds : ℕ
+
+-- the table: how many workers there are, the places, and the queue, front first
+pub record TableState : Type 0 where
+  pub workers : ℕ
+  pub seats : List Seat
+  pub queue : List Ticket
+
+-- an event, and whether memory is refused in it
+abbrev pub MarkedEvent : Type 0
+MarkedEvent = Event × Bool
+
+-- the seat of a row of the roster
+abbrev pub opening_seat : Admitted → Seat
+opening_seat row = record { station = home (opening_book row.1); rounds = 0 }
+
+-- before the first event each tenant is home, and the queue is empty
+abbrev pub opening_table : List Admitted → ℕ → TableState
+opening_table roster workers = record { workers = workers; seats = map opening_seat roster; queue = [] }
+
+-- the seats with this one at the place
+abbrev pub with_seat : List Seat → ℕ → Seat → List Seat
+with_seat [] place new = []
+with_seat (seat ∷ rest) zero new = new ∷ rest
+with_seat (seat ∷ rest) (suc place) new = seat ∷ with_seat rest place new
+
+-- a command that is not a round
+abbrev pub posted : Station → Command → Bool → EventAnswer × Station
+posted (home book) command mark =
+    if is_round command then (NotNow, home book) else (Replied (step book command mark).0, home (step book command mark).1)
+posted (queued book ticket) command mark = (NotNow, queued book ticket)
+posted (held book ticket worker) command mark = (NotNow, held book ticket worker)
+posted (answered book reply) command mark = (NotNow, answered book reply)
+
+-- a round: a tenant without life left replies at once, and so does one to whose round memory is refused
+abbrev pub asked : Station → Ticket → Bool → EventAnswer × Station
+asked (home book) ticket mark =
+    if nat_le book.rows.limits.life book.given then (Replied (step book Round mark).0, home (step book Round mark).1)
+    else if mark then (Replied (step book Round mark).0, home (step book Round mark).1)
+    else (Queued ticket, queued book ticket)
+asked (queued book other) ticket mark = (NotNow, queued book other)
+asked (held book other worker) ticket mark = (NotNow, held book other worker)
+asked (answered book reply) ticket mark = (NotNow, answered book reply)
+
+-- the tenant whose ticket was at the front
+abbrev pub taken_by : ℕ → Station → Station
+taken_by worker (home book) = home book
+taken_by worker (queued book ticket) = held book ticket worker
+taken_by worker (held book ticket other) = held book ticket other
+taken_by worker (answered book reply) = answered book reply
+
+-- whether this worker holds the tenant
+abbrev pub is_held : ℕ → Station → Bool
+is_held worker (home book) = false
+is_held worker (queued book ticket) = false
+is_held worker (held book ticket holder) = holder == worker
+is_held worker (answered book reply) = false
+
+-- the round is solved
+abbrev pub solved : Station → Bool → EventAnswer × Station
+solved (home book) mark = (NotNow, home book)
+solved (queued book ticket) mark = (NotNow, queued book ticket)
+solved (held book ticket worker) mark = (Solved ticket, answered (step book Round mark).1 (step book Round mark).0)
+solved (answered book reply) mark = (NotNow, answered book reply)
+
+-- the tenant comes home
+abbrev pub collected : Station → EventAnswer × Station
+collected (home book) = (NotNow, home book)
+collected (queued book ticket) = (NotNow, queued book ticket)
+collected (held book ticket worker) = (NotNow, held book ticket worker)
+collected (answered book reply) = (Replied reply, home book)
+
+-- what an answer adds to the count of a seat's rounds, and to the queue
+abbrev pub rounds_more : EventAnswer → ℕ
+rounds_more (Replied reply) = 0
+rounds_more (Queued ticket) = 1
+rounds_more (Took ticket) = 0
+rounds_more (Solved ticket) = 0
+rounds_more NotNow = 0
+
+abbrev pub queue_more : EventAnswer → List Ticket
+queue_more (Replied reply) = []
+queue_more (Queued ticket) = ticket ∷ []
+queue_more (Took ticket) = []
+queue_more (Solved ticket) = []
+queue_more NotNow = []
+
+-- the next ticket of a place
+abbrev pub next_ticket : ℕ → Seat → Ticket
+next_ticket place seat = record { place = place; number = seat.rounds + 1 }
+
+-- what an event at a place is answered, and what stands there then
+abbrev pub local : Seat → ℕ → Event → Bool → EventAnswer × Station
+local seat place (Post _ command) mark = posted seat.station command mark
+local seat place (Ask _) mark = asked seat.station (next_ticket place seat) mark
+local seat place (Collect _) mark = collected seat.station
+local seat place (Take _) mark = (NotNow, seat.station)
+local seat place (Answer _) mark = solved seat.station mark
+
+-- the seat behind an answer
+abbrev pub seat_behind : Seat → EventAnswer × Station → Seat
+seat_behind seat after = record { station = after.1; rounds = seat.rounds + rounds_more after.0 }
+
+-- an event at a place of the table
+abbrev pub at_place : TableState → ℕ → Option Seat → Event → Bool → EventAnswer × TableState
+at_place table place None event mark = (NotNow, table)
+at_place table place (Some seat) event mark =
+    let after = local seat place event mark in
+    (after.0, record table { seats = with_seat table.seats place (seat_behind seat after); queue = table.queue ++ queue_more after.0 })
+
+-- the place that this worker holds
+abbrev pub place_held : ℕ → List Seat → Option ℕ
+place_held worker [] = None
+place_held worker (seat ∷ rest) = if is_held worker seat.station then Some zero else option_map suc (place_held worker rest)
+
+-- the front of the queue goes to the worker
+abbrev pub taking : TableState → ℕ → Ticket → List Ticket → Option Seat → EventAnswer × TableState
+taking table worker ticket rest None = (NotNow, table)
+taking table worker ticket rest (Some seat) =
+    (Took ticket, record table { seats = with_seat table.seats ticket.place (record seat { station = taken_by worker seat.station }); queue = rest })
+
+abbrev pub take_front : TableState → ℕ → List Ticket → EventAnswer × TableState
+take_front table worker [] = (NotNow, table)
+take_front table worker (ticket ∷ rest) = taking table worker ticket rest (slice_get table.seats ticket.place)
+
+-- the worker is one of the table's and holds nobody
+abbrev pub may_take : TableState → ℕ → Bool
+may_take table worker = nat_lt worker table.workers && not (list_any (λ seat. is_held worker seat.station) table.seats)
+
+-- what the holder of a round answers
+abbrev pub answering : TableState → ℕ → Option ℕ → Bool → EventAnswer × TableState
+answering table worker None mark = (NotNow, table)
+answering table worker (Some place) mark = at_place table place (slice_get table.seats place) (Answer worker) mark
+
+-- what an event is answered, and the table after it
+abbrev pub happens : TableState → MarkedEvent → EventAnswer × TableState
+happens table (Take worker, mark) = if may_take table worker then take_front table worker table.queue else (NotNow, table)
+happens table (Answer worker, mark) = answering table worker (place_held worker table.seats) mark
+happens table (Post place command, mark) = at_place table place (slice_get table.seats place) (Post place command) mark
+happens table (Ask place, mark) = at_place table place (slice_get table.seats place) (Ask place) mark
+happens table (Collect place, mark) = at_place table place (slice_get table.seats place) (Collect place) mark
+
+-- the answers to a list of events, and the table after them
+abbrev pub event_answers : TableState → List MarkedEvent → List EventAnswer
+event_answers table [] = []
+event_answers table (given ∷ rest) = (happens table given).0 ∷ event_answers (happens table given).1 rest
+
+abbrev pub table_after : TableState → List MarkedEvent → TableState
+table_after table [] = table
+table_after table (given ∷ rest) = table_after (happens table given).1 rest

@@ -1,0 +1,78 @@
+-- What the output is to each tenant.
+use Rattle.std.specs.Prelude.{◌≡◌, ℕ, false, List, [], ◌∷◌, ◌++◌, Option, Some, None, map, option_map, bytes_eq, if◌then◌else◌}
+use Rattle.std.specs.List.{filter_map, list_any}
+use Rattle.firm_rules.specs.Limits.{TenantLimits}
+use Rattle.firm_tenant.specs.Alone.{alone_marked}
+use Rattle.firm_text.specs.Inputs.{command_to, input_lines}
+use Rattle.firm_text.specs.Rosters.{Admitted}
+use Rattle.firm_text.specs.declared.inputs.Line.TheVariants.{For}
+use Rattle.firm_table.specs.Places.{Given, MarkedLine, Stay, Place, opening_places, after_lines, stay_of}
+use Rattle.firm_table.specs.Answers.{replied, answer_of, tells_memory}
+use Rattle.firm_table.specs.Output.{answers_from, answers_of, output, output_of, AreLinesOf, replies_to, unmarked}
+
+-- the limits that the roster gives the tenant of this name
+abbrev pub limits_in : List Admitted → List ℕ → Option TenantLimits
+limits_in [] name = None
+limits_in (tenant ∷ rest) name = if bytes_eq tenant.0 name then Some tenant.1 else limits_in rest name
+
+-- the stay of the tenant of this name, once a service of this roster has answered these lines
+abbrev pub stay_in : List Admitted → List MarkedLine → List ℕ → Option Stay
+stay_in roster lines name = stay_of (after_lines (opening_places roster) lines) name
+
+-- a line more is answered behind the others, which are answered as they were
+abbrev pub AnswersLineByLine : Type 0
+AnswersLineByLine = (roster : List Admitted) (lines : List MarkedLine) (given : MarkedLine)
+    → answers_of roster (lines ++ given ∷ []) ≡ answers_of roster lines ++ answer_of (after_lines (opening_places roster) lines) given ∷ []
+
+-- at every moment a tenant has got the replies of one that is alone in the service and is given what it was given
+abbrev pub RepliesAreAlone : Type 0
+RepliesAreAlone = (roster : List Admitted) (lines : List MarkedLine) (name : List ℕ) (stay : Stay) → stay_in roster lines name ≡ Some stay
+    → replies_to name (answers_of roster lines) ≡ alone_marked stay.limits stay.commands
+
+-- two tenants that began with the same limits and were given the same have got the same, whatever else the two services hold and were told
+abbrev pub StaysAreIsolated : Type 0
+StaysAreIsolated = (roster other_roster : List Admitted) (lines other_lines : List MarkedLine) (name : List ℕ) (stay : Stay)
+    → stay_in roster lines name ≡ Some stay → stay_in other_roster other_lines name ≡ Some stay
+    → replies_to name (answers_of roster lines) ≡ replies_to name (answers_of other_roster other_lines)
+
+-- a line that gives this tenant a command
+abbrev pub line_to : List ℕ → Given → MarkedLine
+line_to name given = (For name given.0, given.1)
+
+-- and they are what a service answers that admits this tenant alone, and is given its commands alone
+abbrev pub StaysAreServedAlone : Type 0
+StaysAreServedAlone = (roster : List Admitted) (lines : List MarkedLine) (name : List ℕ) (stay : Stay) → stay_in roster lines name ≡ Some stay
+    → map (replied name) (replies_to name (answers_of roster lines)) ≡ answers_of ((name, stay.limits) ∷ []) (map (line_to name) stay.commands)
+
+-- the command that a line gives the tenant of this name
+abbrev pub given_to : List ℕ → MarkedLine → Option Given
+given_to name given = option_map (λ command. (command, given.1)) (command_to name given.0)
+
+-- the commands that these lines give the tenant of this name
+abbrev pub commands_to : List ℕ → List MarkedLine → List Given
+commands_to name lines = filter_map (given_to name) lines
+
+-- the stay, with these commands more
+abbrev pub with_commands : List Given → Stay → Stay
+with_commands commands stay = record stay { commands = stay.commands ++ commands }
+
+-- a tenant was given the commands of its lines, and has the limits that it had
+abbrev pub StaysHoldTheirLines : Type 0
+StaysHoldTheirLines = (roster : List Admitted) (lines : List MarkedLine) (name : List ℕ)
+    → stay_in roster lines name ≡ option_map (with_commands (commands_to name lines)) (stay_in roster [] name)
+
+-- a tenant with the same row in two rosters gets the same replies in services that are given equal lines for it
+abbrev pub TenantsAreIsolated : Type 0
+TenantsAreIsolated = (roster other_roster : List Admitted) (lines other_lines : List MarkedLine) (name : List ℕ) (limits : TenantLimits)
+    → limits_in roster name ≡ Some limits → limits_in other_roster name ≡ Some limits → commands_to name lines ≡ commands_to name other_lines
+    → replies_to name (answers_of roster lines) ≡ replies_to name (answers_of other_roster other_lines)
+
+-- where no answer says that memory was refused, the output is a function of the roster and of the bytes of the input
+abbrev pub NeedsNoMarks : Type 0
+NeedsNoMarks = (roster : List Admitted) (input : List ℕ) (lines : List MarkedLine) → AreLinesOf roster input lines
+    → list_any tells_memory (answers_of roster lines) ≡ false → output_of roster lines ≡ output roster input
+
+-- the lines of an input that are left to answer can be taken as lines to which memory is not refused
+abbrev pub MayGoUnmarked : Type 0
+MayGoUnmarked = (input : List ℕ) (places : List Place)
+    → map tells_memory (answers_from places (map unmarked (input_lines input))) ≡ map (λ line. false) (input_lines input)

@@ -1,0 +1,51 @@
+-- What a service writes for what it read: a function of the roster and of the lines, each with its mark.
+use Rattle.std.specs.Prelude.{ℕ, false, List, [], ◌∷◌, ◌++◌, ◌≡◌, map, bytes_eq, if◌then◌else◌}
+use Rattle.std.specs.List.{flat_map}
+use Rattle.firm_rules.specs.declared.replies.Reply.{Reply}
+use Rattle.firm_text.specs.Inputs.{input_lines}
+use Rattle.firm_text.specs.Rosters.{Admitted}
+use Rattle.firm_text.specs.declared.inputs.Line.{Line}
+use Rattle.firm_table.specs.Places.{MarkedLine, Place, opening_places, after_line}
+use Rattle.firm_table.specs.Answers.{Answer, silent, too_long, unknown_tenant, replied, answer_of, tells_memory, text_of_answer}
+
+-- the answers to these lines in order, where these are the places before them
+abbrev pub answers_from : List Place → List MarkedLine → List Answer
+answers_from places [] = []
+answers_from places (given ∷ rest) = answer_of places given ∷ answers_from (after_line places given) rest
+
+-- the answers of a service of this roster
+abbrev pub answers_of : List Admitted → List MarkedLine → List Answer
+answers_of roster lines = answers_from (opening_places roster) lines
+
+-- what a service writes for these lines: the texts of the answers, in order
+abbrev pub output_of : List Admitted → List MarkedLine → List ℕ
+output_of roster lines = flat_map text_of_answer (answers_of roster lines)
+
+-- a line to which memory was not refused
+abbrev pub unmarked : Line → MarkedLine
+unmarked line = (line, false)
+
+-- what a service writes for an input where memory is never refused
+abbrev pub output : List Admitted → List ℕ → List ℕ
+output roster input = output_of roster (map unmarked (input_lines input))
+
+-- the lines of this input, with marks on just those whose answer says that memory was refused
+pub record AreLinesOf (roster : List Admitted) (input : List ℕ) (lines : List MarkedLine) : Type 0 where
+  pub each : map (λ given. given.0) lines ≡ input_lines input
+  pub marks : map (λ given. given.1) lines ≡ map tells_memory (answers_of roster lines)
+
+-- the replies to the tenant of this name, after these ones and after an answer
+abbrev pub replies_with : List ℕ → List Reply → Answer → List Reply
+replies_with name replies silent = replies
+replies_with name replies too_long = replies
+replies_with name replies unknown_tenant = replies
+replies_with name replies (replied tenant reply) = if bytes_eq tenant name then replies ++ reply ∷ [] else replies
+
+-- the replies in these answers to the tenant of this name, behind these ones
+abbrev pub replies_behind : List ℕ → List Reply → List Answer → List Reply
+replies_behind name replies [] = replies
+replies_behind name replies (answer ∷ rest) = replies_behind name (replies_with name replies answer) rest
+
+-- the replies in these answers to the tenant of this name
+abbrev pub replies_to : List ℕ → List Answer → List Reply
+replies_to name answers = replies_behind name [] answers

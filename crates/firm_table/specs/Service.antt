@@ -1,0 +1,64 @@
+-- What a service reads and writes in one call.
+use Rattle.std.specs.Prelude.{◌≡◌, ℕ, ◌≤◌, ◌<◌, ◌⊎◌, Bool, true, false, List, [], ◌++◌, Option, length, take}
+use Rattle.std.specs.Io.{IsEmptyOrEndsWith}
+use Rattle.std.specs.Io.KnownBytes.{Appends, Consumes, IsAtEnd}
+use Rattle.firm_table.specs.Places.{MarkedLine}
+use Rattle.firm_table.specs.Output.{output_of, AreLinesOf}
+use Rattle.firm_text.specs.Rosters.{Admitted}
+use Rattle.firm_table.specs.declared.faults.ServeFault.{ServeFault}
+use Rattle.firm_table.specs.declared.faults.ServeFault.TheVariants.{Read, Write, TooLong, Memory}
+
+-- the bytes that a reader has left, or that a writer has got, before a call and after it, where the device tells them, and whether a call
+-- of the device has failed
+pub record Device : Type 0 where
+  pub before : Option (List ℕ)
+  pub after : Option (List ℕ)
+  pub failed : Bool
+
+-- the device of these parts
+abbrev pub device : Option (List ℕ) → Option (List ℕ) → Bool → Device
+device before after failed = record { before = before; after = after; failed = failed }
+
+-- what was written is the output for this input, with marks on just the lines whose answer says that memory was refused
+pub record Answers (roster : List Admitted) (input : List ℕ) (written written_after : Option (List ℕ)) : Type 0 where
+  pub lines : List MarkedLine
+  pub are_lines : AreLinesOf roster input lines
+  pub wrote : Appends written written_after (output_of roster lines)
+
+-- what was written is a prefix of such an output
+pub record BeginsAnswers (roster : List Admitted) (input : List ℕ) (written written_after : Option (List ℕ)) : Type 0 where
+  pub lines : List MarkedLine
+  pub are_lines : AreLinesOf roster input lines
+  pub count : ℕ
+  pub wrote : Appends written written_after (take count (output_of roster lines))
+
+-- all that was left to read was read, at most so many bytes, what was written is the output for it, and no call has failed
+pub record Served (roster : List Admitted) (most : ℕ) (reader writer : Device) : Type 0 where
+  pub input : List ℕ
+  pub read : Consumes reader.before reader.after input
+  pub at_end : IsAtEnd reader.after
+  pub within : length input ≤ most
+  pub answers : Answers roster input writer.before writer.after
+  pub reads : reader.failed ≡ false
+  pub writes : writer.failed ≡ false
+
+-- the fault of a service that read this much and takes at most so many bytes: a read failed, a write failed, or neither did, and
+-- the input is longer or memory was refused
+abbrev pub IsCause : ServeFault → List ℕ → ℕ → Bool → Bool → Type 0
+IsCause Read input most read_failed write_failed = (read_failed ≡ true) × (write_failed ≡ false)
+IsCause Write input most read_failed write_failed = (read_failed ≡ false) × (write_failed ≡ true)
+IsCause TooLong input most read_failed write_failed = (most < length input) × (read_failed ≡ false) × (write_failed ≡ false)
+IsCause Memory input most read_failed write_failed = (read_failed ≡ false) × (write_failed ≡ false)
+
+-- each line of these bytes is whole: its line feed was read, or a read has found the end of the input behind it
+abbrev pub AreWholeLines : List ℕ → List ℕ → Device → Type 0
+AreWholeLines lines rest reader = IsEmptyOrEndsWith lines 10 ⊎ ((rest ≡ []) × IsAtEnd reader.after × (reader.failed ≡ false))
+
+-- whole lines and a rest were read, and what was written is a prefix of the output for those lines; the fault has its cause
+pub record Stopped (roster : List Admitted) (most : ℕ) (reader writer : Device) (fault : ServeFault) : Type 0 where
+  pub answered : List ℕ
+  pub rest : List ℕ
+  pub read : Consumes reader.before reader.after (answered ++ rest)
+  pub whole : AreWholeLines answered rest reader
+  pub cause : IsCause fault (answered ++ rest) most reader.failed writer.failed
+  pub begins : BeginsAnswers roster answered writer.before writer.after

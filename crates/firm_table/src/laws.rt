@@ -1,0 +1,27 @@
+//! What each tenant of the service may rely on, whatever the others are told.
+
+ghost use Rattle.firm_table.specs.Isolation.{AnswersLineByLine, RepliesAreAlone, StaysAreIsolated, StaysAreServedAlone, StaysHoldTheirLines, TenantsAreIsolated, NeedsNoMarks, MayGoUnmarked};
+ghost use Rattle.firm_table.specs.Histories.{EventsKeepAlone, EventsAreIsolated};
+
+use firm_tenant::{replies_tell_their_marks, unmarked_steps_are_granted};
+
+/// The laws on the service's answers: they come line by line; each tenant gets the replies of a service that holds this tenant
+/// alone and is given its commands alone, whatever else stands in the roster and in the input; and where memory is refused to
+/// no line, the output is a function of the roster and of the bytes read. For every list of the table's events, a tenant's replies
+/// are the first ones of a tenant alone to the same commands, all of them where it is home; and tenants that agree so far have
+/// got the same replies so far, whatever events of others stand between.
+pub fn isolation()
+    ensures line_by_line { AnswersLineByLine }
+    ensures alone { RepliesAreAlone }
+    ensures isolated { StaysAreIsolated }
+    ensures served_alone { StaysAreServedAlone }
+    ensures lines { StaysHoldTheirLines }
+    ensures tenants { TenantsAreIsolated }
+    ensures no_marks { NeedsNoMarks }
+    ensures unmarked { MayGoUnmarked }
+    ensures events { EventsKeepAlone }
+    ensures agreeing { EventsAreIsolated }
+{
+    unmarked_steps_are_granted();
+    replies_tell_their_marks();
+}

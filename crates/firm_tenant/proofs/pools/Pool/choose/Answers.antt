@@ -1,0 +1,15 @@
+use Rattle.std.proofs.Common.{rules, ◌≡◌, true, List, IfOk, sym, subst}
+use Rattle.firm_rules.specs.declared.rounds.Choice.{Choice}
+use Rattle.firm_rules.specs.Placement.{Case, is_legal}
+use Rattle.firm_rules.specs.Round.{case_of, round_placement}
+use Rattle.std.proofs.lemmas.Result.{IfOk-weaker}
+use Rattle.firm_tenant.proofs.pools.Pool.choose.Goals as goal
+
+pub returns-clause-legal : goal.returns-clause-legal
+returns-clause-legal c =
+    let case : Case = case_of c.args.self.now.rows in
+    let right : is_legal case (round_placement case) ≡ true =
+    (c.legality_is_judged.ensures case (round_placement case)).only (c.the_round_is_the_first.ensures case).is.legal in
+    let round : IfOk c.first_best.result (λ placement. placement.items ≡ round_placement case) = search rules in
+    IfOk-weaker c.first_best.result (λ placement. placement.items ≡ round_placement case) (λ placement. is_legal case placement.items ≡ true)
+    (λ placement e. subst (λ (p : List Choice). is_legal case p ≡ true) (sym e) right) round

@@ -1,0 +1,268 @@
+//! The pool of a tenant: its graph and the costs of its rounds, and what each command makes of them.
+ghost use Rattle.std.specs.Prelude.{◌≡◌, ◌+◌, ◌^◌, ◌<◌, ◌≤◌, ℕ, true, IfOk, MatchResult, [], length};
+ghost use Rattle.firm_rules.specs.Book.{opening_rows};
+ghost use Rattle.firm_rules.specs.Placement.{is_legal};
+ghost use Rattle.firm_rules.specs.Round.{case_of, round_placement};
+ghost use Rattle.firm_tenant.specs.Step.{effect, counts_of, is_memory_outcome};
+ghost use Rattle.firm_tenant.specs.Parts.{outcome_of, plain_or};
+ghost use Rattle.firm_tenant.specs.Pools.{book_of, placed_in};
+
+use circular_buffer::HeapCircularBuffer;
+use firm_canon::first_best;
+use firm_graph::{Graph, GraphRefusal};
+use firm_paths::{Prices, Scratch};
+use firm_rules::{
+    Choice, Command, Limits, Name, Outcome, RecentCosts, Refusal, Rows, Slots, Weight, changes_of,
+    cost_of, legality_is_judged, the_round_is_the_first, use_of,
+};
+use std::alloc::{AllocError, Global};
+use std::marker::Model;
+
+const MOST_COSTS: usize = 8;
+
+/// The rows of a tenant with their net, and the costs of the last rounds.
+#[derive(Drop)]
+pub(crate) struct Pool {
+    graph: Graph,
+    prices: Prices,
+    scratch: Scratch,
+    costs: HeapCircularBuffer<i64>,
+}
+
+impl Model for Pool {
+    ghost use Rattle.std.specs.Prelude.{◌≡◌};
+    ghost use Rattle.firm_tenant.specs.Pools.{Pool as PoolRows, IsMadeFor};
+
+    ghost Value = { PoolRows };
+
+    ghost view = { λ p. record { rows = p.graph.rows; costs = p.costs.items; asked = p.graph.asked } };
+
+    ghost invariant = { λ p. (p.costs.capacity ≡ 8) × IsMadeFor p.prices.limits p.graph.rows.limits × IsMadeFor p.scratch.limits p.graph.rows.limits };
+}
+
+impl Pool {
+    /// The pool of a tenant that has nothing yet, with all the memory of its net. The error comes for want of memory alone.
+    pub(crate) fn open(alloc: Global, limits: Limits) -> Result<Pool, AllocError>
+        ensures { IfOk result (λ pool. pool ≡ record { rows = opening_rows limits; costs = []; asked = 0 }) }
+    {
+        let graph = Graph::open(alloc, limits)?;
+        let prices = Prices::new(alloc, graph.net())?;
+        let scratch = Scratch::new(alloc, graph.net())?;
+        Ok(Pool {
+            graph,
+            prices,
+            scratch,
+            costs: HeapCircularBuffer::with_capacity(alloc, MOST_COSTS)?,
+        })
+    }
+
+    /// The machines, jobs and tasks.
+    pub(crate) fn rows(&self) -> &Rows
+        ensures { result.now ≡ self.now.rows }
+    {
+        self.graph.rows()
+    }
+
+    /// Carries out a command that was counted already, and says what came of it.
+    pub(crate) fn answer(&mut self, alloc: Global, command: Command) -> Outcome
+        requires asked { self.old.asked < 2 ^ 40 }
+        ensures effect { (given : ℕ) → (result, book_of self.new given)
+            ≡ effect (book_of self.old given) command (is_memory_outcome result) }
+        ensures asked { self.new.asked ≤ self.old.asked + 1 }
+    {
+        match self.obey(alloc, command) {
+            Ok(outcome) => outcome,
+            Err(refusal) => Outcome::Refused(refusal),
+        }
+    }
+
+    fn obey(&mut self, alloc: Global, command: Command) -> Result<Outcome, Refusal>
+        requires asked { self.old.asked < 2 ^ 40 }
+        ensures effect { (given : ℕ) → (outcome_of result, book_of self.new given)
+            ≡ effect (book_of self.old given) command (is_memory_outcome (outcome_of result)) }
+        ensures asked { self.new.asked ≤ self.old.asked + 1 }
+    {
+        match command {
+            Command::AddMachine(name, slots) => self.add_machine(alloc, name, slots),
+            Command::AddJob(name, weight) => self.add_job(name, weight),
+            Command::AddTask(job, name) => self.add_task(job, name),
+            Command::Drain(name) => self.drain(name),
+            Command::CloseJob(name) => self.close_job(name),
+            Command::Done(name) => self.remove_task(name),
+            Command::Find(name) => self.find(name),
+            Command::Show => Ok(self.counts()),
+            Command::Costs => Ok(Outcome::Costs(self.recent_costs())),
+            Command::Round => self.round(alloc),
+            Command::Faulty(fault) => Err(fault.into()),
+        }
+    }
+
+    fn add_machine(&mut self, alloc: Global, name: Name, slots: Slots) -> Result<Outcome, Refusal>
+        requires asked { self.old.asked < 2 ^ 40 }
+        ensures effect { (given : ℕ) → (outcome_of result, book_of self.new given)
+            ≡ effect (book_of self.old given) (Command.AddMachine name slots) (is_memory_outcome (outcome_of result)) }
+        ensures asked { self.new.asked ≤ self.old.asked + 1 }
+    {
+        if self.graph.rows().has_machine(name) {
+            return Err(Refusal::MachineExists);
+        }
+        grown(self.graph.add_machine(alloc, name, slots))
+    }
+
+    fn add_job(&mut self, name: Name, weight: Weight) -> Result<Outcome, Refusal>
+        requires asked { self.old.asked < 2 ^ 40 }
+        ensures effect { (given : ℕ) → (outcome_of result, book_of self.new given)
+            ≡ effect (book_of self.old given) (Command.AddJob name weight) (is_memory_outcome (outcome_of result)) }
+        ensures asked { self.new.asked ≤ self.old.asked + 1 }
+    {
+        if self.graph.rows().has_job(name) {
+            return Err(Refusal::JobExists);
+        }
+        grown(self.graph.add_job(name, weight))
+    }
+
+    fn add_task(&mut self, job: Name, name: Name) -> Result<Outcome, Refusal>
+        requires asked { self.old.asked < 2 ^ 40 }
+        ensures effect { (given : ℕ) → (outcome_of result, book_of self.new given)
+            ≡ effect (book_of self.old given) (Command.AddTask job name) (is_memory_outcome (outcome_of result)) }
+        ensures asked { self.new.asked ≤ self.old.asked + 1 }
+    {
+        if !self.graph.rows().has_job(job) {
+            return Err(Refusal::NoSuchJob);
+        }
+        if self.graph.rows().has_task(name) {
+            return Err(Refusal::TaskExists);
+        }
+        grown(self.graph.add_task(job, name))
+    }
+
+    fn drain(&mut self, name: Name) -> Result<Outcome, Refusal>
+        ensures effect { (given : ℕ) → (outcome_of result, book_of self.new given)
+            ≡ effect (book_of self.old given) (Command.Drain name) (is_memory_outcome (outcome_of result)) }
+        ensures asked { self.new.asked ≡ self.old.asked }
+    {
+        if !self.graph.rows().has_machine(name) {
+            return Err(Refusal::NoSuchMachine);
+        }
+        Ok(Outcome::Evicted(self.graph.drop_machine(name)))
+    }
+
+    fn close_job(&mut self, name: Name) -> Result<Outcome, Refusal>
+        ensures effect { (given : ℕ) → (outcome_of result, book_of self.new given)
+            ≡ effect (book_of self.old given) (Command.CloseJob name) (is_memory_outcome (outcome_of result)) }
+        ensures asked { self.new.asked ≡ self.old.asked }
+    {
+        if !self.graph.rows().has_job(name) {
+            return Err(Refusal::NoSuchJob);
+        }
+        if self.graph.rows().has_tasks(name) {
+            return Err(Refusal::JobHasTasks);
+        }
+        self.graph.drop_job(name);
+        Ok(Outcome::Plain)
+    }
+
+    fn remove_task(&mut self, name: Name) -> Result<Outcome, Refusal>
+        ensures effect { (given : ℕ) → (outcome_of result, book_of self.new given)
+            ≡ effect (book_of self.old given) (Command.Done name) (is_memory_outcome (outcome_of result)) }
+        ensures asked { self.new.asked ≡ self.old.asked }
+    {
+        if !self.graph.rows().has_task(name) {
+            return Err(Refusal::NoSuchTask);
+        }
+        self.graph.drop_task(name);
+        Ok(Outcome::Plain)
+    }
+
+    // Where a task runs, or how long it has waited.
+    fn find(&self, name: Name) -> Result<Outcome, Refusal>
+        ensures effect { (given : ℕ) → (outcome_of result, book_of self.now given)
+            ≡ effect (book_of self.now given) (Command.Find name) (is_memory_outcome (outcome_of result)) }
+    {
+        let Some(task) = self.graph.rows().task_named(name) else {
+            return Err(Refusal::NoSuchTask);
+        };
+        match task.machine {
+            Some(machine) => Ok(Outcome::At(machine)),
+            None => Ok(Outcome::Waits(task.waited)),
+        }
+    }
+
+    // Places the tasks anew: the first of the least placements becomes the tenant's own.
+    fn round(&mut self, alloc: Global) -> Result<Outcome, Refusal>
+        ensures effect { (given : ℕ) → (outcome_of result, book_of self.new given)
+            ≡ effect (book_of self.old given) Command.Round (is_memory_outcome (outcome_of result)) }
+        ensures asked { self.new.asked ≡ self.old.asked }
+    {
+        let placement = self.choose(alloc)?;
+        Ok(self.place(alloc, &placement)?)
+    }
+
+    // The placement of the round. The net carries its flow afterwards, and the rows are as they were.
+    fn choose(&mut self, alloc: Global) -> Result<Vec<Choice>, AllocError>
+        ensures same { self.new ≡ self.old }
+        ensures round { IfOk result (λ placement. placement.items ≡ round_placement (case_of self.old.rows)) }
+        ensures legal { IfOk result (λ placement. is_legal (case_of self.old.rows) placement.items ≡ true) }
+    {
+        the_round_is_the_first();
+        legality_is_judged();
+        self.graph.asked();
+        self.scratch.begin();
+        first_best(alloc, &mut self.graph, &mut self.prices, &mut self.scratch)
+    }
+
+    // Makes a legal placement the tenant's own. The list of changes has its memory before anything changes.
+    fn place(&mut self, alloc: Global, placement: &[Choice]) -> Result<Outcome, AllocError>
+        requires legal { is_legal (case_of self.old.rows) placement.now ≡ true }
+        ensures { MatchResult result (λ outcome. (outcome, self.new) ≡ placed_in self.old placement.now)
+            (λ _. self.new ≡ self.old) }
+    {
+        let cost = cost_of(self.graph.rows(), placement);
+        let changes = changes_of(alloc, self.graph.rows(), placement)?;
+        self.graph.settle(placement);
+        self.costs.push_back(cost);
+        Ok(Outcome::Round { cost, changes })
+    }
+
+    fn recent_costs(&self) -> RecentCosts
+        ensures { result ≡ self.now.costs }
+    {
+        // The ring holds no more than the table, so that no cost is dropped.
+        prove!(self.costs.len() <= MOST_COSTS);
+        let mut recent = RecentCosts::new();
+        for cost in self.costs.iter() {
+            recent.push(*cost);
+        }
+        recent
+    }
+
+    fn counts(&self) -> Outcome
+        ensures { result ≡ counts_of self.now.rows }
+    {
+        let rows = self.graph.rows();
+        let limits = rows.limits();
+        let used = use_of(rows);
+        Outcome::Shown {
+            machines: rows.machine_count() as u64,
+            jobs: rows.job_count() as u64,
+            tasks: rows.task_count() as u64,
+            running: rows.running(),
+            nodes: used.nodes,
+            nodes_limit: limits.nodes(),
+            arcs: used.arcs,
+            arcs_limit: limits.arcs(),
+        }
+    }
+}
+
+// What came of a row that was to be added.
+fn grown(done: Result<(), GraphRefusal>) -> Result<Outcome, Refusal>
+    ensures { outcome_of result ≡ plain_or done }
+{
+    match done {
+        Ok(()) => Ok(Outcome::Plain),
+        Err(GraphRefusal::Nodes) => Err(Refusal::ArenaNodes),
+        Err(GraphRefusal::Arcs) => Err(Refusal::ArenaArcs),
+        Err(GraphRefusal::Memory) => Err(Refusal::Memory),
+    }
+}

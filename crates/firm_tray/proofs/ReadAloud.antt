@@ -1,0 +1,46 @@
+-- The states that the rule of a tray allows, read one by one.
+use Rattle.std.proofs.Common.{◌≡◌, ℕ, [], ◌∷◌, refl, ap, arith}
+use mathlib.Core.Option.{some}
+use Rattle.firm_rules.specs.Book.{Book}
+use Rattle.firm_tray.specs.declared.protocol.Stage.{Stage}
+use Rattle.firm_tray.specs.declared.protocol.Stage.TheVariants.{Opening, Holding, Open, Spent, Asked, Taken}
+use Rattle.firm_tray.specs.Rule.{sight, Phase, fresh, dealt, waiting, answered, gone, Tray, state_of, IsFair, Keeps}
+use Rattle.firm_tray.specs.Reading.{IsReadAloud, IsOpening, Reads, one_seat, two_seats}
+
+words_of : (book : Book) (state : Tray) (phase : Phase) → state ≡ state_of book phase
+    → state.words ≡ (state_of book phase).words
+words_of book state phase e = ap (λ (s : Tray). s.words) e
+
+seats_of : (book : Book) (state : Tray) (phase : Phase) → state ≡ state_of book phase
+    → state.views ≡ (state_of book phase).views
+seats_of book state phase e = ap (λ (s : Tray). s.views) e
+
+pub reads : (book : Book) (state : Tray) → Keeps book state → Reads book state
+reads book state (fresh, e, fair) =
+    one_seat Opening (record { word = words_of book state fresh e; one_book = seats_of book state fresh e })
+reads book state (dealt, e, fair) =
+    one_seat Holding (record { word = words_of book state dealt e; one_book = seats_of book state dealt e })
+reads book state (waiting, e, fair) =
+    two_seats 0 Open Asked (record {
+      one_word = words_of book state waiting e;
+      one_book = seats_of book state waiting e;
+      opens = ((λ _. refl), (λ _. refl));
+      takes = ((λ (t : Asked ≡ Taken). cc), (λ (t : 0 ≡ 2). absurd (omega (arith, t))));
+      solved = λ (t : 0 ≡ 1). absurd (omega (arith, t));
+    })
+reads book state (answered answer, e, fair) =
+    two_seats 1 Spent Asked (record {
+      one_word = words_of book state (answered answer) e;
+      one_book = seats_of book state (answered answer) e;
+      opens = ((λ (t : Spent ≡ Open). cc), (λ (t : 1 ≡ 0). absurd (omega (arith, t))));
+      takes = ((λ (t : Asked ≡ Taken). cc), (λ (t : 1 ≡ 2). absurd (omega (arith, t))));
+      solved = λ _. (answer, ap (λ (s : Tray). s.homes) e, fair);
+    })
+reads book state (gone, e, fair) =
+    two_seats 2 Spent Taken (record {
+      one_word = words_of book state gone e;
+      one_book = seats_of book state gone e;
+      opens = ((λ (t : Spent ≡ Open). cc), (λ (t : 2 ≡ 0). absurd (omega (arith, t))));
+      takes = ((λ _. refl), (λ _. refl));
+      solved = λ (t : 2 ≡ 1). absurd (omega (arith, t));
+    })

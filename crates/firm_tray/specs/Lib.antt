@@ -1,0 +1,5 @@
+pub mod Solved
+pub mod Sides
+pub mod Polls
+pub mod Rule
+pub mod Reading

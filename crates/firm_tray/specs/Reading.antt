@@ -1,0 +1,30 @@
+-- The rule of a tray in words, above the list of its states.
+use Rattle.std.specs.Prelude.{◌≡◌, ◌↔◌, ℕ, [], ◌∷◌, All, Some}
+use mathlib.Core.Option.{some}
+use Rattle.firm_rules.specs.Book.{Book}
+use Rattle.firm_tray.specs.Solved.{IsSolved}
+use Rattle.firm_tray.specs.Rule.{Tray, Keeps, sight}
+use Rattle.firm_tray.specs.declared.protocol.Solved.{Solved}
+use Rattle.firm_tray.specs.declared.protocol.Stage.{Stage}
+use Rattle.firm_tray.specs.declared.protocol.Stage.TheVariants.{Open, Taken}
+
+-- what a tray that has two sides shows
+pub record IsReadAloud (book : Book) (state : Tray) (word : ℕ) (answering asking : Stage) : Type 0 where
+  pub one_word : state.words ≡ word ∷ []
+  pub one_book : state.views ≡ sight answering book ∷ sight asking book ∷ []
+  pub opens : answering ≡ Open ↔ word ≡ 0
+  pub takes : asking ≡ Taken ↔ word ≡ 2
+  pub solved : word ≡ 1 → (answer : Solved) × (state.homes ≡ some (Some answer) ∷ []) × IsSolved book answer
+
+-- before it has two sides its one seat has the book, and the word is 0
+pub record IsOpening (book : Book) (state : Tray) (stage : Stage) : Type 0 where
+  pub word : state.words ≡ 0 ∷ []
+  pub one_book : state.views ≡ sight stage book ∷ []
+
+-- a tray that keeps the rule has one seat and is opening, or has two and reads so
+pub data Reads (book : Book) (state : Tray) : Type 0 where
+  one_seat : (stage : Stage) → IsOpening book state stage → Reads book state
+  two_seats : (word : ℕ) (answering asking : Stage) → IsReadAloud book state word answering asking → Reads book state
+
+abbrev pub TraysAreReadAloud : Type 0
+TraysAreReadAloud = (book : Book) (state : Tray) → Keeps book state → Reads book state

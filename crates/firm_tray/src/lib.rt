@@ -1,0 +1,12 @@
+//! A tray: one side hands a tenant over once its round is solved, and the other waits for it. No lock stands round the tenant.
+#![tactic(auto)]
+
+mod laws;
+mod protocol;
+mod sides;
+#[cfg(test)]
+mod tests;
+
+pub use laws::trays_are_read_aloud;
+pub use protocol::Solved;
+pub use sides::{AnswerSide, AskSide, Polled, Spent, Tray};

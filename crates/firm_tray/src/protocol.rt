@@ -1,0 +1,82 @@
+//! The steps of a tray. Its word is 0 while it is open, 1 once it was answered, and 2 once the answer was taken; its slot
+//! holds the answer. A seat is what one side knows of the tray.
+use atomic_table::{Play, Seat, Split, Table, TableRule};
+use firm_rules::Reply;
+use firm_tenant::Tenant;
+use std::alloc::Global;
+
+/// A tenant after its round, and the round's reply.
+#[derive(Drop)]
+pub struct Solved {
+    pub tenant: Tenant,
+    pub reply: Reply,
+}
+
+/// How far a seat has come. The first two are those of the one seat that stands before the tray has two sides.
+pub enum Stage {
+    Opening,
+    Holding,
+    Open,
+    Spent,
+    Asked,
+    Taken,
+}
+
+/// What a seat knows: its stage, and the tenant for which the tray was opened. No value of it is made.
+pub struct Sight {
+    pub stage: Stage,
+    pub book: Tenant,
+}
+
+/// The rule that every step keeps.
+pub struct TrayRule;
+
+impl TableRule<Option<Solved>, Sight, Tenant> for TrayRule {
+    ghost use Rattle.firm_tray.specs.Rule.{Keeps, opening_sight};
+
+    ghost holds = { Keeps };
+
+    ghost first = { opening_sight };
+}
+
+pub type Board = Table<Option<Solved>, Sight, Tenant, TrayRule, Global>;
+
+pub type TraySeat = Seat<Option<Solved>, Sight>;
+
+/// The opening seat takes the slot out, before the tray has two sides.
+pub struct TakesSlot;
+
+impl Play<Option<Solved>, Sight> for TakesSlot {
+    ghost use Rattle.firm_tray.specs.Rule.{takes_slot};
+
+    ghost then = { takes_slot };
+}
+
+/// The answering seat puts the slot back with the answer in it.
+pub struct Answers;
+
+impl Play<Option<Solved>, Sight> for Answers {
+    ghost use Rattle.firm_tray.specs.Rule.{answers};
+
+    ghost then = { answers };
+}
+
+/// The asking seat looks, and takes the answer where one is there.
+pub struct Looks;
+
+impl Play<Option<Solved>, Sight> for Looks {
+    ghost use Rattle.firm_tray.specs.Rule.{looks};
+
+    ghost then = { looks };
+}
+
+/// The seat that holds the slot answers, and the new one asks.
+pub struct Sides;
+
+impl Split<Sight> for Sides {
+    ghost use Rattle.firm_tray.specs.Rule.{open_sight, asked_sight};
+
+    ghost left = { open_sight };
+
+    ghost right = { asked_sight };
+}

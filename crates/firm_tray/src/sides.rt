@@ -1,0 +1,165 @@
+//! The two sides of a tray.
+ghost use Rattle.std.specs.Prelude.{◌≡◌, IfOk};
+ghost use Rattle.firm_tray.specs.Solved.{IsSolved};
+ghost use Rattle.firm_tray.specs.Polls.{IsPolled};
+
+use crate::protocol::{Answers, Board, Looks, Sides, Solved, TakesSlot, TraySeat};
+use firm_tenant::Tenant;
+use std::alloc::{AllocError, Global};
+use std::marker::Model;
+use std::sync::{Arc, Wait};
+use std::thread;
+use std::time::Duration;
+
+// How often a wait looks and yields before it also sleeps between looks.
+const TRIES_BEFORE_REST: u32 = 10_000;
+
+/// What a tenant's round comes back on.
+pub struct Tray;
+
+/// The side that waits for the round.
+#[derive(Drop)]
+pub struct AskSide {
+    board: Arc<Board, Global>,
+    seat: TraySeat,
+}
+
+impl Model for AskSide {
+    ghost use Rattle.std.specs.Prelude.{◌≡◌, []};
+    ghost use Rattle.std.specs.Arc.{arc_value};
+    ghost use Rattle.firm_tray.specs.Sides.{Side};
+
+    ghost Value = { Side };
+
+    ghost use Rattle.firm_tray.specs.Rule.{sight, IsSeated};
+    ghost use Rattle.firm_tray.specs.declared.protocol.Stage.TheVariants.{Asked};
+
+    ghost view = { λ a. record { tray = a.seat.table_id; book = a.seat.me.0.book } };
+
+    ghost invariant = { λ a. IsSeated (arc_value a.board).shared.table_id (arc_value a.board).shared.key a.seat.table_id a.seat.me.0.book × (a.seat.me ≡ (sight Asked a.seat.me.0.book, [])) };
+}
+
+/// The side that answers. The slot is out with it.
+#[derive(Drop)]
+pub struct AnswerSide {
+    board: Arc<Board, Global>,
+    seat: TraySeat,
+}
+
+impl Model for AnswerSide {
+    ghost use Rattle.std.specs.Prelude.{◌≡◌, [], ◌∷◌, None};
+    ghost use Rattle.std.specs.Arc.{arc_value};
+    ghost use Rattle.firm_tray.specs.Sides.{Side};
+
+    ghost Value = { Side };
+
+    ghost use Rattle.firm_tray.specs.Rule.{sight, IsSeated};
+    ghost use Rattle.firm_tray.specs.declared.protocol.Stage.TheVariants.{Open};
+
+    ghost view = { λ a. record { tray = a.seat.table_id; book = a.seat.me.0.book } };
+
+    ghost invariant = { λ a. IsSeated (arc_value a.board).shared.table_id (arc_value a.board).shared.key a.seat.table_id a.seat.me.0.book × (a.seat.me ≡ (sight Open a.seat.me.0.book, (0, None) ∷ [])) };
+}
+
+/// What shows that a tray was answered.
+#[derive(Drop)]
+pub struct Spent {
+    seat: TraySeat,
+}
+
+impl Model for Spent {
+    ghost use Rattle.std.specs.Prelude.{◌≡◌, []};
+    ghost use Rattle.firm_tray.specs.Sides.{Side};
+
+    ghost Value = { Side };
+
+    ghost use Rattle.firm_tray.specs.Rule.{sight};
+    ghost use Rattle.firm_tray.specs.declared.protocol.Stage.TheVariants.{Spent as IsSpent};
+
+    ghost view = { λ a. record { tray = a.seat.table_id; book = a.seat.me.0.book } };
+
+    ghost invariant = { λ a. a.seat.me ≡ (sight IsSpent a.seat.me.0.book, []) };
+}
+
+/// What a look at a tray gives.
+#[derive(Drop)]
+pub enum Polled {
+    /// The tenant is back.
+    Back(Solved),
+    /// The word read 0 at one step of the call: there is no answer yet.
+    Not(AskSide),
+}
+
+impl Tray {
+    /// A tray for the next round of the tenant, in its two sides. All its memory is taken here; the error comes for want of it alone.
+    pub fn open(alloc: Global, tenant: &Tenant) -> Result<(AskSide, AnswerSide), AllocError>
+        ensures { IfOk result (λ sides. (sides.0 ≡ sides.1) × (sides.0.book ≡ tenant.now)) }
+    {
+        let (board, mut seat) = Board::vacant(alloc, &[0], 1, tenant)?;
+        let board = Arc::new(alloc, board)?;
+        let same_board = Arc::try_clone(&board)?;
+        board.shared.load::<TakesSlot>(&mut seat, 0);
+        let asking = board.shared.split_seat::<Sides>(&mut seat);
+        let ask = AskSide {
+            board: same_board,
+            seat: asking,
+        };
+        Ok((ask, AnswerSide { board, seat }))
+    }
+}
+
+impl AnswerSide {
+    /// Hands the tenant over. It asks for the round of the tenant for which the tray was opened, solved or refused for want of
+    /// memory. It takes no memory.
+    pub fn answer(self, solved: Solved) -> Spent
+        requires { IsSolved self.book solved }
+        ensures { result ≡ self }
+    {
+        let AnswerSide { board, mut seat } = self;
+        board.shared.exchange(&mut seat, 0, Some(solved));
+        board.shared.store::<Answers>(&mut seat, 0, 1);
+        Spent { seat }
+    }
+}
+
+impl AskSide {
+    /// The tenant with its round, if the answer is there; else the same side again. It takes no memory and waits for nobody.
+    pub fn poll(self) -> Polled
+        ensures { IsPolled self result }
+    {
+        let AskSide { board, mut seat } = self;
+        if board.shared.compare_exchange::<Looks>(&mut seat, 0, 1, 2) == 1 {
+            Polled::Back(board.shared.exchange(&mut seat, 0, None).unwrap())
+        } else {
+            Polled::Not(AskSide { board, seat })
+        }
+    }
+
+    /// The tenant with its round, once the answer is there. It takes no memory.
+    pub fn wait<R: Wait>(self, rt: &R) -> Solved
+        ensures { IsSolved self.book result }
+    {
+        let mut side = self;
+        let mut tries = 0;
+        for _ in rt.forever() {
+            match side.poll() {
+                Polled::Back(solved) => return solved,
+                Polled::Not(same) => side = same,
+            }
+            if tries < TRIES_BEFORE_REST {
+                tries += 1;
+                thread::yield_now();
+            } else {
+                side.rest(rt);
+            }
+        }
+        unreachable!()
+    }
+
+    // Sleeps for a millisecond at most, where no answer is there.
+    fn rest<R: Wait>(&self, rt: &R) {
+        self.board
+            .shared
+            .park_timeout(rt, 0, 0, Duration::from_millis(1));
+    }
+}
