@@ -1,0 +1,140 @@
+"""Random small streams: rosters and inputs that meet every verb, every refusal and every kind of bad line."""
+
+from service import HEADING
+
+NAMES = ["a", "b", "c0", "-", "x-1", "abcdefghijklmnop"]
+BAD_NAMES = [b"A", b"a_b", b"abcdefghijklmnopq", b"\xff", b"a\x00", b"m1\r", b"a,b", "é".encode(), b"a\x0b", b"+"]
+BAD_NUMBERS = [b"0", b"65", b"1000001", b"-1", b"+1", b"1.0", b"0x1", b"00000000000001", b"99999999999999",
+               b"18446744073709551617", b"1_0", b"two", b"\xb2", b"9999999999999"]
+BAD_LINES = [b"", b" ", b"\t \t", b"#", b"# a show", b"#" + b"x" * 300, b"x" * 257, b"nobody show", b"A show", b"\xff",
+             b" # a", b"! unknown-tenant", b"a\x00b show", b"\r", b"\x00"]
+BAD_VERBS = [b"", b"fly", b"Show", b"shows", b"round 1", b"machine", b"machine m", b"machine m 1 2", b"job j",
+             b"task j", b"task j t u", b"where", b"done a b", b"show\r", b"costs \x0b", b"\xff", b"drain", b"close"]
+
+
+def roster_of(records):
+    return b"".join(b",".join(field for field in record) + b"\n" for record in [HEADING] + records)
+
+
+def random_roster(draw):
+    """A roster of some tenants, and their names. The first has much room, as a rule."""
+    records, names = [], draw.sample(["a", "b", "t-1", "abcdefghijklmnop", "0"], draw.choice([1, 1, 1, 2, 4]))
+    for name in names:
+        roomy = draw.random() < 0.8
+        nodes = draw.randint(10, 30) if roomy else draw.randint(2, 9)
+        arcs = draw.randint(60, 300) if roomy else draw.randint(0, 20)
+        life = draw.choice([1, 5, 20, 10**6, 2**40]) if draw.random() < 0.1 else 1000
+        numbers = [nodes, arcs, life, draw.choice([0, 1, 5, 10, 20, 1000]), draw.choice([0, 0, 1, 1, 2, 3, 20, 1000000])]
+        records.append([name.encode()] + [str(number).encode() for number in numbers])
+    return roster_of(records), names
+
+
+class Stream:
+    """Makes the lines of one input; it only guesses what the tenants hold, so that many commands fit and some don't."""
+
+    def __init__(self, draw, tenants, most_tasks):
+        self.draw, self.tenants, self.most_tasks = draw, tenants, most_tasks
+        self.held = {tenant: {"machine": {}, "job": {}, "task": {}} for tenant in tenants}
+        self.weights = draw.choice([[1, 2, 3], [5, 50], [1, 1000000], [10, 20, 21, 22], [60, 61], [100], [3000]])
+        self.slots = draw.choice([[1], [1, 2], [2, 3], [1, 2, 64], [5]])
+
+    def name(self, held, new):
+        """A name of those that are held, or a new one, as asked most of the time."""
+        if held and self.draw.random() < (0.15 if new else 0.9):
+            return self.draw.choice(list(held))
+        pool = NAMES + [f"n{number}" for number in range(12)]
+        return self.draw.choice(pool)
+
+    def add(self, tenant, kind):
+        held = self.held[tenant]
+        if kind == "task" and len(held["task"]) >= self.most_tasks or kind == "machine" and len(held["machine"]) >= 4:
+            return self.remove(tenant, kind)
+        if kind == "task" and not held["job"] and self.draw.random() < 0.8:
+            kind = "job"
+        name = self.name(held[kind], True)
+        if kind == "task":
+            job = self.name(held["job"], False)
+            if job in held["job"]:
+                held["task"].setdefault(name, job)
+            return f"task {job} {name}"
+        number = self.draw.choice(self.slots if kind == "machine" else self.weights)
+        held[kind].setdefault(name, number)
+        return f"{kind} {name} {number}"
+
+    def remove(self, tenant, kind):
+        held = self.held[tenant]
+        name = self.name(held[kind], False)
+        if kind == "job" and name in held["task"].values():
+            return f"close {name}"
+        held[kind].pop(name, None)
+        return {"machine": "drain", "job": "close", "task": "done"}[kind] + " " + name
+
+    def opening(self):
+        """Lines that give each tenant some machines and jobs to begin with."""
+        kinds = self.draw.choice([[], ["job"], ["machine", "job"], ["machine", "job", "machine", "job", "machine"]])
+        return [f"{tenant} {self.add(tenant, kind)}".encode() for tenant in self.tenants for kind in kinds]
+
+    def command(self, tenant):
+        shape = self.draw.random()
+        if shape < 0.5:
+            return self.add(tenant, self.draw.choices(["machine", "job", "task"], [3, 1, 8])[0])
+        if shape < 0.6:
+            return self.remove(tenant, self.draw.choices(["machine", "job", "task"], [4, 1, 3])[0])
+        if shape < 0.9:
+            return "round"
+        return self.draw.choice(["show", "costs", "where " + self.name(self.held[tenant]["task"], False)])
+
+    def bad(self, tenant):
+        draw, name = self.draw, self.name({}, True).encode()
+        if draw.random() < 0.3:
+            return draw.choice(BAD_LINES)
+        if draw.random() < 0.4:
+            return tenant.encode() + b" " + draw.choice(BAD_VERBS)
+        bad, number = draw.choice(BAD_NAMES), draw.choice(BAD_NUMBERS)
+        words = draw.choice([[b"machine", bad, b"2"], [b"machine", name, number], [b"job", name, number],
+                             [b"job", bad, number], [b"task", bad, name], [b"task", name, bad], [b"drain", bad],
+                             [b"close", bad], [b"done", bad], [b"where", bad], [b"machine", bad, number]])
+        return tenant.encode() + b" " + b" ".join(words)
+
+    def line(self):
+        tenant = self.draw.choice(self.tenants)
+        if self.draw.random() < 0.12:
+            return self.bad(tenant)
+        line = (tenant + " " + self.command(tenant)).encode()
+        shape = self.draw.random()
+        if shape < 0.9:
+            return line
+        if shape < 0.93:
+            return b" \t" + line.replace(b" ", b" \t ") + b"\t"
+        if shape < 0.96:
+            return line + b"\r"
+        # Exactly as long as a line may be, or a byte or two longer, with a carriage return or without.
+        return line + b" " * (256 + self.draw.randint(0, 2) - len(line)) + self.draw.choice([b"", b"\r"])
+
+
+def random_stream(draw, most_tasks=6):
+    """A roster and an input of twenty to two hundred lines."""
+    roster, tenants = random_roster(draw)
+    stream = Stream(draw, tenants, most_tasks)
+    lines = stream.opening() + [stream.line() for _ in range(draw.choice([20, 60, 100, 200]))]
+    return roster, b"\n".join(lines) + draw.choice([b"\n", b"\n", b"", b"\r", b"\n\r"])
+
+
+def random_bad_roster(draw):
+    """A roster with a fault or two somewhere, or none."""
+    records = [[b"a%d" % place, b"9", b"24", b"100", b"1", b"2"] for place in range(draw.choice([0, 1, 2, 3, 64, 65]))]
+    heading = list(HEADING)
+    for _ in range(draw.choice([0, 1, 1, 2])):
+        row = draw.choice(records + [heading])
+        shape = draw.randrange(4)
+        if shape == 0:
+            row[draw.randrange(len(row))] = draw.choice(BAD_NAMES[:4] + BAD_NUMBERS + [b"", b"a0", b"1", b"4097", b"2"])
+        elif shape == 1 and len(row) > 1:
+            row.pop()
+        elif shape == 2:
+            row.append(b"0")
+        else:
+            row[0] = b"a0"
+    ends = draw.choice([b"\n", b"\r\n", b"\r", b"\n\n"])
+    text = ends.join(b",".join(row) for row in [heading] + records)
+    return draw.choice([text, text + ends, text + ends, b"", ends + text, text + ends + b" " * 65536])
