@@ -1,6 +1,5 @@
-ghost use Rattle.std.specs.Prelude.{◌≡◌, ◌+◌, ◌<◌, ◌≤◌, ◌^◌, All, IfOk, IfSome};
+ghost use Rattle.std.specs.Prelude.{◌≡◌, ◌<◌, ◌^◌, All, IfSome, vec_len};
 ghost use Rattle.std.specs.Thread.{IsSync};
-ghost use Rattle.firm_rounds.specs.Passes.{put_is};
 
 use super::*;
 use firm_rules::{Limits, Ticket};
@@ -13,34 +12,24 @@ use std::test::*;
 use std::thread;
 use std::thread::{Scope, Threads};
 
-// A job of a tenant that has nothing and answers one command, and the side that asks for it.
-fn new_job(alloc: Global, ticket: Ticket) -> Result<Option<(AskSide, Job)>, AllocError>
-    ensures { IfOk result (λ made. IfSome made (λ sides. sides.1.ticket ≡ ticket)) }
+// A job of a tenant that has nothing and answers one command, and the side that asks for it. None for want of memory.
+fn new_job(alloc: Global, ticket: Ticket) -> Option<(AskSide, Job)>
+    ensures { IfSome result (λ sides. sides.1.ticket ≡ ticket) }
 {
-    let Some(limits) = Limits::check(2, 0, 1, 0, 0) else {
-        return Ok(None);
-    };
-    let tenant = Tenant::admit(alloc, limits)?;
-    let (ask, side) = Tray::open(alloc, &tenant)?;
-    Ok(Some((ask, Job::new(ticket, tenant, side))))
+    let limits = Limits::check(2, 0, 1, 0, 0)?;
+    let tenant = Tenant::admit(alloc, limits).ok()?;
+    let (ask, side) = Tray::open(alloc, &tenant).ok()?;
+    Some((ask, Job::new(ticket, tenant, side)))
 }
 
 // Puts the next ticket of the pass.
-fn ask<R: Wait>(
-    rt: &R,
-    alloc: Global,
-    queue: &Queue,
-    pass: &mut PutPass,
-) -> Result<Option<AskSide>, AllocError>
+fn ask<R: Wait>(rt: &R, alloc: Global, queue: &Queue, pass: &mut PutPass) -> Option<AskSide>
     requires { (pass.old.queue ≡ queue.now.id) × (pass.old.put < 2 ^ 55) }
-    ensures queue { pass.new.queue ≡ pass.old.queue }
-    ensures put { IfOk result (λ made. IfSome made (λ _. pass.new ≡ put_is pass.old.queue pass.old.place (pass.old.put + 1))) }
+    ensures { pass.new.queue ≡ pass.old.queue }
 {
-    let Some((side, job)) = new_job(alloc, pass.next())? else {
-        return Ok(None);
-    };
+    let (side, job) = new_job(alloc, pass.next())?;
     queue.put(rt, pass, job);
-    Ok(Some(side))
+    Some(side)
 }
 
 // Gets a job and finishes it.
@@ -65,70 +54,136 @@ fn ticket(place: u32, number: u64) -> Ticket {
     Ticket { place, number }
 }
 
-// Two places put a ticket each, which are got in order; then the queue is empty and closes. None where anything else comes.
-fn put_and_got<R: Wait>(rt: &R, alloc: Global) -> Result<Option<()>, AllocError> {
-    let (queue, mut puts, mut pops) = Queue::open(alloc, 2, 1)?;
+// Each of two places puts its first ticket.
+fn ask_both<R: Wait>(
+    rt: &R,
+    alloc: Global,
+    queue: &Queue,
+    puts: &mut Vec<PutPass>,
+) -> Option<(AskSide, AskSide)>
+    requires { (vec_len puts.old ≡ 2) × All (λ p. p.queue ≡ queue.now.id) puts.old.items × All (λ p. p.put ≡ 0) puts.old.items }
+    ensures { All (λ p. p.queue ≡ queue.now.id) puts.new.items }
+{
     let first = &mut puts[0];
-    let Some(early) = ask(rt, alloc, &queue, first)? else {
-        return Ok(None);
-    };
-    let Polled::Not(early) = early.poll() else {
-        return Ok(None);
-    };
+    let early = ask(rt, alloc, queue, first);
     let second = &mut puts[1];
-    let other = ask(rt, alloc, &queue, second)?;
-    let pass = &mut pops[0];
-    let got = [
-        serve(rt, alloc, &queue, pass),
-        serve(rt, alloc, &queue, pass),
-        serve(rt, alloc, &queue, pass),
-    ];
-    let in_order = got == [Some(ticket(0, 1)), Some(ticket(1, 1)), None];
-    let counted = pass.count() == 2;
-    let Polled::Back(solved) = early.poll() else {
-        return Ok(None);
-    };
-    let back = solved.reply.number == 1 && other.is_some();
+    let late = ask(rt, alloc, queue, second);
+    Some((early?, late?))
+}
+
+// The side again, where its round was not answered yet.
+fn unanswered(side: AskSide) -> Option<AskSide> {
+    match side.poll() {
+        Polled::Not(same) => Some(same),
+        Polled::Back(_solved) => None,
+    }
+}
+
+fn is_back(side: AskSide) -> bool {
+    match side.poll() {
+        Polled::Not(_side) => false,
+        Polled::Back(solved) => solved.reply.number == 1,
+    }
+}
+
+// Whether both tickets are got in order, and then none. The jobs are finished.
+fn gets_both<R: Wait>(rt: &R, alloc: Global, queue: &Queue, pass: &mut PopPass) -> bool
+    requires { pass.old.queue ≡ queue.now.id }
+    ensures { pass.new.queue ≡ pass.old.queue }
+{
+    let first = serve(rt, alloc, queue, pass);
+    let second = serve(rt, alloc, queue, pass);
+    let third = serve(rt, alloc, queue, pass);
+    let in_order = first == Some(ticket(0, 1)) && second == Some(ticket(1, 1));
+    in_order && third.is_none() && pass.count() == 2
+}
+
+// Whether a look finds no answer before the jobs are got, and one afterwards.
+fn are_answered<R: Wait>(
+    rt: &R,
+    alloc: Global,
+    queue: &Queue,
+    early: AskSide,
+    late: AskSide,
+    pass: &mut PopPass,
+) -> bool
+    requires { pass.old.queue ≡ queue.now.id }
+    ensures { pass.new.queue ≡ pass.old.queue }
+{
+    let early = unanswered(early);
+    let in_order = gets_both(rt, alloc, queue, pass);
+    in_order && early.is_some_and(is_back) && is_back(late)
+}
+
+fn closes<R: Wait>(
+    rt: &R,
+    alloc: Global,
+    queue: Queue,
+    puts: Vec<PutPass>,
+    pops: Vec<PopPass>,
+) -> bool
+    requires { All (λ p. p.queue ≡ queue.id) puts.items × All (λ p. p.queue ≡ queue.id) pops.items }
+{
     match queue.close(rt, puts, pops) {
-        Ok(()) if in_order && counted && back => Ok(Some(())),
-        Ok(()) => Ok(None),
-        Err(QueueFault::Missing(_queue, _puts, _pops)) => Ok(None),
+        Ok(()) => true,
+        Err(QueueFault::Missing(_queue, _puts, _pops)) => false,
         Err(QueueFault::Left(_puts, _pops, jobs)) => {
             finish_all(alloc, jobs);
-            Ok(None)
+            false
         }
     }
 }
 
-// Two tickets are put, the queue is closed with them, and both jobs come back, the first one first.
-fn put_and_left<R: Wait>(rt: &R, alloc: Global) -> Result<Option<()>, AllocError> {
-    let (queue, mut puts, pops) = Queue::open(alloc, 2, 1)?;
-    let first = &mut puts[0];
-    let one = ask(rt, alloc, &queue, first)?;
-    let second = &mut puts[1];
-    let other = ask(rt, alloc, &queue, second)?;
+// Whether these are the first jobs of both places, in order. They are finished.
+fn are_both(alloc: Global, jobs: Vec<Job>) -> bool {
+    let in_order = jobs.len() == 2
+        && jobs[0].ticket() == ticket(0, 1)
+        && jobs[1].ticket() == ticket(1, 1);
+    finish_all(alloc, jobs);
+    in_order
+}
+
+fn leaves_both<R: Wait>(
+    rt: &R,
+    alloc: Global,
+    queue: Queue,
+    puts: Vec<PutPass>,
+    pops: Vec<PopPass>,
+) -> bool
+    requires { All (λ p. p.queue ≡ queue.id) puts.items × All (λ p. p.queue ≡ queue.id) pops.items }
+{
     match queue.close(rt, puts, pops) {
-        Ok(()) => Ok(None),
-        Err(QueueFault::Missing(_queue, _puts, _pops)) => Ok(None),
-        Err(QueueFault::Left(_puts, _pops, jobs)) => {
-            let both = jobs.len() == 2;
-            let first_is_first = jobs.first().is_some_and(|job| job.ticket() == ticket(0, 1));
-            finish_all(alloc, jobs);
-            let asked = one.is_some() && other.is_some();
-            Ok((both && first_is_first && asked).then_some(()))
-        }
+        Ok(()) => false,
+        Err(QueueFault::Missing(_queue, _puts, _pops)) => false,
+        Err(QueueFault::Left(_puts, _pops, jobs)) => are_both(alloc, jobs),
     }
+}
+
+// Two places put a ticket each, which are got in order; then the queue is empty and closes.
+fn put_and_got<R: Wait>(rt: &R, alloc: Global) -> Option<bool> {
+    let (queue, mut puts, mut pops) = Queue::open(alloc, 2, 1).ok()?;
+    let (early, late) = ask_both(rt, alloc, &queue, &mut puts)?;
+    let pass = &mut pops[0];
+    let answered = are_answered(rt, alloc, &queue, early, late, pass);
+    Some(closes(rt, alloc, queue, puts, pops) && answered)
+}
+
+// Two tickets are put, the queue is closed with them, and both jobs come back, the first one first.
+fn put_and_left<R: Wait>(rt: &R, alloc: Global) -> Option<bool> {
+    let (queue, mut puts, pops) = Queue::open(alloc, 2, 1).ok()?;
+    let _sides = ask_both(rt, alloc, &queue, &mut puts)?;
+    Some(leaves_both(rt, alloc, queue, puts, pops))
 }
 
 #[test]
 fn tickets_are_got_in_the_order_in_which_they_were_put(rt: HostRuntime) -> Result<(), Fail> {
-    assert!(rt; put_and_got(&rt, rt.alloc())?.is_some());
+    assert!(rt; put_and_got(&rt, rt.alloc()) == Some(true));
     Ok(())
 }
 
 #[test]
 fn jobs_that_are_left_come_back(rt: HostRuntime) -> Result<(), Fail> {
-    assert!(rt; put_and_left(&rt, rt.alloc())?.is_some());
+    assert!(rt; put_and_left(&rt, rt.alloc()) == Some(true));
     Ok(())
 }
 
@@ -178,7 +233,7 @@ fn put_all<R: Wait>(rt: &R, alloc: Global, queue: &Queue, pass: PutPass)
 {
     let mut pass = pass;
     for _ in 0..EACH {
-        let Ok(Some((_ask, job))) = new_job(alloc, pass.next()) else {
+        let Some((_ask, job)) = new_job(alloc, pass.next()) else {
             return;
         };
         queue.put(rt, &mut pass, job);
