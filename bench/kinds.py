@@ -1,0 +1,178 @@
+"""Streams for measuring rounds: ten kinds, each at any number of tasks and machines.
+
+A stream is a roster of one tenant and a list of parts; each part is a list of command lines, and the round that
+follows it is measured. The first round of a stream is the cold one: no task runs before it.
+"""
+
+import random
+import sys
+from collections import namedtuple
+
+TENANT = "t"
+MOST_ARCS = 65536
+MOST_SLOTS = 64
+
+Stream = namedtuple("Stream", "kind roster parts")
+
+# What each kind is, and its numbers: spread, churn, the lowest and highest weight, and slots as parts of
+# (tasks / machines), the lowest and the highest; None stands for as many as the arcs allow.
+Kind = namedtuple("Kind", "words spread churn weights slots")
+KINDS = {
+    "fresh": Kind("all tasks new, room for all", 50, 400, (10_000, 1_000_000), (1.2, 2.0)),
+    "dense": Kind("the same with as many arcs as a tenant may have", 50, 400, (10_000, 1_000_000), None),
+    "overload": Kind("more tasks than slots, any weights", 20, 1_000, (500, 1_000_000), (0.5, 0.9)),
+    "rising": Kind("overload, later tasks weigh more", 15, 60, (1_000, 1_000_000), (0.6, 0.6)),
+    "steady": Kind("one task of a hundred comes and goes", 50, 400, (10_000, 1_000_000), (1.5, 2.5)),
+    "levels": Kind("few machines of 64 slots", 900, 250, (30_000, 1_000_000), (1.0, 1.0)),
+    "ties": Kind("nothing but waiting costs, and all alike", 0, 0, (12, 12), (0.8, 0.8)),
+    "close": Kind("costs that differ by one or two", 1, 1, (2, 4), (0.9, 1.2)),
+    "moves": Kind("machines come later, moves just pay", 1, 2, (4, 6), (1.2, 1.7)),
+    "returns": Kind("drained tasks come back to equal costs", 0, 0, (12, 12), (0.8, 0.8)),
+}
+
+
+class Maker:
+    """Lines of one tenant; it keeps which tasks are there."""
+
+    def __init__(self, kind, tasks, machines, seed):
+        self.draw = random.Random(f"{kind} {tasks} {machines} {seed}")
+        self.kind, self.name = KINDS[kind], kind
+        self.tasks = tasks * 2 // 3 if kind == "rising" else tasks
+        self.machines = max(2, tasks // 58) if kind == "levels" else machines
+        self.jobs = self.tasks // 2 if kind == "rising" else max(2, self.tasks // 50)
+        self.lines, self.there, self.next = [], [], 0
+
+    def say(self, *words):
+        self.lines.append(" ".join([TENANT, *map(str, words)]))
+
+    def slots(self):
+        room = (MOST_ARCS - self.jobs - 3 * self.tasks) // self.machines - 1
+        most = min(MOST_SLOTS, room)
+        if self.kind.slots is None or self.name == "levels":
+            return most
+        low, high = (min(most, max(1, int(self.tasks * part / self.machines))) for part in self.kind.slots)
+        return self.draw.randint(low, max(low, high))
+
+    def add_machine(self, place):
+        self.say("machine", f"m{place}", self.slots())
+
+    def add_machines(self, first, end):
+        for place in range(first, end):
+            self.add_machine(place)
+
+    def add_jobs(self):
+        low, high = self.kind.weights
+        for place in range(self.jobs):
+            weight = low + (high - low) * place // self.jobs if self.name == "rising" else self.draw.randint(low, high)
+            self.say("job", f"j{place}", weight)
+
+    def add_tasks(self, count):
+        for _ in range(count):
+            job = min(self.next // 2, self.jobs - 1) if self.name == "rising" else self.draw.randrange(self.jobs)
+            self.say("task", f"j{job}", f"t{self.next}")
+            self.there.append(self.next)
+            self.next += 1
+
+    def end_tasks(self, count):
+        for _ in range(min(count, len(self.there))):
+            self.say("done", f"t{self.there.pop(self.draw.randrange(len(self.there)))}")
+
+    def replace_machine(self, place):
+        self.say("drain", f"m{place}")
+        self.add_machine(place)
+
+    def part(self):
+        """The lines since the last part."""
+        lines, self.lines = self.lines, []
+        return lines
+
+    def exchange(self, count):
+        self.end_tasks(count)
+        self.add_tasks(count)
+        return self.part()
+
+    def parts(self):
+        """The lines before each round."""
+        first = self.machines * 2 // 3 if self.name == "moves" else self.machines
+        self.add_machines(0, first)
+        self.add_jobs()
+        one = max(1, self.tasks // 100)
+        yield from getattr(self, "_" + self.name)(one, first)
+
+    def _fresh(self, one, _):
+        self.add_tasks(self.tasks)
+        yield self.part()
+        yield self.part()
+
+    _dense = _fresh
+
+    def _overload(self, one, _):
+        self.add_tasks(self.tasks)
+        yield self.part()
+        yield self.part()
+        yield self.exchange(5 * one)
+        yield self.exchange(5 * one)
+
+    _rising = _ties = _close = _overload
+
+    def _steady(self, one, _):
+        self.add_tasks(self.tasks - 2 * one)
+        yield self.part()
+        for _ in range(3):
+            yield self.exchange(one)
+        self.replace_machine(self.draw.randrange(self.machines))
+        yield self.part()
+
+    def _levels(self, one, _):
+        self.add_tasks(self.tasks * 9 // 10)
+        yield self.part()
+        self.end_tasks(20 * one)
+        yield self.part()
+        self.add_tasks(30 * one)
+        yield self.part()
+        self.replace_machine(1)
+        yield self.part()
+
+    def _moves(self, one, first):
+        self.add_tasks(self.tasks * 2 // 3)
+        yield self.part()
+        self.add_machines(first, self.machines)
+        yield self.part()
+        self.add_tasks(self.tasks - self.tasks * 2 // 3)
+        yield self.part()
+        self.end_tasks(20 * one)
+        for place in range(0, self.machines, 10):
+            self.replace_machine(place)
+        yield self.part()
+        self.add_tasks(20 * one)
+        yield self.part()
+
+    def _returns(self, one, _):
+        self.add_tasks(self.tasks)
+        yield self.part()
+        for place in range(self.machines // 3):
+            self.replace_machine(place)
+        yield self.part()
+        yield self.part()
+        yield self.exchange(10 * one)
+
+
+def make(kind, tasks, machines, seed=1):
+    """The stream of a kind at a size."""
+    numbers = KINDS[kind]
+    roster = f"tenant,nodes,arcs,life,spread,churn\n{TENANT},4096,{MOST_ARCS},1000000,{numbers.spread},{numbers.churn}\n"
+    return Stream(kind, roster, list(Maker(kind, tasks, machines, seed).parts()))
+
+
+def main():
+    """Writes the stream of a kind: KIND TASKS MACHINES BASE gives BASE.csv and BASE.txt."""
+    kind, tasks, machines, base = sys.argv[1:]
+    stream = make(kind, int(tasks), int(machines))
+    with open(base + ".csv", "w") as roster, open(base + ".txt", "w") as text:
+        roster.write(stream.roster)
+        for lines in stream.parts:
+            text.writelines(line + "\n" for line in [*lines, f"{TENANT} round"])
+
+
+if __name__ == "__main__":
+    main()
