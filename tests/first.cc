@@ -1,0 +1,112 @@
+// Checks that a placement is the first of those that cost least, by LEMON's network simplex and no thought of its own:
+// with the tasks before a task as they are placed, each choice that ranks before the task's own must cost more.
+// usage: first < CASE
+// CASE: 'MACHINES TASKS SPREAD CHURN', the slots of each machine, then for each task 'OWN WAITING PLACED': the place of the
+// machine on which it runs or -1, the cost of its waiting, and where it is placed, -1 for waiting.
+// prints 'first COST SOLVED', or what is cheaper or as cheap and comes before.
+#include <lemon/network_simplex.h>
+#include <lemon/smart_graph.h>
+
+#include <cstdio>
+#include <vector>
+
+using Graph = lemon::SmartDigraph;
+using Number = long long;
+
+struct Task {
+    int own;
+    Number waiting;
+    int placed;
+};
+
+struct Book {
+    int machines, tasks;
+    Number spread, churn;
+    std::vector<int> slots;
+    std::vector<Task> rows;
+
+    Number cost(const Task& task, int choice, int load) const {
+        if (choice < 0) return task.waiting;
+        return spread * load + (task.own >= 0 && task.own != choice ? churn : 0);
+    }
+
+    // The choices in the order of their ranks.
+    std::vector<int> choices(const Task& task) const {
+        std::vector<int> found;
+        if (task.own >= 0) found.push_back(task.own);
+        for (int machine = 0; machine < machines; ++machine)
+            if (machine != task.own) found.push_back(machine);
+        found.push_back(-1);
+        return found;
+    }
+};
+
+// The least cost of placing the tasks from `first` on, with so many tasks on each machine already.
+static Number least(const Book& book, int first, const std::vector<int>& load) {
+    Graph graph;
+    Graph::ArcMap<Number> capacity(graph), cost(graph);
+    Graph::NodeMap<Number> supply(graph, 0);
+    auto join = [&](Graph::Node tail, Graph::Node head, Number each) {
+        auto arc = graph.addArc(tail, head);
+        capacity[arc] = 1;
+        cost[arc] = each;
+    };
+    Graph::Node sink = graph.addNode();
+    std::vector<Graph::Node> machine;
+    for (int place = 0; place < book.machines; ++place) {
+        machine.push_back(graph.addNode());
+        for (int task = load[place]; task < book.slots[place]; ++task) join(machine[place], sink, book.spread * task);
+    }
+    for (int place = first; place < book.tasks; ++place) {
+        const Task& task = book.rows[place];
+        Graph::Node node = graph.addNode();
+        supply[node] = 1;
+        join(node, sink, task.waiting);
+        for (int choice = 0; choice < book.machines; ++choice) join(node, machine[choice], book.cost(task, choice, 0));
+    }
+    supply[sink] = first - book.tasks;
+    lemon::NetworkSimplex<Graph, Number, Number> solver(graph);
+    solver.upperMap(capacity).costMap(cost).supplyMap(supply);
+    return solver.run() == decltype(solver)::OPTIMAL ? solver.totalCost<Number>() : -1;
+}
+
+static bool read_book(Book& book) {
+    if (std::scanf("%d %d %lld %lld", &book.machines, &book.tasks, &book.spread, &book.churn) != 4) return false;
+    book.slots.resize(book.machines);
+    book.rows.resize(book.tasks);
+    for (int& slots : book.slots)
+        if (std::scanf("%d", &slots) != 1) return false;
+    for (Task& task : book.rows)
+        if (std::scanf("%d %lld %d", &task.own, &task.waiting, &task.placed) != 3) return false;
+    return true;
+}
+
+int main() {
+    Book book;
+    if (!read_book(book)) return 2;
+    std::vector<int> load(book.machines, 0);
+    Number best = least(book, 0, load), before = 0, solved = 1;
+    for (int place = 0; place < book.tasks; ++place) {
+        const Task& task = book.rows[place];
+        for (int choice : book.choices(task)) {
+            if (choice == task.placed) break;
+            if (choice >= 0 && load[choice] == book.slots[choice]) continue;
+            Number now = before + book.cost(task, choice, choice < 0 ? 0 : load[choice]);
+            if (choice >= 0) ++load[choice];
+            Number whole = now + least(book, place + 1, load);
+            if (choice >= 0) --load[choice];
+            ++solved;
+            if (whole <= best) {
+                std::printf("task %d: choice %d comes before %d and costs %lld\n", place, choice, task.placed, whole);
+                return 1;
+            }
+        }
+        before += book.cost(task, task.placed, task.placed < 0 ? 0 : load[task.placed]);
+        if (task.placed >= 0) ++load[task.placed];
+    }
+    if (before != best) {
+        std::printf("it costs %lld, and the least is %lld\n", before, best);
+        return 1;
+    }
+    std::printf("first %lld %lld\n", best, solved);
+}
