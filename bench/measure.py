@@ -13,7 +13,7 @@ HERE = Path(__file__).resolve().parent
 CHUNK = 400  # lines that are written before their replies are read, so that no pipe fills up
 LONG = 45  # seconds after which a stream is not run again
 
-Round = namedtuple("Round", "cost arcs tasks seconds network")
+Round = namedtuple("Round", "cost arcs tasks seconds beside network")
 Solved = namedtuple("Solved", "seconds setup cost")
 
 
@@ -72,8 +72,8 @@ def serve_stream(program, stream):
     return replies, seconds
 
 
-def run_stream(program, stream, repeats):
-    """The rounds of a stream, each with its least time of some runs, of fewer where they take long."""
+def run_repeatedly(program, stream, repeats):
+    """The replies of a stream, and the least times of its rounds in some runs, of fewer where they take long."""
     begun = time.monotonic()
     replies, best = serve_stream(program, stream)
     for _ in range(repeats - 1):
@@ -82,12 +82,22 @@ def run_stream(program, stream, repeats):
         again, seconds = serve_stream(program, stream)
         ask(again == replies, "two runs gave two outputs")
         best = list(map(min, best, seconds))
+    return replies, best
+
+
+def run_stream(program, other, stream, repeats):
+    """The rounds of a stream, with their times; those of the other program, if there is one, must be the same."""
+    replies, best = run_repeatedly(program, stream, repeats)
+    others = [None] * len(best)
+    if other:
+        other_replies, others = run_repeatedly(other, stream, repeats)
+        ask(other_replies == replies, "the two programs gave two outputs")
     tenant, rounds = open_rows(stream.roster), []
-    for lines, answers, seconds in zip(stream.parts, replies, best):
+    for lines, answers, seconds, beside in zip(stream.parts, replies, best, others):
         for line, answer in zip(lines, answers):
             hear(tenant, line, answer)
         text, arcs = network(tenant)
-        rounds.append(Round(hear_round(tenant, answers[-1]), arcs, len(tenant.tasks), seconds, text))
+        rounds.append(Round(hear_round(tenant, answers[-1]), arcs, len(tenant.tasks), seconds, beside, text))
     return rounds
 
 

@@ -1,7 +1,7 @@
 #!/usr/bin/env python3
 """Measures rounds of the built program, with LEMON's solvers on the same networks beside it where LEMON is installed.
 
-usage: bench/rounds.py [--program FILE] [--sizes 100x20,..] [--kinds fresh,..] [--repeats N] [--seed S]
+usage: bench/rounds.py [--program FILE] [--beside FILE] [--sizes 100x20,..] [--kinds fresh,..] [--repeats N] [--seed S]
 Prints tables in Markdown and keeps each round as a line of JSON in out/bench/rounds.jsonl. Times are processor times,
 the least of some runs. Every placement is checked to be legal and to cost what the reply says, and that cost against
 LEMON's optimum; the exit status is 1 where one is wrong. docs/PERFORMANCE.md says what the figures mean.
@@ -28,9 +28,9 @@ def measure_stream(words, lemon, kind, size):
     tasks, machines = map(int, size.split("x"))
     stream = kinds.make(kind, tasks, machines, words.seed)
     records = []
-    for place, found in enumerate(run_stream(words.program, stream, words.repeats)):
+    for place, found in enumerate(run_stream(words.program, words.beside, stream, words.repeats)):
         record = {"kind": kind, "size": size, "round": place, "tasks": found.tasks, "arcs": found.arcs,
-                  "cost": found.cost, "firm": found.seconds}
+                  "cost": found.cost, "firm": found.seconds, "beside": found.beside}
         solved = solve(lemon, found.network, words.repeats) if lemon else {}
         for name, answer in solved.items():
             record[name] = answer.seconds
@@ -51,10 +51,10 @@ def ratio(record):
     return record["firm"] / min(record[name] for name in SOLVERS) if "simplex" in record else None
 
 
-def row(record):
+def row(record, timed):
     part = ratio(record)
     cells = [record["kind"], record["size"], str(record["round"] + 1), str(record["tasks"]), str(record["arcs"])]
-    cells += [milliseconds(record.get(name)) for name in ("firm", *SOLVERS)]
+    cells += [milliseconds(record.get(name)) for name in timed]
     return "| " + " | ".join(cells + ["" if part is None else f"{part:.2f}"]) + " |"
 
 
@@ -65,14 +65,15 @@ def worst(records):
 
 def print_table(records, sizes, all_rounds):
     """A row for each stream's cold round and for the worst that follows."""
-    print("| kind | size | round | tasks | arcs | firm ms | simplex ms | scaling ms | firm / faster |")
-    print("| --- | --- | ---: | ---: | ---: | ---: | ---: | ---: | ---: |")
+    timed = [name for name in ("firm", "beside", *SOLVERS) if records[0].get(name) is not None]
+    print("| kind | size | round | tasks | arcs | " + "".join(f"{name} ms | " for name in timed) + "firm / faster |")
+    print("| --- | --- |" + " ---: |" * (len(timed) + 4))
     for size in reversed(sizes):
         for kind in dict.fromkeys(record["kind"] for record in records):
             found = [record for record in records if (record["kind"], record["size"]) == (kind, size)]
             shown = found if all_rounds else found[:1] + ([worst(found[1:])] if found[1:] else [])
             for record in shown:
-                print(row(record))
+                print(row(record, timed))
 
 
 def print_growth(records, sizes):
@@ -111,6 +112,7 @@ def measure_all(words, lemon, kept):
 def read_words():
     parser = argparse.ArgumentParser(description=__doc__.splitlines()[0])
     parser.add_argument("--program", default=str(ROOT / "crates" / "firm" / "out" / "firm"))
+    parser.add_argument("--beside", help="another built program, as of an earlier state: equal output, and its times")
     parser.add_argument("--sizes", default=SIZES)
     parser.add_argument("--kinds", default=",".join(kinds.KINDS))
     parser.add_argument("--repeats", type=int, default=5)

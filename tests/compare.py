@@ -12,6 +12,7 @@ import sys
 from collections import Counter
 from concurrent.futures import ProcessPoolExecutor
 from functools import partial
+from tempfile import TemporaryDirectory
 
 import program
 import service
@@ -38,11 +39,11 @@ def words_of(output):
     return counts
 
 
-def check(command, name, roster, text):
+def check(command, name, roster, text, environment=None):
     """The outcomes of one run, or None where it differs from the definitions."""
     wanted = expected(roster, text)
     with program.Roster(roster) as roster_path:
-        got = program.run(command, roster_path, text)
+        got = program.run(command, roster_path, text, environment)
     if got == wanted:
         return words_of(got.output + got.faults)
     kept = program.keep(name, roster, text)
@@ -53,8 +54,12 @@ def check(command, name, roster, text):
     return None
 
 
-def check_stream(command, tasks, seed):
-    return check(command, f"stream-{seed}", *random_stream(random.Random(seed), tasks))
+def check_stream(command, tasks, library, seed):
+    """A random stream; with the library its input comes in pieces and its output goes in pieces of some size."""
+    draw = random.Random(seed)
+    roster, text = random_stream(draw, tasks)
+    pieces = {"READ_MOST": draw.choice("1 2 3 7 64 257 4095".split()), "WRITE_MOST": draw.choice("0 1 5 100".split())}
+    return check(command, f"stream-{seed}", roster, text, {"LD_PRELOAD": library, **pieces} if library else None)
 
 
 def check_roster(command, seed):
@@ -76,11 +81,13 @@ def main():
     parser.add_argument("--rosters", type=int, default=500)
     parser.add_argument("--first", type=int, default=1, help="the first seed")
     parser.add_argument("--tasks", type=int, default=6, help="the most tasks of a tenant")
+    parser.add_argument("--pieces", action="store_true", help="pieces of all sizes, by refuse.c; needs a C compiler")
     parser.add_argument("--ages", action="store_true", help="also a task that waits for 1,000,003 rounds")
     words = parser.parse_args()
     counts, different = Counter(), 0
-    with ProcessPoolExecutor(max(1, (os.cpu_count() or 2) // 2)) as pool:
-        streams = pool.map(partial(check_stream, program.command(words), words.tasks),
+    with TemporaryDirectory(prefix="firm-") as folder, ProcessPoolExecutor(max(1, (os.cpu_count() or 2) // 2)) as pool:
+        library = program.build_refusing(folder) if words.pieces else None
+        streams = pool.map(partial(check_stream, program.command(words), words.tasks, library),
                            range(words.first, words.first + words.streams), chunksize=20)
         rosters = pool.map(partial(check_roster, program.command(words)),
                            range(words.first, words.first + words.rosters), chunksize=20)

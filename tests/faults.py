@@ -8,9 +8,7 @@ what is asked of each run. It needs a C compiler (cc) for refuse.c, which is pre
 
 import argparse
 import errno
-import os
 import struct
-import subprocess
 import sys
 import tempfile
 from collections import Counter
@@ -18,7 +16,6 @@ from collections import Counter
 import program
 import service
 
-HERE = os.path.dirname(os.path.abspath(__file__))
 HEADING = b",".join(service.HEADING) + b"\n"
 MEMORY = b" no 14 memory"
 
@@ -180,19 +177,13 @@ def fail_files(runs, roster, text):
 PARTS = {"memory": refuse_memory, "reads": fail_reads, "writes": fail_writes, "reads of the roster": fail_files}
 
 
-def build(folder):
-    library = os.path.join(folder, "refuse.so")
-    subprocess.run(["cc", "-O2", "-shared", "-fPIC", "-o", library, os.path.join(HERE, "refuse.c")], check=True)
-    return library
-
-
 def main():
     parser = argparse.ArgumentParser(description=__doc__.splitlines()[0])
     program.add_program(parser)
     words = parser.parse_args()
     missed = 0
     with tempfile.TemporaryDirectory(prefix="firm-") as folder:
-        runs = Runs(words, build(folder))
+        runs = Runs(words, program.build_refusing(folder))
         for name, (records, text) in STREAMS.items():
             for part, work in PARTS.items():
                 try:

@@ -51,6 +51,14 @@ def run(command, roster_path, text, environment=None, seconds=120):
     return Run(done.returncode, done.stdout, done.stderr)
 
 
+def build_refusing(folder):
+    """The library that is preloaded to refuse memory and to fail or shorten reads and writes."""
+    library = os.path.join(folder, "refuse.so")
+    source = str(Path(__file__).resolve().parent / "refuse.c")
+    subprocess.run(["cc", "-O2", "-shared", "-fPIC", "-o", library, source], check=True)
+    return library
+
+
 def keep(name, roster, text):
     """Keeps a roster and an input under out/, to be run again by hand; gives the path's beginning."""
     OUT.mkdir(parents=True, exist_ok=True)

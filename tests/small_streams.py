@@ -7,7 +7,7 @@ BAD_NAMES = [b"A", b"a_b", b"abcdefghijklmnopq", b"\xff", b"a\x00", b"m1\r", b"a
 BAD_NUMBERS = [b"0", b"65", b"1000001", b"-1", b"+1", b"1.0", b"0x1", b"00000000000001", b"99999999999999",
                b"18446744073709551617", b"1_0", b"two", b"\xb2", b"9999999999999"]
 BAD_LINES = [b"", b" ", b"\t \t", b"#", b"# a show", b"#" + b"x" * 300, b"x" * 257, b"nobody show", b"A show", b"\xff",
-             b" # a", b"! unknown-tenant", b"a\x00b show", b"\r", b"\x00"]
+             b" # a", b"! unknown-tenant", b"a\x00b show", b"\r", b"\x00", b"#" + b"x" * 9000, b"a show" + b" " * 5000]
 BAD_VERBS = [b"", b"fly", b"Show", b"shows", b"round 1", b"machine", b"machine m", b"machine m 1 2", b"job j",
              b"task j", b"task j t u", b"where", b"done a b", b"show\r", b"costs \x0b", b"\xff", b"drain", b"close"]
 
