@@ -6,7 +6,7 @@ use Rattle.std.proofs.lemmas.Bool.{cases_eq, eqb-true, eq-eqb}
 use Rattle.firm_arena.specs.Arena.{Arena, entries_from, entries, find}
 use Rattle.firm_arena.specs.declared.Id.{Id}
 use Rattle.firm_net.specs.Row.{Row}
-use Rattle.firm_net.specs.Net.{Net, Lists, IsNode, row_at, lists_at}
+use Rattle.firm_net.specs.Net.{Net, Lists, IsNet, IsNode, row_at, lists_at}
 use Rattle.firm_net.specs.declared.row.NodeId.{NodeId}
 use Rattle.firm_net.specs.declared.row.ArcId.{ArcId}
 use Rattle.firm_arena.specs.Changes.{find-held_own}
@@ -156,7 +156,7 @@ same_span-refl s =
 abbrev pub ones : Bool → ℕ
 ones b = cond b 1 0
 
-ones-true : (b : Bool) → 0 < ones b → b ≡ true
+pub ones-true : (b : Bool) → 0 < ones b → b ≡ true
 ones-true true h = refl
 ones-true false h = absurd (omega arith)
 
@@ -175,6 +175,25 @@ node-there net ns n often c =
     let e : f.id ≡ n.id = same_id-true f.id n.id (ones-true (same_id f.id n.id) f.heavy) in
     let P : Option Lists → Type 0 = λ (o : Option Lists). IsSome o in
     subst P (sym (ap (find net.nodes) (sym e) ∙ f.there)) refl
+
+-- a node that is there weighs among the net's nodes
+pub node-weighs : (net : Net) (n : NodeId) → IsNet net → IsNode net n
+    → 0 < sum_by (λ m. ones (same_id m.id n.id)) (nodes_of net)
+node-weighs net n sound there =
+    let w : NodeId → ℕ = λ (m : NodeId). ones (same_id m.id n.id) in
+    let held = lists (lists_at net n) there in
+    let entry : Id × Lists = (n.id, held.0) in
+    let own : w n ≡ ones true = ap ones (same_id-refl n.id) in
+    omega (
+      arith,
+      own,
+      nodes-sum w net,
+      weighs-in (node_weight w) (entries net.nodes) entry ((sound.node_map.listed n.id held.0).1 held.1),
+    )
+  where
+    lists : (o : Option Lists) → IsSome o → (l : Lists) × (o ≡ Some l)
+    lists None h = let clash : false ≡ true = h in absurd cc
+    lists (Some l) h = (l, refl)
 
 -- an arc with its row
 pub record HasRow (net : Net) (s : Span) : Type 0 where

@@ -1,16 +1,21 @@
 -- The net of a graph shows the network of the case of its rows.
 use Rattle.std.proofs.Common.{◌≡◌, ℕ, zero, suc, ◌+◌, ◌*◌, ◌<◌, ◌≤◌, ◌==◌, Bool, true, false, not, cond, ◌||◌, inl, inr, ⊎_elim, Option, Some, None, IfSome, List, [], ◌∷◌, ◌++◌, map, length, get_or, bytes_eq, arith, refl, sym, ap, ap₂, ◌∙◌, subst, length-append}
 use Rattle.std.specs.List.{sum_by, Contains, position_or_len, list_any}
-use Rattle.std.proofs.lemmas.Bool.{cases_Bool, cases_lt, eqb-true, eq-eqb}
+use Rattle.std.specs.List.Sorted.{IsPermutation}
+use Rattle.std.specs.Option.{option_map}
+use Rattle.std.proofs.lemmas.Bool.{cases_Bool, cases_eq, cases_lt, eqb-true, eq-eqb}
 use Rattle.std.proofs.lemmas.List.{map-append, get_or-map, get_or_default}
-use Rattle.std.proofs.lemmas.List.Sums.{position_or_len_is}
+use Rattle.std.proofs.lemmas.List.Sums.{position_or_len_is, sum_by-append, sum_by-cons, sum_by_push}
 use Rattle.firm_arena.specs.Arena.{entries_from}
 use Rattle.firm_arena.specs.declared.Id.{Id}
-use Rattle.firm_net.specs.Net.{IsNode}
+use Rattle.firm_arena.specs.Changes.{find-changed_all}
+use Rattle.firm_net.specs.Row.{Row}
+use Rattle.firm_net.specs.Net.{Net, IsNode, row_at, without_flow}
 use Rattle.firm_net.specs.Edits.{Span}
 use Rattle.firm_net.specs.declared.row.NodeId.{NodeId}
 use Rattle.firm_net.specs.declared.row.ArcId.{ArcId}
 use Rattle.firm_paths.specs.Network.{Arc}
+use Rattle.firm_paths.specs.NetArcs.{arcs_of}
 use Rattle.firm_rules.specs.Book.{machine_names, job_names}
 use Rattle.firm_rules.specs.Names.{is_among}
 use Rattle.firm_rules.specs.Placement.{Case, Demand}
@@ -26,18 +31,19 @@ use Rattle.firm_graph.specs.declared.network.Node.TheVariants.{Sink, Hub, Machin
 use Rattle.firm_graph.specs.declared.network.Key.{Key}
 use Rattle.firm_graph.specs.declared.network.Key.TheVariants.{Through, Slot, Exit, Wide, Stay, Delay}
 use Rattle.firm_graph.specs.Network.{gather, arc, slots_of, demand, runs, stay_head, machine_arcs, job_arcs, task_arcs, network, nodes, task_nodes as case_tasks, IsNodeOf, IsKeyOf, IsSound}
-use Rattle.firm_graph.specs.View.{View, Shows, lows, flows, spot_of}
-use Rattle.firm_graph.specs.Graph.{Graph, IsGraph, graph_nodes, machine_nodes, job_nodes, task_nodes}
+use Rattle.firm_graph.specs.View.{View, Shows, IsAtRest, lows, flows, low_of_row, flow_of_row, named, spot_of}
+use Rattle.firm_graph.specs.Graph.{Graph, IsGraph, Mirrors, graph_nodes, machine_nodes, job_nodes, task_nodes}
 use Rattle.firm_graph.specs.Ids.{node_id, arc_id, view_of}
 use Rattle.firm_graph.specs.Steps.{no_task}
 use Rattle.firm_graph.proofs.Entries.{sum-slot}
 use Rattle.firm_graph.proofs.NetEdits.{sum-map, nodes-sum, spans-sum}
-use Rattle.firm_graph.proofs.Found.{ones, same_id, same_id-refl, node-there, Contains-skip, Contains-front}
+use Rattle.firm_graph.proofs.Found.{ones, ones-true, same_id, same_id-refl, same_id-true, node-there, node-weighs, Contains-skip, Contains-front}
 use Rattle.firm_graph.proofs.Drops.{once-from}
 use Rattle.firm_graph.proofs.Cuts.{two}
 use Rattle.firm_graph.proofs.Bridge.{from, gather_from, fill, rows_network, network_is}
 use Rattle.firm_graph.proofs.Networks.{shown, graph-shown}
 use Rattle.firm_graph.proofs.Permutes.{is-network}
+use Rattle.firm_graph.proofs.Reflows.{cleared}
 
 length-map : {A B : Type 0} (f : A → B) (xs : List A) → length (map f xs) ≡ length xs
 length-map f [] = refl
@@ -180,6 +186,57 @@ node-listed c (TaskAt i) h =
     (Contains-skip (gather (λ k. JobAt k ∷ []) c.jobs) (case_tasks c) (TaskAt i)
     (contains-gather (λ i. TaskAt i ∷ []) (length c.tasks) i (TaskAt i) h (first-of (TaskAt i) [])))
 
+-- where gathered elements weigh something, one of them does
+heavy-gathered : {X : Type 0} (w : X → ℕ) (h : ℕ → X) (n : ℕ) → 0 < sum_by w (gather (λ i. h i ∷ []) n)
+    → (i : ℕ) × (i < n) × (0 < w (h i))
+heavy-gathered w h zero some = absurd (omega (arith, some))
+heavy-gathered w h (suc n) some =
+    elim (cases_eq (w (h n)) 0) [
+      | inl none ↦
+          let earlier = heavy-gathered w h n (omega (arith, some, none, sum_by_push w (gather (λ i. h i ∷ []) n) (h n)))
+          in
+          (earlier.0, omega (arith, earlier.1), earlier.2)
+      | inr own ↦ (n, omega arith, omega (arith, own))
+    ]
+
+-- where the nodes of the network weigh something, one of them does
+heavy-node : (c : Case) (w : Node → ℕ) → 0 < sum_by w (nodes c) → (n : Node) × IsNodeOf c n × (0 < w n)
+heavy-node c w some =
+    let ms : List Node = gather (λ j. MachineAt j ∷ []) (length c.slots) in
+    let js : List Node = gather (λ k. JobAt k ∷ []) c.jobs in
+    let ts : List Node = case_tasks c in
+    let whole : sum_by w (nodes c) ≡ w Hub + (w Sink + (sum_by w ms + (sum_by w js + sum_by w ts))) =
+    omega (
+      arith,
+      sum_by-cons w Hub (Sink ∷ ms ++ (js ++ ts)),
+      sum_by-cons w Sink (ms ++ (js ++ ts)),
+      sum_by-append w ms (js ++ ts),
+      sum_by-append w js ts,
+    ) in
+    elim (cases_eq (w Hub) 0) [
+      | inr own ↦ (Hub, tt, omega (arith, own))
+      | inl no_hub ↦
+          elim (cases_eq (w Sink) 0) [
+            | inr own ↦ (Sink, tt, omega (arith, own))
+            | inl no_sink ↦
+                elim (cases_eq (sum_by w ms) 0) [
+                  | inr own ↦
+                      let at = heavy-gathered w (λ j. MachineAt j) (length c.slots) (omega (arith, own)) in
+                      (MachineAt at.0, at.1, at.2)
+                  | inl no_machine ↦
+                      elim (cases_eq (sum_by w js) 0) [
+                        | inr own ↦
+                            let at = heavy-gathered w (λ k. JobAt k) c.jobs (omega (arith, own)) in
+                            (JobAt at.0, at.1, at.2)
+                        | inl no_job ↦
+                            let at = heavy-gathered w (λ i. TaskAt i) (length c.tasks)
+                            (omega (arith, some, whole, no_hub, no_sink, no_machine, no_job)) in
+                            (TaskAt at.0, at.1, at.2)
+                      ]
+                ]
+          ]
+    ]
+
 record HasArc (c : Case) (low x : Key → ℕ) (key : Key) : Type 0 where
   its : Arc Node Key
   listed : Contains (network c low x) its
@@ -308,6 +365,22 @@ module _ (g : Graph) (is : IsGraph g) where
       node-there g.net (graph_nodes g) (node_id g n) is.mirrors.nodes
       (subst (λ (l : List NodeId). Contains l (node_id g n)) nodes-named
       (mapped-there (node_id g) (nodes v.case) n (node-listed v.case n h)))
+
+  -- a node of the net is one of the network's
+  pub only-these : (id : NodeId) → IsNode g.net id → (n : Node) × IsNodeOf v.case n × (node_id g n ≡ id)
+  only-these id there =
+      let w : NodeId → ℕ = λ (m : NodeId). ones (same_id m.id id.id) in
+      let at = heavy-node v.case (λ (n : Node). w (node_id g n))
+      (omega (
+        arith,
+        node-weighs g.net id is.mirrors.net there,
+        is.mirrors.nodes.weighs w,
+        ap (λ (l : List NodeId). sum_by w l) nodes-named,
+        sum-map w (node_id g) (nodes v.case),
+      )) in
+      let e : (node_id g at.0).id ≡ id.id = same_id-true (node_id g at.0).id id.id
+      (ones-true (same_id (node_id g at.0).id id.id) at.2) in
+      (at.0, at.1, ap (λ (i : Id). let m : NodeId = record { id = i } in m) e)
 
   -- the node at a place of the net
   abbrev at_spot : ℕ → Node → Bool
@@ -451,9 +524,48 @@ module _ (g : Graph) (is : IsGraph g) where
         net = is.mirrors.net;
         arcs = is-network g is.mirrors;
         nodes = node-of;
+        only = only-these;
         role = role;
         role_is = role-is;
         arcs_apart = arcs-apart;
         sound = case-sound;
         homes = home-there;
       }
+
+-- an arc of a net whose flow was cleared has neither lower bound nor flow
+at-rest : (net : Net) (a : ArcId) → (low_of_row (row_at (without_flow net) a) ≡ 0) ×
+    (flow_of_row (row_at (without_flow net) a) ≡ 0)
+at-rest net a =
+    let found : row_at (without_flow net) a ≡ option_map cleared (row_at net a) =
+    find-changed_all net.arcs cleared a.id in
+    let none = no-flow (row_at net a) in
+    (ap low_of_row found ∙ none.0, ap flow_of_row found ∙ none.1)
+  where
+    no-flow : (o : Option Row) → (low_of_row (option_map cleared o) ≡ 0) × (flow_of_row (option_map cleared o) ≡ 0)
+    no-flow None = (refl, refl)
+    no-flow (Some row) = (refl, refl)
+
+same-fill : (low x low' x' : Key → ℕ) (arcs : List (Arc Node Key)) → ((key : Key) → low key ≡ low' key)
+    → ((key : Key) → x key ≡ x' key) → map (fill low x) arcs ≡ map (fill low' x') arcs
+same-fill low x low' x' [] lows_same flows_same = refl
+same-fill low x low' x' (a ∷ arcs) lows_same flows_same =
+    ap₂ (λ (b : Arc Node Key) (l : List (Arc Node Key)). b ∷ l)
+    (ap₂ (λ (m n : ℕ). let b : Arc Node Key = record
+    { key = a.key; tail = a.tail; head = a.head; low = m; cap = a.cap; cost = a.cost; flow = n } in b)
+    (lows_same a.key) (flows_same a.key))
+    (same-fill low x low' x' arcs lows_same flows_same)
+
+-- a graph whose net was cleared is the network of its rows, and nothing flows
+pub cleared-rests : (g : Graph) (net : Net) → Mirrors g → g.net ≡ without_flow net → IsAtRest (view_of g)
+cleared-rests g net is clear =
+    let v : View = view_of g in
+    let none : Key → ℕ = λ (key : Key). 0 in
+    let low : (key : Key) → lows v key ≡ 0 =
+    λ key. ap (λ (n : Net). low_of_row (row_at n (v.arc key))) clear ∙ (at-rest net (v.arc key)).0 in
+    let flow : (key : Key) → flows v key ≡ 0 =
+    λ key. ap (λ (n : Net). flow_of_row (row_at n (v.arc key))) clear ∙ (at-rest net (v.arc key)).1 in
+    let same : network v.case (lows v) (flows v) ≡ network v.case none none =
+    sym (network_is g.rows (lows v) (flows v))
+    ∙ same-fill (lows v) (flows v) none none (rows_network g.rows) low flow
+    ∙ network_is g.rows none none in
+    subst (λ (l : List (Arc Node Key)). IsPermutation (arcs_of v.net) (map (named v) l)) same (is-network g is)

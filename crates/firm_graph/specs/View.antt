@@ -53,16 +53,22 @@ named v a =
       flow = a.flow;
     }
 
--- the net's arcs are those of the network, each once, different nodes and arcs have different ids, and the case is sound
+-- the net's nodes and arcs are those of the network and no others, each arc once, different nodes and arcs have different
+-- ids, and the case is sound
 pub record Shows (v : View) : Type 0 where
   pub net : IsNet v.net
   pub arcs : IsPermutation (arcs_of v.net) (map (named v) (network v.case (lows v) (flows v)))
   pub nodes : (n : Node) → IsNodeOf v.case n → IsNode v.net (v.node n)
+  pub only : (id : NodeId) → IsNode v.net id → (n : Node) × IsNodeOf v.case n × (v.node n ≡ id)
   pub role : ℕ → Node
   pub role_is : (n : Node) → IsNodeOf v.case n → role (spot_of v n) ≡ n
   pub arcs_apart : (a b : Key) → IsKeyOf v.case a → IsKeyOf v.case b → v.arc a ≡ v.arc b → a ≡ b
   pub sound : IsSound v.case
   pub homes : (i : ℕ) → i < length v.case.tasks → IsNodeOf v.case (stay_head (demand v.case i).home)
+
+-- the net's arcs are those of the network, each once, and none has a lower bound or flow
+abbrev pub IsAtRest : View → Type 0
+IsAtRest v = IsPermutation (arcs_of v.net) (map (named v) (network v.case (λ _. 0) (λ _. 0)))
 
 -- the same case under the same ids
 pub record IsSameCase (old new : View) : Type 0 where

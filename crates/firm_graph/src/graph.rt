@@ -16,11 +16,12 @@ ghost use Rattle.firm_rules.specs.Round.{case_of, rows_after};
 ghost use Rattle.firm_graph.specs.Graph.{IsGraph, LackNodes, LackArcs};
 ghost use Rattle.firm_graph.specs.Ids.{view_of};
 ghost use Rattle.firm_graph.specs.Network.{task_nodes};
-ghost use Rattle.firm_graph.specs.View.{Shows, IsSameCase, CanHold, with_low, spot_of};
+ghost use Rattle.firm_graph.specs.View.{Shows, IsAtRest, IsSameCase, CanHold, with_low, spot_of};
 ghost use Rattle.firm_graph.specs.declared.network.Node.TheVariants.{Sink, Hub};
 ghost use Rattle.firm_graph.specs.declared.network.Key.TheVariants.{Through, Wide, Stay, Delay};
 
 use crate::edits::{drop_node, link, link_slots, push_reserved, put_node, unlink, unlink_slots};
+use crate::growth::{grow_jobs, grow_machines, grow_tasks};
 use crate::moves::{evict_tasks, settle_tasks};
 use crate::parts::{GraphRefusal, JobParts, MachineIds, TaskArcs, TaskParts};
 use firm_flow::solve;
@@ -119,10 +120,7 @@ impl Graph {
     {
         self.find_room(1, 1)?;
         let limits = self.rows.limits();
-        let Ok(()) = self.jobs.reserve(1) else {
-            return Err(GraphRefusal::Memory);
-        };
-        let Ok(()) = self.rows.add_job(name, weight) else {
+        let Ok(()) = grow_jobs(&mut self.jobs, &mut self.rows, name, weight) else {
             return Err(GraphRefusal::Memory);
         };
         let node = put_node(&mut self.net);
@@ -146,19 +144,19 @@ impl Graph {
         ensures graph { IsGraph self.new }
     {
         self.find_room(1, 3)?;
-        let Ok(()) = self.tasks.reserve(1) else {
-            return Err(GraphRefusal::Memory);
-        };
-        let Ok(()) = self.sources.reserve(1) else {
-            return Err(GraphRefusal::Memory);
-        };
         let Some(place) = self.rows.job_place(job) else {
             unreachable!()
         };
         let Some(row) = self.rows.job_at(place) else {
             unreachable!()
         };
-        let Ok(()) = self.rows.add_task(job, name) else {
+        let Ok(()) = grow_tasks(
+            &mut self.tasks,
+            &mut self.sources,
+            &mut self.rows,
+            job,
+            name,
+        ) else {
             return Err(GraphRefusal::Memory);
         };
         let owner = self.jobs[place].node;
@@ -193,13 +191,8 @@ impl Graph {
         let count = slots.get();
         self.find_room(1, 1 + count)?;
         let limits = self.rows.limits();
-        let Ok(mut arcs) = Vec::with_capacity(alloc, count as usize) else {
-            return Err(GraphRefusal::Memory);
-        };
-        let Ok(()) = self.machines.reserve(1) else {
-            return Err(GraphRefusal::Memory);
-        };
-        let Ok(()) = self.rows.add_machine(name, slots) else {
+        let Ok(mut arcs) = grow_machines(alloc, &mut self.machines, &mut self.rows, name, slots)
+        else {
             return Err(GraphRefusal::Memory);
         };
         let node = put_node(&mut self.net);
@@ -237,9 +230,10 @@ impl Graph {
         drop_node(&mut self.net, parts.node);
     }
 
-    /// Readies the net for a round: no arc carries flow, and none needs any.
+    /// Readies the net for a round: it is the network of the rows, without lower bounds and flow.
     pub fn prepare(&mut self)
         ensures net { self.new ≡ record self.old { net = without_flow self.old.net } }
+        ensures rest { IsAtRest (view_of self.new) }
         ensures case { IsSameCase (view_of self.old) (view_of self.new) }
         ensures limits { limits_of self.new.net ≡ limits_of self.old.net }
         ensures graph { IsGraph self.new }

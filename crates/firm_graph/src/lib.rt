@@ -3,10 +3,13 @@
 
 mod edits;
 mod graph;
+mod growth;
 mod laws;
 mod moves;
 mod network;
 mod parts;
+#[cfg(test)]
+mod tests;
 
 pub use graph::Graph;
 pub use laws::{every_graph_shows, networks_are_counted};

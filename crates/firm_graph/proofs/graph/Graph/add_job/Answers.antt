@@ -38,7 +38,7 @@ link-exit-requires-clause-room c =
 
 kept : (c : goal.After-self-1)
     → Mirrors (record {
-      rows = c.add_job.new.self;
+      rows = c.grow_jobs.new.rows;
       net = c.link-exit.new.net;
       hub = c.self.inside.hub;
       sink =
@@ -56,9 +56,9 @@ kept c =
     c.limits-limits.ensures.limits in
     let P : ℕ → Type 0 = λ (cap : ℕ). IsEdit c.put_node-node.new.net c.link-exit.new.net [] [] []
     (record { arc = parts.exit; tail = parts.node; head = g.sink; cap = cap; cost = 0 } ∷ []) in
-    job-said g c.link-exit.new.net parts c.args.name c.args.weight c.add_job.new.self c.push_reserved.new.list.items
-    c.in-Ok-add_job.ensures.ok
-    (c.push_reserved.ensures.items ∙ ap (λ (l : List JobParts). l ++ parts ∷ []) c.reserve.ensures.items)
+    job-said g c.link-exit.new.net parts c.args.name c.args.weight c.grow_jobs.new.rows c.push_reserved.new.list.items
+    c.in-Ok.ensures.ok
+    (c.push_reserved.ensures.items ∙ ap (λ (l : List JobParts). l ++ parts ∷ []) c.grow_jobs.ensures.parts)
     (job-added g c.put_node-node.new.net c.link-exit.new.net parts c.args.name c.args.weight
     c.self.invariant.graph.mirrors c.self.invariant.graph.sound
     c.put_node-node.ensures.edit (subst P limit c.link-exit.ensures.edit)
@@ -66,7 +66,7 @@ kept c =
 
 pub invariant_of-self-2 : goal.invariant_of-self-2
 invariant_of-self-2 c =
-    record { graph = record { sound = c.add_job.ensures.sound; mirrors = kept c }; sources = c.self.invariant.sources }
+    record { graph = record { sound = c.in-Ok.ensures.sound; mirrors = kept c }; sources = c.self.invariant.sources }
 
 pub returns-clause-graph : goal.returns-clause-graph
-returns-clause-graph c = record { sound = c.add_job.ensures.sound; mirrors = kept c }
+returns-clause-graph c = record { sound = c.in-Ok.ensures.sound; mirrors = kept c }

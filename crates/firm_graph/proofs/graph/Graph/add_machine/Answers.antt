@@ -60,7 +60,7 @@ link_slots-requires-clause-room c =
 
 kept : (c : goal.After-self-1)
     → Mirrors (record {
-      rows = c.add_machine.new.self;
+      rows = c.grow_machines.new.rows;
       net = c.link_slots.new.net;
       hub = c.self.inside.hub;
       sink =
@@ -86,10 +86,10 @@ kept c =
     (record { arc = parts.through; tail = g.hub; head = parts.node; cap = cap; cost = 0 } ∷ []) in
     let Q : ℕ → Type 0 = λ (s : ℕ). IsEdit c.link-through.new.net c.link_slots.new.net [] [] []
     (slot_spans parts.node g.sink s 0 parts.slots) in
-    machine-said g c.link_slots.new.net parts c.args.name c.args.slots c.add_machine.new.self
+    machine-said g c.link_slots.new.net parts c.args.name c.args.slots c.grow_machines.new.rows
     c.push_reserved.new.list.items
-    c.in-Ok-add_machine.ensures.ok
-    (c.push_reserved.ensures.items ∙ ap (λ (l : List MachineParts). l ++ parts ∷ []) c.reserve.ensures.items)
+    c.in-Ok.ensures.ok
+    (c.push_reserved.ensures.items ∙ ap (λ (l : List MachineParts). l ++ parts ∷ []) c.grow_machines.ensures.parts)
     (machine-added g c.put_node-node.new.net c.link-through.new.net c.link_slots.new.net parts c.args.name c.args.slots
     c.self.invariant.graph.mirrors c.self.invariant.graph.sound
     c.put_node-node.ensures.edit (subst P count c.link-through.ensures.edit) (subst Q spread c.link_slots.ensures.edit)
@@ -99,10 +99,10 @@ kept c =
 pub invariant_of-self-2 : goal.invariant_of-self-2
 invariant_of-self-2 c =
     record {
-      graph = record { sound = c.add_machine.ensures.sound; mirrors = kept c };
+      graph = record { sound = c.in-Ok.ensures.sound; mirrors = kept c };
       sources =
           c.self.invariant.sources;
     }
 
 pub returns-clause-graph : goal.returns-clause-graph
-returns-clause-graph c = record { sound = c.add_machine.ensures.sound; mirrors = kept c }
+returns-clause-graph c = record { sound = c.in-Ok.ensures.sound; mirrors = kept c }

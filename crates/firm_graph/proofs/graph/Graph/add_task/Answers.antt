@@ -88,7 +88,7 @@ link-wait-requires-clause-room c =
 
 kept : (c : goal.After-self-1)
     → Mirrors (record {
-      rows = c.add_task.new.self;
+      rows = c.grow_tasks.new.rows;
       net = c.link-wait.new.net;
       hub = c.self.inside.hub;
       sink =
@@ -106,9 +106,9 @@ kept c =
       arcs = record
           { wide = c.link-wide.result; stay = c.link-stay.result; wait = c.link-wait.result };
     } in
-    task-said g c.link-wait.new.net parts c.args.job c.args.name c.add_task.new.self c.push_reserved-2.new.list.items
-    c.in-Ok-add_task.ensures.ok
-    (c.push_reserved-2.ensures.items ∙ ap (λ (l : List TaskParts). l ++ parts ∷ []) c.reserve.ensures.items)
+    task-said g c.link-wait.new.net parts c.args.job c.args.name c.grow_tasks.new.rows c.push_reserved-2.new.list.items
+    c.in-Ok.ensures.ok
+    (c.push_reserved-2.ensures.items ∙ ap (λ (l : List TaskParts). l ++ parts ∷ []) c.grow_tasks.ensures.parts)
     (task-added g c.put_node-node.new.net c.link-wide.new.net c.link-stay.new.net c.link-wait.new.net parts c.args.job
     c.args.name
     c.index.result.now.node c.get.result c.self.invariant.graph.mirrors
@@ -128,14 +128,14 @@ invariant_of-self-2 c =
           { wide = c.link-wide.result; stay = c.link-stay.result; wait = c.link-wait.result };
     } in
     record {
-      graph = record { sound = c.add_task.ensures.sound; mirrors = kept c };
+      graph = record { sound = c.in-Ok.ensures.sound; mirrors = kept c };
       sources = c.push_reserved.ensures.items
           ∙ ap (λ (l : List NodeId). l ++ c.put_node-node.result ∷ [])
-          (c.reserve-2.ensures.items ∙ c.self.invariant.sources)
+          (c.grow_tasks.ensures.sources ∙ c.self.invariant.sources)
           ∙ sym (map-append node c.self.inside.tasks.items (parts ∷ []))
           ∙ sym (ap (λ (l : List TaskParts). map node l)
-          (c.push_reserved-2.ensures.items ∙ ap (λ (l : List TaskParts). l ++ parts ∷ []) c.reserve.ensures.items));
+          (c.push_reserved-2.ensures.items ∙ ap (λ (l : List TaskParts). l ++ parts ∷ []) c.grow_tasks.ensures.parts));
     }
 
 pub returns-clause-graph : goal.returns-clause-graph
-returns-clause-graph c = record { sound = c.add_task.ensures.sound; mirrors = kept c }
+returns-clause-graph c = record { sound = c.in-Ok.ensures.sound; mirrors = kept c }

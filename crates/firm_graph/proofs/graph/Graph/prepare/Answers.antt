@@ -1,7 +1,7 @@
 use Rattle.firm_graph.specs.Graph.{IsGraph}
 use Rattle.firm_graph.specs.Inside.{graph_of}
 use Rattle.firm_graph.proofs.Reflows.{reflowed_graph, clear-same}
-use Rattle.firm_graph.proofs.Shown.{graph-shows}
+use Rattle.firm_graph.proofs.Shown.{graph-shows, cleared-rests}
 use Rattle.firm_graph.proofs.graph.Graph.prepare.Goals as goal
 
 kept : (c : goal.After-clear_flow) → IsGraph (record (graph_of c.self.inside) { net = c.clear_flow.new.self })
@@ -17,3 +17,8 @@ returns-clause-graph c = kept c
 
 pub returns-clause-shows : goal.returns-clause-shows
 returns-clause-shows c = graph-shows (record (graph_of c.self.inside) { net = c.clear_flow.new.self }) (kept c)
+
+pub returns-clause-rest : goal.returns-clause-rest
+returns-clause-rest c =
+    cleared-rests (record (graph_of c.self.inside) { net = c.clear_flow.new.self }) c.self.inside.net (kept c).mirrors
+    c.clear_flow.ensures.clears
