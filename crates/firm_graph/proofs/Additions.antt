@@ -8,7 +8,8 @@ use Rattle.indexmap.proofs.SetLemmas.{AllZip-push}
 use Rattle.firm_arena.specs.Arena.{capacity_of, entries_from}
 use Rattle.firm_arena.specs.declared.Id.{Id}
 use Rattle.firm_rules.specs.Limits.{TenantLimits}
-use Rattle.firm_graph.proofs.NetEdits.{nodes-sum, spans-sum, node_weight, span_weight}
+use Rattle.firm_graph.proofs.NetEdits.{edit-then, nodes-sum, spans-sum, node_weight, span_weight}
+use Rattle.firm_graph.proofs.Said.{grown}
 use Rattle.firm_net.specs.Net.{Net, IsNode, added_of, node_count, arc_count, empty_net}
 use Rattle.firm_graph.proofs.Found.{job-there}
 use Rattle.firm_net.specs.declared.row.NodeId.{NodeId}
@@ -85,43 +86,31 @@ pub job-added : (g : Graph) (net after : Net) (parts : JobParts) (name : List �
 job-added g net after parts name weight is sound node arc room =
     let new : Graph = job_added g after parts name weight in
     let job : Job = record { name = name; weight = weight } in
-    record {
-      net = arc.net;
-      nodes = record {
-        weighs = λ w. omega (
-          arith,
-          arc.nodes w,
-          node.nodes w,
-          is.nodes.weighs w,
-          nodes-total w g,
-          nodes-total w new,
-          sum_by_push (λ (p : JobParts). w p.node) g.jobs parts,
-          sum-one w parts.node,
-        );
-      };
-      spans = record {
-        weighs = λ w. omega (
-          arith,
-          arc.spans w,
-          node.spans w,
-          is.spans.weighs w,
-          spans-total w g,
-          spans-total w new,
-          flat_sum-push w (job_spans g.sink g.rows.limits.nodes) g.rows.jobs g.jobs job parts is.jobs,
-          tasks-same w g (target_of new) (target_of g)
-              (λ k d below. job-target g after parts name weight (slice_index_or g.rows.tasks k d) is.jobs
-              (sound.jobs_there k d below)),
-        );
-      };
+    let exit : Span = record
+    { arc = parts.exit; tail = parts.node; head = g.sink; cap = g.rows.limits.nodes; cost = 0 } in
+    grown g new parts.node (exit ∷ []) is (edit-then g.net net after (parts.node ∷ []) [] (exit ∷ []) node arc)
+    (λ w. omega (
+      arith,
+      nodes-total w g,
+      nodes-total w new,
+      sum_by_push (λ (p : JobParts). w p.node) g.jobs parts,
+    ))
+    (λ w. omega (
+      arith,
+      spans-total w g,
+      spans-total w new,
+      flat_sum-push w (job_spans g.sink g.rows.limits.nodes) g.rows.jobs g.jobs job parts is.jobs,
+      tasks-same w g (target_of new) (target_of g)
+          (λ k d below. job-target g after parts name weight (slice_index_or g.rows.tasks k d) is.jobs
+          (sound.jobs_there k d below)),
+    ))
+    refl (omega arith) refl room
+    (record {
       slots = is.slots;
       machines = is.machines;
       jobs = omega (arith, is.jobs, length-append g.jobs (parts ∷ []), length-append g.rows.jobs (job ∷ []));
       tasks = is.tasks;
-      node_room = arc.node_room ∙ node.node_room ∙ is.node_room;
-      arc_room = arc.arc_room ∙ node.arc_room ∙ is.arc_room;
-      added = omega (arith, arc.added, node.added, is.added);
-      asked = omega (arith, room);
-    }
+    })
 
 -- what is free in the rows is free in the net
 pub room-left : (i now : Graph) (n a : ℕ) → i ≡ now → Mirrors i
@@ -132,37 +121,6 @@ room-left i now n a e is fits =
     (arena_arcs g.rows + a ≤ g.rows.limits.arcs) in
     let here = subst P (sym e) fits in
     (omega (arith, nodes-counted i is, is.node_room, here.0), omega (arith, arcs-counted i is, is.arc_room, here.1))
-
--- a graph whose rows and parts are said by equations
-pub job-said : (g : Graph) (net : Net) (parts : JobParts) (name : List ℕ) (weight : ℕ) (rows : TenantRows)
-    (jobs : List JobParts)
-    → rows ≡ with_job g.rows name weight → jobs ≡ g.jobs ++ parts ∷ [] → Mirrors (job_added g net parts name weight)
-    → Mirrors (record {
-      rows = rows;
-      net = net;
-      hub = g.hub;
-      sink = g.sink;
-      machines = g.machines;
-      jobs = jobs;
-      tasks =
-          g.tasks;
-      asked = g.asked + 1;
-    })
-job-said g net parts name weight rows jobs e f is =
-    let P : TenantRows → List JobParts → Type 0 =
-    λ (r : TenantRows) (l : List JobParts). Mirrors
-    (record {
-      rows = r;
-      net = net;
-      hub = g.hub;
-      sink = g.sink;
-      machines = g.machines;
-      jobs = l;
-      tasks = g.tasks;
-      asked = g.asked + 1;
-    }) in
-    subst (λ (r : TenantRows). P r jobs) (sym e)
-    (subst (λ (l : List JobParts). P (with_job g.rows name weight) l) (sym f) is)
 
 -- the graph with a waiting task added last
 abbrev pub task_added : Graph → Net → TaskParts → List ℕ → List ℕ → Graph
@@ -204,51 +162,31 @@ task-added g n1 n2 n3 n4 parts job name owner weight is node wide stay wait owne
     } in
     let same : s3 ≡ s4 = ap₂ (λ (n : NodeId) (c : ℕ). let s : Span = record
     { arc = parts.arcs.wait; tail = parts.node; head = n; cap = 1; cost = c } in s) owner_is cost in
-    record {
-      net = wait.net;
-      nodes = record {
-        weighs = λ w. omega (
-          arith,
-          wait.nodes w,
-          stay.nodes w,
-          wide.nodes w,
-          node.nodes w,
-          is.nodes.weighs w,
-          nodes-total w g,
-          nodes-total w new,
-          sum_by_push (λ (p : TaskParts). w p.node) g.tasks parts,
-          sum-one w parts.node,
-        );
-      };
-      spans = record {
-        weighs = λ w. omega (
-          arith,
-          wait.spans w,
-          stay.spans w,
-          wide.spans w,
-          node.spans w,
-          is.spans.weighs w,
-          spans-total w g,
-          spans-total w new,
-          flat_sum-push w (task_spans g.hub g.rows.limits.churn (target_of g)) g.rows.tasks g.tasks task parts is.tasks,
-          sum_by-cons w s1 (s2 ∷ s4 ∷ []),
-          sum_by-cons w s2 (s4 ∷ []),
-          sum-one w s4,
-          sum-one w s3,
-          sum-one w s2,
-          sum-one w s1,
-          ap w same,
-        );
-      };
+    let to_wide = edit-then g.net n1 n2 (parts.node ∷ []) [] (s1 ∷ []) node wide in
+    let to_stay = edit-then g.net n2 n3 (parts.node ∷ []) (s1 ∷ []) (s2 ∷ []) to_wide stay in
+    let to_wait = edit-then g.net n3 n4 (parts.node ∷ []) (s1 ∷ s2 ∷ []) (s3 ∷ []) to_stay wait in
+    let whole : IsEdit g.net n4 [] (parts.node ∷ []) [] (s1 ∷ s2 ∷ s4 ∷ []) =
+    subst (λ (s : Span). IsEdit g.net n4 [] (parts.node ∷ []) [] (s1 ∷ s2 ∷ s ∷ [])) same to_wait in
+    grown g new parts.node (s1 ∷ s2 ∷ s4 ∷ []) is whole
+    (λ w. omega (
+      arith,
+      nodes-total w g,
+      nodes-total w new,
+      sum_by_push (λ (p : TaskParts). w p.node) g.tasks parts,
+    ))
+    (λ w. omega (
+      arith,
+      spans-total w g,
+      spans-total w new,
+      flat_sum-push w (task_spans g.hub g.rows.limits.churn (target_of g)) g.rows.tasks g.tasks task parts is.tasks,
+    ))
+    refl (omega arith) refl room
+    (record {
       slots = is.slots;
       machines = is.machines;
       jobs = is.jobs;
       tasks = omega (arith, is.tasks, length-append g.tasks (parts ∷ []), length-append g.rows.tasks (task ∷ []));
-      node_room = wait.node_room ∙ stay.node_room ∙ wide.node_room ∙ node.node_room ∙ is.node_room;
-      arc_room = wait.arc_room ∙ stay.arc_room ∙ wide.arc_room ∙ node.arc_room ∙ is.arc_room;
-      added = omega (arith, wait.added, stay.added, wide.added, node.added, is.added);
-      asked = omega (arith, room);
-    }
+    })
 
 -- the graph with a machine added last
 abbrev pub machine_added : Graph → Net → MachineParts → List ℕ → ℕ → Graph
@@ -315,39 +253,27 @@ machine-added g n1 n2 n3 parts name slots is sound node through rest slots_is fe
     let later : List Span = slot_spans parts.node g.sink g.rows.limits.spread 0 parts.slots in
     let counted : length later ≡ length parts.slots = slots-count parts.node g.sink g.rows.limits.spread 0 parts.slots
     in
-    record {
-      net = rest.net;
-      nodes = record {
-        weighs = λ w. omega (
-          arith,
-          rest.nodes w,
-          through.nodes w,
-          node.nodes w,
-          is.nodes.weighs w,
-          nodes-total w g,
-          nodes-total w new,
-          sum_by_push (λ (p : MachineParts). w p.node) g.machines parts,
-          sum-one w parts.node,
-        );
-      };
-      spans = record {
-        weighs = λ w. omega (
-          arith,
-          rest.spans w,
-          through.spans w,
-          node.spans w,
-          is.spans.weighs w,
-          spans-total w g,
-          spans-total w new,
-          flat_sum-push w (machine_spans g.hub g.sink g.rows.limits.spread) g.rows.machines g.machines machine parts
-              is.machines,
-          sum_by-cons w s1 later,
-          sum-one w s1,
-          tasks-same w g (target_of new) (target_of g)
-              (λ k d below. machine-target g n3 parts name slots (slice_index_or g.rows.tasks k d) is.machines
-              (sound.machines_there k d below)),
-        );
-      };
+    let to_through = edit-then g.net n1 n2 (parts.node ∷ []) [] (s1 ∷ []) node through in
+    let whole = edit-then g.net n2 n3 (parts.node ∷ []) (s1 ∷ []) later to_through rest in
+    grown g new parts.node (s1 ∷ later) is whole
+    (λ w. omega (
+      arith,
+      nodes-total w g,
+      nodes-total w new,
+      sum_by_push (λ (p : MachineParts). w p.node) g.machines parts,
+    ))
+    (λ w. omega (
+      arith,
+      spans-total w g,
+      spans-total w new,
+      flat_sum-push w (machine_spans g.hub g.sink g.rows.limits.spread) g.rows.machines g.machines machine parts
+          is.machines,
+      tasks-same w g (target_of new) (target_of g)
+          (λ k d below. machine-target g n3 parts name slots (slice_index_or g.rows.tasks k d) is.machines
+          (sound.machines_there k d below)),
+    ))
+    refl (omega (arith, counted, slots_is, few)) refl room
+    (record {
       slots = AllZip-push (λ (m : Machine) (p : MachineParts). length p.slots ≡ m.slots) g.rows.machines g.machines
           machine parts is.slots slots_is;
       machines = omega (
@@ -359,30 +285,28 @@ machine-added g n1 n2 n3 parts name slots is sound node through rest slots_is fe
       );
       jobs = is.jobs;
       tasks = is.tasks;
-      node_room = rest.node_room ∙ through.node_room ∙ node.node_room ∙ is.node_room;
-      arc_room = rest.arc_room ∙ through.arc_room ∙ node.arc_room ∙ is.arc_room;
-      added = omega (arith, rest.added, through.added, node.added, is.added, counted, slots_is, few);
-      asked = omega (arith, room);
-    }
+    })
 
 -- a net that has nothing
 none-held : {X : Type 0} (f : Id × X → ℕ) (p n : ℕ) → sum_by f (entries_from {X = X} p (replicate n None)) ≡ 0
 none-held f p zero = refl
 none-held f p (suc n) = none-held f (p + 1) n
 
-pub opened : (n0 n1 n2 : Net) (hub sink : NodeId) (limits : TenantLimits) → n0 ≡ empty_net limits.nodes limits.arcs
-    → IsEdit n0 n1 [] (hub ∷ []) [] [] → IsEdit n1 n2 [] (sink ∷ []) [] []
-    → Mirrors (record {
+abbrev pub opened_graph : Net → NodeId → NodeId → TenantLimits → Graph
+opened_graph net hub sink limits =
+    record {
       rows = opening_rows limits;
-      net = n2;
+      net = net;
       hub = hub;
       sink = sink;
       machines = [];
       jobs = [];
-      tasks =
-          [];
+      tasks = [];
       asked = 0;
-    })
+    }
+
+pub opened : (n0 n1 n2 : Net) (hub sink : NodeId) (limits : TenantLimits) → n0 ≡ empty_net limits.nodes limits.arcs
+    → IsEdit n0 n1 [] (hub ∷ []) [] [] → IsEdit n1 n2 [] (sink ∷ []) [] [] → Mirrors (opened_graph n2 hub sink limits)
 opened n0 n1 n2 hub sink limits empty first second =
     record {
       net = second.net;
@@ -420,103 +344,6 @@ opened n0 n1 n2 hub sink limits empty first second =
       added = omega (arith, second.added, first.added, ap added_of empty);
       asked = omega arith;
     }
-
--- graphs whose rows and parts are said by equations
-pub open-said : (net : Net) (hub sink : NodeId) (limits : TenantLimits) (rows : TenantRows)
-    (machines : List MachineParts) (jobs : List JobParts) (tasks : List TaskParts)
-    → rows ≡ opening_rows limits → machines ≡ [] → jobs ≡ [] → tasks ≡ []
-    → Mirrors (record {
-      rows = opening_rows limits;
-      net = net;
-      hub = hub;
-      sink = sink;
-      machines = [];
-      jobs = [];
-      tasks
-          = [];
-      asked = 0;
-    })
-    → Mirrors (record {
-      rows = rows;
-      net = net;
-      hub = hub;
-      sink = sink;
-      machines = machines;
-      jobs = jobs;
-      tasks =
-          tasks;
-      asked = 0;
-    })
-open-said net hub sink limits rows machines jobs tasks a b c d is =
-    let P : TenantRows → List MachineParts → List JobParts → List TaskParts → Type 0 =
-    λ (r : TenantRows) (m : List MachineParts) (j : List JobParts) (t : List TaskParts). Mirrors
-    (record { rows = r; net = net; hub = hub; sink = sink; machines = m; jobs = j; tasks = t; asked = 0 }) in
-    subst (λ (r : TenantRows). P r machines jobs tasks) (sym a)
-    (subst (λ (m : List MachineParts). P (opening_rows limits) m jobs tasks) (sym b)
-    (subst (λ (j : List JobParts). P (opening_rows limits) [] j tasks) (sym c)
-    (subst (λ (t : List TaskParts). P (opening_rows limits) [] [] t) (sym d) is)))
-
-pub task-said : (g : Graph) (net : Net) (parts : TaskParts) (job name : List ℕ) (rows : TenantRows)
-    (tasks : List TaskParts)
-    → rows ≡ with_task g.rows job name → tasks ≡ g.tasks ++ parts ∷ [] → Mirrors (task_added g net parts job name)
-    → Mirrors (record {
-      rows = rows;
-      net = net;
-      hub = g.hub;
-      sink = g.sink;
-      machines = g.machines;
-      jobs = g.jobs;
-      tasks
-          = tasks;
-      asked = g.asked + 1;
-    })
-task-said g net parts job name rows tasks e f is =
-    let P : TenantRows → List TaskParts → Type 0 =
-    λ (r : TenantRows) (l : List TaskParts). Mirrors
-    (record {
-      rows = r;
-      net = net;
-      hub = g.hub;
-      sink = g.sink;
-      machines = g.machines;
-      jobs = g.jobs;
-      tasks = l;
-      asked = g.asked + 1;
-    }) in
-    subst (λ (r : TenantRows). P r tasks) (sym e)
-    (subst (λ (l : List TaskParts). P (with_task g.rows job name) l) (sym f) is)
-
-pub machine-said : (g : Graph) (net : Net) (parts : MachineParts) (name : List ℕ) (slots : ℕ) (rows : TenantRows)
-    (machines : List MachineParts)
-    → rows ≡ with_machine g.rows name slots → machines ≡ g.machines ++ parts ∷ []
-    → Mirrors (machine_added g net parts name slots)
-    → Mirrors (record {
-      rows = rows;
-      net = net;
-      hub = g.hub;
-      sink = g.sink;
-      machines = machines;
-      jobs = g.jobs;
-      tasks =
-          g.tasks;
-      asked = g.asked + 1;
-    })
-machine-said g net parts name slots rows machines e f is =
-    let P : TenantRows → List MachineParts → Type 0 =
-    λ (r : TenantRows) (l : List MachineParts). Mirrors
-    (record {
-      rows = r;
-      net = net;
-      hub = g.hub;
-      sink = g.sink;
-      machines = l;
-      jobs = g.jobs;
-      tasks = g.tasks;
-      asked
-          = g.asked + 1;
-    }) in
-    subst (λ (r : TenantRows). P r machines) (sym e)
-    (subst (λ (l : List MachineParts). P (with_machine g.rows name slots) l) (sym f) is)
 
 -- the owner of a job's tasks, and its weight, as the code reads them
 pub owner-read : (g : Graph) (name : List ℕ) (place : ℕ) → position (bytes_eq name) (job_names g.rows) ≡ Some place

@@ -15,7 +15,7 @@ use Rattle.firm_net.specs.declared.row.NodeId.{NodeId}
 use Rattle.firm_net.specs.declared.row.ArcId.{ArcId}
 use Rattle.firm_net.specs.declared.links.Side.{Side}
 use Rattle.firm_net.specs.declared.links.Side.TheVariants.{Out, In}
-use Rattle.firm_rules.specs.Book.{TenantRows, machine_names, job_names}
+use Rattle.firm_rules.specs.Book.{machine_names, job_names}
 use Rattle.firm_graph.specs.Steps.{task_gone, no_task}
 use Rattle.firm_rules.specs.declared.parts.Machine.{Machine}
 use Rattle.firm_rules.specs.declared.parts.Job.{Job}
@@ -30,6 +30,7 @@ use Rattle.firm_graph.proofs.Entries.{sum-slot}
 use Rattle.firm_arena.specs.Sums.{sum-without}
 use Rattle.firm_graph.proofs.NetEdits.{nodes-sum, spans-sum, span_weight, sum-map, arc-below}
 use Rattle.firm_graph.proofs.Found.{Contains-skip, node-there, span-there, HasRow, ones, same_id, same_id-true, same_id-refl}
+use Rattle.firm_graph.proofs.Said.{shrunk}
 use Rattle.firm_graph.proofs.Totals.{nodes-total, spans-total, sum-one}
 
 pub holds-start : (g : Graph) → Mirrors g → (ss : List Span) → AsOften (graph_spans g) ss
@@ -437,28 +438,13 @@ pub task-dropped : (g : Graph) (before after : Net) (place : ℕ) (parts : TaskP
     → Mirrors (task_dropped g after place)
 task-dropped g before after place parts is below at h edit =
     let here : place < length g.rows.tasks = omega (arith, below, is.tasks) in
-    record {
-      net = edit.net;
-      nodes = record {
-        weighs = λ w. omega (
-          arith,
-          edit.nodes w,
-          sum-one w parts.node,
-          h.nodes.weighs w,
-          task-nodes g
-              after place parts below at w,
-        );
-      };
-      spans = record { weighs = λ w. omega (arith, edit.spans w, h.spans.weighs w) };
+    shrunk g (task_dropped g after place) before parts.node is h edit (task-nodes g after place parts below at) refl refl
+    (record {
       slots = is.slots;
       machines = is.machines;
       jobs = is.jobs;
       tasks = omega (arith, is.tasks, length-remove g.tasks place below, length-remove g.rows.tasks place here);
-      node_room = edit.node_room ∙ h.node_room ∙ is.node_room;
-      arc_room = edit.arc_room ∙ h.arc_room ∙ is.arc_room;
-      added = omega (arith, edit.added, h.added, is.added);
-      asked = is.asked;
-    }
+    })
 
 Contains-place : {X : Type 0} (xs : List X) (i : ℕ) (x : X) → i < length xs → x ≡ get_or xs i x → Contains xs x
 Contains-place xs i x below at = (i, below, sym at)
@@ -496,35 +482,6 @@ pub task-free : (g : Graph) (now : Net) (place : ℕ) (parts : TaskParts) → pl
 task-free g now place parts below at h =
     free g.net now parts.node (graph_nodes g) (task_dropped g g.net place) h (task-nodes g g.net place parts below at)
     (task-listed g place parts below at)
-
-pub task-said : (g : Graph) (net : Net) (place : ℕ) (rows : TenantRows) (tasks : List TaskParts)
-    → rows ≡ task_gone g.rows place → tasks ≡ remove g.tasks place → Mirrors (task_dropped g net place)
-    → Mirrors (record {
-      rows = rows;
-      net = net;
-      hub = g.hub;
-      sink = g.sink;
-      machines = g.machines;
-      jobs = g.jobs;
-      tasks
-          = tasks;
-      asked = g.asked;
-    })
-task-said g net place rows tasks e f is =
-    let P : TenantRows → List TaskParts → Type 0 =
-    λ (r : TenantRows) (l : List TaskParts). Mirrors
-    (record {
-      rows = r;
-      net = net;
-      hub = g.hub;
-      sink = g.sink;
-      machines = g.machines;
-      jobs = g.jobs;
-      tasks = l;
-      asked = g.asked;
-    }) in
-    subst (λ (r : TenantRows). P r tasks) (sym e)
-    (subst (λ (l : List TaskParts). P (task_gone g.rows place) l) (sym f) is)
 
 -- a step of the loop that removes the arcs of slots
 pub slots-step : (base old new : Net) (ns : List NodeId) (ss : List Span) (node sink : NodeId) (spread i : ℕ)

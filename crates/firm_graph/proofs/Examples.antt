@@ -1,7 +1,6 @@
 -- The network of a worked tenant, computed.
-use Rattle.std.proofs.Common.{◌≡◌, ℕ, Option, Some, None, List, [], ◌∷◌, ◌++◌, drop, refl, codes}
+use Rattle.std.proofs.Common.{◌≡◌, ℕ, Option, Some, None, List, [], ◌∷◌, drop, refl, codes}
 use Rattle.firm_paths.specs.Network.{Arc}
-use Rattle.firm_rules.specs.Limits.{TenantLimits}
 use Rattle.firm_rules.specs.Book.{TenantRows}
 use Rattle.firm_rules.specs.Round.{case_of}
 use Rattle.firm_rules.specs.declared.parts.Task.{Task}

@@ -1,5 +1,5 @@
 -- What a graph is once a job was removed from it.
-use Rattle.std.proofs.Common.{◌≡◌, ℕ, zero, suc, ◌+◌, ◌<◌, false, cond, Some, List, [], ◌∷◌, ◌++◌, map, length, get_or, bytes_eq, arith, sym, ap, ap₂, ◌∙◌, subst}
+use Rattle.std.proofs.Common.{◌≡◌, ℕ, zero, suc, ◌+◌, ◌<◌, false, cond, Some, List, [], ◌∷◌, ◌++◌, map, length, get_or, bytes_eq, arith, sym, ap, ap₂, ◌∙◌, refl}
 use Rattle.std.specs.List.{sum_by, All, Contains, remove, position}
 use Rattle.std.specs.Prelude.{slice_index_or}
 use Rattle.std.proofs.lemmas.Bool.{cond-false}
@@ -10,7 +10,7 @@ use Rattle.indexmap.proofs.SetLemmas.{map-remove}
 use Rattle.firm_net.specs.Row.{Row}
 use Rattle.firm_net.specs.Net.{Net, row_at}
 use Rattle.firm_net.specs.declared.row.NodeId.{NodeId}
-use Rattle.firm_rules.specs.Book.{TenantRows, machine_names, job_names}
+use Rattle.firm_rules.specs.Book.{machine_names, job_names}
 use Rattle.firm_graph.specs.Steps.{job_gone}
 use Rattle.firm_rules.specs.declared.parts.Job.{Job}
 use Rattle.firm_rules.specs.declared.parts.Task.{Task}
@@ -19,6 +19,7 @@ use Rattle.firm_graph.specs.Steps.{Holds}
 use Rattle.firm_graph.specs.declared.parts.JobParts.{JobParts}
 use Rattle.firm_graph.specs.Graph.{Graph, Mirrors, job_spans, Target, target_of, home_node, node_under, weight_under, graph_nodes, graph_spans, machine_nodes, job_nodes, task_nodes}
 use Rattle.firm_graph.proofs.Found.{Contains-skip, Contains-front}
+use Rattle.firm_graph.proofs.Said.{shrunk}
 use Rattle.firm_graph.proofs.Totals.{nodes-total, spans-total, tasks-same, sum-one}
 use Rattle.firm_graph.proofs.Drops.{holds-start, holds-unlinked, flat_sum-remove, free, IsFree}
 use Rattle.firm_graph.proofs.Machines.{node_under-remove, name-at}
@@ -137,46 +138,10 @@ module _ (g : Graph) (net : Net) (place : ℕ) (name : List ℕ) (parts : JobPar
       → Mirrors (job_dropped g net place)
   job-dropped before h edit =
       let here : place < length g.rows.jobs = omega (arith, below, is.jobs) in
-      record {
-        net = edit.net;
-        nodes = record {
-          weighs = λ w. omega (arith, edit.nodes w, sum-one w parts.node, h.nodes.weighs w, job-nodes w);
-        };
-        spans = record { weighs = λ w. omega (arith, edit.spans w, h.spans.weighs w) };
+      shrunk g (job_dropped g net place) before parts.node is h edit job-nodes refl refl
+      (record {
         slots = is.slots;
         machines = is.machines;
         jobs = omega (arith, is.jobs, length-remove g.jobs place below, length-remove g.rows.jobs place here);
         tasks = is.tasks;
-        node_room = edit.node_room ∙ h.node_room ∙ is.node_room;
-        arc_room = edit.arc_room ∙ h.arc_room ∙ is.arc_room;
-        added = omega (arith, edit.added, h.added, is.added);
-        asked = is.asked;
-      }
-
-pub job-gone : (g : Graph) (net : Net) (place : ℕ) (rows : TenantRows) (jobs : List JobParts)
-    → rows ≡ job_gone g.rows place → jobs ≡ remove g.jobs place → Mirrors (job_dropped g net place)
-    → Mirrors (record {
-      rows = rows;
-      net = net;
-      hub = g.hub;
-      sink = g.sink;
-      machines = g.machines;
-      jobs = jobs;
-      tasks =
-          g.tasks;
-      asked = g.asked;
-    })
-job-gone g net place rows jobs e f is =
-    let P : TenantRows → List JobParts → Type 0 =
-    λ (r : TenantRows) (l : List JobParts). Mirrors
-    (record {
-      rows = r;
-      net = net;
-      hub = g.hub;
-      sink = g.sink;
-      machines = g.machines;
-      jobs = l;
-      tasks = g.tasks;
-      asked = g.asked;
-    }) in
-    subst (λ (r : TenantRows). P r jobs) (sym e) (subst (λ (l : List JobParts). P (job_gone g.rows place) l) (sym f) is)
+      })

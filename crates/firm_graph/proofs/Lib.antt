@@ -2,6 +2,7 @@ pub mod Entries
 pub mod NetEdits
 pub mod Found
 pub mod Totals
+pub mod Said
 pub mod Lookups
 pub mod Additions
 pub mod Drops

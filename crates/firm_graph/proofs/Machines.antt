@@ -1,5 +1,5 @@
 -- What a graph is once a machine was removed from it.
-use Rattle.std.proofs.Common.{◌≡◌, ℕ, zero, suc, ◌+◌, ◌<◌, Bool, true, false, true≢false, cond, ◌||◌, ⊎_elim, Option, Some, None, List, [], ◌∷◌, ◌++◌, map, length, get_or, bytes_eq, arith, refl, sym, ap, ap₂, ◌∙◌, subst}
+use Rattle.std.proofs.Common.{◌≡◌, ℕ, zero, suc, ◌+◌, ◌<◌, Bool, true, false, true≢false, cond, ◌||◌, ⊎_elim, Option, Some, None, List, [], ◌∷◌, ◌++◌, map, length, get_or, bytes_eq, arith, refl, sym, ap, ap₂, ◌∙◌}
 use Rattle.std.specs.List.{sum_by, All, AllZip, Contains, remove, position, position_or_len, list_any}
 use Rattle.std.specs.Prelude.{slice_index_or}
 use Rattle.std.proofs.lemmas.Bool.{cases_Bool, cond-false}
@@ -11,7 +11,7 @@ use Rattle.indexmap.proofs.SetLemmas.{map-remove}
 use Rattle.firm_net.specs.Row.{Row}
 use Rattle.firm_net.specs.Net.{Net, row_at}
 use Rattle.firm_net.specs.declared.row.NodeId.{NodeId}
-use Rattle.firm_rules.specs.Book.{TenantRows, machine_names, job_names, is_on}
+use Rattle.firm_rules.specs.Book.{machine_names, job_names, is_on}
 use Rattle.firm_graph.specs.Steps.{machine_gone}
 use Rattle.firm_rules.specs.Names.{is_among}
 use Rattle.firm_rules.specs.declared.parts.Machine.{Machine}
@@ -21,7 +21,8 @@ use Rattle.firm_graph.specs.Steps.{Holds}
 use Rattle.firm_graph.specs.Parts.{MachineParts}
 use Rattle.firm_graph.specs.Graph.{Graph, Mirrors, machine_spans, slot_spans, Target, target_of, home_node, node_under, weight_under, graph_nodes, graph_spans, machine_nodes, job_nodes, task_nodes}
 use Rattle.firm_graph.proofs.Found.{Contains-skip, Contains-front}
-use Rattle.firm_graph.proofs.Totals.{nodes-total, spans-total, tasks-same, sum-one}
+use Rattle.firm_graph.proofs.Said.{shrunk}
+use Rattle.firm_graph.proofs.Totals.{nodes-total, spans-total, tasks-same}
 use Rattle.firm_graph.proofs.Lookups.{position-is}
 use Rattle.firm_graph.proofs.Drops.{holds-start, holds-unlinked, flat_sum-remove, free, IsFree}
 
@@ -203,18 +204,8 @@ module _ (g : Graph) (net : Net) (place : ℕ) (name : List ℕ) (parts : Machin
       → Mirrors (machine_dropped g net place)
   machine-dropped before h edit =
       let here : place < length g.rows.machines = omega (arith, below, is.machines) in
-      record {
-        net = edit.net;
-        nodes = record {
-          weighs = λ w. omega (
-            arith,
-            edit.nodes w,
-            sum-one w parts.node,
-            h.nodes.weighs w,
-            machine-nodes w,
-          );
-        };
-        spans = record { weighs = λ w. omega (arith, edit.spans w, h.spans.weighs w) };
+      shrunk g (machine_dropped g net place) before parts.node is h edit machine-nodes refl refl
+      (record {
         slots = AllZip-remove (λ (m : Machine) (p : MachineParts). length p.slots ≡ m.slots) g.rows.machines g.machines
             place is.slots;
         machines = omega (
@@ -226,11 +217,7 @@ module _ (g : Graph) (net : Net) (place : ℕ) (name : List ℕ) (parts : Machin
         );
         jobs = is.jobs;
         tasks = is.tasks;
-        node_room = edit.node_room ∙ h.node_room ∙ is.node_room;
-        arc_room = edit.arc_room ∙ h.arc_room ∙ is.arc_room;
-        added = omega (arith, edit.added, h.added, is.added);
-        asked = is.asked;
-      }
+      })
 
   pub machine-unlinked : (n1 n2 : Net)
       → ((row : Row) → row_at g.net parts.through ≡ Some row → IsEdit g.net n1 [] [] (span_of parts.through row ∷ [])
@@ -261,33 +248,3 @@ module _ (g : Graph) (net : Net) (place : ℕ) (name : List ℕ) (parts : Machin
         arc_room = second.arc_room ∙ first.arc_room;
         added = omega (arith, second.added, first.added);
       }
-
-pub machine-said : (g : Graph) (net : Net) (place : ℕ) (rows : TenantRows) (machines : List MachineParts)
-    → rows ≡ machine_gone g.rows place → machines ≡ remove g.machines place → Mirrors (machine_dropped g net place)
-    → Mirrors (record {
-      rows = rows;
-      net = net;
-      hub = g.hub;
-      sink = g.sink;
-      machines = machines;
-      jobs = g.jobs;
-      tasks =
-          g.tasks;
-      asked = g.asked;
-    })
-machine-said g net place rows machines e f is =
-    let P : TenantRows → List MachineParts → Type 0 =
-    λ (r : TenantRows) (l : List MachineParts). Mirrors
-    (record {
-      rows = r;
-      net = net;
-      hub = g.hub;
-      sink = g.sink;
-      machines = l;
-      jobs = g.jobs;
-      tasks = g.tasks;
-      asked
-          = g.asked;
-    }) in
-    subst (λ (r : TenantRows). P r machines) (sym e)
-    (subst (λ (l : List MachineParts). P (machine_gone g.rows place) l) (sym f) is)

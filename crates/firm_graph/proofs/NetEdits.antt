@@ -1,7 +1,7 @@
 -- What the calls of a net take away and bring.
 use Rattle.std.proofs.Common.{◌≡◌, ℕ, suc, ◌*◌, ◌++◌, length-append, ◌+◌, ◌<◌, Some, List, [], ◌∷◌, map, length, arith, refl, sym, ap, ◌∙◌}
 use Rattle.std.specs.List.{sum_by}
-use Rattle.std.proofs.lemmas.List.Sums.{sum_by_push, sum_by-cons}
+use Rattle.std.proofs.lemmas.List.Sums.{sum_by-append, sum_by-cons}
 use Rattle.firm_arena.specs.Arena.{entries, capacity_of}
 use Rattle.firm_arena.specs.declared.Id.{Id}
 use Rattle.firm_net.specs.Row.{Row}
@@ -32,25 +32,22 @@ nodes-sum w net = sum-map w (λ (e : Id × Lists). let n : NodeId = record { id 
 pub spans-sum : (w : Span → ℕ) (net : Net) → sum_by w (spans_of net) ≡ sum_by (span_weight w) (entries net.arcs)
 spans-sum w net = sum-map w (λ (e : Id × Row). span_of (record { id = e.0 }) e.1) (entries net.arcs)
 
-one : {X : Type 0} (w : X → ℕ) (x : X) → sum_by w (x ∷ []) ≡ w x
-one w x = sum_by-cons w x [] ∙ (let e : w x + 0 ≡ w x = omega arith in e)
-
 -- an arc that is there lies at its place
 pub arc-below : (net : Net) (a : ArcId) (row : Row) → row_at net a ≡ Some row → a.id.place < capacity_of net.arcs
 arc-below net a row there = found_within net.arcs a.id (some-is (row_at net a) row there)
 
--- one arc more after an edit that brings arcs
-pub edit-more : (a b c : Net) (ss : List Span) (s : Span) → IsEdit a b [] [] [] ss → IsEdit b c [] [] [] (s ∷ [])
-    → IsEdit a c [] [] [] (ss ++ s ∷ [])
-edit-more a b c ss s before more =
+-- one edit after another
+pub edit-then : (a b c : Net) (ns : List NodeId) (ss ts : List Span) → IsEdit a b [] ns [] ss → IsEdit b c [] [] [] ts
+    → IsEdit a c [] ns [] (ss ++ ts)
+edit-then a b c ns ss ts before more =
     record {
       nodes = λ w. omega (arith, before.nodes w, more.nodes w);
-      spans = λ w. omega (arith, before.spans w, more.spans w, one w s, sum_by_push w ss s);
+      spans = λ w. omega (arith, before.spans w, more.spans w, sum_by-append w ss ts);
       counted_nodes = omega (arith, before.counted_nodes, more.counted_nodes);
-      counted_arcs = omega (arith, before.counted_arcs, more.counted_arcs, length-append ss (s ∷ []));
+      counted_arcs = omega (arith, before.counted_arcs, more.counted_arcs, length-append ss ts);
       node_room = more.node_room ∙ before.node_room;
       arc_room = more.arc_room ∙ before.arc_room;
-      added = omega (arith, before.added, more.added, length-append ss (s ∷ []));
+      added = omega (arith, before.added, more.added, length-append ss ts);
       net = more.net;
     }
 

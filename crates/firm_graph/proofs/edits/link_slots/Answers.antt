@@ -3,7 +3,7 @@ use Rattle.firm_net.specs.declared.row.ArcId.{ArcId}
 use Rattle.firm_net.specs.Edits.{IsEdit, Span}
 use Rattle.firm_graph.specs.Graph.{slot_spans}
 use Rattle.firm_graph.proofs.Totals.{slots-count}
-use Rattle.firm_graph.proofs.NetEdits.{edit-more, slots-push}
+use Rattle.firm_graph.proofs.NetEdits.{edit-then, slots-push}
 use Rattle.firm_graph.proofs.edits.link_slots.Goals as goal
 
 pub link-arc-requires-clause-room : goal.link-arc-requires-clause-room
@@ -46,8 +46,8 @@ loop-k-preserved c =
     (let e : 0 + length c.loop-k.slots.items ≡ c.loop-k.k = omega (arith, c.loop-k.invariant.so_far) in e) in
     record {
       edit = subst (λ (l : List Span). IsEdit c.args.net.now c.link-arc.new.net [] [] [] l) (sym spans)
-          (edit-more c.args.net.now c.loop-k.net c.link-arc.new.net
-          (slot_spans c.args.node c.args.sink c.args.spread 0 c.loop-k.slots.items) (span c.loop-k.k)
+          (edit-then c.args.net.now c.loop-k.net c.link-arc.new.net []
+          (slot_spans c.args.node c.args.sink c.args.spread 0 c.loop-k.slots.items) (span c.loop-k.k ∷ [])
           c.loop-k.invariant.edit c.link-arc.ensures.edit);
       so_far = omega (
         arith,

@@ -1,11 +1,12 @@
-use Rattle.std.proofs.Common.{◌≡◌, ◌+◌, ℕ, arith, ap, subst, ◌∙◌, List, ◌++◌, ◌∷◌, []}
+use Rattle.std.proofs.Common.{◌≡◌, ◌+◌, ℕ, arith, ap, subst, ◌∙◌, List, ◌++◌, ◌∷◌, [], refl}
 use Rattle.firm_graph.specs.Graph.{Graph, Mirrors}
 use Rattle.firm_rules.specs.Limits.{TenantLimits}
 use Rattle.firm_net.specs.Edits.{IsEdit}
 use Rattle.firm_graph.specs.Inside.{graph_of}
 use Rattle.firm_graph.specs.declared.parts.JobParts.{JobParts}
 use Rattle.firm_graph.proofs.Found.{sink-there, fresh-other}
-use Rattle.firm_graph.proofs.Additions.{job-added, job-said, room-left}
+use Rattle.firm_graph.proofs.Additions.{job-added, job_added, room-left}
+use Rattle.firm_graph.proofs.Said.{said}
 use Rattle.firm_graph.proofs.graph.Graph.add_job.Goals as goal
 
 pub put_node-node-requires-clause-room : goal.put_node-node-requires-clause-room
@@ -56,9 +57,9 @@ kept c =
     c.limits-limits.ensures.limits in
     let P : ℕ → Type 0 = λ (cap : ℕ). IsEdit c.put_node-node.new.net c.link-exit.new.net [] [] []
     (record { arc = parts.exit; tail = parts.node; head = g.sink; cap = cap; cost = 0 } ∷ []) in
-    job-said g c.link-exit.new.net parts c.args.name c.args.weight c.grow_jobs.new.rows c.push_reserved.new.list.items
-    c.in-Ok.ensures.ok
-    (c.push_reserved.ensures.items ∙ ap (λ (l : List JobParts). l ++ parts ∷ []) c.grow_jobs.ensures.parts)
+    said (job_added g c.link-exit.new.net parts c.args.name c.args.weight) c.grow_jobs.new.rows g.machines
+    c.push_reserved.new.list.items g.tasks c.in-Ok.ensures.ok refl
+    (c.push_reserved.ensures.items ∙ ap (λ (l : List JobParts). l ++ parts ∷ []) c.grow_jobs.ensures.parts) refl
     (job-added g c.put_node-node.new.net c.link-exit.new.net parts c.args.name c.args.weight
     c.self.invariant.graph.mirrors c.self.invariant.graph.sound
     c.put_node-node.ensures.edit (subst P limit c.link-exit.ensures.edit)

@@ -1,11 +1,12 @@
-use Rattle.std.proofs.Common.{◌≡◌, ◌+◌, ℕ, arith, ap, subst, sym, ◌∙◌, List, ◌++◌, ◌∷◌, []}
+use Rattle.std.proofs.Common.{◌≡◌, ◌+◌, ℕ, arith, ap, subst, sym, ◌∙◌, List, ◌++◌, ◌∷◌, [], refl}
 use Rattle.firm_rules.specs.Limits.{TenantLimits}
 use Rattle.firm_net.specs.Edits.{IsEdit}
 use Rattle.firm_graph.specs.Graph.{Graph, Mirrors, slot_spans}
 use Rattle.firm_graph.specs.Inside.{graph_of}
 use Rattle.firm_graph.specs.Parts.{MachineParts}
 use Rattle.firm_graph.proofs.Found.{hub-there, sink-there, fresh-other}
-use Rattle.firm_graph.proofs.Additions.{machine-added, machine-said, room-left}
+use Rattle.firm_graph.proofs.Additions.{machine-added, machine_added, room-left}
+use Rattle.firm_graph.proofs.Said.{said}
 use Rattle.firm_graph.proofs.graph.Graph.add_machine.Goals as goal
 
 pub put_node-node-requires-clause-room : goal.put_node-node-requires-clause-room
@@ -86,10 +87,9 @@ kept c =
     (record { arc = parts.through; tail = g.hub; head = parts.node; cap = cap; cost = 0 } ∷ []) in
     let Q : ℕ → Type 0 = λ (s : ℕ). IsEdit c.link-through.new.net c.link_slots.new.net [] [] []
     (slot_spans parts.node g.sink s 0 parts.slots) in
-    machine-said g c.link_slots.new.net parts c.args.name c.args.slots c.grow_machines.new.rows
-    c.push_reserved.new.list.items
-    c.in-Ok.ensures.ok
-    (c.push_reserved.ensures.items ∙ ap (λ (l : List MachineParts). l ++ parts ∷ []) c.grow_machines.ensures.parts)
+    said (machine_added g c.link_slots.new.net parts c.args.name c.args.slots) c.grow_machines.new.rows
+    c.push_reserved.new.list.items g.jobs g.tasks c.in-Ok.ensures.ok
+    (c.push_reserved.ensures.items ∙ ap (λ (l : List MachineParts). l ++ parts ∷ []) c.grow_machines.ensures.parts) refl refl
     (machine-added g c.put_node-node.new.net c.link-through.new.net c.link_slots.new.net parts c.args.name c.args.slots
     c.self.invariant.graph.mirrors c.self.invariant.graph.sound
     c.put_node-node.ensures.edit (subst P count c.link-through.ensures.edit) (subst Q spread c.link_slots.ensures.edit)

@@ -1,4 +1,4 @@
-use Rattle.std.proofs.Common.{◌+◌, map, arith, ap, sym, ◌∙◌, List, ◌++◌, ◌∷◌, []}
+use Rattle.std.proofs.Common.{◌+◌, map, arith, ap, sym, ◌∙◌, List, ◌++◌, ◌∷◌, [], refl}
 use Rattle.std.proofs.lemmas.List.{map-append}
 use Rattle.firm_net.specs.declared.row.NodeId.{NodeId}
 use Rattle.firm_graph.specs.Graph.{Graph, Mirrors}
@@ -6,7 +6,8 @@ use Rattle.firm_graph.specs.Inside.{graph_of}
 use Rattle.firm_graph.specs.declared.parts.TaskParts.{TaskParts}
 use Rattle.firm_graph.specs.declared.parts.JobParts.{JobParts}
 use Rattle.firm_graph.proofs.Found.{hub-there, fresh-other}
-use Rattle.firm_graph.proofs.Additions.{task-added, task-said, room-left, owner-read, weight-read, job-read}
+use Rattle.firm_graph.proofs.Additions.{task-added, task_added, room-left, owner-read, weight-read, job-read}
+use Rattle.firm_graph.proofs.Said.{said}
 use Rattle.firm_graph.proofs.graph.Graph.add_task.Goals as goal
 
 pub put_node-node-requires-clause-room : goal.put_node-node-requires-clause-room
@@ -106,8 +107,8 @@ kept c =
       arcs = record
           { wide = c.link-wide.result; stay = c.link-stay.result; wait = c.link-wait.result };
     } in
-    task-said g c.link-wait.new.net parts c.args.job c.args.name c.grow_tasks.new.rows c.push_reserved-2.new.list.items
-    c.in-Ok.ensures.ok
+    said (task_added g c.link-wait.new.net parts c.args.job c.args.name) c.grow_tasks.new.rows g.machines g.jobs
+    c.push_reserved-2.new.list.items c.in-Ok.ensures.ok refl refl
     (c.push_reserved-2.ensures.items ∙ ap (λ (l : List TaskParts). l ++ parts ∷ []) c.grow_tasks.ensures.parts)
     (task-added g c.put_node-node.new.net c.link-wide.new.net c.link-stay.new.net c.link-wait.new.net parts c.args.job
     c.args.name

@@ -1,19 +1,25 @@
-use Rattle.std.proofs.Common.{◌≡◌, ◌<◌, ℕ, Some, length, map, get_or, bytes_eq, arith, refl, ap, subst, sym, ◌∙◌, List, ◌++◌}
+use Rattle.std.proofs.Common.{◌≡◌, ◌<◌, ℕ, Some, length, map, get_or, bytes_eq, arith, refl, ap, subst, sym, ◌∙◌, List, [], ◌∷◌, ◌++◌}
 use Rattle.std.specs.List.{position}
-use Rattle.firm_net.specs.Net.{Net}
-use Rattle.firm_net.specs.Edits.{Span}
+use Rattle.firm_net.specs.Row.{Row}
+use Rattle.firm_net.specs.Net.{Net, row_at}
+use Rattle.firm_net.specs.Edits.{Span, IsEdit, span_of}
 use Rattle.firm_net.specs.declared.row.NodeId.{NodeId}
 use Rattle.firm_net.specs.declared.row.ArcId.{ArcId}
 use Rattle.firm_rules.specs.Book.{machine_names, without_machine, evicted}
 use Rattle.firm_graph.specs.Parts.{MachineParts}
+use Rattle.firm_graph.specs.declared.parts.MachineIds.TheInside.{Inside}
 use Rattle.firm_graph.specs.Graph.{Graph, Mirrors, graph_nodes, graph_spans, slot_spans}
 use Rattle.firm_graph.specs.Steps.{Holds, moved}
 use Rattle.firm_graph.specs.Inside.{graph_of}
 use Rattle.firm_graph.proofs.Drops.{IsFree}
 use Rattle.firm_graph.proofs.Firsts.{all-out}
-use Rattle.firm_graph.proofs.Machines.{machine-unlinked, machine-free, machine-dropped, machine-said, machine_dropped}
+use Rattle.firm_graph.proofs.Machines.{machine-unlinked, machine-free, machine-dropped, machine_dropped}
+use Rattle.firm_graph.proofs.Said.{said}
 use Rattle.firm_graph.proofs.Names.{machine-rows}
 use Rattle.firm_graph.proofs.graph.Graph.drop_machine.Goals as goal
+
+abbrev parts_of : Inside → MachineParts
+parts_of i = record { node = i.node; through = i.through; slots = i.slots.items }
 
 abbrev Left : Net → Net → List ArcId → Type 0
 Left old new slots =
@@ -30,71 +36,49 @@ record Emptied (g : Graph) (net after : Net) (place : ℕ) (name : List ℕ) (pa
       (graph_spans (machine_dropped (moved g (record g.rows { tasks = map (evicted name) g.rows.tasks }) net) net
       place))
 
-emptied : (c : goal.After-drop_node-arg-2-1)
-    → Emptied (graph_of c.self.inside) c.evict_tasks.new.net c.unlink_slots.new.net c.in-Some.place c.args.name
-    (record { node = c.parts.inside.node; through = c.parts.inside.through; slots = c.parts.inside.slots.items })
-emptied c =
-    let g : Graph = graph_of c.self.inside in
-    let place : ℕ = c.in-Some.place in
-    let net : Net = c.evict_tasks.new.net in
-    let now : Graph = moved g (record g.rows { tasks = map (evicted c.args.name) g.rows.tasks }) net in
-    let parts : MachineParts = record {
-      node = c.parts.inside.node;
-      through = c.parts.inside.through;
-      slots =
-          c.parts.inside.slots.items;
-    } in
-    let mirrors : Mirrors now = c.evict_tasks.ensures.evicted g c.self.invariant.graph.mirrors refl refl
-    (sym c.deref.ensures.value) refl in
-    let below : place < length g.machines = omega
-    (arith, c.in-Some.ensures.below, c.self.invariant.graph.mirrors.machines) in
-    let P : MachineParts → Type 0 = λ (p : MachineParts). p ≡ get_or g.machines place p in
-    let at : parts ≡ get_or g.machines place parts = subst P (sym c.parts.view_is) c.remove-parts.ensures.value in
-    let named : position (bytes_eq c.args.name) (machine_names g.rows) ≡ Some place = sym c.in-Some.ensures.place in
-    let left : Left c.unlink.new.net c.unlink_slots.new.net parts.slots =
-    subst (λ (l : List ArcId). Left c.unlink.new.net c.unlink_slots.new.net l) c.deref-2.ensures.value
-    c.unlink_slots.ensures.left in
+emptied : (g : Graph) (net between after : Net) (place : ℕ) (name : List ℕ) (parts : MachineParts)
+    → Mirrors (moved g (record g.rows { tasks = map (evicted name) g.rows.tasks }) net)
+    → place < length g.machines → parts ≡ get_or g.machines place parts
+    → Some place ≡ position (bytes_eq name) (machine_names g.rows)
+    → ((row : Row) → row_at net parts.through ≡ Some row
+    → IsEdit net between [] [] (span_of parts.through row ∷ []) [])
+    → Left between after parts.slots → Emptied g net after place name parts
+emptied g net between after place name parts mirrors below at named edit left =
+    let now : Graph = moved g (record g.rows { tasks = map (evicted name) g.rows.tasks }) net in
     record {
       mirrors = mirrors;
       below = below;
       at = at;
-      named = named;
-      held = machine-unlinked now net place c.args.name parts mirrors below at named (all-out c.args.name g.rows.tasks)
-          c.unlink.new.net c.unlink_slots.new.net c.unlink.ensures.edit left;
+      named = sym named;
+      held = machine-unlinked now net place name parts mirrors below at (sym named) (all-out name g.rows.tasks) between
+          after edit left;
     }
 
-emptied_end : (c : goal.After-drop-parts-inside)
+at_node : (c : goal.After-drop_node-arg-2-1)
     → Emptied (graph_of c.self.inside) c.evict_tasks.new.net c.unlink_slots.new.net c.in-Some.place c.args.name
-    (record { node = c.parts.inside.node; through = c.parts.inside.through; slots = c.parts.inside.slots.items })
-emptied_end c =
-    let g : Graph = graph_of c.self.inside in
-    let place : ℕ = c.in-Some.place in
-    let net : Net = c.evict_tasks.new.net in
-    let now : Graph = moved g (record g.rows { tasks = map (evicted c.args.name) g.rows.tasks }) net in
-    let parts : MachineParts = record {
-      node = c.parts.inside.node;
-      through = c.parts.inside.through;
-      slots =
-          c.parts.inside.slots.items;
-    } in
-    let mirrors : Mirrors now = c.evict_tasks.ensures.evicted g c.self.invariant.graph.mirrors refl refl
-    (sym c.deref.ensures.value) refl in
-    let below : place < length g.machines = omega
-    (arith, c.in-Some.ensures.below, c.self.invariant.graph.mirrors.machines) in
-    let P : MachineParts → Type 0 = λ (p : MachineParts). p ≡ get_or g.machines place p in
-    let at : parts ≡ get_or g.machines place parts = subst P (sym c.parts.view_is) c.remove-parts.ensures.value in
-    let named : position (bytes_eq c.args.name) (machine_names g.rows) ≡ Some place = sym c.in-Some.ensures.place in
-    let left : Left c.unlink.new.net c.unlink_slots.new.net parts.slots =
-    subst (λ (l : List ArcId). Left c.unlink.new.net c.unlink_slots.new.net l) c.deref-2.ensures.value
-    c.unlink_slots.ensures.left in
-    record {
-      mirrors = mirrors;
-      below = below;
-      at = at;
-      named = named;
-      held = machine-unlinked now net place c.args.name parts mirrors below at named (all-out c.args.name g.rows.tasks)
-          c.unlink.new.net c.unlink_slots.new.net c.unlink.ensures.edit left;
-    }
+    (parts_of c.parts.inside)
+at_node c =
+    let P : MachineParts → Type 0 = λ p. p ≡ get_or c.self.inside.machines.items c.in-Some.place p in
+    emptied (graph_of c.self.inside) c.evict_tasks.new.net c.unlink.new.net c.unlink_slots.new.net c.in-Some.place
+    c.args.name (parts_of c.parts.inside)
+    (c.evict_tasks.ensures.evicted (graph_of c.self.inside) c.self.invariant.graph.mirrors refl refl
+    (sym c.deref.ensures.value) refl)
+    (omega (arith, c.in-Some.ensures.below, c.self.invariant.graph.mirrors.machines))
+    (subst P (sym c.parts.view_is) c.remove-parts.ensures.value) c.in-Some.ensures.place c.unlink.ensures.edit
+    (subst (Left c.unlink.new.net c.unlink_slots.new.net) c.deref-2.ensures.value c.unlink_slots.ensures.left)
+
+at_end : (c : goal.After-drop-parts-inside)
+    → Emptied (graph_of c.self.inside) c.evict_tasks.new.net c.unlink_slots.new.net c.in-Some.place c.args.name
+    (parts_of c.parts.inside)
+at_end c =
+    let P : MachineParts → Type 0 = λ p. p ≡ get_or c.self.inside.machines.items c.in-Some.place p in
+    emptied (graph_of c.self.inside) c.evict_tasks.new.net c.unlink.new.net c.unlink_slots.new.net c.in-Some.place
+    c.args.name (parts_of c.parts.inside)
+    (c.evict_tasks.ensures.evicted (graph_of c.self.inside) c.self.invariant.graph.mirrors refl refl
+    (sym c.deref.ensures.value) refl)
+    (omega (arith, c.in-Some.ensures.below, c.self.invariant.graph.mirrors.machines))
+    (subst P (sym c.parts.view_is) c.remove-parts.ensures.value) c.in-Some.ensures.place c.unlink.ensures.edit
+    (subst (Left c.unlink.new.net c.unlink_slots.new.net) c.deref-2.ensures.value c.unlink_slots.ensures.left)
 
 free : (g : Graph) (net after : Net) (place : ℕ) (name : List ℕ) (parts : MachineParts)
     → Emptied g net after place name parts → IsFree after parts.node
@@ -103,13 +87,13 @@ free g net after place name parts e =
     e.mirrors e.below e.at e.named (all-out name g.rows.tasks) after e.held
 
 pub drop_node-requires-clause-there : goal.drop_node-requires-clause-there
-drop_node-requires-clause-there c = (free _ _ _ _ _ _ (emptied c)).there
+drop_node-requires-clause-there c = (free _ _ _ _ _ _ (at_node c)).there
 
 pub drop_node-requires-clause-out : goal.drop_node-requires-clause-out
-drop_node-requires-clause-out c = (free _ _ _ _ _ _ (emptied c)).out
+drop_node-requires-clause-out c = (free _ _ _ _ _ _ (at_node c)).out
 
 pub drop_node-requires-clause-into : goal.drop_node-requires-clause-into
-drop_node-requires-clause-into c = (free _ _ _ _ _ _ (emptied c)).into
+drop_node-requires-clause-into c = (free _ _ _ _ _ _ (at_node c)).into
 
 kept : (c : goal.After-drop-parts-inside)
     → Mirrors (record {
@@ -129,17 +113,13 @@ kept c =
     let place : ℕ = c.in-Some.place in
     let net : Net = c.evict_tasks.new.net in
     let now : Graph = moved g (record g.rows { tasks = map (evicted c.args.name) g.rows.tasks }) net in
-    let parts : MachineParts = record {
-      node = c.parts.inside.node;
-      through = c.parts.inside.through;
-      slots =
-          c.parts.inside.slots.items;
-    } in
-    let e = emptied_end c in
+    let parts : MachineParts = parts_of c.parts.inside in
+    let e = at_end c in
     let rows = c.drain-evicted.ensures.rows ∙ ap (λ (n : List ℕ). without_machine g.rows n) c.in-Some.ensures.named in
-    machine-said now c.drop_node.new.net place c.drain-evicted.new.self c.remove-parts.new.self.items
+    said (machine_dropped now c.drop_node.new.net place) c.drain-evicted.new.self c.remove-parts.new.self.items now.jobs
+    now.tasks
     (machine-rows c.drain-evicted.new.self g.rows c.args.name place rows c.drain-evicted.ensures.machines)
-    c.remove-parts.ensures.items
+    c.remove-parts.ensures.items refl refl
     (machine-dropped now c.drop_node.new.net place c.args.name parts e.mirrors e.below e.at e.named
     (all-out c.args.name g.rows.tasks) c.unlink_slots.new.net e.held c.drop_node.ensures.edit)
 

@@ -1,11 +1,12 @@
-use Rattle.std.proofs.Common.{◌<◌, length, map, arith, ap, sym, ◌∙◌, List}
+use Rattle.std.proofs.Common.{◌<◌, length, map, arith, ap, sym, ◌∙◌, List, refl}
 use Rattle.std.specs.List.{remove}
 use Rattle.indexmap.proofs.SetLemmas.{map-remove}
 use Rattle.firm_net.specs.declared.row.NodeId.{NodeId}
 use Rattle.firm_graph.specs.Graph.{Graph, Mirrors}
 use Rattle.firm_graph.specs.Inside.{graph_of}
 use Rattle.firm_graph.specs.declared.parts.TaskParts.{TaskParts}
-use Rattle.firm_graph.proofs.Drops.{task-dropped, task-said, task-unlinked, task-free}
+use Rattle.firm_graph.proofs.Drops.{task-dropped, task_dropped, task-unlinked, task-free}
+use Rattle.firm_graph.proofs.Said.{said}
 use Rattle.firm_graph.proofs.Names.{task-rows}
 use Rattle.firm_graph.proofs.graph.Graph.drop_task.Goals as goal
 
@@ -56,9 +57,10 @@ kept c =
     let g : Graph = graph_of c.self.inside in
     let below : c.in-Some.place < length g.tasks = omega
     (arith, c.in-Some.ensures.below, c.self.invariant.graph.mirrors.tasks) in
-    task-said g c.drop_node.new.net c.in-Some.place c.remove_task.new.self c.remove-parts.new.self.items
+    said (task_dropped g c.drop_node.new.net c.in-Some.place) c.remove_task.new.self g.machines g.jobs
+    c.remove-parts.new.self.items
     (task-rows c.remove_task.new.self g.rows _ c.in-Some.place c.remove_task.ensures.rows
-    c.remove_task.ensures.tasks) c.remove-parts.ensures.items
+    c.remove_task.ensures.tasks) refl refl c.remove-parts.ensures.items
     (task-dropped g c.unlink-3.new.net c.drop_node.new.net c.in-Some.place c.remove-parts.result
     c.self.invariant.graph.mirrors below c.remove-parts.ensures.value
     (task-unlinked g c.unlink.new.net c.unlink-2.new.net c.unlink-3.new.net c.in-Some.place c.remove-parts.result

@@ -1,4 +1,4 @@
-use Rattle.std.proofs.Common.{◌≡◌, ◌≤◌, ℕ, Bool, List, length, arith, map, ap, subst, sym, ◌∙◌}
+use Rattle.std.proofs.Common.{◌≡◌, ℕ, Bool, List, length, arith, map, ap, subst, sym, ◌∙◌}
 use Rattle.firm_net.specs.declared.row.NodeId.{NodeId}
 use Rattle.firm_net.specs.Net.{arc_count}
 use Rattle.firm_paths.specs.Workspace.{HasSearched}

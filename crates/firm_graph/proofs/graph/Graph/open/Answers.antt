@@ -2,7 +2,8 @@ use Rattle.std.proofs.Common.{◌≡◌, ℕ, ap, ap₂, sym, ◌∙◌, List, m
 use Rattle.firm_net.specs.Net.{empty_net}
 use Rattle.firm_graph.specs.Graph.{Mirrors}
 use Rattle.firm_graph.specs.declared.parts.TaskParts.{TaskParts}
-use Rattle.firm_graph.proofs.Additions.{opened, open-said}
+use Rattle.firm_graph.proofs.Said.{said}
+use Rattle.firm_graph.proofs.Additions.{opened, opened_graph}
 use Rattle.firm_graph.proofs.graph.Graph.open.Goals as goal
 
 kept : (c : goal.After-new-6)
@@ -20,7 +21,7 @@ kept : (c : goal.After-new-6)
 kept c =
     let empty : c.in_ok-net.net ≡ empty_net c.args.limits.nodes c.args.limits.arcs =
     c.in_ok-net.ensures.empty ∙ ap₂ (λ (n a : ℕ). empty_net n a) c.nodes.ensures.value c.arcs.ensures.value in
-    open-said c.put_node-sink.new.net c.put_node-hub.result c.put_node-sink.result c.args.limits c.new-2.result
+    said (opened_graph c.put_node-sink.new.net c.put_node-hub.result c.put_node-sink.result c.args.limits) c.new-2.result
     c.new-3.result.items c.new-4.result.items c.new-5.result.items
     c.new-2.ensures.rows c.new-3.ensures.items c.new-4.ensures.items c.new-5.ensures.items
     (opened c.in_ok-net.net c.put_node-hub.new.net c.put_node-sink.new.net c.put_node-hub.result c.put_node-sink.result
