@@ -1,13 +1,15 @@
 #!/usr/bin/env python3
 """Refuses each request for memory of the built program in turn, and fails each of its reads and writes once in turn.
 
-usage: tests/faults.py [--program FILE] [--under COMMAND] [--workers N]
+usage: tests/faults.py [--program FILE] [--under COMMAND] [--workers N] [--random N]
 Each run must end as the documents promise; what did not is told, and the exit status is 1 then. docs/HARDENING.md says
 what is asked of each run. It needs a C compiler (cc) for refuse.c, which is preloaded into the program.
 """
 
 import argparse
 import errno
+import random
+import re
 import struct
 import sys
 import tempfile
@@ -15,6 +17,7 @@ from collections import Counter
 
 import program
 import service
+from small_streams import random_stream
 
 HEADING = b",".join(service.HEADING) + b"\n"
 MEMORY = b" no 14 memory"
@@ -35,6 +38,8 @@ TWO = ("alpha machine m1 2; beta machine m1 1; alpha machine m2 2; beta job low 
        " alpha task j a; beta round; alpha task j b; alpha round; beta job high 20; beta task high h; alpha task j c;"
        " beta round; alpha round")
 SHOW = "machine m1 2; job j 5; task j a; show"
+MANY = "; ".join([f"machine m{n} {n % 64 + 1}" for n in range(60)] + [f"job j{n} 5" for n in range(30)]
+                 + [f"task j{n % 30} t{n}" for n in range(150)] + ["show", "where t149", "task j0 t150", "drain m3", "show"])
 
 # Name: the roster's records and the input.
 STREAMS = {
@@ -42,6 +47,7 @@ STREAMS = {
     "a round after a refused one": (b"alpha,9,24,100,1,2\n", for_tenant("alpha", SPREAD + "; round; costs")),
     "a drain": (b"a,8,30,100,1,1\n", for_tenant("a", DRAIN)),
     "two tenants": (b"alpha,9,24,100,1,2\nbeta,8,30,100,0,3\n", commands(TWO)),
+    "many rows": (b"a,300,4000,1000,1,1\n", for_tenant("a", MANY)),
     "no round": (b"alpha,6,11,100,1,2\n", for_tenant("alpha", SHOW)),
     "no rounds but faults": (b"a,8,30,100,0,0\n", b"a fly\na machine M1 2\n\nnobody show\r\n#c\n" + b"x" * 300 + b"\na show"),
 }
@@ -174,26 +180,57 @@ def fail_files(runs, roster, text):
         ends["status 3, nothing written"] += 1
 
 
+def refuse_memory_anywhere(runs, seed):
+    """Refuses some requests of a random stream, one or several in a row."""
+    draw = random.Random(seed)
+    roster, text = random_stream(draw)
+    _, counts = runs.run(roster, text)
+    first = draw.randint(1, counts[0]) if draw.random() < 0.3 else draw.randint(min(50, counts[0]), counts[0])
+    found, _ = runs.run(roster, text, refuse_memory=first, refuse_memory_last=first + draw.choice([0, 0, 0, 1, 5, 30]))
+    return judge_memory(found, roster, text)
+
+
+def refuse_memory_of_streams(runs, count):
+    ends = Counter()
+    for seed in range(count):
+        try:
+            ends[re.sub("[0-9]+ answered", "some answered", refuse_memory_anywhere(runs, seed))] += 1
+        except Promise as promise:
+            raise Promise(f"random stream {seed}: {promise}") from promise
+    return ends
+
+
+# Streams so long that only memory is refused to them.
+LONG = {"many rows"}
 PARTS = {"memory": refuse_memory, "reads": fail_reads, "writes": fail_writes, "reads of the roster": fail_files}
+
+
+def check_part(runs, name, part, roster, text):
+    """Whether a part of a stream's runs ended as promised."""
+    try:
+        ends, how = PARTS[part](runs, roster, text)
+    except Promise as promise:
+        print(f"MISSED: {name}, {part}: {promise}", flush=True)
+        return False
+    told = "; ".join(f"{count} x {end}" for end, count in ends.items() if count)
+    print(f"{name}, {part} ({how}): {told}", flush=True)
+    return True
 
 
 def main():
     parser = argparse.ArgumentParser(description=__doc__.splitlines()[0])
     program.add_program(parser)
+    parser.add_argument("--random", type=int, default=0, help="instead, so many random streams with refused memory")
     words = parser.parse_args()
-    missed = 0
     with tempfile.TemporaryDirectory(prefix="firm-") as folder:
         runs = Runs(words, program.build_refusing(folder))
-        for name, (records, text) in STREAMS.items():
-            for part, work in PARTS.items():
-                try:
-                    ends, how = work(runs, HEADING + records, text)
-                    print(f"{name}, {part} ({how}): " + "; ".join(f"{count} x {end}" for end, count in ends.items() if count))
-                except Promise as promise:
-                    missed += 1
-                    print(f"MISSED: {name}, {part}: {promise}")
-                sys.stdout.flush()
-    return 1 if missed else 0
+        if words.random:
+            print(f"{words.random} random streams: {dict(refuse_memory_of_streams(runs, words.random))}")
+            return 0
+        kept = [check_part(runs, name, part, HEADING + records, text)
+                for name, (records, text) in STREAMS.items() for part in PARTS
+                if part == "memory" or name not in LONG]
+    return 0 if all(kept) else 1
 
 
 if __name__ == "__main__":
