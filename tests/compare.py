@@ -16,7 +16,7 @@ from tempfile import TemporaryDirectory
 
 import program
 import service
-from small_streams import random_bad_roster, random_stream
+from small_streams import random_bad_roster, random_stream, with_noise
 
 
 def expected(roster, text):
@@ -54,10 +54,11 @@ def check(command, name, roster, text, environment=None):
     return None
 
 
-def check_stream(command, tasks, library, seed):
+def check_stream(command, tasks, library, is_noisy, seed):
     """A random stream; with the library its input comes in pieces and its output goes in pieces of some size."""
     draw = random.Random(seed)
     roster, text = random_stream(draw, tasks)
+    text = with_noise(draw, text) if is_noisy else text
     pieces = {"READ_MOST": draw.choice("1 2 3 7 64 257 4095".split()), "WRITE_MOST": draw.choice("0 1 5 100".split())}
     return check(command, f"stream-{seed}", roster, text, {"LD_PRELOAD": library, **pieces} if library else None)
 
@@ -82,12 +83,13 @@ def main():
     parser.add_argument("--first", type=int, default=1, help="the first seed")
     parser.add_argument("--tasks", type=int, default=6, help="the most tasks of a tenant")
     parser.add_argument("--pieces", action="store_true", help="pieces of all sizes, by refuse.c; needs a C compiler")
+    parser.add_argument("--noise", action="store_true", help="some bytes changed in each stream; best with --tasks 4")
     parser.add_argument("--ages", action="store_true", help="also a task that waits for 1,000,003 rounds")
     words = parser.parse_args()
     counts, different = Counter(), 0
     with TemporaryDirectory(prefix="firm-") as folder, ProcessPoolExecutor(max(1, (os.cpu_count() or 2) // 2)) as pool:
         library = program.build_refusing(folder) if words.pieces else None
-        streams = pool.map(partial(check_stream, program.command(words), words.tasks, library),
+        streams = pool.map(partial(check_stream, program.command(words), words.tasks, library, words.noise),
                            range(words.first, words.first + words.streams), chunksize=20)
         rosters = pool.map(partial(check_roster, program.command(words)),
                            range(words.first, words.first + words.rosters), chunksize=20)

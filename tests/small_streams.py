@@ -120,6 +120,23 @@ def random_stream(draw, most_tasks=6):
     return roster, b"\n".join(lines) + draw.choice([b"\n", b"\n", b"", b"\r", b"\n\r"])
 
 
+def with_noise(draw, text):
+    """The text with up to eight bytes changed, put in, taken out or moved to another place."""
+    found = bytearray(text)
+    for _ in range(draw.randint(1, 8)):
+        place, byte = draw.randrange(len(found) + 1), draw.choice(b"\n\r\t #0129a-z\x00\xff\x0b!Z")
+        shape = draw.randrange(4)
+        if shape < 2 and place < len(found):
+            taken = found.pop(place)
+            byte = taken if shape == 0 else byte
+            place = draw.randrange(len(found) + 1) if shape == 0 else place
+        if shape < 3:
+            found.insert(place, byte)
+        else:
+            del found[place:place + draw.randint(1, 3)]
+    return bytes(found)
+
+
 def random_bad_roster(draw):
     """A roster with a fault or two somewhere, or none."""
     records = [[b"a%d" % place, b"9", b"24", b"100", b"1", b"2"] for place in range(draw.choice([0, 1, 2, 3, 64, 65]))]
