@@ -1,15 +1,23 @@
 -- The first of the cheapest legal placements is the placement of the round, and no other is.
-use Rattle.std.proofs.Common.{◌≡◌, ℕ, zero, suc, ◌<◌, ◌≤◌, Bool, true, false, not, cond, eqb, ltb, ◌&&◌, List, [], ◌∷◌, ◌++◌, length, refl, sym, ap, subst, ◌∙◌, arith, inl, ⊎_elim, Option, Some, None}
+use Rattle.std.proofs.Common.{◌≡◌, ℕ, zero, suc, ◌<◌, ◌≤◌, Bool, true, false, not, cond, eqb, ltb, ◌&&◌, List, [], ◌∷◌}
+use Rattle.std.proofs.Common.{◌++◌, length, refl, sym, ap, subst, ◌∙◌, arith, inl, ⊎_elim, Option, Some, None}
 use Rattle.std.specs.Prelude.{map, nat_le, slice_index}
 use Rattle.std.specs.List.{filter, list_all}
 use Rattle.std.proofs.lemmas.List.Sums.{sum_by-cons}
-use Rattle.std.proofs.lemmas.Bool.{cases_Bool, cond-true, cond-false, and_from, and_parts, and_cases, and_left, and_right, or_parts, or_from, eq-eqb, eqb-true, ne_eqb, ltb-true, le-ltb, le-leb, ltb-false, not-true, not_from_false, both_ways}
+use Rattle.std.proofs.lemmas.Bool.{cases_Bool, cond-true, cond-false, and_from, and_parts, and_cases, and_left}
+use Rattle.std.proofs.lemmas.Bool.{and_right, or_parts, or_from, eq-eqb, eqb-true, ne_eqb, ltb-true, le-ltb, le-leb}
+use Rattle.std.proofs.lemmas.Bool.{ltb-false, not-true, not_from_false, both_ways}
 use Rattle.firm_rules.specs.declared.rounds.Choice.{Choice}
 use Rattle.firm_rules.specs.declared.rounds.Choice.TheVariants.{On, Wait}
-use Rattle.firm_rules.specs.Placement.{Demand, Case, numbers, is_place, is_legal, load, goes_to, placement_cost, runs_at, rank, comes_before}
-use Rattle.firm_rules.specs.Round.{IsRound, choices, placements, legal_placements, least_cost, round_placement, TheRoundIsTheFirst}
+use Rattle.firm_rules.specs.Placement.{Demand, Case, numbers, is_place, is_legal, load, goes_to, placement_cost}
+use Rattle.firm_rules.specs.Placement.{runs_at, rank, comes_before}
+use Rattle.firm_rules.specs.Round.{IsRound, choices, placements, legal_placements, least_cost, round_placement}
+use Rattle.firm_rules.specs.Round.{TheRoundIsTheFirst}
 use Rattle.firm_rules.proofs.Legals.{to_legal, from_legal}
-use Rattle.firm_rules.proofs.Listing.{Among, Rises, each_at, each_from, among_left, among_right, among_either, rises_both, among_map, from_map, rises_map, among_filter, from_filter, rises_filter, among_flat, rises_flat, among_numbers, below_numbers, rises_numbers, smallest-le, smallest_among, first_among}
+use Rattle.firm_rules.proofs.Listing.{Among, Rises, each_at, each_from, among_left, among_right, among_either}
+use Rattle.firm_rules.proofs.Listing.{rises_both, among_map, from_map, rises_map, among_filter, from_filter}
+use Rattle.firm_rules.proofs.Listing.{rises_filter, among_flat, rises_flat, among_numbers, below_numbers, rises_numbers}
+use Rattle.firm_rules.proofs.Listing.{smallest-le, smallest_among, first_among}
 
 pub same_home : (home : Option ℕ) (j k : ℕ) → runs_at home j ≡ true → runs_at home k ≡ true → j ≡ k
 same_home None j k f g = absurd cc

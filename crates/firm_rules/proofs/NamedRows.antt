@@ -1,5 +1,7 @@
 -- Rows in a list, told by their names.
-use Rattle.std.proofs.Common.{◌≡◌, ℕ, zero, suc, ◌<◌, ◌≤◌, Bool, true, false, not, cond, ◌||◌, List, [], ◌∷◌, ◌++◌, map, filter, remove, length, sum_by, Option, None, Some, IfSome, find, position, bytes_eq, true≢false, refl, sym, ap, subst, ◌∙◌, arith}
+use Rattle.std.proofs.Common.{◌≡◌, ℕ, zero, suc, ◌<◌, ◌≤◌, Bool, true, false, not, cond, ◌||◌, List, [], ◌∷◌, ◌++◌, map}
+use Rattle.std.proofs.Common.{filter, remove, length, sum_by, Option, None, Some, IfSome, find, position, bytes_eq}
+use Rattle.std.proofs.Common.{true≢false, refl, sym, ap, subst, ◌∙◌, arith}
 use Rattle.std.specs.List.{IsDistinct, AllByRecursion}
 use Rattle.std.specs.Map.{lookup, keys_of, values_of}
 use Rattle.std.proofs.lemmas.Bool.{cond_both}
@@ -24,7 +26,8 @@ bytes_eq-other xs ys e = elim (bytes_eq ys xs) as (λ b. bytes_eq ys xs ≡ b �
 -- sums and counts over fewer rows, or of less in each
 pub sum_by-le-each : {X : Type 0} (f g : X → ℕ) (xs : List X) → ((x : X) → f x ≤ g x) → sum_by f xs ≤ sum_by g xs
 sum_by-le-each f g [] each = omega arith
-sum_by-le-each f g (x ∷ xs) each = omega (arith, sum_by-cons f x xs, sum_by-cons g x xs, each x, sum_by-le-each f g xs each)
+sum_by-le-each f g (x ∷ xs) each =
+    omega (arith, sum_by-cons f x xs, sum_by-cons g x xs, each x, sum_by-le-each f g xs each)
 
 pub sum_by-filter-le : {X : Type 0} (f : X → ℕ) (p : X → Bool) (xs : List X) → sum_by f (filter p xs) ≤ sum_by f xs
 sum_by-filter-le f p [] = omega arith
@@ -38,21 +41,26 @@ pub length-filter-le : {X : Type 0} (p : X → Bool) (xs : List X) → length (f
 length-filter-le p [] = omega arith
 length-filter-le {X} p (x ∷ xs) =
     let rest = length-filter-le p xs in
-    cond_both (p x) (x ∷ filter p xs) (filter p xs) (λ (l : List X). length l ≤ length (x ∷ xs)) (λ _. omega (arith, rest)) (λ _. omega (arith, rest))
+    cond_both (p x) (x ∷ filter p xs) (filter p xs) (λ (l : List X). length l ≤ length (x ∷ xs))
+    (λ _. omega (arith, rest)) (λ _. omega (arith, rest))
 
 pub sum_by-map : {X Y : Type 0} (f : Y → ℕ) (g : X → Y) (xs : List X) → sum_by f (map g xs) ≡ sum_by (λ x. f (g x)) xs
 sum_by-map f g [] = refl
-sum_by-map f g (x ∷ xs) = omega (arith, sum_by-cons f (g x) (map g xs), sum_by-cons (λ x. f (g x)) x xs, sum_by-map f g xs)
+sum_by-map f g (x ∷ xs) =
+    omega (arith, sum_by-cons f (g x) (map g xs), sum_by-cons (λ x. f (g x)) x xs, sum_by-map f g xs)
 
 -- a name that is among the names stays there as others come, and is there without another name
-pub among-append : (names more : List (List ℕ)) (name : List ℕ) → is_among names name ≡ true → is_among (names ++ more) name ≡ true
-among-append names more name there = list_any-append (bytes_eq name) names more ∙ ap (λ b. b || is_among more name) there
+pub among-append : (names more : List (List ℕ)) (name : List ℕ) → is_among names name ≡ true
+    → is_among (names ++ more) name ≡ true
+among-append names more name there =
+    list_any-append (bytes_eq name) names more ∙ ap (λ b. b || is_among more name) there
 
 module _ {Row : Type 0} (name_of : Row → List ℕ) where
   abbrev pub is_other : List ℕ → Row → Bool
   is_other name row = not (bytes_eq name (name_of row))
 
-  all-others : (name : List ℕ) (rows : List Row) → AllByRecursion (λ other. bytes_eq name other ≡ false) (map name_of rows) → filter (is_other name) rows ≡ rows
+  all-others : (name : List ℕ) (rows : List Row)
+      → AllByRecursion (λ other. bytes_eq name other ≡ false) (map name_of rows) → filter (is_other name) rows ≡ rows
   all-others name [] differ = refl
   all-others name (row ∷ rows) differ =
       ap (λ (b : Bool). cond (not b) (row ∷ filter (is_other name) rows) (filter (is_other name) rows)) differ.0
@@ -64,33 +72,45 @@ module _ {Row : Type 0} (name_of : Row → List ℕ) where
   unfolding IsDistinct
   filter-remove [] place differ below = absurd (omega arith)
   filter-remove (row ∷ rows) zero differ below =
-      ap (λ (b : Bool). cond (not b) (row ∷ filter (is_other (name_of row)) rows) (filter (is_other (name_of row)) rows)) (bytes_eq-own (name_of row))
+      ap (λ (b : Bool).
+      cond (not b) (row ∷ filter (is_other (name_of row)) rows) (filter (is_other (name_of row)) rows))
+      (bytes_eq-own (name_of row))
       ∙ all-others (name_of row) rows differ.0
   filter-remove (row ∷ rows) (suc place) differ below =
       let name : List ℕ = name_at (map name_of rows) place in
       let apart : bytes_eq (name_of row) name ≡ false =
-      All-from_recursion (λ other. bytes_eq (name_of row) other ≡ false) (map name_of rows) differ.0 place [] (omega (arith, length-map rows name_of)) in
-      ap (λ (b : Bool). cond (not b) (row ∷ filter (is_other name) rows) (filter (is_other name) rows)) (bytes_eq-other (name_of row) name apart)
+      All-from_recursion (λ other. bytes_eq (name_of row) other ≡ false) (map name_of rows) differ.0 place []
+      (omega (arith, length-map rows name_of)) in
+      ap (λ (b : Bool). cond (not b) (row ∷ filter (is_other name) rows) (filter (is_other name) rows))
+      (bytes_eq-other (name_of row) name apart)
       ∙ ap (λ (l : List Row). row ∷ l) (filter-remove rows place differ.1 (omega arith))
 
   -- a name that is among the names is there without another one
-  pub among-filter : (rows : List Row) (gone name : List ℕ) → bytes_eq gone name ≡ false → is_among (map name_of rows) name ≡ true
+  pub among-filter : (rows : List Row) (gone name : List ℕ) → bytes_eq gone name ≡ false
+      → is_among (map name_of rows) name ≡ true
       → is_among (map name_of (filter (is_other gone) rows)) name ≡ true
   among-filter [] gone name apart there = there
   among-filter (row ∷ rows) gone name apart there =
-      let rest : is_among (map name_of rows) name ≡ true → is_among (map name_of (filter (is_other gone) rows)) name ≡ true = among-filter rows gone name apart in
-      cond_both (is_other gone row) (row ∷ filter (is_other gone) rows) (filter (is_other gone) rows) (λ (l : List Row). is_among (map name_of l) name ≡ true)
-      (λ _. elim (bytes_eq name (name_of row)) as (λ b. (b || is_among (map name_of rows) name) ≡ true → (b || is_among (map name_of (filter (is_other gone) rows)) name) ≡ true) [
+      let rest : is_among (map name_of rows) name ≡ true
+      → is_among (map name_of (filter (is_other gone) rows)) name ≡ true = among-filter rows gone name apart in
+      cond_both (is_other gone row) (row ∷ filter (is_other gone) rows) (filter (is_other gone) rows)
+      (λ (l : List Row). is_among (map name_of l) name ≡ true)
+      (λ _. elim (bytes_eq name (name_of row)) as (λ b. (b || is_among (map name_of rows) name) ≡ true
+      → (b || is_among (map name_of (filter (is_other gone) rows)) name) ≡ true) [
         | true ↦ λ _. refl
         | false ↦ λ h. rest h
       ] there)
-      (λ own. rest (elim (bytes_eq name (name_of row)) as (λ b. bytes_eq name (name_of row) ≡ b → (b || is_among (map name_of rows) name) ≡ true → is_among (map name_of rows) name ≡ true) [
-        | true ↦ λ e h. absurd (true≢false (same_not_other gone name (name_of row) apart ((bytes_eq-Decides name (name_of row)).0 e) own))
+      (λ own. rest (elim (bytes_eq name (name_of row)) as (λ b. bytes_eq name (name_of row) ≡ b
+      → (b || is_among (map name_of rows) name) ≡ true → is_among (map name_of rows) name ≡ true) [
+        | true ↦ λ e h. absurd (true≢false
+            (same_not_other gone name (name_of row) apart ((bytes_eq-Decides name (name_of row)).0 e) own))
         | false ↦ λ e h. h
       ] refl there))
     where
-      same_not_other : (gone name own : List ℕ) → bytes_eq gone name ≡ false → name ≡ own → not (bytes_eq gone own) ≡ false → true ≡ false
-      same_not_other gone name own apart same gone_is = sym (ap not apart) ∙ ap (λ (n : List ℕ). not (bytes_eq gone n)) same ∙ gone_is
+      same_not_other : (gone name own : List ℕ) → bytes_eq gone name ≡ false → name ≡ own
+          → not (bytes_eq gone own) ≡ false → true ≡ false
+      same_not_other gone name own apart same gone_is =
+          sym (ap not apart) ∙ ap (λ (n : List ℕ). not (bytes_eq gone n)) same ∙ gone_is
 
   -- a look-up by name among entries that stand by their names finds the first row of the name
   pub lookup-find : (entries : List (List ℕ × Row)) (name : List ℕ) → keys_of entries ≡ map name_of (values_of entries)
@@ -101,17 +121,22 @@ module _ {Row : Type 0} (name_of : Row → List ℕ) where
       let tail : List (List ℕ) → List (List ℕ) = λ l. elim l [ [] ↦ [] | _ ∷ rest ↦ rest ] in
       let first : entry.0 ≡ name_of entry.1 = ap head stands in
       ap (λ (n : List ℕ). cond (bytes_eq name n) (Some entry.1) (lookup (bytes_eq name) entries)) first
-      ∙ ap (λ (o : Option Row). cond (bytes_eq name (name_of entry.1)) (Some entry.1) o) (lookup-find entries name (ap tail stands))
+      ∙ ap (λ (o : Option Row). cond (bytes_eq name (name_of entry.1)) (Some entry.1) o)
+      (lookup-find entries name (ap tail stands))
 
 -- a place that was found is below the length
-pub place-below : {Row : Type 0} (entries : List (List ℕ × Row)) (place : Option ℕ) (many : ℕ) → IfSome place (λ i. i < length entries)
+pub place-below : {Row : Type 0} (entries : List (List ℕ × Row)) (place : Option ℕ) (many : ℕ)
+    → IfSome place (λ i. i < length entries)
     → length (values_of entries) ≡ many → IfSome place (λ i. i < many)
 place-below entries None many below is = tt
-place-below {Row} entries (Some i) many below is = omega (arith, below, length-map entries (λ (e : List ℕ × Row). e.1), is)
+place-below {Row} entries (Some i) many below is =
+    omega (arith, below, length-map entries (λ (e : List ℕ × Row). e.1), is)
 
 -- and has the name
-pub place-named : (keys names : List (List ℕ)) (name : List ℕ) (place : Option ℕ) → place ≡ position (bytes_eq name) keys → keys ≡ names
+pub place-named : (keys names : List (List ℕ)) (name : List ℕ) (place : Option ℕ)
+    → place ≡ position (bytes_eq name) keys → keys ≡ names
     → IfSome place (λ i. name_at names i ≡ name)
 place-named keys names name None is same = tt
 place-named keys names name (Some i) is same =
-    subst (λ (l : List (List ℕ)). name_at l i ≡ name) same (sym ((bytes_eq-Decides name (name_at keys i)).0 (position-Some (bytes_eq name) keys i [] (sym is)).1))
+    subst (λ (l : List (List ℕ)). name_at l i ≡ name) same
+    (sym ((bytes_eq-Decides name (name_at keys i)).0 (position-Some (bytes_eq name) keys i [] (sym is)).1))

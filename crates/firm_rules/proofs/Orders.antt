@@ -1,5 +1,6 @@
 -- The first task on which two placements differ decides which of them comes before.
-use Rattle.std.proofs.Common.{◌≡◌, ℕ, zero, suc, ◌<◌, Bool, true, false, eqb, ltb, ◌&&◌, ◌||◌, List, [], ◌∷◌, length, take, drop, get_or, refl, ap, subst, arith, ⊎_elim, inl, inr, ◌⊎◌}
+use Rattle.std.proofs.Common.{◌≡◌, ℕ, zero, suc, ◌<◌, Bool, true, false, eqb, ltb, ◌&&◌, ◌||◌, List, [], ◌∷◌, length}
+use Rattle.std.proofs.Common.{take, drop, get_or, refl, ap, subst, arith, ⊎_elim, inl, inr, ◌⊎◌}
 use Rattle.std.specs.List.{All}
 use Rattle.std.proofs.lemmas.List.Elements.{All-head, All-tail}
 use Rattle.std.proofs.lemmas.Bool.{and_from, and_parts, eq-eqb, eqb-true, ltb-true, lt-ltb}
@@ -49,11 +50,13 @@ differs m (task ∷ tasks) (a ∷ p) (b ∷ q) ip iq e =
     here m task tasks a b p q (ltb-true (rank m task.home a) (rank m task.home b) less))
     (λ (more : (eqb (rank m task.home a) (rank m task.home b) && comes_before m tasks p q) ≡ true).
     let both = and_parts (eqb (rank m task.home a) (rank m task.home b)) (comes_before m tasks p q) more in
-    let same : a ≡ b = rank_is m task.home a b (is_one m a (All-head (IsPlace m) a p ip)) (is_one m b (All-head (IsPlace m) b q iq))
+    let same : a ≡ b =
+    rank_is m task.home a b (is_one m a (All-head (IsPlace m) a p ip)) (is_one m b (All-head (IsPlace m) b q iq))
     (eqb-true (rank m task.home a) (rank m task.home b) both.0) in
     subst (λ (z : Choice). DiffersFirst m (task ∷ tasks) (a ∷ p) (z ∷ q)) same
     (later m task tasks a p q (differs m tasks p q (All-tail (IsPlace m) a p ip) (All-tail (IsPlace m) b q iq) both.1)))
-    (or_either (ltb (rank m task.home a) (rank m task.home b)) (eqb (rank m task.home a) (rank m task.home b) && comes_before m tasks p q) e)
+    (or_either (ltb (rank m task.home a) (rank m task.home b))
+    (eqb (rank m task.home a) (rank m task.home b) && comes_before m tasks p q) e)
 
 -- the head and the tail of equal lists
 head_same : (a b : Choice) (p q : List Choice) → a ∷ p ≡ b ∷ q → a ≡ b
@@ -64,16 +67,19 @@ tail_same a b p q e = ap (λ (xs : List Choice). drop 1 xs) e
 
 decided : (m : ℕ) (tasks : List Demand) (p q : List Choice) (at : ℕ) → length p ≡ length tasks → length q ≡ length tasks
     → at < length tasks → take at p ≡ take at q
-    → rank m (home_at tasks at) (get_or p at Wait) < rank m (home_at tasks at) (get_or q at Wait) → comes_before m tasks p q ≡ true
+    → rank m (home_at tasks at) (get_or p at Wait) < rank m (home_at tasks at) (get_or q at Wait)
+    → comes_before m tasks p q ≡ true
 decided m [] p q at lp lq low same less = absurd (omega (arith, low))
 decided m (task ∷ tasks) [] q at lp lq low same less = absurd (omega (arith, lp))
 decided m (task ∷ tasks) (a ∷ p) [] at lp lq low same less = absurd (omega (arith, lq))
 decided m (task ∷ tasks) (a ∷ p) (b ∷ q) zero lp lq low same less =
-    or_left (ltb (rank m task.home a) (rank m task.home b)) (eqb (rank m task.home a) (rank m task.home b) && comes_before m tasks p q)
+    or_left (ltb (rank m task.home a) (rank m task.home b))
+    (eqb (rank m task.home a) (rank m task.home b) && comes_before m tasks p q)
     (lt-ltb (rank m task.home a) (rank m task.home b) less)
 decided m (task ∷ tasks) (a ∷ p) (b ∷ q) (suc at) lp lq low same less =
     let e : a ≡ b = head_same a b (take at p) (take at q) same in
-    or_right (ltb (rank m task.home a) (rank m task.home b)) (eqb (rank m task.home a) (rank m task.home b) && comes_before m tasks p q)
+    or_right (ltb (rank m task.home a) (rank m task.home b))
+    (eqb (rank m task.home a) (rank m task.home b) && comes_before m tasks p q)
     (and_from (eqb (rank m task.home a) (rank m task.home b)) (comes_before m tasks p q)
     (eq-eqb (rank m task.home a) (rank m task.home b) (ap (rank m task.home) e))
     (decided m tasks p q at (omega (arith, lp)) (omega (arith, lq)) (omega (arith, low))

@@ -1,5 +1,6 @@
 -- A table of 8 costs, and one more cost.
-use Rattle.std.proofs.Common.{◌≡◌, ℕ, suc, ◌+◌, ◌-◌, ◌<◌, List, [], ◌∷◌, ◌++◌, length, take, append_assoc, sym, ap, ◌∙◌, arith}
+use Rattle.std.proofs.Common.{◌≡◌, ℕ, suc, ◌+◌, ◌-◌, ◌<◌, List, [], ◌∷◌, ◌++◌, length, take, append_assoc, sym, ap, ◌∙◌}
+use Rattle.std.proofs.Common.{arith}
 use Rattle.std.specs.Prelude.{ℤ, pos, replicate, slice_set}
 use Rattle.std.proofs.Math.Seq.{set-append_seam, take-append_seam}
 use Rattle.std.proofs.lemmas.List.{length-append}

@@ -145,7 +145,8 @@ third_costs = refl
 third_round : round_of third ≡ On 0 ∷ Wait ∷ []
 third_round = refl
 
-third_changes : changes_made third (round_of third) ≡ Start (codes "x") (codes "m1") ∷ Preempt (codes "y") (codes "m1") ∷ []
+third_changes : changes_made third (round_of third)
+    ≡ Start (codes "x") (codes "m1") ∷ Preempt (codes "y") (codes "m1") ∷ []
 third_changes = refl
 
 -- both tasks in one slot are too many

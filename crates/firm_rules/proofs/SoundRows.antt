@@ -1,5 +1,7 @@
 -- The rows stay sound: as rows are added, as they are removed, and after a round.
-use Rattle.std.proofs.Common.{◌≡◌, ℕ, zero, suc, ◌+◌, ◌<◌, ◌≤◌, ◌≢◌, AllPairs, Bool, true, false, cond, eqb, ◌||◌, List, [], ◌∷◌, map, filter, length, count_by, All, slice_index, slice_index_or, Option, None, Some, IfSome, bytes_eq, true≢false, refl, sym, ap, subst, ◌∙◌, arith, ⊎_elim}
+use Rattle.std.proofs.Common.{◌≡◌, ℕ, zero, suc, ◌+◌, ◌<◌, ◌≤◌, ◌≢◌, AllPairs, Bool, true, false, cond, eqb, ◌||◌, List}
+use Rattle.std.proofs.Common.{[], ◌∷◌, map, filter, length, count_by, All, slice_index, slice_index_or, Option, None}
+use Rattle.std.proofs.Common.{Some, IfSome, bytes_eq, true≢false, refl, sym, ap, subst, ◌∙◌, arith, ⊎_elim}
 use Rattle.std.specs.List.{IsDistinct, list_any}
 use Rattle.std.proofs.lemmas.Bool.{cond_both, cases_lt, eq-eqb, eqb-true}
 use Rattle.std.proofs.lemmas.Slice.Eq.{bytes_eq-Decides}
@@ -8,7 +10,9 @@ use Rattle.std.proofs.lemmas.List.Elements.{All-nil, All-cons, All-head, All-tai
 use Rattle.std.proofs.lemmas.List.Sums.{sum_by-cons, sum_by_push}
 use Rattle.std.proofs.lemmas.Map.Made.{AllPairs-from_IsDistinct}
 use Rattle.firm_rules.specs.Names.{is_among}
-use Rattle.firm_rules.specs.Book.{TenantRows, machine_names, job_names, task_names, name_at, is_on, evicted, running_on, with_machine, with_job, with_task, without_machine, without_job, without_task, has_tasks}
+use Rattle.firm_rules.specs.Book.{TenantRows, machine_names, job_names, task_names, name_at, is_on, evicted, running_on}
+use Rattle.firm_rules.specs.Book.{with_machine, with_job, with_task, without_machine, without_job, without_task}
+use Rattle.firm_rules.specs.Book.{has_tasks}
 use Rattle.firm_rules.specs.ArenaUse.{FitsLimits}
 use Rattle.firm_rules.specs.Sound.{AreSound}
 use Rattle.firm_rules.specs.Placement.{IsLegal, IsPlace, load, goes_to}
@@ -18,7 +22,8 @@ use Rattle.firm_rules.specs.declared.parts.Job.{Job}
 use Rattle.firm_rules.specs.declared.parts.Task.{Task}
 use Rattle.firm_rules.specs.declared.rounds.Choice.{Choice}
 use Rattle.firm_rules.specs.declared.rounds.Choice.TheVariants.{On, Wait}
-use Rattle.firm_rules.proofs.NamedRows.{bytes_eq-own, sum_by-le-each, sum_by-filter-le, length-filter-le, sum_by-map, among-append, is_other, among-filter}
+use Rattle.firm_rules.proofs.NamedRows.{bytes_eq-own, sum_by-le-each, sum_by-filter-le, length-filter-le, sum_by-map}
+use Rattle.firm_rules.proofs.NamedRows.{among-append, is_other, among-filter}
 
 abbrev IsThere : List (List ℕ) → Option (List ℕ) → Type 0
 IsThere names machine = IfSome machine (λ name. is_among names name ≡ true)
@@ -27,7 +32,8 @@ abbrev pub one_if : Bool → ℕ
 one_if b = cond b 1 0
 
 -- no task runs on a machine that is not there
-none_on : (names : List (List ℕ)) (name : List ℕ) (tasks : List Task) → is_among names name ≡ false → All (λ task. IsThere names task.machine) tasks
+none_on : (names : List (List ℕ)) (name : List ℕ) (tasks : List Task) → is_among names name ≡ false
+    → All (λ task. IsThere names task.machine) tasks
     → count_by (λ task. is_on name task.machine) tasks ≡ 0
 none_on names name [] new there = refl
 none_on names name (task ∷ tasks) new there =
@@ -46,7 +52,8 @@ none_on names name (task ∷ tasks) new there =
     ] refl
 
 module _ (rows : TenantRows) (sound : AreSound rows) where
-  pub sound-with_machine : (name : List ℕ) (slots : ℕ) → IsDistinct bytes_eq (machine_names (with_machine rows name slots)) → is_among (machine_names rows) name ≡ false
+  pub sound-with_machine : (name : List ℕ) (slots : ℕ)
+      → IsDistinct bytes_eq (machine_names (with_machine rows name slots)) → is_among (machine_names rows) name ≡ false
       → FitsLimits (with_machine rows name slots) → 1 ≤ slots → slots ≤ 64 → AreSound (with_machine rows name slots)
   sound-with_machine name slots differ new fits least most =
       let machine : Machine = record { name = name; slots = slots } in
@@ -60,7 +67,8 @@ module _ (rows : TenantRows) (sound : AreSound rows) where
             (omega (arith, none_on (machine_names rows) name rows.tasks new sound.machines_there));
         waited = sound.waited;
         fits = fits;
-        slots = All-push (λ (m : Machine). (1 ≤ m.slots) × (m.slots ≤ 64)) rows.machines machine sound.slots (least, most);
+        slots = All-push (λ (m : Machine). (1 ≤ m.slots) × (m.slots ≤ 64)) rows.machines machine sound.slots
+            (least, most);
         weights = sound.weights;
         most_nodes = sound.most_nodes;
         most_arcs = sound.most_arcs;
@@ -68,10 +76,12 @@ module _ (rows : TenantRows) (sound : AreSound rows) where
         most_churn = sound.most_churn;
       }
     where
-      stays : (home : Option (List ℕ)) → IsThere (machine_names rows) home → IsThere (machine_names (with_machine rows name slots)) home
+      stays : (home : Option (List ℕ)) → IsThere (machine_names rows) home
+          → IsThere (machine_names (with_machine rows name slots)) home
       stays None h = h
       stays (Some home) h =
-          ap (λ (names : List (List ℕ)). is_among names home) (map-append (λ (m : Machine). m.name) rows.machines (record { name = name; slots = slots } ∷ []))
+          ap (λ (names : List (List ℕ)). is_among names home)
+          (map-append (λ (m : Machine). m.name) rows.machines (record { name = name; slots = slots } ∷ []))
           ∙ among-append (machine_names rows) (name ∷ []) home h
 
   pub sound-with_job : (name : List ℕ) (weight : ℕ) → IsDistinct bytes_eq (job_names (with_job rows name weight))
@@ -83,21 +93,24 @@ module _ (rows : TenantRows) (sound : AreSound rows) where
         job_names_differ = differ;
         task_names_differ = sound.task_names_differ;
         jobs_there = λ k d l.
-            ap (λ (names : List (List ℕ)). is_among names (slice_index_or rows.tasks k d).job) (map-append (λ (j : Job). j.name) rows.jobs (job ∷ []))
+            ap (λ (names : List (List ℕ)). is_among names (slice_index_or rows.tasks k d).job)
+            (map-append (λ (j : Job). j.name) rows.jobs (job ∷ []))
             ∙ among-append (job_names rows) (name ∷ []) (slice_index_or rows.tasks k d).job (sound.jobs_there k d l);
         machines_there = sound.machines_there;
         room = sound.room;
         waited = sound.waited;
         fits = fits;
         slots = sound.slots;
-        weights = All-push (λ (j : Job). (1 ≤ j.weight) × (j.weight ≤ 1000000)) rows.jobs job sound.weights (least, most);
+        weights =
+            All-push (λ (j : Job). (1 ≤ j.weight) × (j.weight ≤ 1000000)) rows.jobs job sound.weights (least, most);
         most_nodes = sound.most_nodes;
         most_arcs = sound.most_arcs;
         most_spread = sound.most_spread;
         most_churn = sound.most_churn;
       }
 
-  pub sound-with_task : (job name : List ℕ) → IsDistinct bytes_eq (task_names (with_task rows job name)) → is_among (job_names rows) job ≡ true
+  pub sound-with_task : (job name : List ℕ) → IsDistinct bytes_eq (task_names (with_task rows job name))
+      → is_among (job_names rows) job ≡ true
       → FitsLimits (with_task rows job name) → AreSound (with_task rows job name)
   sound-with_task job name differ there fits =
       let task : Task = record { name = name; job = job; machine = None; waited = 0 } in
@@ -105,8 +118,10 @@ module _ (rows : TenantRows) (sound : AreSound rows) where
         machine_names_differ = sound.machine_names_differ;
         job_names_differ = sound.job_names_differ;
         task_names_differ = differ;
-        jobs_there = All-push (λ (t : Task). is_among (job_names rows) t.job ≡ true) rows.tasks task sound.jobs_there there;
-        machines_there = All-push (λ (t : Task). IsThere (machine_names rows) t.machine) rows.tasks task sound.machines_there tt;
+        jobs_there =
+            All-push (λ (t : Task). is_among (job_names rows) t.job ≡ true) rows.tasks task sound.jobs_there there;
+        machines_there =
+            All-push (λ (t : Task). IsThere (machine_names rows) t.machine) rows.tasks task sound.machines_there tt;
         room = λ k d l.
             let on : Task → ℕ = λ t. cond (is_on (slice_index_or rows.machines k d).name t.machine) 1 0 in
             omega (arith, sound.room k d l, sum_by_push on rows.tasks task);
@@ -121,19 +136,25 @@ module _ (rows : TenantRows) (sound : AreSound rows) where
       }
 
 -- a task that is thrown out keeps its name and job, has waited no longer, and runs nowhere else
-evicted-cases : (name : List ℕ) (task : Task) (P : Task → Type 0) → (is_on name task.machine ≡ true → P (record task { machine = None; waited = 0 }))
+evicted-cases : (name : List ℕ) (task : Task) (P : Task → Type 0)
+    → (is_on name task.machine ≡ true → P (record task { machine = None; waited = 0 }))
     → (is_on name task.machine ≡ false → P task) → P (evicted name task)
-evicted-cases name task P there apart = cond_both (is_on name task.machine) (record task { machine = None; waited = 0 }) task P there apart
+evicted-cases name task P there apart =
+    cond_both (is_on name task.machine) (record task { machine = None; waited = 0 }) task P there apart
 
-pub names-evicted : (name : List ℕ) (tasks : List Task) → map (λ task. task.name) (map (evicted name) tasks) ≡ map (λ task. task.name) tasks
+pub names-evicted : (name : List ℕ) (tasks : List Task)
+    → map (λ task. task.name) (map (evicted name) tasks) ≡ map (λ task. task.name) tasks
 names-evicted name [] = refl
 names-evicted name (task ∷ tasks) =
-    ap (λ (n : List ℕ). n ∷ map (λ task. task.name) (map (evicted name) tasks)) (evicted-cases name task (λ (t : Task). t.name ≡ task.name) (λ _. refl) (λ _. refl))
+    ap (λ (n : List ℕ). n ∷ map (λ task. task.name) (map (evicted name) tasks))
+    (evicted-cases name task (λ (t : Task). t.name ≡ task.name) (λ _. refl) (λ _. refl))
     ∙ ap (λ (l : List (List ℕ)). task.name ∷ l) (names-evicted name tasks)
 
-on-evicted-le : (gone name : List ℕ) (task : Task) → cond (is_on name (evicted gone task).machine) 1 0 ≤ cond (is_on name task.machine) 1 0
+on-evicted-le : (gone name : List ℕ) (task : Task)
+    → cond (is_on name (evicted gone task).machine) 1 0 ≤ cond (is_on name task.machine) 1 0
 on-evicted-le gone name task =
-    evicted-cases gone task (λ (t : Task). cond (is_on name t.machine) 1 0 ≤ cond (is_on name task.machine) 1 0) (λ _. omega arith) (λ _. omega arith)
+    evicted-cases gone task (λ (t : Task). cond (is_on name t.machine) 1 0 ≤ cond (is_on name task.machine) 1 0)
+    (λ _. omega arith) (λ _. omega arith)
 
 -- nothing passes a test that no element passes
 all-fail : {X : Type 0} (p : X → Bool) (xs : List X) → list_any p xs ≡ false → All (λ x. p x ≡ false) xs
@@ -145,7 +166,8 @@ all-fail {X} p (x ∷ xs) none =
     ] refl none
 
 module _ (rows : TenantRows) (sound : AreSound rows) where
-  pub sound-without_machine : (gone : List ℕ) → IsDistinct bytes_eq (machine_names (without_machine rows gone)) → AreSound (without_machine rows gone)
+  pub sound-without_machine : (gone : List ℕ) → IsDistinct bytes_eq (machine_names (without_machine rows gone))
+      → AreSound (without_machine rows gone)
   sound-without_machine gone differ =
       let left : List Machine = filter (is_other (λ (m : Machine). m.name) gone) rows.machines in
       let on : List ℕ → Task → ℕ = λ name t. cond (is_on name t.machine) 1 0 in
@@ -154,11 +176,16 @@ module _ (rows : TenantRows) (sound : AreSound rows) where
         job_names_differ = sound.job_names_differ;
         task_names_differ = subst (IsDistinct bytes_eq) (sym (names-evicted gone rows.tasks)) sound.task_names_differ;
         jobs_there = All-map (λ (t : Task). is_among (job_names rows) t.job ≡ true) (evicted gone) rows.tasks (λ k d l.
-            evicted-cases gone (slice_index_or rows.tasks k d) (λ (t : Task). is_among (job_names rows) t.job ≡ true) (λ _. sound.jobs_there k d l) (λ _. sound.jobs_there k d l));
-        machines_there = All-map (λ (t : Task). IsThere (map (λ (m : Machine). m.name) left) t.machine) (evicted gone) rows.tasks (λ k d l.
-            evicted-cases gone (slice_index_or rows.tasks k d) (λ (t : Task). IsThere (map (λ (m : Machine). m.name) left) t.machine) (λ _. tt)
+            evicted-cases gone (slice_index_or rows.tasks k d) (λ (t : Task). is_among (job_names rows) t.job ≡ true)
+            (λ _. sound.jobs_there k d l) (λ _. sound.jobs_there k d l));
+        machines_there =
+            All-map (λ (t : Task). IsThere (map (λ (m : Machine). m.name) left) t.machine) (evicted gone) rows.tasks
+            (λ k d l.
+            evicted-cases gone (slice_index_or rows.tasks k d)
+            (λ (t : Task). IsThere (map (λ (m : Machine). m.name) left) t.machine) (λ _. tt)
             (λ apart. stays (slice_index_or rows.tasks k d).machine apart (sound.machines_there k d l)));
-        room = All-filter (is_other (λ (m : Machine). m.name) gone) (λ (m : Machine). running_on (without_machine rows gone) m.name ≤ m.slots) rows.machines (λ k d l.
+        room = All-filter (is_other (λ (m : Machine). m.name) gone)
+            (λ (m : Machine). running_on (without_machine rows gone) m.name ≤ m.slots) rows.machines (λ k d l.
             let name : List ℕ = (slice_index_or rows.machines k d).name in
             omega (
               arith,
@@ -167,12 +194,24 @@ module _ (rows : TenantRows) (sound : AreSound rows) where
               sum_by-le-each (λ (t : Task). on name (evicted gone t)) (on name) rows.tasks (on-evicted-le gone name),
             ));
         waited = All-map (λ (t : Task). t.waited ≤ 1000000) (evicted gone) rows.tasks (λ k d l.
-            evicted-cases gone (slice_index_or rows.tasks k d) (λ (t : Task). t.waited ≤ 1000000) (λ _. omega arith) (λ _. sound.waited k d l));
+            evicted-cases gone (slice_index_or rows.tasks k d) (λ (t : Task). t.waited ≤ 1000000) (λ _. omega arith)
+            (λ _. sound.waited k d l));
         fits = record {
-          nodes = omega (arith, sound.fits.nodes, length-filter-le (is_other (λ (m : Machine). m.name) gone) rows.machines, length-map rows.tasks (evicted gone));
-          arcs = omega (arith, sound.fits.arcs, sum_by-filter-le (λ (m : Machine). 1 + m.slots) (is_other (λ (m : Machine). m.name) gone) rows.machines, length-map rows.tasks (evicted gone));
+          nodes = omega (
+            arith,
+            sound.fits.nodes,
+            length-filter-le (is_other (λ (m : Machine). m.name) gone) rows.machines,
+            length-map rows.tasks (evicted gone),
+          );
+          arcs = omega (
+            arith,
+            sound.fits.arcs,
+            sum_by-filter-le (λ (m : Machine). 1 + m.slots) (is_other (λ (m : Machine). m.name) gone) rows.machines,
+            length-map rows.tasks (evicted gone),
+          );
         };
-        slots = All-filter (is_other (λ (m : Machine). m.name) gone) (λ (m : Machine). (1 ≤ m.slots) × (m.slots ≤ 64)) rows.machines sound.slots;
+        slots = All-filter (is_other (λ (m : Machine). m.name) gone) (λ (m : Machine). (1 ≤ m.slots) × (m.slots ≤ 64))
+            rows.machines sound.slots;
         weights = sound.weights;
         most_nodes = sound.most_nodes;
         most_arcs = sound.most_arcs;
@@ -180,11 +219,13 @@ module _ (rows : TenantRows) (sound : AreSound rows) where
         most_churn = sound.most_churn;
       }
     where
-      stays : (home : Option (List ℕ)) → is_on gone home ≡ false → IsThere (machine_names rows) home → IsThere (machine_names (without_machine rows gone)) home
+      stays : (home : Option (List ℕ)) → is_on gone home ≡ false → IsThere (machine_names rows) home
+          → IsThere (machine_names (without_machine rows gone)) home
       stays None apart h = h
       stays (Some home) apart h = among-filter (λ (m : Machine). m.name) rows.machines gone home apart h
 
-  pub sound-without_job : (gone : List ℕ) → IsDistinct bytes_eq (job_names (without_job rows gone)) → has_tasks rows gone ≡ false → AreSound (without_job rows gone)
+  pub sound-without_job : (gone : List ℕ) → IsDistinct bytes_eq (job_names (without_job rows gone))
+      → has_tasks rows gone ≡ false → AreSound (without_job rows gone)
   sound-without_job gone differ no_tasks =
       record {
         machine_names_differ = sound.machine_names_differ;
@@ -200,22 +241,27 @@ module _ (rows : TenantRows) (sound : AreSound rows) where
           arcs = omega (arith, sound.fits.arcs, length-filter-le (is_other (λ (j : Job). j.name) gone) rows.jobs);
         };
         slots = sound.slots;
-        weights = All-filter (is_other (λ (j : Job). j.name) gone) (λ (j : Job). (1 ≤ j.weight) × (j.weight ≤ 1000000)) rows.jobs sound.weights;
+        weights =
+            All-filter (is_other (λ (j : Job). j.name) gone) (λ (j : Job). (1 ≤ j.weight) × (j.weight ≤ 1000000))
+            rows.jobs sound.weights;
         most_nodes = sound.most_nodes;
         most_arcs = sound.most_arcs;
         most_spread = sound.most_spread;
         most_churn = sound.most_churn;
       }
 
-  pub sound-without_task : (gone : List ℕ) → IsDistinct bytes_eq (task_names (without_task rows gone)) → AreSound (without_task rows gone)
+  pub sound-without_task : (gone : List ℕ) → IsDistinct bytes_eq (task_names (without_task rows gone))
+      → AreSound (without_task rows gone)
   sound-without_task gone differ =
       let others : Task → Bool = is_other (λ (t : Task). t.name) gone in
       record {
         machine_names_differ = sound.machine_names_differ;
         job_names_differ = sound.job_names_differ;
         task_names_differ = differ;
-        jobs_there = All-filter others (λ (t : Task). is_among (job_names rows) t.job ≡ true) rows.tasks sound.jobs_there;
-        machines_there = All-filter others (λ (t : Task). IsThere (machine_names rows) t.machine) rows.tasks sound.machines_there;
+        jobs_there =
+            All-filter others (λ (t : Task). is_among (job_names rows) t.job ≡ true) rows.tasks sound.jobs_there;
+        machines_there =
+            All-filter others (λ (t : Task). IsThere (machine_names rows) t.machine) rows.tasks sound.machines_there;
         room = λ k d l.
             let on : Task → ℕ = λ t. cond (is_on (slice_index_or rows.machines k d).name t.machine) 1 0 in
             omega (arith, sound.room k d l, sum_by-filter-le on others rows.tasks);
@@ -233,7 +279,8 @@ module _ (rows : TenantRows) (sound : AreSound rows) where
       }
 
 -- what holds of each task and choice holds of each task after them
-All-zipped : {X Y Z : Type 0} (P : Z → Type 0) (Q : X → Type 0) (R : Y → Type 0) (f : X → Y → Z) → ((x : X) (y : Y) → Q x → R y → P (f x y))
+All-zipped : {X Y Z : Type 0} (P : Z → Type 0) (Q : X → Type 0) (R : Y → Type 0) (f : X → Y → Z)
+    → ((x : X) (y : Y) → Q x → R y → P (f x y))
     → (xs : List X) (ys : List Y) → All Q xs → All R ys → All P (zipped f xs ys)
 All-zipped P Q R f each [] ys xs-hold ys-hold = All-nil P
 All-zipped P Q R f each (x ∷ xs) [] xs-hold ys-hold = All-nil P
@@ -241,7 +288,8 @@ All-zipped P Q R f each (x ∷ xs) (y ∷ ys) xs-hold ys-hold =
     All-cons P (f x y) (zipped f xs ys) (each x y (All-head Q x xs xs-hold) (All-head R y ys ys-hold))
     (All-zipped P Q R f each xs ys (All-tail Q x xs xs-hold) (All-tail R y ys ys-hold))
 
-pub length-zipped : {X Y Z : Type 0} (f : X → Y → Z) (xs : List X) (ys : List Y) → length ys ≡ length xs → length (zipped f xs ys) ≡ length xs
+pub length-zipped : {X Y Z : Type 0} (f : X → Y → Z) (xs : List X) (ys : List Y) → length ys ≡ length xs
+    → length (zipped f xs ys) ≡ length xs
 length-zipped f [] ys same = refl
 length-zipped f (x ∷ xs) [] same = absurd (omega arith)
 length-zipped f (x ∷ xs) (y ∷ ys) same = omega (arith, length-zipped f xs ys (omega arith))
@@ -250,8 +298,10 @@ pub names-zipped : (rows : TenantRows) (tasks : List Task) (placement : List Cho
     → map (λ task. task.name) (zipped (task_after rows) tasks placement) ≡ map (λ task. task.name) tasks
 names-zipped rows [] placement same = refl
 names-zipped rows (task ∷ tasks) [] same = absurd (omega arith)
-names-zipped rows (task ∷ tasks) (On j ∷ placement) same = ap (λ (l : List (List ℕ)). task.name ∷ l) (names-zipped rows tasks placement (omega arith))
-names-zipped rows (task ∷ tasks) (Wait ∷ placement) same = ap (λ (l : List (List ℕ)). task.name ∷ l) (names-zipped rows tasks placement (omega arith))
+names-zipped rows (task ∷ tasks) (On j ∷ placement) same =
+    ap (λ (l : List (List ℕ)). task.name ∷ l) (names-zipped rows tasks placement (omega arith))
+names-zipped rows (task ∷ tasks) (Wait ∷ placement) same =
+    ap (λ (l : List (List ℕ)). task.name ∷ l) (names-zipped rows tasks placement (omega arith))
 
 -- the name at a place is among the names
 among-at : (names : List (List ℕ)) (place : ℕ) → place < length names → is_among names (name_at names place) ≡ true
@@ -268,11 +318,14 @@ same-name : (names : List (List ℕ)) → IsDistinct bytes_eq names → (j k : �
     → bytes_eq (name_at names k) (name_at names j) ≡ eqb j k
 same-name names differ j k j-there k-there =
     elim (eqb j k) as (λ b. eqb j k ≡ b → bytes_eq (name_at names k) (name_at names j) ≡ b) [
-      | true ↦ λ e. subst (λ i. bytes_eq (name_at names k) (name_at names i) ≡ true) (sym (eqb-true j k e)) (bytes_eq-own (name_at names k))
-      | false ↦ λ e. elim (bytes_eq (name_at names k) (name_at names j)) as (λ b. bytes_eq (name_at names k) (name_at names j) ≡ b → b ≡ false) [
-        | true ↦ λ f. absurd (apart (λ same. true≢false (sym (eq-eqb j k same) ∙ e)) ((bytes_eq-Decides (name_at names k) (name_at names j)).0 f))
-        | false ↦ λ _. refl
-      ] refl
+      | true ↦ λ e. subst (λ i. bytes_eq (name_at names k) (name_at names i)
+          ≡ true) (sym (eqb-true j k e)) (bytes_eq-own (name_at names k))
+      | false ↦ λ e. elim (bytes_eq (name_at names k) (name_at names j)) as (λ b.
+          bytes_eq (name_at names k) (name_at names j) ≡ b → b ≡ false) [
+            | true ↦ λ f. absurd (apart (λ same. true≢false (sym (eq-eqb j k same) ∙ e))
+                ((bytes_eq-Decides (name_at names k) (name_at names j)).0 f))
+            | false ↦ λ _. refl
+          ] refl
     ] refl
   where
     pairs : AllPairs (λ x y. x ≢ y) names
@@ -288,8 +341,10 @@ same-name names differ j k j-there k-there =
 
 -- as many tasks run on a machine after a round as the placement has there
 load-after : (rows : TenantRows) → IsDistinct bytes_eq (machine_names rows) → (k : ℕ) → k < length (machine_names rows)
-    → (tasks : List Task) (placement : List Choice) → length placement ≡ length tasks → All (IsPlace (length (machine_names rows))) placement
-    → count_by (λ task. is_on (name_at (machine_names rows) k) task.machine) (zipped (task_after rows) tasks placement) ≡ load placement k
+    → (tasks : List Task) (placement : List Choice) → length placement ≡ length tasks
+    → All (IsPlace (length (machine_names rows))) placement
+    → count_by (λ task. is_on (name_at (machine_names rows) k) task.machine) (zipped (task_after rows) tasks placement)
+    ≡ load placement k
 load-after rows differ k there [] [] same places = refl
 load-after rows differ k there [] (choice ∷ placement) same places = absurd (omega arith)
 load-after rows differ k there (task ∷ tasks) [] same places = absurd (omega arith)
@@ -301,14 +356,17 @@ load-after rows differ k there (task ∷ tasks) (choice ∷ placement) same plac
       sum_by-cons on (task_after rows task choice) (zipped (task_after rows) tasks placement),
       sum_by-cons goes choice placement,
       ap one_if (one choice (All-head (IsPlace (length (machine_names rows))) choice placement places)),
-      load-after rows differ k there tasks placement (omega arith) (All-tail (IsPlace (length (machine_names rows))) choice placement places),
+      load-after rows differ k there tasks placement (omega arith)
+          (All-tail (IsPlace (length (machine_names rows))) choice placement places),
     )
   where
-    one : (choice : Choice) → IsPlace (length (machine_names rows)) choice → is_on (name_at (machine_names rows) k) (task_after rows task choice).machine ≡ goes_to k choice
+    one : (choice : Choice) → IsPlace (length (machine_names rows)) choice
+        → is_on (name_at (machine_names rows) k) (task_after rows task choice).machine ≡ goes_to k choice
     one (On j) h = same-name (machine_names rows) differ j k h there
     one Wait h = refl
 
-module _ (rows : TenantRows) (sound : AreSound rows) (placement : List Choice) (legal : IsLegal (case_of rows) placement) where
+module _ (rows : TenantRows) (sound : AreSound rows) (placement : List Choice)
+    (legal : IsLegal (case_of rows) placement) where
   pub one_each : length placement ≡ length rows.tasks
   one_each = legal.one_each ∙ length-map rows.tasks _
 
@@ -326,15 +384,23 @@ module _ (rows : TenantRows) (sound : AreSound rows) (placement : List Choice) (
       record {
         machine_names_differ = sound.machine_names_differ;
         job_names_differ = sound.job_names_differ;
-        task_names_differ = subst (IsDistinct bytes_eq) (sym (names-zipped rows rows.tasks placement one_each)) sound.task_names_differ;
-        jobs_there = All-zipped (λ (t : Task). is_among (job_names rows) t.job ≡ true) (λ (t : Task). is_among (job_names rows) t.job ≡ true)
-            (IsPlace (length (machine_names rows))) (task_after rows) job-stays rows.tasks placement sound.jobs_there places;
-        machines_there = All-zipped (λ (t : Task). IsThere (machine_names rows) t.machine) (λ _. Unit {0}) (IsPlace (length (machine_names rows))) (task_after rows)
+        task_names_differ =
+            subst (IsDistinct bytes_eq) (sym (names-zipped rows rows.tasks placement one_each)) sound.task_names_differ;
+        jobs_there =
+            All-zipped (λ (t : Task). is_among (job_names rows) t.job ≡ true)
+            (λ (t : Task). is_among (job_names rows) t.job ≡ true)
+            (IsPlace (length (machine_names rows))) (task_after rows) job-stays rows.tasks placement sound.jobs_there
+            places;
+        machines_there =
+            All-zipped (λ (t : Task). IsThere (machine_names rows) t.machine) (λ _. Unit {0})
+            (IsPlace (length (machine_names rows))) (task_after rows)
             machine-there rows.tasks placement (λ k d l. tt) places;
         room = λ k d l.
             let below : k < length (machine_names rows) = omega (arith, l, named) in
-            let name-at : name_at (machine_names rows) k ≡ (slice_index_or rows.machines k d).name = get_or-map (λ (m : Machine). m.name) rows.machines k d [] l in
-            let slots-at : slice_index (case_of rows).slots k ≡ (slice_index_or rows.machines k d).slots = get_or-map (λ (m : Machine). m.slots) rows.machines k d 0 l in
+            let name-at : name_at (machine_names rows) k ≡ (slice_index_or rows.machines k d).name =
+            get_or-map (λ (m : Machine). m.name) rows.machines k d [] l in
+            let slots-at : slice_index (case_of rows).slots k ≡ (slice_index_or rows.machines k d).slots =
+            get_or-map (λ (m : Machine). m.slots) rows.machines k d 0 l in
             omega (
               arith,
               legal.room k (omega (arith, l, machines-slots)),
@@ -342,7 +408,9 @@ module _ (rows : TenantRows) (sound : AreSound rows) (placement : List Choice) (
               load-after rows sound.machine_names_differ k below rows.tasks placement one_each places,
               ap (λ (n : List ℕ). running_on (rows_after rows placement) n) name-at,
             );
-        waited = All-zipped (λ (t : Task). t.waited ≤ 1000000) (λ _. Unit {0}) (λ _. Unit {0}) (task_after rows) waited-few rows.tasks placement (λ k d l. tt) (λ k d l. tt);
+        waited =
+            All-zipped (λ (t : Task). t.waited ≤ 1000000) (λ _. Unit {0}) (λ _. Unit {0}) (task_after rows) waited-few
+            rows.tasks placement (λ k d l. tt) (λ k d l. tt);
         fits = record {
           nodes = omega (arith, sound.fits.nodes, length-zipped (task_after rows) rows.tasks placement one_each);
           arcs = omega (arith, sound.fits.arcs, length-zipped (task_after rows) rows.tasks placement one_each);
@@ -355,11 +423,13 @@ module _ (rows : TenantRows) (sound : AreSound rows) (placement : List Choice) (
         most_churn = sound.most_churn;
       }
     where
-      job-stays : (t : Task) (c : Choice) → is_among (job_names rows) t.job ≡ true → IsPlace (length (machine_names rows)) c → is_among (job_names rows) (task_after rows t c).job ≡ true
+      job-stays : (t : Task) (c : Choice) → is_among (job_names rows) t.job ≡ true
+          → IsPlace (length (machine_names rows)) c → is_among (job_names rows) (task_after rows t c).job ≡ true
       job-stays t (On j) there place = there
       job-stays t Wait there place = there
 
-      machine-there : (t : Task) (c : Choice) → Unit {0} → IsPlace (length (machine_names rows)) c → IsThere (machine_names rows) (task_after rows t c).machine
+      machine-there : (t : Task) (c : Choice) → Unit {0} → IsPlace (length (machine_names rows)) c
+          → IsThere (machine_names rows) (task_after rows t c).machine
       machine-there t (On j) u place = among-at (machine_names rows) j place
       machine-there t Wait u place = tt
 

@@ -1,5 +1,7 @@
 -- Rows that stand under their own names.
-use Rattle.std.proofs.Common.{◌≡◌, ◌+◌, ◌<◌, ◌≤◌, ℕ, zero, suc, true, false, cond, List, [], ◌∷◌, ◌++◌, map, remove, length, count_by, Option, None, Some, is_some, slice_get, slice_index_or, true≢false, refl, sym, ap, subst, ◌∙◌, bytes_eq, arith}
+use Rattle.std.proofs.Common.{◌≡◌, ◌+◌, ◌<◌, ◌≤◌, ℕ, zero, suc, true, false, cond, List, [], ◌∷◌, ◌++◌, map, remove}
+use Rattle.std.proofs.Common.{length, count_by, Option, None, Some, is_some, slice_get, slice_index_or, true≢false}
+use Rattle.std.proofs.Common.{refl, sym, ap, subst, ◌∙◌, ◌-◌, bytes_eq, arith}
 use Rattle.std.specs.List.{IsDistinct}
 use Rattle.std.specs.Map.{lookup, keys_of, values_of}
 use Rattle.std.proofs.lemmas.Map.Made.{is_some-lookup}
@@ -10,7 +12,9 @@ use Rattle.indexmap.proofs.CallerLemmas.{insert_entry-new}
 use Rattle.indexmap.proofs.SetLemmas.{map-remove}
 use Rattle.firm_rules.specs.Limits.{TenantLimits}
 use Rattle.firm_rules.specs.Names.{is_among}
-use Rattle.firm_rules.specs.Book.{TenantRows, machine_names, job_names, task_names, name_at, is_on, evicted, running_count, with_machine, with_job, with_task, without_machine, without_job, without_task, has_tasks}
+use Rattle.firm_rules.specs.Book.{TenantRows, machine_names, job_names, task_names, name_at, is_on, evicted}
+use Rattle.firm_rules.specs.Book.{running_count, with_machine, with_job, with_task, without_machine, without_job}
+use Rattle.firm_rules.specs.Book.{without_task, has_tasks}
 use Rattle.firm_rules.specs.ArenaUse.{FitsLimits, machine_arcs}
 use Rattle.firm_rules.specs.Sound.{AreSound}
 use Rattle.firm_rules.specs.Tables.{StandsByName, AreTables, rows_in, settled}
@@ -23,19 +27,24 @@ use Rattle.firm_rules.specs.declared.rounds.Choice.{Choice}
 use Rattle.firm_rules.specs.declared.rounds.Choice.TheVariants.{On, Wait}
 use Rattle.firm_rules.proofs.Legals.{to_legal}
 use Rattle.firm_rules.proofs.NamedRows.{filter-remove}
-use Rattle.firm_rules.proofs.SoundRows.{sound-with_machine, sound-with_job, sound-with_task, sound-without_machine, sound-without_job, sound-without_task, sound-rows_after, names-evicted, names-zipped, one_each, one_if}
+use Rattle.firm_rules.proofs.SoundRows.{sound-with_machine, sound-with_job, sound-with_task, sound-without_machine}
+use Rattle.firm_rules.proofs.SoundRows.{sound-without_job, sound-without_task, sound-rows_after, names-evicted}
+use Rattle.firm_rules.proofs.SoundRows.{names-zipped, one_each, one_if}
 
 module _ {Row : Type 0} (name_of_row : Row → List ℕ) (entries : List (List ℕ × Row)) where
   -- a look-up finds a name exactly where a row has it
-  pub is_some-lookup-by_name : StandsByName name_of_row entries → (name : List ℕ) → is_some (lookup (bytes_eq name) entries) ≡ is_among (map name_of_row (values_of entries)) name
+  pub is_some-lookup-by_name : StandsByName name_of_row entries → (name : List ℕ)
+      → is_some (lookup (bytes_eq name) entries) ≡ is_among (map name_of_row (values_of entries)) name
   is_some-lookup-by_name stands name = is_some-lookup (bytes_eq name) entries ∙ ap (λ names. is_among names name) stands
 
   -- rows stand under their own names after a row is added last under its name
-  pub StandsByName-add : StandsByName name_of_row entries → (row : Row) → StandsByName name_of_row (entries ++ (name_of_row row, row) ∷ [])
+  pub StandsByName-add : StandsByName name_of_row entries → (row : Row)
+      → StandsByName name_of_row (entries ++ (name_of_row row, row) ∷ [])
   StandsByName-add stands row = simp map-append (ap (λ names. names ++ name_of_row row ∷ []) stands)
 
   -- and once one is removed
-  pub StandsByName-remove : (place : ℕ) → StandsByName name_of_row entries → StandsByName name_of_row (remove entries place)
+  pub StandsByName-remove : (place : ℕ) → StandsByName name_of_row entries
+      → StandsByName name_of_row (remove entries place)
   StandsByName-remove place stands =
       map-remove (λ (e : List ℕ × Row). e.0) entries place
       ∙ ap (λ (names : List (List ℕ)). remove names place) stands
@@ -43,22 +52,26 @@ module _ {Row : Type 0} (name_of_row : Row → List ℕ) (entries : List (List �
       ∙ ap (λ (rows : List Row). map name_of_row rows) (sym (map-remove (λ (e : List ℕ × Row). e.1) entries place))
 
 -- a row whose name is new goes last
-pub insert_entry-last : {Row S : Type 0} (table : IndexMap (List ℕ) Row S) (name : List ℕ) (row : Row) → is_among (keys table) name ≡ false
+pub insert_entry-last : {Row S : Type 0} (table : IndexMap (List ℕ) Row S) (name : List ℕ) (row : Row)
+    → is_among (keys table) name ≡ false
     → insert_entry bytes_eq table.entries name row ≡ table.entries ++ (name, row) ∷ []
 insert_entry-last table name row new =
-    insert_entry-new bytes_eq table name row (no_value (lookup (bytes_eq name) table.entries) (is_some-lookup (bytes_eq name) table.entries ∙ new))
+    insert_entry-new bytes_eq table name row
+    (no_value (lookup (bytes_eq name) table.entries) (is_some-lookup (bytes_eq name) table.entries ∙ new))
   where
     no_value : {V : Type 0} (found : Option V) → is_some found ≡ false → found ≡ None
     no_value None _ = refl
     no_value (Some _) there = absurd (true≢false there)
 
 -- three tables that hold these rows, with the counts that are kept
-pub record AreTablesOf (rows : TenantRows) (limits : TenantLimits) (machines : List (List ℕ × Machine)) (jobs : List (List ℕ × Job)) (tasks : List (List ℕ × Task)) (arcs running : ℕ) : Type 0 where
+pub record AreTablesOf (rows : TenantRows) (limits : TenantLimits) (machines : List (List ℕ × Machine))
+    (jobs : List (List ℕ × Job)) (tasks : List (List ℕ × Task)) (arcs running : ℕ) : Type 0 where
   pub tables : AreTables limits machines jobs tasks arcs running
   pub view : rows_in limits machines jobs tasks ≡ rows
 
 -- an entry that was read at a place
-pub entry-at : {Row : Type 0} (entries : List (List ℕ × Row)) (place : ℕ) (name : List ℕ) (row : Row) → Some (name, row) ≡ slice_get entries place
+pub entry-at : {Row : Type 0} (entries : List (List ℕ × Row)) (place : ℕ) (name : List ℕ) (row : Row)
+    → Some (name, row) ≡ slice_get entries place
     → (name_at (keys_of entries) place ≡ name) × ((d : Row) → slice_index_or (values_of entries) place d ≡ row)
 entry-at [] place name row read = absurd (true≢false (ap is_some read))
 entry-at {Row} (entry ∷ entries) zero name row read =
@@ -68,7 +81,8 @@ entry-at {Row} (entry ∷ entries) zero name row read =
 entry-at (entry ∷ entries) (suc place) name row read = entry-at entries place name row read
 
 -- those that ran on a machine that is gone run no more
-running-evicted : (gone : List ℕ) (tasks : List Task) → running_count (map (evicted gone) tasks) + count_by (λ task. is_on gone task.machine) tasks ≡ running_count tasks
+running-evicted : (gone : List ℕ) (tasks : List Task)
+    → running_count (map (evicted gone) tasks) + count_by (λ task. is_on gone task.machine) tasks ≡ running_count tasks
 running-evicted gone [] = refl
 running-evicted gone (task ∷ tasks) =
     let runs : Task → ℕ = λ t. cond (is_some t.machine) 1 0 in
@@ -86,63 +100,90 @@ running-evicted gone (task ∷ tasks) =
     on_runs None h = h
     on_runs (Some name) h = refl
 
-    one : one_if (is_some (evicted gone task).machine) + one_if (is_on gone task.machine) ≡ one_if (is_some task.machine)
-    one = elim (is_on gone task.machine) as (λ b. is_on gone task.machine ≡ b → one_if (is_some (cond b (record task { machine = None; waited = 0 }) task).machine) + one_if b ≡ one_if (is_some task.machine)) [
-      | true ↦ λ e. sym (ap one_if (on_runs task.machine e))
-      | false ↦ λ _. omega arith
-    ] refl
+    one : one_if (is_some (evicted gone task).machine) + one_if (is_on gone task.machine)
+        ≡ one_if (is_some task.machine)
+    one = elim (is_on gone task.machine) as (λ b. is_on gone task.machine ≡ b
+        → one_if (is_some (cond b (record task { machine = None; waited = 0 }) task).machine) + one_if b
+        ≡ one_if (is_some task.machine)) [
+          | true ↦ λ e. sym (ap one_if (on_runs task.machine e))
+          | false ↦ λ _. omega arith
+        ] refl
 
 -- the choices given among the machines of the rows are those of the round
-zipped-settled : (rows : TenantRows) (tasks : List Task) (choices : List Choice) → zipped (settled rows.machines) tasks choices ≡ zipped (task_after rows) tasks choices
+zipped-settled : (rows : TenantRows) (tasks : List Task) (choices : List Choice)
+    → zipped (settled rows.machines) tasks choices ≡ zipped (task_after rows) tasks choices
 zipped-settled rows [] choices = refl
 zipped-settled rows (task ∷ tasks) [] = refl
-zipped-settled rows (task ∷ tasks) (On j ∷ choices) = ap (λ (l : List Task). task_after rows task (On j) ∷ l) (zipped-settled rows tasks choices)
-zipped-settled rows (task ∷ tasks) (Wait ∷ choices) = ap (λ (l : List Task). task_after rows task Wait ∷ l) (zipped-settled rows tasks choices)
+zipped-settled rows (task ∷ tasks) (On j ∷ choices) =
+    ap (λ (l : List Task). task_after rows task (On j) ∷ l) (zipped-settled rows tasks choices)
+zipped-settled rows (task ∷ tasks) (Wait ∷ choices) =
+    ap (λ (l : List Task). task_after rows task Wait ∷ l) (zipped-settled rows tasks choices)
 
-module _ (limits : TenantLimits) (machines : List (List ℕ × Machine)) (jobs : List (List ℕ × Job)) (tasks : List (List ℕ × Task)) (arcs running : ℕ)
-    (were : AreTables limits machines jobs tasks arcs running) (rows : TenantRows) (view : rows_in limits machines jobs tasks ≡ rows) where
+module _ {limits : TenantLimits} {machines : List (List ℕ × Machine)} {jobs : List (List ℕ × Job)}
+    {tasks : List (List ℕ × Task)} {arcs running : ℕ} (were : AreTables limits machines jobs tasks arcs running)
+    {rows : TenantRows}
+    (view : rows_in limits machines jobs tasks ≡ rows) where
   sound : AreSound rows
   sound = subst AreSound view were.sound
 
-  pub tables-with_machine : (name : List ℕ) (slots wide : ℕ) (more : List (List ℕ × Machine)) → more ≡ machines ++ (name, record { name = name; slots = slots }) ∷ []
-      → IsDistinct bytes_eq (keys_of more) → is_among (machine_names rows) name ≡ false → FitsLimits (with_machine rows name slots) → 1 ≤ slots → slots ≤ 64
+  pub tables-with_machine : (name : List ℕ) (slots : ℕ) {wide : ℕ} {more : List (List ℕ × Machine)}
+      → more ≡ machines ++ (name, record { name = name; slots = slots }) ∷ []
+      → IsDistinct bytes_eq (keys_of more) → is_among (machine_names rows) name ≡ false
+      → FitsLimits (with_machine rows name slots) → 1 ≤ slots → slots ≤ 64
       → wide ≡ slots → AreTablesOf (with_machine rows name slots) limits more jobs tasks (arcs + (1 + wide)) running
-  tables-with_machine name slots wide more is unique new fits least most wide-is =
+  tables-with_machine name slots {wide} {more} is unique new fits least most wide-is =
       let machine : Machine = record { name = name; slots = slots } in
       let values : values_of more ≡ values_of machines ++ machine ∷ [] =
       ap values_of is ∙ map-append (λ (e : List ℕ × Machine). e.1) machines ((name, machine) ∷ []) in
       let named : StandsByName (λ (m : Machine). m.name) more =
-      subst (StandsByName (λ (m : Machine). m.name)) (sym is) (StandsByName-add (λ (m : Machine). m.name) machines were.machines_by_name machine) in
+      subst (StandsByName (λ (m : Machine). m.name)) (sym is)
+      (StandsByName-add (λ (m : Machine). m.name) machines were.machines_by_name machine) in
       let after : rows_in limits more jobs tasks ≡ with_machine rows name slots =
-      ap (λ (l : List Machine). let r : TenantRows = record { limits = limits; machines = l; jobs = values_of jobs; tasks = values_of tasks } in r) values
+      ap (λ (l : List Machine). let r : TenantRows =
+      record { limits = limits; machines = l; jobs = values_of jobs; tasks = values_of tasks } in r)
+      values
       ∙ ap (λ (r : TenantRows). with_machine r name slots) view in
       let kept : AreSound (with_machine rows name slots) =
-      sound-with_machine rows sound name slots (subst (IsDistinct bytes_eq) (named ∙ ap machine_names after) unique) new fits least most in
+      sound-with_machine rows sound name slots (subst (IsDistinct bytes_eq) (named ∙ ap machine_names after) unique) new
+      fits least most in
       record {
         tables = record {
           machines_by_name = named;
           jobs_by_name = were.jobs_by_name;
           tasks_by_name = were.tasks_by_name;
           sound = subst AreSound (sym after) kept;
-          arcs_kept = omega (arith, wide-is, were.arcs_kept, ap machine_arcs values, sum_by_push (λ (m : Machine). 1 + m.slots) (values_of machines) machine);
+          arcs_kept =
+              omega (
+                arith,
+                wide-is,
+                were.arcs_kept,
+                ap machine_arcs values,
+                sum_by_push (λ (m : Machine). 1 + m.slots) (values_of machines) machine,
+              );
           running_kept = were.running_kept;
         };
         view = after;
       }
 
-  pub tables-with_job : (name : List ℕ) (weight : ℕ) (more : List (List ℕ × Job)) → more ≡ jobs ++ (name, record { name = name; weight = weight }) ∷ []
+  pub tables-with_job : (name : List ℕ) (weight : ℕ) {more : List (List ℕ × Job)}
+      → more ≡ jobs ++ (name, record { name = name; weight = weight }) ∷ []
       → IsDistinct bytes_eq (keys_of more) → FitsLimits (with_job rows name weight) → 1 ≤ weight → weight ≤ 1000000
       → AreTablesOf (with_job rows name weight) limits machines more tasks arcs running
-  tables-with_job name weight more is unique fits least most =
+  tables-with_job name weight {more} is unique fits least most =
       let job : Job = record { name = name; weight = weight } in
-      let values : values_of more ≡ values_of jobs ++ job ∷ [] = ap values_of is ∙ map-append (λ (e : List ℕ × Job). e.1) jobs ((name, job) ∷ []) in
+      let values : values_of more ≡ values_of jobs ++ job ∷ [] =
+      ap values_of is ∙ map-append (λ (e : List ℕ × Job). e.1) jobs ((name, job) ∷ []) in
       let named : StandsByName (λ (j : Job). j.name) more =
-      subst (StandsByName (λ (j : Job). j.name)) (sym is) (StandsByName-add (λ (j : Job). j.name) jobs were.jobs_by_name job) in
+      subst (StandsByName (λ (j : Job). j.name)) (sym is)
+      (StandsByName-add (λ (j : Job). j.name) jobs were.jobs_by_name job) in
       let after : rows_in limits machines more tasks ≡ with_job rows name weight =
-      ap (λ (l : List Job). let r : TenantRows = record { limits = limits; machines = values_of machines; jobs = l; tasks = values_of tasks } in r) values
+      ap (λ (l : List Job). let r : TenantRows =
+      record { limits = limits; machines = values_of machines; jobs = l; tasks = values_of tasks } in r)
+      values
       ∙ ap (λ (r : TenantRows). with_job r name weight) view in
       let kept : AreSound (with_job rows name weight) =
-      sound-with_job rows sound name weight (subst (IsDistinct bytes_eq) (named ∙ ap job_names after) unique) fits least most in
+      sound-with_job rows sound name weight (subst (IsDistinct bytes_eq) (named ∙ ap job_names after) unique) fits least
+      most in
       record {
         tables = record {
           machines_by_name = were.machines_by_name;
@@ -155,19 +196,25 @@ module _ (limits : TenantLimits) (machines : List (List ℕ × Machine)) (jobs :
         view = after;
       }
 
-  pub tables-with_task : (job name : List ℕ) (more : List (List ℕ × Task)) → more ≡ tasks ++ (name, record { name = name; job = job; machine = None; waited = 0 }) ∷ []
+  pub tables-with_task : (job name : List ℕ) {more : List (List ℕ × Task)}
+      → more ≡ tasks ++ (name, record { name = name; job = job; machine = None; waited = 0 }) ∷ []
       → IsDistinct bytes_eq (keys_of more) → is_among (job_names rows) job ≡ true → FitsLimits (with_task rows job name)
       → AreTablesOf (with_task rows job name) limits machines jobs more arcs running
-  tables-with_task job name more is unique there fits =
+  tables-with_task job name {more} is unique there fits =
       let task : Task = record { name = name; job = job; machine = None; waited = 0 } in
-      let values : values_of more ≡ values_of tasks ++ task ∷ [] = ap values_of is ∙ map-append (λ (e : List ℕ × Task). e.1) tasks ((name, task) ∷ []) in
+      let values : values_of more ≡ values_of tasks ++ task ∷ [] =
+      ap values_of is ∙ map-append (λ (e : List ℕ × Task). e.1) tasks ((name, task) ∷ []) in
       let named : StandsByName (λ (t : Task). t.name) more =
-      subst (StandsByName (λ (t : Task). t.name)) (sym is) (StandsByName-add (λ (t : Task). t.name) tasks were.tasks_by_name task) in
+      subst (StandsByName (λ (t : Task). t.name)) (sym is)
+      (StandsByName-add (λ (t : Task). t.name) tasks were.tasks_by_name task) in
       let after : rows_in limits machines jobs more ≡ with_task rows job name =
-      ap (λ (l : List Task). let r : TenantRows = record { limits = limits; machines = values_of machines; jobs = values_of jobs; tasks = l } in r) values
+      ap (λ (l : List Task). let r : TenantRows =
+      record { limits = limits; machines = values_of machines; jobs = values_of jobs; tasks = l } in r)
+      values
       ∙ ap (λ (r : TenantRows). with_task r job name) view in
       let kept : AreSound (with_task rows job name) =
-      sound-with_task rows sound job name (subst (IsDistinct bytes_eq) (named ∙ ap task_names after) unique) there fits in
+      sound-with_task rows sound job name (subst (IsDistinct bytes_eq) (named ∙ ap task_names after) unique) there
+      fits in
       record {
         tables = record {
           machines_by_name = were.machines_by_name;
@@ -175,24 +222,37 @@ module _ (limits : TenantLimits) (machines : List (List ℕ × Machine)) (jobs :
           tasks_by_name = named;
           sound = subst AreSound (sym after) kept;
           arcs_kept = were.arcs_kept;
-          running_kept = omega (arith, were.running_kept, ap running_count values, sum_by_push (λ (t : Task). cond (is_some t.machine) 1 0) (values_of tasks) task);
+          running_kept =
+              omega (
+                arith,
+                were.running_kept,
+                ap running_count values,
+                sum_by_push (λ (t : Task). cond (is_some t.machine) 1 0) (values_of tasks) task,
+              );
         };
         view = after;
       }
 
-  pub tables-without_job : (place : ℕ) (less : List (List ℕ × Job)) → less ≡ remove jobs place → IsDistinct bytes_eq (keys_of less) → place < length rows.jobs
+  pub tables-without_job : (place : ℕ) {less : List (List ℕ × Job)} → less ≡ remove jobs place
+      → IsDistinct bytes_eq (keys_of less) → place < length rows.jobs
       → has_tasks rows (name_at (job_names rows) place) ≡ false
       → AreTablesOf (without_job rows (name_at (job_names rows) place)) limits machines less tasks arcs running
-  tables-without_job place less is unique below no_tasks =
+  tables-without_job place {less} is unique below no_tasks =
       let gone : List ℕ = name_at (job_names rows) place in
-      let values : values_of less ≡ remove (values_of jobs) place = ap values_of is ∙ map-remove (λ (e : List ℕ × Job). e.1) jobs place in
+      let values : values_of less ≡ remove (values_of jobs) place =
+      ap values_of is ∙ map-remove (λ (e : List ℕ × Job). e.1) jobs place in
       let named : StandsByName (λ (j : Job). j.name) less =
-      subst (StandsByName (λ (j : Job). j.name)) (sym is) (StandsByName-remove (λ (j : Job). j.name) jobs place were.jobs_by_name) in
+      subst (StandsByName (λ (j : Job). j.name)) (sym is)
+      (StandsByName-remove (λ (j : Job). j.name) jobs place were.jobs_by_name) in
       let after : rows_in limits machines less tasks ≡ without_job rows gone =
-      ap (λ (l : List Job). let r : TenantRows = record { limits = limits; machines = values_of machines; jobs = l; tasks = values_of tasks } in r) values
+      ap (λ (l : List Job). let r : TenantRows =
+      record { limits = limits; machines = values_of machines; jobs = l; tasks = values_of tasks } in r)
+      values
       ∙ ap (λ (r : TenantRows). let s : TenantRows = record r { jobs = remove r.jobs place } in s) view
-      ∙ ap (λ (l : List Job). let r : TenantRows = record rows { jobs = l } in r) (sym (filter-remove (λ (j : Job). j.name) rows.jobs place sound.job_names_differ below)) in
-      let kept : AreSound (without_job rows gone) = sound-without_job rows sound gone (subst (IsDistinct bytes_eq) (named ∙ ap job_names after) unique) no_tasks in
+      ∙ ap (λ (l : List Job). let r : TenantRows = record rows { jobs = l } in r)
+      (sym (filter-remove (λ (j : Job). j.name) rows.jobs place sound.job_names_differ below)) in
+      let kept : AreSound (without_job rows gone) =
+      sound-without_job rows sound gone (subst (IsDistinct bytes_eq) (named ∙ ap job_names after) unique) no_tasks in
       record {
         tables = record {
           machines_by_name = were.machines_by_name;
@@ -206,26 +266,41 @@ module _ (limits : TenantLimits) (machines : List (List ℕ × Machine)) (jobs :
       }
 
   -- what the task at a place counts for among those that run
-  pub running-at : (place : ℕ) (name : List ℕ) (task : Task) → Some (name, task) ≡ slice_get tasks place → place < length rows.tasks
+  pub running-at : (place : ℕ) (name : List ℕ) (task : Task) → Some (name, task) ≡ slice_get tasks place
+      → place < length rows.tasks
       → running_count (remove (values_of tasks) place) + cond (is_some task.machine) 1 0 ≡ running
   running-at place name task read below =
       let runs : Task → ℕ = λ t. cond (is_some t.machine) 1 0 in
-      let there : place < length (values_of tasks) = omega (arith, below, ap (λ (r : TenantRows). length r.tasks) view) in
-      omega (arith, were.running_kept, sum_by-remove runs (values_of tasks) place task there, ap runs ((entry-at tasks place name task read).1 task))
+      let there : place < length (values_of tasks) =
+      omega (arith, below, ap (λ (r : TenantRows). length r.tasks) view) in
+      omega (
+        arith,
+        were.running_kept,
+        sum_by-remove runs (values_of tasks) place task there,
+        ap runs ((entry-at tasks place name task read).1 task),
+      )
 
-  pub tables-without_task : (place : ℕ) (less : List (List ℕ × Task)) (left : ℕ) → less ≡ remove tasks place → IsDistinct bytes_eq (keys_of less) → place < length rows.tasks
-      → left ≡ running_count (remove (values_of tasks) place)
-      → AreTablesOf (without_task rows (name_at (task_names rows) place)) limits machines jobs less arcs left
-  tables-without_task place less left is unique below left-is =
+  -- the tables without the task at a place, where `one` is what it counts for
+  pub tables-without_task : (place : ℕ) {less : List (List ℕ × Task)} {name : List ℕ} {task : Task} {one : ℕ}
+      → less ≡ remove tasks place → IsDistinct bytes_eq (keys_of less) → Some (name, task) ≡ slice_get tasks place
+      → place < length rows.tasks → one ≡ one_if (is_some task.machine)
+      → AreTablesOf (without_task rows (name_at (task_names rows) place)) limits machines jobs less arcs (running - one)
+  tables-without_task place {less} {name} {task} {one} is unique read below one-is =
       let gone : List ℕ = name_at (task_names rows) place in
-      let values : values_of less ≡ remove (values_of tasks) place = ap values_of is ∙ map-remove (λ (e : List ℕ × Task). e.1) tasks place in
+      let values : values_of less ≡ remove (values_of tasks) place =
+      ap values_of is ∙ map-remove (λ (e : List ℕ × Task). e.1) tasks place in
       let named : StandsByName (λ (t : Task). t.name) less =
-      subst (StandsByName (λ (t : Task). t.name)) (sym is) (StandsByName-remove (λ (t : Task). t.name) tasks place were.tasks_by_name) in
+      subst (StandsByName (λ (t : Task). t.name)) (sym is)
+      (StandsByName-remove (λ (t : Task). t.name) tasks place were.tasks_by_name) in
       let after : rows_in limits machines jobs less ≡ without_task rows gone =
-      ap (λ (l : List Task). let r : TenantRows = record { limits = limits; machines = values_of machines; jobs = values_of jobs; tasks = l } in r) values
+      ap (λ (l : List Task). let r : TenantRows =
+      record { limits = limits; machines = values_of machines; jobs = values_of jobs; tasks = l } in r)
+      values
       ∙ ap (λ (r : TenantRows). let s : TenantRows = record r { tasks = remove r.tasks place } in s) view
-      ∙ ap (λ (l : List Task). let r : TenantRows = record rows { tasks = l } in r) (sym (filter-remove (λ (t : Task). t.name) rows.tasks place sound.task_names_differ below)) in
-      let kept : AreSound (without_task rows gone) = sound-without_task rows sound gone (subst (IsDistinct bytes_eq) (named ∙ ap task_names after) unique) in
+      ∙ ap (λ (l : List Task). let r : TenantRows = record rows { tasks = l } in r)
+      (sym (filter-remove (λ (t : Task). t.name) rows.tasks place sound.task_names_differ below)) in
+      let kept : AreSound (without_task rows gone) =
+      sound-without_task rows sound gone (subst (IsDistinct bytes_eq) (named ∙ ap task_names after) unique) in
       record {
         tables = record {
           machines_by_name = were.machines_by_name;
@@ -233,18 +308,25 @@ module _ (limits : TenantLimits) (machines : List (List ℕ × Machine)) (jobs :
           tasks_by_name = named;
           sound = subst AreSound (sym after) kept;
           arcs_kept = were.arcs_kept;
-          running_kept = left-is ∙ sym (ap running_count values);
+          running_kept = omega (arith, one-is, running-at place name task read below, ap running_count values);
         };
         view = after;
       }
 
   -- a machine's arcs are among those that are kept
-  pub arcs-at : (place : ℕ) (name : List ℕ) (machine : Machine) → Some (name, machine) ≡ slice_get machines place → place < length rows.machines
+  pub arcs-at : (place : ℕ) (name : List ℕ) (machine : Machine) → Some (name, machine) ≡ slice_get machines place
+      → place < length rows.machines
       → machine_arcs (remove (values_of machines) place) + (1 + machine.slots) ≡ arcs
   arcs-at place name machine read below =
       let wide : Machine → ℕ = λ m. 1 + m.slots in
-      let there : place < length (values_of machines) = omega (arith, below, ap (λ (r : TenantRows). length r.machines) view) in
-      omega (arith, were.arcs_kept, sum_by-remove wide (values_of machines) place machine there, ap wide ((entry-at machines place name machine read).1 machine))
+      let there : place < length (values_of machines) =
+      omega (arith, below, ap (λ (r : TenantRows). length r.machines) view) in
+      omega (
+        arith,
+        were.arcs_kept,
+        sum_by-remove wide (values_of machines) place machine there,
+        ap wide ((entry-at machines place name machine read).1 machine),
+      )
 
   -- as many tasks run as do after the eviction, and those that were evicted
   pub running-drained : (gone : List ℕ) (out : ℕ) → out ≡ count_by (λ task. is_on gone task.machine) (values_of tasks)
@@ -252,56 +334,80 @@ module _ (limits : TenantLimits) (machines : List (List ℕ × Machine)) (jobs :
   running-drained gone out out-is = omega (arith, out-is, were.running_kept, running-evicted gone (values_of tasks))
 
   -- the name of a machine that was read
-  pub read-name : (place : ℕ) (name : List ℕ) (machine : Machine) → Some (name, machine) ≡ slice_get machines place → place < length rows.machines
+  pub read-name : (place : ℕ) (name : List ℕ) (machine : Machine) → Some (name, machine) ≡ slice_get machines place
+      → place < length rows.machines
       → machine.name ≡ name_at (machine_names rows) place
   read-name place name machine read below =
-      let there : place < length (values_of machines) = omega (arith, below, ap (λ (r : TenantRows). length r.machines) view) in
+      let there : place < length (values_of machines) =
+      omega (arith, below, ap (λ (r : TenantRows). length r.machines) view) in
       ap (λ (m : Machine). m.name) (sym ((entry-at machines place name machine read).1 machine))
       ∙ sym (get_or-map (λ (m : Machine). m.name) (values_of machines) place machine [] there)
       ∙ ap (λ (r : TenantRows). name_at (machine_names r) place) view
 
-  pub tables-without_machine : (place : ℕ) (less : List (List ℕ × Machine)) (name : List ℕ) (machine : Machine) (waiting : List (List ℕ × Task)) (fewer left : ℕ)
-      → less ≡ remove machines place → IsDistinct bytes_eq (keys_of less) → Some (name, machine) ≡ slice_get machines place → place < length rows.machines
-      → keys_of waiting ≡ keys_of tasks → values_of waiting ≡ map (evicted machine.name) (values_of tasks)
-      → fewer ≡ machine_arcs (remove (values_of machines) place) → left ≡ running_count (map (evicted machine.name) (values_of tasks))
-      → AreTablesOf (without_machine rows (name_at (machine_names rows) place)) limits less jobs waiting fewer left
-  tables-without_machine place less name machine waiting fewer left is unique read below same-keys evicts fewer-is left-is =
+  -- the tables without the machine at a place, which had `wide` slots and `out` tasks
+  pub tables-without_machine : (place : ℕ) {less : List (List ℕ × Machine)} {name : List ℕ} {machine : Machine}
+      {waiting : List (List ℕ × Task)} {wide out : ℕ}
+      → less ≡ remove machines place → IsDistinct bytes_eq (keys_of less)
+      → Some (name, machine) ≡ slice_get machines place
+      → place < length rows.machines → keys_of waiting ≡ keys_of tasks
+      → values_of waiting ≡ map (evicted machine.name) (values_of tasks) → wide ≡ machine.slots
+      → out ≡ count_by (λ task. is_on machine.name task.machine) (values_of tasks)
+      → AreTablesOf (without_machine rows (name_at (machine_names rows) place)) limits less jobs waiting
+      (arcs - (1 + wide)) (running - out)
+  tables-without_machine place {less} {name} {machine} {waiting} is unique read below same-keys evicts wide-is out-is =
       let gone : List ℕ = name_at (machine_names rows) place in
       let gone-is : machine.name ≡ gone = read-name place name machine read below in
-      let values : values_of less ≡ remove (values_of machines) place = ap values_of is ∙ map-remove (λ (e : List ℕ × Machine). e.1) machines place in
+      let values : values_of less ≡ remove (values_of machines) place =
+      ap values_of is ∙ map-remove (λ (e : List ℕ × Machine). e.1) machines place in
       let named : StandsByName (λ (m : Machine). m.name) less =
-      subst (StandsByName (λ (m : Machine). m.name)) (sym is) (StandsByName-remove (λ (m : Machine). m.name) machines place were.machines_by_name) in
+      subst (StandsByName (λ (m : Machine). m.name)) (sym is)
+      (StandsByName-remove (λ (m : Machine). m.name) machines place were.machines_by_name) in
       let after : rows_in limits less jobs waiting ≡ without_machine rows gone =
-      ap (λ (l : List Machine). let r : TenantRows = record { limits = limits; machines = l; jobs = values_of jobs; tasks = values_of waiting } in r) values
-      ∙ ap (λ (l : List Task). let r : TenantRows = record { limits = limits; machines = remove (values_of machines) place; jobs = values_of jobs; tasks = l } in r)
+      ap (λ (l : List Machine). let r : TenantRows =
+      record { limits = limits; machines = l; jobs = values_of jobs; tasks = values_of waiting } in r)
+      values
+      ∙ ap (λ (l : List Task). let r : TenantRows =
+      record { limits = limits; machines = remove (values_of machines) place; jobs = values_of jobs; tasks = l } in r)
       (evicts ∙ ap (λ (n : List ℕ). map (evicted n) (values_of tasks)) gone-is)
-      ∙ ap (λ (r : TenantRows). let s : TenantRows = record r { machines = remove r.machines place; tasks = map (evicted gone) r.tasks } in s) view
-      ∙ ap (λ (l : List Machine). let r : TenantRows = record rows { machines = l; tasks = map (evicted gone) rows.tasks } in r)
+      ∙ ap (λ (r : TenantRows). let s : TenantRows =
+      record r { machines = remove r.machines place; tasks = map (evicted gone) r.tasks } in s)
+      view
+      ∙ ap (λ (l : List Machine). let r : TenantRows =
+      record rows { machines = l; tasks = map (evicted gone) rows.tasks } in r)
       (sym (filter-remove (λ (m : Machine). m.name) rows.machines place sound.machine_names_differ below)) in
-      let kept : AreSound (without_machine rows gone) = sound-without_machine rows sound gone (subst (IsDistinct bytes_eq) (named ∙ ap machine_names after) unique) in
+      let kept : AreSound (without_machine rows gone) =
+      sound-without_machine rows sound gone (subst (IsDistinct bytes_eq) (named ∙ ap machine_names after) unique) in
       record {
         tables = record {
           machines_by_name = named;
           jobs_by_name = were.jobs_by_name;
-          tasks_by_name = same-keys ∙ were.tasks_by_name ∙ sym (names-evicted machine.name (values_of tasks)) ∙ sym (ap (λ (l : List Task). map (λ (t : Task). t.name) l) evicts);
+          tasks_by_name = same-keys ∙ were.tasks_by_name ∙ sym (names-evicted machine.name (values_of tasks))
+              ∙ sym (ap (λ (l : List Task). map (λ (t : Task). t.name) l) evicts);
           sound = subst AreSound (sym after) kept;
-          arcs_kept = fewer-is ∙ sym (ap machine_arcs values);
-          running_kept = left-is ∙ sym (ap running_count evicts);
+          arcs_kept = omega (arith, wide-is, arcs-at place name machine read below, ap machine_arcs values);
+          running_kept = omega (arith, running-drained machine.name _ out-is, ap running_count evicts);
         };
         view = after;
       }
 
-  pub tables-settled : (choices : List Choice) (placed : List (List ℕ × Task)) (now : ℕ) → is_legal (case_of rows) choices ≡ true
-      → keys_of placed ≡ keys_of tasks → values_of placed ≡ zipped (settled (values_of machines)) (values_of tasks) choices
+  pub tables-settled : (choices : List Choice) {placed : List (List ℕ × Task)} {now : ℕ}
+      → is_legal (case_of rows) choices ≡ true
+      → keys_of placed ≡ keys_of tasks
+      → values_of placed ≡ zipped (settled (values_of machines)) (values_of tasks) choices
       → now ≡ running_count (values_of placed)
       → AreTablesOf (rows_after rows choices) limits machines jobs placed arcs now
-  tables-settled choices placed now legal same-keys values now-is =
+  tables-settled choices {placed} {now} legal same-keys values now-is =
       let is_legal_list : IsLegal (case_of rows) choices = to_legal (case_of rows) choices legal in
       let round : values_of placed ≡ zipped (task_after rows) rows.tasks choices =
-      values ∙ ap (λ (r : TenantRows). zipped (settled r.machines) r.tasks choices) view ∙ zipped-settled rows rows.tasks choices in
+      values ∙ ap (λ (r : TenantRows). zipped (settled r.machines) r.tasks choices) view
+      ∙ zipped-settled rows rows.tasks choices in
       let after : rows_in limits machines jobs placed ≡ rows_after rows choices =
-      ap (λ (l : List Task). let r : TenantRows = record { limits = limits; machines = values_of machines; jobs = values_of jobs; tasks = l } in r) round
-      ∙ ap (λ (r : TenantRows). let s : TenantRows = record r { tasks = zipped (task_after rows) rows.tasks choices } in s) view in
+      ap (λ (l : List Task). let r : TenantRows =
+      record { limits = limits; machines = values_of machines; jobs = values_of jobs; tasks = l } in r)
+      round
+      ∙ ap (λ (r : TenantRows). let s : TenantRows =
+      record r { tasks = zipped (task_after rows) rows.tasks choices } in s)
+      view in
       record {
         tables = record {
           machines_by_name = were.machines_by_name;

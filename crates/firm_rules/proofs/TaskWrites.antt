@@ -1,5 +1,7 @@
 -- Tasks written one after the other.
-use Rattle.std.proofs.Common.{◌≡◌, ℕ, zero, suc, ◌+◌, ◌<◌, ◌≤◌, Bool, true, false, cond, List, [], ◌∷◌, ◌++◌, map, take, drop, set, length, count_by, Option, None, Some, is_some, slice_get, slice_index_or, if◌then◌else◌, true≢false, refl, sym, ap, ◌∙◌, arith}
+use Rattle.std.proofs.Common.{◌≡◌, ℕ, zero, suc, ◌+◌, ◌<◌, ◌≤◌, Bool, true, false, cond, List, [], ◌∷◌, ◌++◌, map, take}
+use Rattle.std.proofs.Common.{drop, set, length, count_by, Option, None, Some, is_some, slice_get, slice_index_or}
+use Rattle.std.proofs.Common.{if◌then◌else◌, true≢false, refl, sym, ap, ◌∙◌, arith}
 use Rattle.std.specs.Map.{values_of}
 use Rattle.indexmap.specs.IndexMap.{set_value_at}
 use Rattle.std.proofs.lemmas.Bool.{cond_both}
@@ -15,35 +17,44 @@ use Rattle.firm_rules.specs.declared.rounds.Choice.{Choice}
 use Rattle.firm_rules.proofs.SoundRows.{one_if, length-zipped}
 
 -- a value written at a place is that value among the values
-pub values-written : {Row : Type 0} (entries : List (List ℕ × Row)) (place : ℕ) (row : Row) → values_of (set_value_at entries place row) ≡ set (values_of entries) place row
+pub values-written : {Row : Type 0} (entries : List (List ℕ × Row)) (place : ℕ) (row : Row)
+    → values_of (set_value_at entries place row) ≡ set (values_of entries) place row
 values-written [] place row = refl
 values-written (e ∷ entries) zero row = refl
 values-written (e ∷ entries) (suc place) row = ap (λ l. e.1 ∷ l) (values-written entries place row)
 
 -- what was read at a place
-pub read-at : {X : Type 0} (xs : List X) (place : ℕ) (x : X) → Some x ≡ slice_get xs place → (d : X) → slice_index_or xs place d ≡ x
+pub read-at : {X : Type 0} (xs : List X) (place : ℕ) (x : X) → Some x ≡ slice_get xs place → (d : X)
+    → slice_index_or xs place d ≡ x
 read-at [] place x read d = absurd (true≢false (ap is_some read))
 read-at {X} (y ∷ xs) zero x read d = let out : Option X → X = λ o. elim o [ None ↦ x | Some z ↦ z ] in sym (ap out read)
 read-at (y ∷ xs) (suc place) x read d = read-at xs place x read d
 
-module _ (name : List ℕ) (entries : List (List ℕ × Task)) (place : ℕ) (task : Task) (read : Some task ≡ slice_get (values_of entries) place) where
+module _ (name : List ℕ) (entries : List (List ℕ × Task)) (place : ℕ) (task : Task)
+    (read : Some task ≡ slice_get (values_of entries) place) where
   pub evicted-stays : is_on name task.machine ≡ false → (d : Task)
-      → (values_of (set_value_at entries place task) ≡ set (values_of entries) place (evicted name (slice_index_or (values_of entries) place d)))
+      → (values_of (set_value_at entries place task)
+      ≡ set (values_of entries) place (evicted name (slice_index_or (values_of entries) place d)))
       × ◌≡◌ {A = ℕ} 0 (if is_on name (slice_index_or (values_of entries) place d).machine then 1 else 0)
   evicted-stays apart d =
       let same : slice_index_or (values_of entries) place d ≡ task = read-at (values_of entries) place task read d in (
         values-written entries place task
-            ∙ ap (set (values_of entries) place) (sym (ap (evicted name) same ∙ ap (λ (b : Bool). cond b (record task { machine = None; waited = 0 }) task) apart)),
+            ∙ ap (set (values_of entries) place)
+            (sym (ap (evicted name) same
+            ∙ ap (λ (b : Bool). cond b (record task { machine = None; waited = 0 }) task) apart)),
         sym (ap (λ (t : Task). one_if (is_on name t.machine)) same ∙ ap one_if apart),
       )
 
   pub evicted-waits : is_on name task.machine ≡ true → (d : Task)
-      → (values_of (set_value_at entries place (record task { machine = None; waited = 0 })) ≡ set (values_of entries) place (evicted name (slice_index_or (values_of entries) place d)))
+      → (values_of (set_value_at entries place (record task { machine = None; waited = 0 }))
+      ≡ set (values_of entries) place (evicted name (slice_index_or (values_of entries) place d)))
       × ◌≡◌ {A = ℕ} 1 (if is_on name (slice_index_or (values_of entries) place d).machine then 1 else 0)
   evicted-waits there d =
       let same : slice_index_or (values_of entries) place d ≡ task = read-at (values_of entries) place task read d in (
         values-written entries place (record task { machine = None; waited = 0 })
-            ∙ ap (set (values_of entries) place) (sym (ap (evicted name) same ∙ ap (λ (b : Bool). cond b (record task { machine = None; waited = 0 }) task) there)),
+            ∙ ap (set (values_of entries) place)
+            (sym (ap (evicted name) same
+            ∙ ap (λ (b : Bool). cond b (record task { machine = None; waited = 0 }) task) there)),
         sym (ap (λ (t : Task). one_if (is_on name t.machine)) same ∙ ap one_if there),
       )
 
@@ -68,7 +79,8 @@ written-suc : {X : Type 0} (new old : List X) (place : ℕ) (d x : X) → length
 written-suc new [] place d x same below is = absurd (omega arith)
 written-suc [] (y ∷ old) place d x same below is = absurd (omega arith)
 written-suc (z ∷ new) (y ∷ old) zero d x same below is = ap (λ l. l ∷ old) (sym is)
-written-suc (z ∷ new) (y ∷ old) (suc place) d x same below is = ap (λ l. z ∷ l) (written-suc new old place d x (omega arith) (omega arith) is)
+written-suc (z ∷ new) (y ∷ old) (suc place) d x same below is =
+    ap (λ l. z ∷ l) (written-suc new old place d x (omega arith) (omega arith) is)
 
 pub written-more : {X : Type 0} (new old : List X) (place : ℕ) (d x : X) → length new ≡ length old → place < length old
     → slice_index_or new place d ≡ x → set (written new old place) place x ≡ written new old (place + 1)
@@ -76,7 +88,8 @@ written-more new old place d x same below is =
     let next : suc place ≡ place + 1 = omega arith in
     written-suc new old place d x same below is ∙ ap (written new old) next
 
-pub written-length : {X : Type 0} (new old : List X) (place : ℕ) → length new ≡ length old → length (written new old place) ≡ length old
+pub written-length : {X : Type 0} (new old : List X) (place : ℕ) → length new ≡ length old
+    → length (written new old place) ≡ length old
 written-length [] [] zero same = refl
 written-length [] [] (suc place) same = refl
 written-length (x ∷ new) [] place same = absurd (omega arith)
@@ -84,13 +97,15 @@ written-length [] (y ∷ old) place same = absurd (omega arith)
 written-length (x ∷ new) (y ∷ old) zero same = refl
 written-length (x ∷ new) (y ∷ old) (suc place) same = omega (arith, written-length new old place (omega arith))
 
-pub written-all : {X : Type 0} (new old : List X) (place : ℕ) → length new ≡ length old → length old ≤ place → written new old place ≡ new
+pub written-all : {X : Type 0} (new old : List X) (place : ℕ) → length new ≡ length old → length old ≤ place
+    → written new old place ≡ new
 written-all [] [] zero same all = refl
 written-all [] [] (suc place) same all = refl
 written-all [] (y ∷ old) place same all = absurd (omega arith)
 written-all (x ∷ new) [] place same all = absurd (omega arith)
 written-all (x ∷ new) (y ∷ old) zero same all = absurd (omega arith)
-written-all (x ∷ new) (y ∷ old) (suc place) same all = ap (λ l. x ∷ l) (written-all new old place (omega arith) (omega arith))
+written-all (x ∷ new) (y ∷ old) (suc place) same all =
+    ap (λ l. x ∷ l) (written-all new old place (omega arith) (omega arith))
 
 -- any task, for a place that is not there
 abbrev pub no_task : Task
@@ -99,30 +114,49 @@ no_task = record { name = []; job = []; machine = None; waited = 0 }
 pub count_by-le-length : {X : Type 0} (p : X → Bool) (xs : List X) → count_by p xs ≤ length xs
 count_by-le-length p [] = omega arith
 count_by-le-length {X} p (x ∷ xs) =
-    omega (arith, sum_by-cons (λ (x : X). cond (p x) 1 0) x xs, cond_both (p x) (suc zero) zero (λ (n : ℕ). n ≤ 1) (λ _. omega arith) (λ _. omega arith), count_by-le-length p xs)
+    omega (
+      arith,
+      sum_by-cons (λ (x : X). cond (p x) 1 0) x xs,
+      cond_both (p x) (suc zero) zero (λ (n : ℕ). n ≤ 1) (λ _. omega arith) (λ _. omega arith),
+      count_by-le-length p xs,
+    )
 
 -- one more task of those that run on a machine is thrown out
 module _ (name : List ℕ) (old : List Task) where
   abbrev pub ran : Task → Bool
   ran task = is_on name task.machine
 
-  pub evicted-next : (now next : List Task) (place count more : ℕ) → now ≡ written (map (evicted name) old) old place → place < length old
+  pub evicted-next : (now next : List Task) (place count more : ℕ) → now ≡ written (map (evicted name) old) old place
+      → place < length old
       → next ≡ set now place (evicted name (slice_index_or now place no_task)) → count ≡ count_by ran (take place old)
       → more ≡ (if ran (slice_index_or now place no_task) then 1 else 0)
-      → (next ≡ written (map (evicted name) old) old (place + 1)) × (count + more ≡ count_by ran (take (place + 1) old)) × (count + more ≤ length old)
+      → (next ≡ written (map (evicted name) old) old (place + 1)) × (count + more ≡ count_by ran (take (place + 1) old))
+      × (count + more ≤ length old)
   evicted-next now next place count more now-is below next-is count-is more-is =
       let target : List Task = map (evicted name) old in
       let same : length target ≡ length old = length-map old (evicted name) in
       let here : slice_index_or now place no_task ≡ slice_index_or old place no_task =
-      ap (λ (l : List Task). slice_index_or l place no_task) now-is ∙ written-next target old place same below no_task in
+      ap (λ (l : List Task). slice_index_or l place no_task) now-is
+      ∙ written-next target old place same below no_task in
       let counted : count + more ≡ count_by ran (take (place + 1) old) =
-      omega (arith, count-is, more-is ∙ ap (λ (t : Task). one_if (ran t)) here, sum_by_more (λ (t : Task). one_if (ran t)) old place no_task below) in (
+      omega (
+        arith,
+        count-is,
+        more-is ∙ ap (λ (t : Task). one_if (ran t)) here,
+        sum_by_more (λ (t : Task). one_if (ran t)) old place no_task below,
+      ) in (
         next-is ∙ ap (λ (l : List Task). set l place (evicted name (slice_index_or now place no_task))) now-is
             ∙ ap (λ (t : Task). set (written target old place) place (evicted name t)) here
-            ∙ written-more target old place (evicted name no_task) (evicted name (slice_index_or old place no_task)) same below
+            ∙ written-more target old place (evicted name no_task) (evicted name (slice_index_or old place no_task))
+            same below
             (get_or-map (evicted name) old place no_task (evicted name no_task) below),
         counted,
-        omega (arith, counted, sum_by-take-le (λ (t : Task). one_if (ran t)) old (place + 1), count_by-le-length ran old),
+        omega (
+          arith,
+          counted,
+          sum_by-take-le (λ (t : Task). one_if (ran t)) old (place + 1),
+          count_by-le-length ran old,
+        ),
       )
 
 -- any choice, for a place that is not there
@@ -134,10 +168,14 @@ module _ (machines : List Machine) (old : List Task) (choices : List Choice) (sa
   abbrev pub round : List Task
   round = zipped (settled machines) old choices
 
-  pub settled-next : (now next : List Task) (place running more : ℕ) → now ≡ written round old place → place < length old
-      → next ≡ set now place (settled machines (slice_index_or now place no_task) (slice_index_or choices place any_choice))
-      → running ≡ running_count (take place round) → more ≡ (if is_placed (slice_index_or choices place any_choice) then 1 else 0)
-      → (next ≡ written round old (place + 1)) × (running + more ≡ running_count (take (place + 1) round)) × (running + more ≤ length old)
+  pub settled-next : (now next : List Task) (place running more : ℕ) → now ≡ written round old place
+      → place < length old
+      → next ≡ set now place
+      (settled machines (slice_index_or now place no_task) (slice_index_or choices place any_choice))
+      → running ≡ running_count (take place round)
+      → more ≡ (if is_placed (slice_index_or choices place any_choice) then 1 else 0)
+      → (next ≡ written round old (place + 1)) × (running + more ≡ running_count (take (place + 1) round))
+      × (running + more ≤ length old)
   settled-next now next place running more now-is below next-is running-is more-is =
       let long : length round ≡ length old = length-zipped (settled machines) old choices same in
       let choice : Choice = slice_index_or choices place any_choice in
@@ -149,49 +187,67 @@ module _ (machines : List Machine) (old : List Task) (choices : List Choice) (sa
       omega (
         arith,
         running-is,
-        more-is ∙ runs (slice_index_or old place no_task) choice ∙ ap (λ (t : Task). one_if (is_some t.machine)) (sym there),
+        more-is ∙ runs (slice_index_or old place no_task) choice
+            ∙ ap (λ (t : Task). one_if (is_some t.machine)) (sym there),
         sum_by_more (λ (t : Task). one_if (is_some t.machine)) round place no_task (omega (arith, long, below)),
       ) in (
-        next-is ∙ ap (λ (l : List Task). set l place (settled machines (slice_index_or now place no_task) choice)) now-is
+        next-is ∙ ap (λ (l : List Task). set l place (settled machines (slice_index_or now place no_task) choice))
+            now-is
             ∙ ap (λ (t : Task). set (written round old place) place (settled machines t choice)) here
-            ∙ written-more round old place no_task (settled machines (slice_index_or old place no_task) choice) long below there,
+            ∙ written-more round old place no_task (settled machines (slice_index_or old place no_task) choice) long
+            below there,
         counted,
-        omega (arith, counted, long, sum_by-take-le (λ (t : Task). one_if (is_some t.machine)) round (place + 1), count_by-le-length (λ (t : Task). is_some t.machine) round),
+        omega (
+          arith,
+          counted,
+          long,
+          sum_by-take-le (λ (t : Task). one_if (is_some t.machine)) round (place + 1),
+          count_by-le-length (λ (t : Task). is_some t.machine) round,
+        ),
       )
     where
-      runs : (task : Task) (choice : Choice) → one_if (is_placed choice) ≡ one_if (is_some (settled machines task choice).machine)
+      runs : (task : Task) (choice : Choice)
+          → one_if (is_placed choice) ≡ one_if (is_some (settled machines task choice).machine)
       runs task (On j) = refl
       runs task Wait = refl
 
-      zipped-at : (f : Task → Choice → Task) (xs : List Task) (ys : List Choice) (place : ℕ) → length ys ≡ length xs → place < length xs
-          → slice_index_or (zipped f xs ys) place no_task ≡ f (slice_index_or xs place no_task) (slice_index_or ys place any_choice)
+      zipped-at : (f : Task → Choice → Task) (xs : List Task) (ys : List Choice) (place : ℕ) → length ys ≡ length xs
+          → place < length xs
+          → slice_index_or (zipped f xs ys) place no_task
+          ≡ f (slice_index_or xs place no_task) (slice_index_or ys place any_choice)
       zipped-at f [] ys place same below = absurd (omega arith)
       zipped-at f (x ∷ xs) [] place same below = absurd (omega arith)
       zipped-at f (x ∷ xs) (y ∷ ys) zero same below = refl
       zipped-at f (x ∷ xs) (y ∷ ys) (suc place) same below = zipped-at f xs ys place (omega arith) (omega arith)
 
 -- a task that is given its choice at a place
-pub settled-written : (machines : List Machine) (entries : List (List ℕ × Task)) (place : ℕ) (task placed : Task) (choice : Choice)
+pub settled-written : (machines : List Machine) (entries : List (List ℕ × Task)) (place : ℕ) (task placed : Task)
+    (choice : Choice)
     → Some task ≡ slice_get (values_of entries) place → placed ≡ settled machines task choice → (d : Task)
-    → values_of (set_value_at entries place placed) ≡ set (values_of entries) place (settled machines (slice_index_or (values_of entries) place d) choice)
+    → values_of (set_value_at entries place placed)
+    ≡ set (values_of entries) place (settled machines (slice_index_or (values_of entries) place d) choice)
 settled-written machines entries place task placed choice read is d =
     values-written entries place placed
-    ∙ ap (set (values_of entries) place) (is ∙ ap (λ (t : Task). settled machines t choice) (sym (read-at (values_of entries) place task read d)))
+    ∙ ap (set (values_of entries) place)
+    (is ∙ ap (λ (t : Task). settled machines t choice) (sym (read-at (values_of entries) place task read d)))
 
 -- as many values as entries
 pub as-many-values : {Row : Type 0} (entries : List (List ℕ × Row)) → length (values_of entries) ≡ length entries
 as-many-values {Row} entries = length-map entries (λ (e : List ℕ × Row). e.1)
 
 -- a task on the machine that was read at a place
-pub settled-on : (machines : List Machine) (place : ℕ) (machine : Machine) (task : Task) → slice_get machines place ≡ Some machine
+pub settled-on : (machines : List Machine) (place : ℕ) (machine : Machine) (task : Task)
+    → slice_get machines place ≡ Some machine
     → (record task { machine = Some machine.name; waited = 0 }) ≡ settled machines task (On place)
 settled-on machines place machine task read =
     let none : Machine = record { name = []; slots = 0 } in
     let same : slice_index_or machines place none ≡ machine = read-at machines place machine (sym read) none in
     ap (λ (name : List ℕ). let t : Task = record task { machine = Some name; waited = 0 } in t)
-    (ap (λ (m : Machine). m.name) (sym same) ∙ sym (get_or-map (λ (m : Machine). m.name) machines place none [] (within machines place machine read)))
+    (ap (λ (m : Machine). m.name) (sym same)
+    ∙ sym (get_or-map (λ (m : Machine). m.name) machines place none [] (within machines place machine read)))
   where
-    within : (machines : List Machine) (place : ℕ) (machine : Machine) → slice_get machines place ≡ Some machine → place < length machines
+    within : (machines : List Machine) (place : ℕ) (machine : Machine) → slice_get machines place ≡ Some machine
+        → place < length machines
     within [] place machine read = absurd (true≢false (ap is_some (sym read)))
     within (m ∷ machines) zero machine read = omega arith
     within (m ∷ machines) (suc place) machine read = omega (arith, within machines place machine read)

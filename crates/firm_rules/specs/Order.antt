@@ -10,12 +10,13 @@ home_at [] i = None
 home_at (task ∷ tasks) zero = task.home
 home_at (task ∷ tasks) (suc i) = home_at tasks i
 
--- all tasks before this one are given the same by two placements, and this one's choice ranks first in the first of them
+-- two placements give the tasks before this one the same choices, and its own choice ranks first in the first placement
 pub record DiffersFirst (machines : ℕ) (tasks : List Demand) (p q : List Choice) : Type 0 where
   pub task : ℕ
   pub there : task < length tasks
   pub same : take task p ≡ take task q
-  pub ranks : rank machines (home_at tasks task) (slice_index_or p task Wait) < rank machines (home_at tasks task) (slice_index_or q task Wait)
+  pub ranks : rank machines (home_at tasks task) (slice_index_or p task Wait)
+      < rank machines (home_at tasks task) (slice_index_or q task Wait)
 
 -- the test says yes exactly where there is such a task
 pub record IsOrdered (case : Case) (p q : List Choice) : Type 0 where

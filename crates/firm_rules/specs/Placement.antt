@@ -1,5 +1,7 @@
 -- Placements of tasks on machines: which are legal, what they cost, and their order.
-use Rattle.std.specs.Prelude.{◌≡◌, ℕ, zero, suc, not, ◌+◌, ◌-◌, ◌*◌, ◌/◌, ◌<◌, ◌≤◌, ◌==◌, ◌&&◌, ◌||◌, Bool, true, false, nat_lt, nat_le, ⊤, List, [], ◌∷◌, ◌++◌, length, count_by, slice_index, Option, Some, None, if◌then◌else◌}
+use Rattle.std.specs.Prelude.{◌≡◌, ℕ, zero, suc, not, ◌+◌, ◌-◌, ◌*◌, ◌/◌, ◌<◌, ◌≤◌, ◌==◌, ◌&&◌, ◌||◌, Bool, true, false}
+use Rattle.std.specs.Prelude.{nat_lt, nat_le, ⊤, List, [], ◌∷◌, ◌++◌, length, count_by, slice_index, Option, Some, None}
+use Rattle.std.specs.Prelude.{if◌then◌else◌}
 use Rattle.std.specs.List.{All, list_all}
 use Rattle.firm_rules.specs.declared.rounds.Choice.{Choice}
 use Rattle.firm_rules.specs.declared.rounds.Choice.TheVariants.{On, Wait}
@@ -12,8 +14,9 @@ pub record Demand : Type 0 where
   pub job : ℕ
 
 -- what a round is about: what each further task on a machine costs more than the one before, what it costs to take
--- a running task from its machine, the slots of each machine, the tasks in order of submission; and how many jobs there are
--- and the tenant's limit of nodes, which the network alone reads: no placement's legality, cost or order rests on them
+-- a running task from its machine, the slots of each machine, the tasks in order of submission; and how many jobs there
+-- are and the tenant's limit of nodes, which the network alone reads: no placement's legality, cost or order rests on
+-- them
 pub record Case : Type 0 where
   pub spread : ℕ
   pub churn : ℕ

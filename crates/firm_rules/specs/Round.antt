@@ -1,5 +1,6 @@
 -- The placement of a round, and what it changes.
-use Rattle.std.specs.Prelude.{◌≡◌, ℕ, ◌+◌, ◌≤◌, ◌==◌, not, false, min, List, [], ◌∷◌, ◌++◌, length, map, filter, Option, Some, None, if◌then◌else◌, bytes_eq, slice_index_or}
+use Rattle.std.specs.Prelude.{◌≡◌, ℕ, ◌+◌, ◌≤◌, ◌==◌, not, false, min, List, [], ◌∷◌, ◌++◌, length, map, filter, Option}
+use Rattle.std.specs.Prelude.{Some, None, if◌then◌else◌, bytes_eq, slice_index_or}
 use Rattle.std.specs.List.{flat_map, position_or_len}
 use Rattle.firm_rules.specs.Book.{TenantRows, machine_names, job_names}
 use Rattle.firm_rules.specs.Placement.{Demand, Case, numbers, IsLegal, is_legal, placement_cost, runs_at, comes_before}

@@ -1,5 +1,5 @@
 //! What a round changes.
-ghost use Rattle.std.specs.Prelude.{◌≡◌, ◌<◌, true, IfOk, length, slice_index_or, option_to_list};
+ghost use Rattle.std.specs.Prelude.{◌≡◌, ◌<◌, true, IfOk, length, option_to_list};
 ghost use Rattle.firm_rules.specs.Placement.{IsPlace, is_legal};
 ghost use Rattle.firm_rules.specs.Round.{case_of, changes_made, machine_at, task_changes};
 
@@ -66,7 +66,7 @@ impl Eq for Changes {
     ghost laws = { lists_equiv laws-law };
 }
 
-/// What a legal placement changes. The error comes for want of memory alone.
+/// What a legal placement changes. The error comes only where memory is refused.
 pub fn changes_of<A: Allocator>(
     alloc: Global,
     rows: &Rows<A>,

@@ -160,7 +160,7 @@ fn leaves_home(home: Option<usize>, choice: Choice) -> bool
     }
 }
 
-// The place of the machine that a task runs on.
+// The place of the machine that a task runs on; past the last, as defined, where no machine has its name.
 fn home_of<A: Allocator>(rows: &Rows<A>, task: &Task) -> Option<usize>
     ensures { result ≡ machine_place rows.now task.now.machine }
 {
@@ -170,7 +170,7 @@ fn home_of<A: Allocator>(rows: &Rows<A>, task: &Task) -> Option<usize>
     }
 }
 
-// The weight of the job of this name.
+// The weight of the job of this name; 0, as defined, where no job has it.
 fn weight_of<A: Allocator>(rows: &Rows<A>, job: Name) -> u32
     ensures { result ≡ weight_at rows.now (position_or_len (bytes_eq job) (job_names rows.now)) }
 {

@@ -1,5 +1,5 @@
 //! The costs of a tenant's last rounds.
-ghost use Rattle.std.specs.Prelude.{◌≡◌, ◌≤◌, []};
+ghost use Rattle.std.specs.Prelude.{◌≡◌, []};
 ghost use Rattle.firm_rules.specs.Recent.{with_cost};
 
 use std::marker::Model;

@@ -63,13 +63,19 @@ fn expect_changes(
     Ok(())
 }
 
+// One machine of two slots, and two tasks that cost 1 to leave waiting.
+fn shared(rt: &impl Abort, alloc: Global) -> Result<Rows, Fail> {
+    let mut rows = rows_of(alloc, 10, 20)?;
+    add_machine(rt, &mut rows, b"m1", 2)?;
+    add_job(rt, &mut rows, b"j", 1)?;
+    add_task(rt, &mut rows, b"j", b"x")?;
+    add_task(rt, &mut rows, b"j", b"y")?;
+    Ok(rows)
+}
+
 #[test]
 fn a_wait_grows_to_the_cost_of_a_load(rt: HostRuntime) -> Result<(), Fail> {
-    let mut rows = rows_of(rt.alloc(), 10, 20)?;
-    add_machine(&rt, &mut rows, b"m1", 2)?;
-    add_job(&rt, &mut rows, b"j", 1)?;
-    add_task(&rt, &mut rows, b"j", b"x")?;
-    add_task(&rt, &mut rows, b"j", b"y")?;
+    let mut rows = shared(&rt, rt.alloc())?;
     let first = [
         ([On(0), On(0)], 10),
         ([On(0), Wait], 1),
@@ -91,15 +97,21 @@ fn a_wait_grows_to_the_cost_of_a_load(rt: HostRuntime) -> Result<(), Fail> {
     expect_changes(&rt, rt.alloc(), &rows, &[On(0), On(0)], &[start])
 }
 
+// A machine of one slot, a task that runs there, and one that costs more to leave waiting.
+fn contested(rt: &impl Abort, alloc: Global) -> Result<Rows, Fail> {
+    let mut rows = rows_of(alloc, 0, 3)?;
+    add_machine(rt, &mut rows, b"m1", 1)?;
+    add_job(rt, &mut rows, b"low", 2)?;
+    add_task(rt, &mut rows, b"low", b"l")?;
+    settle(rt, &mut rows, &[On(0)]);
+    add_job(rt, &mut rows, b"high", 20)?;
+    add_task(rt, &mut rows, b"high", b"h")?;
+    Ok(rows)
+}
+
 #[test]
 fn a_task_that_waits_for_more_preempts(rt: HostRuntime) -> Result<(), Fail> {
-    let mut rows = rows_of(rt.alloc(), 0, 3)?;
-    add_machine(&rt, &mut rows, b"m1", 1)?;
-    add_job(&rt, &mut rows, b"low", 2)?;
-    add_task(&rt, &mut rows, b"low", b"l")?;
-    settle(&rt, &mut rows, &[On(0)]);
-    add_job(&rt, &mut rows, b"high", 20)?;
-    add_task(&rt, &mut rows, b"high", b"h")?;
+    let rows = contested(&rt, rt.alloc())?;
     let wanted = [([On(0), Wait], 20), ([Wait, On(0)], 5), ([Wait, Wait], 25)];
     expect_placements(&rt, &rows, &wanted);
     assert!(rt; !legal(&rows, &[On(0), On(0)]));

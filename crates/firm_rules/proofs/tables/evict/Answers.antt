@@ -24,7 +24,9 @@ evict_at-count-requires g c =
 
 pub overflow_add-count : goal.overflow_add-count
 overflow_add-count g c =
-    let next = evicted-next c.args.name (values c.args.tasks.now) (values c.loop-place.tasks) (values c.evict_at-count.new.tasks) c.loop-place.place
+    let next =
+    evicted-next c.args.name (values c.args.tasks.now) (values c.loop-place.tasks) (values c.evict_at-count.new.tasks)
+    c.loop-place.place
     c.loop-place.count c.evict_at-count.result c.loop-place.invariant.1
     (omega (arith, c.loop-place-test.true, c.len-place-end.ensures.len, as-many-values c.args.tasks.now.entries))
     (c.evict_at-count.ensures.tasks no_task) c.loop-place.invariant.2 (c.evict_at-count.ensures.count no_task) in
@@ -32,7 +34,9 @@ overflow_add-count g c =
 
 pub loop-place-preserved : goal.loop-place-preserved
 loop-place-preserved g c =
-    let next = evicted-next c.args.name (values c.args.tasks.now) (values c.loop-place.tasks) (values c.evict_at-count.new.tasks) c.loop-place.place
+    let next =
+    evicted-next c.args.name (values c.args.tasks.now) (values c.loop-place.tasks) (values c.evict_at-count.new.tasks)
+    c.loop-place.place
     c.loop-place.count c.evict_at-count.result c.loop-place.invariant.1
     (omega (arith, c.loop-place-test.true, c.len-place-end.ensures.len, as-many-values c.args.tasks.now.entries))
     (c.evict_at-count.ensures.tasks no_task) c.loop-place.invariant.2 (c.evict_at-count.ensures.count no_task) in
@@ -52,4 +56,5 @@ pub returns-clause-count : goal.returns-clause-count
 returns-clause-count g c =
     c.loop-place.invariant.2
     ∙ ap (count_by (ran c.args.name (values c.args.tasks.now)))
-    (take_all c.loop-place.place (values c.args.tasks.now) (omega (arith, c.loop-place-test.false, c.len-place-end.ensures.len, as-many-values c.args.tasks.now.entries)))
+    (take_all c.loop-place.place (values c.args.tasks.now)
+    (omega (arith, c.loop-place-test.false, c.len-place-end.ensures.len, as-many-values c.args.tasks.now.entries)))

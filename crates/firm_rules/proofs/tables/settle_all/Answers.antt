@@ -20,22 +20,31 @@ settle_at-running-requires-clause-there g c =
       c.loop-place-test.true,
       c.requires.one_each,
       ap length c.loop-place.invariant.1,
-      written-length target old c.loop-place.place (length-zipped (settled (values c.args.machines.now)) old c.args.choices.now c.requires.one_each),
+      written-length target old c.loop-place.place
+          (length-zipped (settled (values c.args.machines.now)) old c.args.choices.now c.requires.one_each),
     )
 
 pub overflow_add-running : goal.overflow_add-running
 overflow_add-running g c =
-    let next = settled-next (values c.args.machines.now) (values c.args.tasks.now) c.args.choices.now c.requires.one_each (values c.loop-place.tasks)
-    (values c.settle_at-running.new.tasks) c.loop-place.place c.loop-place.running c.settle_at-running.result c.loop-place.invariant.1
-    (omega (arith, c.loop-place-test.true, c.requires.one_each)) (c.settle_at-running.ensures.tasks no_task) c.loop-place.invariant.2
+    let next =
+    settled-next (values c.args.machines.now) (values c.args.tasks.now) c.args.choices.now c.requires.one_each
+    (values c.loop-place.tasks)
+    (values c.settle_at-running.new.tasks) c.loop-place.place c.loop-place.running c.settle_at-running.result
+    c.loop-place.invariant.1
+    (omega (arith, c.loop-place-test.true, c.requires.one_each)) (c.settle_at-running.ensures.tasks no_task)
+    c.loop-place.invariant.2
     (c.settle_at-running.ensures.running) in
     omega (arith, next.2, c.requires.one_each)
 
 pub loop-place-preserved : goal.loop-place-preserved
 loop-place-preserved g c =
-    let next = settled-next (values c.args.machines.now) (values c.args.tasks.now) c.args.choices.now c.requires.one_each (values c.loop-place.tasks)
-    (values c.settle_at-running.new.tasks) c.loop-place.place c.loop-place.running c.settle_at-running.result c.loop-place.invariant.1
-    (omega (arith, c.loop-place-test.true, c.requires.one_each)) (c.settle_at-running.ensures.tasks no_task) c.loop-place.invariant.2
+    let next =
+    settled-next (values c.args.machines.now) (values c.args.tasks.now) c.args.choices.now c.requires.one_each
+    (values c.loop-place.tasks)
+    (values c.settle_at-running.new.tasks) c.loop-place.place c.loop-place.running c.settle_at-running.result
+    c.loop-place.invariant.1
+    (omega (arith, c.loop-place-test.true, c.requires.one_each)) (c.settle_at-running.ensures.tasks no_task)
+    c.loop-place.invariant.2
     (c.settle_at-running.ensures.running) in
     (c.settle_at-running.ensures.names ∙ c.loop-place.invariant.0, next.0, next.1)
 
@@ -56,6 +65,7 @@ returns-clause-running g c =
     let target = zipped (settled (values c.args.machines.now)) old c.args.choices.now in
     let long = length-zipped (settled (values c.args.machines.now)) old c.args.choices.now c.requires.one_each in
     c.loop-place.invariant.2
-    ∙ ap running_count (take_all c.loop-place.place target (omega (arith, long, c.loop-place-test.false, c.requires.one_each)))
+    ∙ ap running_count
+    (take_all c.loop-place.place target (omega (arith, long, c.loop-place-test.false, c.requires.one_each)))
     ∙ ap running_count (sym (c.loop-place.invariant.1
     ∙ written-all target old c.loop-place.place long (omega (arith, c.loop-place-test.false, c.requires.one_each))))

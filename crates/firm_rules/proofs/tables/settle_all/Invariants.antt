@@ -10,5 +10,8 @@ use Rattle.firm_rules.proofs.tables.settle_all.Given as goal
 abbrev pub invariant-loop-place : goal.invariant-loop-place
 invariant-loop-place g l =
     (keys l.tasks ≡ keys l.fn.tasks)
-    × (values l.tasks ≡ written (zipped (settled (values l.fn.machines)) (values l.fn.tasks) l.fn.choices) (values l.fn.tasks) l.place)
-    × (l.running ≡ running_count (take l.place (zipped (settled (values l.fn.machines)) (values l.fn.tasks) l.fn.choices)))
+    × (values l.tasks
+    ≡ written (zipped (settled (values l.fn.machines)) (values l.fn.tasks) l.fn.choices) (values l.fn.tasks)
+    l.place)
+    × (l.running
+    ≡ running_count (take l.place (zipped (settled (values l.fn.machines)) (values l.fn.tasks) l.fn.choices)))

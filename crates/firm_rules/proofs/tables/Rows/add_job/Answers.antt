@@ -4,14 +4,14 @@ use Rattle.firm_rules.proofs.tables.Rows.add_job.Goals as goal
 
 pub invariant_of-self-2 : goal.invariant_of-self-2
 invariant_of-self-2 g c =
-    (tables-with_job c.self.inside.limits c.self.inside.machines.entries c.self.inside.jobs.entries c.self.inside.tasks.entries c.self.inside.machine_arcs c.self.inside.running
-    c.self.invariant c.args.self.now c.self.view_is c.args.name c.args.weight c.add_last.new.table.entries
-    c.in_ok-add_last.ensures.ok c.add_last.ensures.unique c.requires.fits (omega (arith, c.get.ensures.value, c.get.ensures.least))
+    (tables-with_job c.self.invariant c.self.view_is c.args.name c.args.weight
+    c.in_ok-add_last.ensures.ok c.add_last.ensures.unique c.requires.fits
+    (omega (arith, c.get.ensures.value, c.get.ensures.least))
     (omega (arith, c.get.ensures.value, c.get.ensures.most))).tables
 
 pub returns-clause-sound : goal.returns-clause-sound
 returns-clause-sound g c =
-    (tables-with_job c.self.inside.limits c.self.inside.machines.entries c.self.inside.jobs.entries c.self.inside.tasks.entries c.self.inside.machine_arcs c.self.inside.running
-    c.self.invariant c.args.self.now c.self.view_is c.args.name c.args.weight c.add_last.new.table.entries
-    c.in_ok-add_last.ensures.ok c.add_last.ensures.unique c.requires.fits (omega (arith, c.get.ensures.value, c.get.ensures.least))
+    (tables-with_job c.self.invariant c.self.view_is c.args.name c.args.weight
+    c.in_ok-add_last.ensures.ok c.add_last.ensures.unique c.requires.fits
+    (omega (arith, c.get.ensures.value, c.get.ensures.least))
     (omega (arith, c.get.ensures.value, c.get.ensures.most))).tables.sound

@@ -3,12 +3,10 @@ use Rattle.firm_rules.proofs.tables.Rows.add_task.Goals as goal
 
 pub invariant_of-self-2 : goal.invariant_of-self-2
 invariant_of-self-2 g c =
-    (tables-with_task c.self.inside.limits c.self.inside.machines.entries c.self.inside.jobs.entries c.self.inside.tasks.entries c.self.inside.machine_arcs c.self.inside.running
-    c.self.invariant c.args.self.now c.self.view_is c.args.job c.args.name c.add_last.new.table.entries
+    (tables-with_task c.self.invariant c.self.view_is c.args.job c.args.name
     c.in_ok-add_last.ensures.ok c.add_last.ensures.unique c.requires.job_there c.requires.fits).tables
 
 pub returns-clause-sound : goal.returns-clause-sound
 returns-clause-sound g c =
-    (tables-with_task c.self.inside.limits c.self.inside.machines.entries c.self.inside.jobs.entries c.self.inside.tasks.entries c.self.inside.machine_arcs c.self.inside.running
-    c.self.invariant c.args.self.now c.self.view_is c.args.job c.args.name c.add_last.new.table.entries
+    (tables-with_task c.self.invariant c.self.view_is c.args.job c.args.name
     c.in_ok-add_last.ensures.ok c.add_last.ensures.unique c.requires.job_there c.requires.fits).tables.sound

@@ -8,21 +8,20 @@ use Rattle.firm_rules.proofs.tables.Rows.close.Goals as goal
 
 pub invariant_of-self : goal.invariant_of-self
 invariant_of-self g c =
-    (tables-without_job c.self.inside.limits c.self.inside.machines.entries c.self.inside.jobs.entries c.self.inside.tasks.entries c.self.inside.machine_arcs c.self.inside.running
-    c.self.invariant c.args.self.now c.self.view_is c.args.place c.shift_remove_index.new.self.entries
-    c.shift_remove_index.ensures.entries c.shift_remove_index.ensures.unique c.requires.there c.requires.no_tasks).tables
+    (tables-without_job c.self.invariant c.self.view_is c.args.place
+    c.shift_remove_index.ensures.entries c.shift_remove_index.ensures.unique c.requires.there
+    c.requires.no_tasks).tables
 
 pub returns-clause-rows : goal.returns-clause-rows
 returns-clause-rows g c =
-    (tables-without_job c.self.inside.limits c.self.inside.machines.entries c.self.inside.jobs.entries c.self.inside.tasks.entries c.self.inside.machine_arcs c.self.inside.running
-    c.self.invariant c.args.self.now c.self.view_is c.args.place c.shift_remove_index.new.self.entries
+    (tables-without_job c.self.invariant c.self.view_is c.args.place
     c.shift_remove_index.ensures.entries c.shift_remove_index.ensures.unique c.requires.there c.requires.no_tasks).view
 
 pub returns-clause-sound : goal.returns-clause-sound
 returns-clause-sound g c =
-    (tables-without_job c.self.inside.limits c.self.inside.machines.entries c.self.inside.jobs.entries c.self.inside.tasks.entries c.self.inside.machine_arcs c.self.inside.running
-    c.self.invariant c.args.self.now c.self.view_is c.args.place c.shift_remove_index.new.self.entries
-    c.shift_remove_index.ensures.entries c.shift_remove_index.ensures.unique c.requires.there c.requires.no_tasks).tables.sound
+    (tables-without_job c.self.invariant c.self.view_is c.args.place
+    c.shift_remove_index.ensures.entries c.shift_remove_index.ensures.unique c.requires.there
+    c.requires.no_tasks).tables.sound
 
 pub returns-clause-jobs : goal.returns-clause-jobs
 returns-clause-jobs g c =

@@ -1,4 +1,4 @@
-use Rattle.std.proofs.Common.{List, ℕ, remove, sym, ap, ◌∙◌, ◌+◌, ◌-◌, arith}
+use Rattle.std.proofs.Common.{List, ℕ, remove, sym, ap, ◌∙◌, arith}
 use Rattle.std.specs.Map.{values_of}
 use Rattle.indexmap.proofs.SetLemmas.{map-remove}
 use Rattle.firm_rules.specs.Book.{TenantRows, running_on}
@@ -8,73 +8,30 @@ use Rattle.firm_rules.proofs.tables.Rows.drain.Goals as goal
 
 pub invariant_of-self : goal.invariant_of-self
 invariant_of-self g c =
-    (tables-without_machine c.self.inside.limits c.self.inside.machines.entries c.self.inside.jobs.entries c.self.inside.tasks.entries c.self.inside.machine_arcs c.self.inside.running
-    c.self.invariant c.args.self.now c.self.view_is c.args.place c.shift_remove_index.new.self.entries c.in-Some.field-0-0 c.in-Some.machine
-    c.evict-evicted.new.tasks.entries (c.self.inside.machine_arcs - (1 + c.from.result)) (c.self.inside.running - c.from-2.result)
-    c.shift_remove_index.ensures.entries c.shift_remove_index.ensures.unique (sym c.in-Some.is ∙ c.shift_remove_index.ensures.entry) c.requires.there
-    c.evict-evicted.ensures.names c.evict-evicted.ensures.tasks
-    (omega (
-      arith,
-      c.from.ensures ∙ c.get.ensures.value,
-      (arcs-at c.self.inside.limits c.self.inside.machines.entries c.self.inside.jobs.entries c.self.inside.tasks.entries c.self.inside.machine_arcs c.self.inside.running
-          c.self.invariant c.args.self.now c.self.view_is c.args.place c.in-Some.field-0-0 c.in-Some.machine
-          (sym c.in-Some.is ∙ c.shift_remove_index.ensures.entry) c.requires.there),
-    ))
-    (omega (
-      arith,
-      c.from-2.ensures,
-      (running-drained c.self.inside.limits c.self.inside.machines.entries c.self.inside.jobs.entries c.self.inside.tasks.entries c.self.inside.machine_arcs c.self.inside.running
-          c.self.invariant c.args.self.now c.self.view_is c.in-Some.machine.name c.evict-evicted.result c.evict-evicted.ensures.count),
-    ))).tables
+    (tables-without_machine c.self.invariant c.self.view_is c.args.place c.shift_remove_index.ensures.entries
+    c.shift_remove_index.ensures.unique (sym c.in-Some.is ∙ c.shift_remove_index.ensures.entry) c.requires.there
+    c.evict-evicted.ensures.names c.evict-evicted.ensures.tasks (c.from.ensures ∙ c.get.ensures.value)
+    (c.from-2.ensures ∙ c.evict-evicted.ensures.count)).tables
 
 pub returns-clause-rows : goal.returns-clause-rows
 returns-clause-rows g c =
-    (tables-without_machine c.self.inside.limits c.self.inside.machines.entries c.self.inside.jobs.entries c.self.inside.tasks.entries c.self.inside.machine_arcs c.self.inside.running
-    c.self.invariant c.args.self.now c.self.view_is c.args.place c.shift_remove_index.new.self.entries c.in-Some.field-0-0 c.in-Some.machine
-    c.evict-evicted.new.tasks.entries (c.self.inside.machine_arcs - (1 + c.from.result)) (c.self.inside.running - c.from-2.result)
-    c.shift_remove_index.ensures.entries c.shift_remove_index.ensures.unique (sym c.in-Some.is ∙ c.shift_remove_index.ensures.entry) c.requires.there
-    c.evict-evicted.ensures.names c.evict-evicted.ensures.tasks
-    (omega (
-      arith,
-      c.from.ensures ∙ c.get.ensures.value,
-      (arcs-at c.self.inside.limits c.self.inside.machines.entries c.self.inside.jobs.entries c.self.inside.tasks.entries c.self.inside.machine_arcs c.self.inside.running
-          c.self.invariant c.args.self.now c.self.view_is c.args.place c.in-Some.field-0-0 c.in-Some.machine
-          (sym c.in-Some.is ∙ c.shift_remove_index.ensures.entry) c.requires.there),
-    ))
-    (omega (
-      arith,
-      c.from-2.ensures,
-      (running-drained c.self.inside.limits c.self.inside.machines.entries c.self.inside.jobs.entries c.self.inside.tasks.entries c.self.inside.machine_arcs c.self.inside.running
-          c.self.invariant c.args.self.now c.self.view_is c.in-Some.machine.name c.evict-evicted.result c.evict-evicted.ensures.count),
-    ))).view
+    (tables-without_machine c.self.invariant c.self.view_is c.args.place c.shift_remove_index.ensures.entries
+    c.shift_remove_index.ensures.unique (sym c.in-Some.is ∙ c.shift_remove_index.ensures.entry) c.requires.there
+    c.evict-evicted.ensures.names c.evict-evicted.ensures.tasks (c.from.ensures ∙ c.get.ensures.value)
+    (c.from-2.ensures ∙ c.evict-evicted.ensures.count)).view
 
 pub returns-clause-sound : goal.returns-clause-sound
 returns-clause-sound g c =
-    (tables-without_machine c.self.inside.limits c.self.inside.machines.entries c.self.inside.jobs.entries c.self.inside.tasks.entries c.self.inside.machine_arcs c.self.inside.running
-    c.self.invariant c.args.self.now c.self.view_is c.args.place c.shift_remove_index.new.self.entries c.in-Some.field-0-0 c.in-Some.machine
-    c.evict-evicted.new.tasks.entries (c.self.inside.machine_arcs - (1 + c.from.result)) (c.self.inside.running - c.from-2.result)
-    c.shift_remove_index.ensures.entries c.shift_remove_index.ensures.unique (sym c.in-Some.is ∙ c.shift_remove_index.ensures.entry) c.requires.there
-    c.evict-evicted.ensures.names c.evict-evicted.ensures.tasks
-    (omega (
-      arith,
-      c.from.ensures ∙ c.get.ensures.value,
-      (arcs-at c.self.inside.limits c.self.inside.machines.entries c.self.inside.jobs.entries c.self.inside.tasks.entries c.self.inside.machine_arcs c.self.inside.running
-          c.self.invariant c.args.self.now c.self.view_is c.args.place c.in-Some.field-0-0 c.in-Some.machine
-          (sym c.in-Some.is ∙ c.shift_remove_index.ensures.entry) c.requires.there),
-    ))
-    (omega (
-      arith,
-      c.from-2.ensures,
-      (running-drained c.self.inside.limits c.self.inside.machines.entries c.self.inside.jobs.entries c.self.inside.tasks.entries c.self.inside.machine_arcs c.self.inside.running
-          c.self.invariant c.args.self.now c.self.view_is c.in-Some.machine.name c.evict-evicted.result c.evict-evicted.ensures.count),
-    ))).tables.sound
+    (tables-without_machine c.self.invariant c.self.view_is c.args.place c.shift_remove_index.ensures.entries
+    c.shift_remove_index.ensures.unique (sym c.in-Some.is ∙ c.shift_remove_index.ensures.entry) c.requires.there
+    c.evict-evicted.ensures.names c.evict-evicted.ensures.tasks (c.from.ensures ∙ c.get.ensures.value)
+    (c.from-2.ensures ∙ c.evict-evicted.ensures.count)).tables.sound
 
 pub overflow_sub-self : goal.overflow_sub-self
 overflow_sub-self g c = omega (
   arith,
   c.from.ensures ∙ c.get.ensures.value,
-  (arcs-at c.self.inside.limits c.self.inside.machines.entries c.self.inside.jobs.entries c.self.inside.tasks.entries c.self.inside.machine_arcs c.self.inside.running
-      c.self.invariant c.args.self.now c.self.view_is c.args.place c.in-Some.field-0-0 c.in-Some.machine
+  (arcs-at c.self.invariant c.self.view_is c.args.place c.in-Some.field-0-0 c.in-Some.machine
       (sym c.in-Some.is ∙ c.shift_remove_index.ensures.entry) c.requires.there),
 )
 
@@ -82,8 +39,8 @@ pub overflow_sub-self-2 : goal.overflow_sub-self-2
 overflow_sub-self-2 g c = omega (
   arith,
   c.from-2.ensures,
-  (running-drained c.self.inside.limits c.self.inside.machines.entries c.self.inside.jobs.entries c.self.inside.tasks.entries c.self.inside.machine_arcs c.self.inside.running
-      c.self.invariant c.args.self.now c.self.view_is c.in-Some.machine.name c.evict-evicted.result c.evict-evicted.ensures.count),
+  (running-drained c.self.invariant c.self.view_is c.in-Some.machine.name c.evict-evicted.result
+      c.evict-evicted.ensures.count),
 )
 
 pub returns-clause-machines : goal.returns-clause-machines
@@ -97,6 +54,5 @@ returns-clause-evicted g c =
     c.evict-evicted.ensures.count
     ∙ ap (λ (rows : TenantRows). running_on rows c.in-Some.machine.name) c.self.view_is
     ∙ ap (running_on c.args.self.now)
-    (read-name c.self.inside.limits c.self.inside.machines.entries c.self.inside.jobs.entries c.self.inside.tasks.entries c.self.inside.machine_arcs c.self.inside.running
-    c.self.invariant c.args.self.now c.self.view_is c.args.place c.in-Some.field-0-0 c.in-Some.machine
+    (read-name c.self.invariant c.self.view_is c.args.place c.in-Some.field-0-0 c.in-Some.machine
     (sym c.in-Some.is ∙ c.shift_remove_index.ensures.entry) c.requires.there)

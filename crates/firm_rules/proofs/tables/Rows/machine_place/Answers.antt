@@ -14,10 +14,12 @@ returns-clause-found g c =
 
 pub returns-clause-below : goal.returns-clause-below
 returns-clause-below g c =
-    place-below c.self.inside.machines.entries c.get_index_of.result (length c.args.self.now.machines) c.get_index_of.ensures.within
+    place-below c.self.inside.machines.entries c.get_index_of.result (length c.args.self.now.machines)
+    c.get_index_of.ensures.within
     (ap (λ (rows : TenantRows). length rows.machines) c.self.view_is)
 
 pub returns-clause-named : goal.returns-clause-named
 returns-clause-named g c =
-    place-named (keys_of c.self.inside.machines.entries) (machine_names c.args.self.now) c.args.name c.get_index_of.result c.get_index_of.ensures.index
+    place-named (keys_of c.self.inside.machines.entries) (machine_names c.args.self.now) c.args.name
+    c.get_index_of.result c.get_index_of.ensures.index
     (c.self.invariant.machines_by_name ∙ ap machine_names c.self.view_is)
