@@ -31,7 +31,8 @@ its_value None there = cc
 its_value (Some value) there = (value, refl)
 
 -- the machine's words hold a place's number, the size of a value and the distance of the place
-pub in_reach : (place capacity size : ℕ) → place < capacity → capacity < 2 ^ 32 → capacity * size < 2 ^ 63 → (place < 2 ^ 64) × (size < 2 ^ 64) × (place * size < 2 ^ 64)
+pub in_reach : (place capacity size : ℕ) → place < capacity → capacity < 2 ^ 32 → capacity * size < 2 ^ 63
+    → (place < 2 ^ 64) × (size < 2 ^ 64) × (place * size < 2 ^ 64)
 in_reach place capacity size within range small = (
   omega (arith, within, range),
   omega (arith, one_below capacity size (2 ^ 63) (omega (arith, within)) small),
@@ -54,54 +55,83 @@ module _ (E : El) {M : Type 1} {𝓤 : Ura M} (𝓛 : Logic 𝓤) (memory byte :
   others_own capacity place row = each_place (but_for place (row_owns (R E) memory byte row)) 0 capacity
 
   -- one place as it is, and the others
-  pub place_out : (capacity place : ℕ) (row : Row E) (o : Option (el_x E)) → get_or row place None ≡ o → place < capacity
-      → ent 𝓤 (sem 𝓛 (places_own E memory byte capacity row)) (sep 𝓤 (sem 𝓛 (place_owns (R E) memory byte place o)) (sem 𝓛 (others_own capacity place row)))
+  pub place_out : (capacity place : ℕ) (row : Row E) (o : Option (el_x E)) → get_or row place None ≡ o
+      → place < capacity
+      → ent 𝓤 (sem 𝓛 (places_own E memory byte capacity row))
+      (sep 𝓤 (sem 𝓛 (place_owns (R E) memory byte place o)) (sem 𝓛 (others_own capacity place row)))
   place_out capacity place row o is within = qed 𝓛 (‵ (places_own E memory byte capacity row) ∷ []) ∵
-      use1 𝓛 (‵ (row_owns (R E) memory byte row place) ⊛ ‵ (others_own capacity place row)) (taken_out 𝓛 (row_owns (R E) memory byte row) place capacity within) $ split ! $
+      use1 𝓛 (‵ (row_owns (R E) memory byte row place) ⊛ ‵ (others_own capacity place row))
+      (taken_out 𝓛 (row_owns (R E) memory byte row) place capacity within) $ split ! $
       rewrite ! 0 (λ (z : Option (el_x E)). ‵ (place_owns (R E) memory byte place z)) is refl $ done !
 
   -- the place as it becomes
   pub place_in : (capacity place : ℕ) (row : Row E) (o : Option (el_x E)) → length row ≡ capacity → place < capacity
-      → ent 𝓤 (sep 𝓤 (sem 𝓛 (place_owns (R E) memory byte place o)) (sem 𝓛 (others_own capacity place row))) (sem 𝓛 (places_own E memory byte capacity (set row place o)))
-  place_in capacity place row o same within = qed 𝓛 (‵ (place_owns (R E) memory byte place o) ∷ ‵ (others_own capacity place row) ∷ []) ∵
-      rewrite ! 0 (λ (z : Option (el_x E)). ‵ (place_owns (R E) memory byte place z)) (sym (get_or-set_same row place o None (omega (arith, same, within)))) refl $
+      → ent 𝓤 (sep 𝓤 (sem 𝓛 (place_owns (R E) memory byte place o)) (sem 𝓛 (others_own capacity place row)))
+      (sem 𝓛 (places_own E memory byte capacity (set row place o)))
+  place_in capacity place row o same within =
+      qed 𝓛 (‵ (place_owns (R E) memory byte place o) ∷ ‵ (others_own capacity place row) ∷ []) ∵
+      rewrite ! 0 (λ (z : Option (el_x E)). ‵ (place_owns (R E) memory byte place z))
+      (sym (get_or-set_same row place o None (omega (arith, same, within)))) refl $
       by ! (put_back 𝓛 (row_owns (R E) memory byte row) (row_owns (R E) memory byte (set row place o)) place capacity
       (λ i apart. ap (place_owns (R E) memory byte i) (sym (get_or-set_other row place i o None apart))) within)
 
   -- what is lent of a place
-  pub place_seen : (κ : Lft) (capacity place : ℕ) (row : Row E) (o : Option (el_x E)) → get_or row place None ≡ o → place < capacity
-      → ent 𝓤 (sem 𝓛 (each_place (row_lends (R E) memory byte row κ) 0 capacity)) (sem 𝓛 (place_lends (R E) memory byte κ place o))
-  place_seen κ capacity place row o is within = qed 𝓛 (‵ (each_place (row_lends (R E) memory byte row κ) 0 capacity) ∷ []) ∵
-      use1 𝓛 (‵ (row_lends (R E) memory byte row κ place) ⊛ ‵ (each_place (but_for place (row_lends (R E) memory byte row κ)) 0 capacity))
+  pub place_seen : (κ : Lft) (capacity place : ℕ) (row : Row E) (o : Option (el_x E)) → get_or row place None ≡ o
+      → place < capacity
+      → ent 𝓤 (sem 𝓛 (each_place (row_lends (R E) memory byte row κ) 0 capacity))
+      (sem 𝓛 (place_lends (R E) memory byte κ place o))
+  place_seen κ capacity place row o is within =
+      qed 𝓛 (‵ (each_place (row_lends (R E) memory byte row κ) 0 capacity) ∷ []) ∵
+      use1 𝓛 (‵ (row_lends (R E) memory byte row κ place) ⊛ ‵
+      (each_place (but_for place (row_lends (R E) memory byte row κ)) 0 capacity))
       (taken_out 𝓛 (row_lends (R E) memory byte row κ) place capacity within) $ split ! $ keep ! (0 ∷ []) $
       rewrite ! 0 (λ (z : Option (el_x E)). ‵ (place_lends (R E) memory byte κ place z)) is refl $ done !
 
   -- the room of an array is so many empty places, and back
-  rooms_out : (first count : ℕ) → ent 𝓤 (H.room (ty_array (elτ E) count) memory (at first)) (sem 𝓛 (each_place (λ place. place_owns (R E) memory byte place None) first count))
+  rooms_out : (first count : ℕ)
+      → ent 𝓤 (H.room (ty_array (elτ E) count) memory (at first))
+      (sem 𝓛 (each_place (λ place. place_owns (R E) memory byte place None) first count))
   rooms_out first zero = qed 𝓛 (‵ (froom (ty_array (elτ E) 0) memory (at first)) ∷ []) ∵ keep ! [] $ done !
   rooms_out first (suc count) = qed 𝓛 (‵ (froom (ty_array (elτ E) (suc count)) memory (at first)) ∷ []) ∵
-      use1 𝓛 (‵ (froom (elτ E) memory (at first)) ⊛ ‵ (froom (ty_array (elτ E) count) memory (at first + type_size (R E)))) (𝓛.laws.room_uncons (elτ E) count memory (at first)) $ split ! $
+      use1 𝓛 (‵ (froom (elτ E) memory (at first)) ⊛ ‵
+      (froom (ty_array (elτ E) count) memory (at first + type_size (R E))))
+      (𝓛.laws.room_uncons (elτ E) count memory (at first)) $ split ! $
       use1 𝓛 (‵ (place_owns (R E) memory byte first None)) (𝓛.laws.room-raw (elτ E) memory (at first)) $ frame ! $
-      rewrite ! 0 (λ (k : ℕ). ‵ (froom (ty_array (elτ E) count) memory k)) {x = at (suc first)} (omega (arith, suc-mul first (type_size (R E)))) refl $ by ! (rooms_out (suc first) count)
+      rewrite ! 0 (λ (k : ℕ). ‵ (froom (ty_array (elτ E) count) memory k))
+      {x = at (suc first)} (omega (arith, suc-mul first (type_size (R E)))) refl $ by ! (rooms_out (suc first) count)
 
-  rooms_in : (first count : ℕ) → ent 𝓤 (sem 𝓛 (each_place (λ place. place_owns (R E) memory byte place None) first count)) (H.room (ty_array (elτ E) count) memory (at first))
+  rooms_in : (first count : ℕ)
+      → ent 𝓤 (sem 𝓛 (each_place (λ place. place_owns (R E) memory byte place None) first count))
+      (H.room (ty_array (elτ E) count) memory (at first))
   rooms_in first zero = 𝓛.laws.room_nil (elτ E) memory (at first)
-  rooms_in first (suc count) = qed 𝓛 (‵ (each_place (λ place. place_owns (R E) memory byte place None) first (suc count)) ∷ []) ∵ fsplit ! $ move ! (1 ∷ []) $
+  rooms_in first (suc count) =
+      qed 𝓛 (‵ (each_place (λ place. place_owns (R E) memory byte place None) first (suc count)) ∷ []) ∵ fsplit ! $ move
+      ! (1 ∷ []) $
       use1 𝓛 (‵ (froom (ty_array (elτ E) count) memory (at (suc first)))) (rooms_in (suc first) count) $
-      rewrite ! 0 (λ (k : ℕ). ‵ (froom (ty_array (elτ E) count) memory k)) {x = at first + type_size (R E)} (omega (arith, suc-mul first (type_size (R E)))) refl $ move ! (1 ∷ []) $
-      use1 𝓛 (‵ (froom (elτ E) memory (at first))) (𝓛.laws.raw-room (elτ E) memory (at first)) $ by ! (𝓛.laws.room_cons (elτ E) count memory (at first))
+      rewrite ! 0 (λ (k : ℕ). ‵ (froom (ty_array (elτ E) count) memory k))
+      {x = at first + type_size (R E)} (omega (arith, suc-mul first (type_size (R E)))) refl $ move ! (1 ∷ []) $
+      use1 𝓛 (‵ (froom (elτ E) memory (at first))) (𝓛.laws.raw-room (elτ E) memory (at first)) $ by !
+      (𝓛.laws.room_cons (elτ E) count memory (at first))
 
-  empty_row : (capacity : ℕ) → ◌≡◌ {A = ℕ → Fml} (λ place. place_owns (R E) memory byte place None) (row_owns (R E) memory byte (replicate capacity None))
+  empty_row : (capacity : ℕ)
+      → ◌≡◌ {A = ℕ → Fml} (λ place. place_owns (R E) memory byte place None)
+      (row_owns (R E) memory byte (replicate capacity None))
   empty_row capacity = λ j place. place_owns (R E) memory byte place (sym (no_value {X = el_x E} capacity place) j)
 
-  pub places_of_room : (capacity : ℕ) → ent 𝓤 (H.room (ty_array (elτ E) capacity) memory byte) (sem 𝓛 (places_own E memory byte capacity (replicate capacity None)))
+  pub places_of_room : (capacity : ℕ)
+      → ent 𝓤 (H.room (ty_array (elτ E) capacity) memory byte)
+      (sem 𝓛 (places_own E memory byte capacity (replicate capacity None)))
   places_of_room capacity = qed 𝓛 (‵ (froom (ty_array (elτ E) capacity) memory byte) ∷ []) ∵
-      rewrite ! 0 (λ (k : ℕ). ‵ (froom (ty_array (elτ E) capacity) memory k)) {x = at 0} (omega (arith, zero-mul (type_size (R E)))) refl $
+      rewrite ! 0 (λ (k : ℕ). ‵ (froom (ty_array (elτ E) capacity) memory k))
+      {x = at 0} (omega (arith, zero-mul (type_size (R E)))) refl $
       use1 𝓛 (‵ (each_place (λ place. place_owns (R E) memory byte place None) 0 capacity)) (rooms_out 0 capacity) $
       rewrite ! 0 (λ (owns : ℕ → Fml). ‵ (each_place owns 0 capacity)) (empty_row capacity) refl $ done !
 
-  pub room_of_places : (capacity : ℕ) → ent 𝓤 (sem 𝓛 (places_own E memory byte capacity (replicate capacity None))) (H.room (ty_array (elτ E) capacity) memory byte)
+  pub room_of_places : (capacity : ℕ)
+      → ent 𝓤 (sem 𝓛 (places_own E memory byte capacity (replicate capacity None)))
+      (H.room (ty_array (elτ E) capacity) memory byte)
   room_of_places capacity = qed 𝓛 (‵ (places_own E memory byte capacity (replicate capacity None)) ∷ []) ∵
       rewrite ! 0 (λ (owns : ℕ → Fml). ‵ (each_place owns 0 capacity)) (sym (empty_row capacity)) refl $
       use1 𝓛 (‵ (froom (ty_array (elτ E) capacity) memory (at 0))) (rooms_in 0 capacity) $
-      rewrite ! 0 (λ (k : ℕ). ‵ (froom (ty_array (elτ E) capacity) memory k)) {x = byte} (omega (arith, zero-mul (type_size (R E)))) refl $ done !
+      rewrite ! 0 (λ (k : ℕ). ‵ (froom (ty_array (elτ E) capacity) memory k))
+      {x = byte} (omega (arith, zero-mul (type_size (R E)))) refl $ done !

@@ -1,5 +1,7 @@
 -- What a contract sees of an `Arena`: a map from ids to values of at most `capacity` entries, and a counter.
-use Rattle.std.specs.Prelude.{◌≡◌, ◌≢◌, ℕ, ◌+◌, ◌^◌, ◌<◌, ◌≤◌, ◌==◌, ◌↔◌, List, [], ◌∷◌, map, length, Option, Some, None, is_some, IsSome, count_by, slice_index_or, slice_set, replicate, Contains, refl, if◌then◌else◌}
+use Rattle.std.specs.Prelude.{◌≡◌, ◌≢◌, ℕ, ◌+◌, ◌^◌, ◌<◌, ◌≤◌, ◌==◌, ◌↔◌, List, [], ◌∷◌, map, length, Option, Some}
+use Rattle.std.specs.Prelude.{None, is_some, IsSome, count_by, slice_index_or, slice_set, replicate, Contains, refl}
+use Rattle.std.specs.Prelude.{if◌then◌else◌}
 use Rattle.std.specs.Coded.{Coded, code_by, coded×, coded_ℕ, coded_list, coded_option}
 use Rattle.firm_arena.specs.declared.Id.{Id}
 use Rattle.firm_arena.specs.declared.Refused.{Refused}

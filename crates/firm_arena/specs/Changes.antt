@@ -1,10 +1,15 @@
 -- What callers may use of a changed arena: what an id finds in it, what lies at a place, and how much it holds.
-use Rattle.std.proofs.Common.{◌≡◌, ◌≢◌, ℕ, ◌+◌, ◌^◌, ◌<◌, ◌≤◌, ◌==◌, ◌⊎◌, inl, inr, Bool, true, false, cond, List, [], ◌∷◌, map, length, get_or, set, Option, Some, None, option_map, is_some, IsSome, count_by, replicate, refl, sym, ap, ap₂, ◌∙◌, subst, arith, length-set, eq-eqb, ne_eqb}
-use Rattle.std.proofs.lemmas.List.{get_or-set_same, get_or-set_other, get_or_default, get_or_past, set-get_or, get_or-map, same_lists, map-set, length-map, set_past, get_or-replicate, length-replicate}
+use Rattle.std.proofs.Common.{◌≡◌, ◌≢◌, ℕ, ◌+◌, ◌^◌, ◌<◌, ◌≤◌, ◌==◌, ◌⊎◌, inl, inr, Bool, true, false, cond, List, []}
+use Rattle.std.proofs.Common.{◌∷◌, map, length, get_or, set, Option, Some, None, option_map, is_some, IsSome, count_by}
+use Rattle.std.proofs.Common.{replicate, refl, sym, ap, ap₂, ◌∙◌, subst, arith, length-set, eq-eqb, ne_eqb}
+use Rattle.std.proofs.lemmas.List.{get_or-set_same, get_or-set_other, get_or_default, get_or_past, set-get_or}
+use Rattle.std.proofs.lemmas.List.{get_or-map, same_lists, map-set, length-map, set_past, get_or-replicate}
+use Rattle.std.proofs.lemmas.List.{length-replicate}
 use Rattle.std.proofs.lemmas.Bool.{cases_eq, cases_lt, true≢false, cond-true, cond-false}
 use Rattle.std.proofs.lemmas.Option.{none-some, some_pair_parts}
 use Rattle.std.proofs.lemmas.List.Sums.{sum_by-set, sum_by-cons}
-use Rattle.firm_arena.specs.Arena.{Arena, find, held_at, value_under, capacity_of, len_of, vacant, IsBoundedMap, with_put, without, with_value, changed_at, changed_all, slot_changed}
+use Rattle.firm_arena.specs.Arena.{Arena, find, held_at, value_under, capacity_of, len_of, vacant, IsBoundedMap}
+use Rattle.firm_arena.specs.Arena.{with_put, without, with_value, changed_at, changed_all, slot_changed}
 use Rattle.firm_arena.specs.Laws.{bounded, found_of_held}
 use Rattle.firm_arena.specs.declared.Id.{Id}
 
@@ -37,7 +42,8 @@ module _ {X : Type 0} where
       ]
 
   -- a place past the last one holds nothing, changed or not
-  slot_changed-past : {Y : Type 0} (a : Arena X) (p : ℕ) (f : X → Y) → (p < capacity_of a) ⊎ (slot_changed f (held_at a p) ≡ None)
+  slot_changed-past : {Y : Type 0} (a : Arena X) (p : ℕ) (f : X → Y)
+      → (p < capacity_of a) ⊎ (slot_changed f (held_at a p) ≡ None)
   slot_changed-past a p f =
       elim (cases_lt p (capacity_of a)) [
         | inl below ↦ inl below
@@ -69,13 +75,15 @@ module _ {X : Type 0} where
       elim (cases_lt p (capacity_of a)) [
         | inl below ↦ get_or-map (slot_changed f) a.held p None None below
         | inr past ↦
-            let bound : length (map (slot_changed f) a.held) ≤ p = omega (arith, length-map a.held (slot_changed f), past) in
+            let bound : length (map (slot_changed f) a.held) ≤ p =
+            omega (arith, length-map a.held (slot_changed f), past) in
             get_or_past (map (slot_changed f) a.held) p None bound
             ∙ sym (ap (slot_changed f) (get_or_past a.held p None past))
       ]
 
   -- a value found lies at its place under its stamp
-  pub value-held : (stamp : ℕ) (slot : Option (ℕ × X)) (v : X) → value_under stamp slot ≡ Some v → slot ≡ Some (stamp, v)
+  pub value-held : (stamp : ℕ) (slot : Option (ℕ × X)) (v : X) → value_under stamp slot ≡ Some v
+      → slot ≡ Some (stamp, v)
   value-held stamp None v found = cc
   value-held stamp (Some own) v found =
       elim (cases_eq own.0 stamp) [
@@ -157,7 +165,8 @@ module _ {X : Type 0} where
       same_lists a.held b.held places (λ k d below.
       get_or_default a.held k d None below ∙ at k
       ∙ get_or_default b.held k None d (subst (λ (n : ℕ). k < n) places below)) in
-      ap₂ (λ (h : List (Option (ℕ × X))) (c : ℕ). let made : Arena X = record { held = h; counter = c } in made) e counters
+      ap₂ (λ (h : List (Option (ℕ × X))) (c : ℕ). let made : Arena X = record { held = h; counter = c } in made) e
+      counters
 
   slot_changed-same : {Y : Type 0} (slot : Option (ℕ × X)) (g : X → X) (f : X → Y)
       → ((x : X) → f (g x) ≡ f x) → slot_changed f (slot_changed g slot) ≡ slot_changed f slot
@@ -184,7 +193,8 @@ module _ {X : Type 0} where
   is_some-changed None f = refl
   is_some-changed (Some own) f = refl
 
-  count-set_same : (held : List (Option (ℕ × X))) (p : ℕ) (slot : Option (ℕ × X)) → is_some slot ≡ is_some (get_or held p None)
+  count-set_same : (held : List (Option (ℕ × X))) (p : ℕ) (slot : Option (ℕ × X))
+      → is_some slot ≡ is_some (get_or held p None)
       → count_by is_some (set held p slot) ≡ count_by is_some held
   count-set_same held p slot e =
       elim (cases_lt p (length held)) [
@@ -199,7 +209,8 @@ module _ {X : Type 0} where
   count-set_none held p own e =
       elim (cases_lt p (length held)) [
         | inl below ↦
-            let one : ones (is_some (get_or held p None)) ≡ ones true = ap (λ (slot : Option (ℕ × X)). ones (is_some slot)) e in
+            let one : ones (is_some (get_or held p None)) ≡ ones true =
+            ap (λ (slot : Option (ℕ × X)). ones (is_some slot)) e in
             omega (arith, sum_by-set (λ x. ones (is_some x)) held p None None below, one)
         | inr past ↦ absurd (none-some own (sym (get_or_past held p None past) ∙ e))
       ]
@@ -330,10 +341,12 @@ module _ {X : Type 0} where
       ∙ elim (cases_eq other.place id.place) [
         | inl places ↦
             let nothing : find a other ≡ None = find-beside a id other v found differs places in
-            cond-true (other.place == id.place) (option_map f (find a other)) (find a other) (eq-eqb other.place id.place places)
+            cond-true (other.place == id.place) (option_map f (find a other)) (find a other)
+            (eq-eqb other.place id.place places)
             ∙ ap (λ (x : Option X). option_map f x) nothing ∙ sym nothing
         | inr elsewhere ↦
-            cond-false (other.place == id.place) (option_map f (find a other)) (find a other) (ne_eqb other.place id.place elsewhere)
+            cond-false (other.place == id.place) (option_map f (find a other)) (find a other)
+            (ne_eqb other.place id.place elsewhere)
       ]
 
   -- a value taken is found no more, and what every other id finds stays
@@ -349,7 +362,8 @@ module _ {X : Type 0} where
         | inl places ↦
             cond-true (other.place == id.place) None (find a other) (eq-eqb other.place id.place places)
             ∙ sym (find-beside a id other v found differs places)
-        | inr elsewhere ↦ cond-false (other.place == id.place) None (find a other) (ne_eqb other.place id.place elsewhere)
+        | inr elsewhere ↦
+            cond-false (other.place == id.place) None (find a other) (ne_eqb other.place id.place elsewhere)
       ]
 
   -- a value put is found under its id, and what every other id finds stays
@@ -357,7 +371,8 @@ module _ {X : Type 0} where
       → find (with_put a id.place v) id ≡ Some v
   find-put_own a id v below stamp =
       find-with_put a id.place v id below
-      ∙ cond-true (id.place == id.place) (cond (a.counter == id.stamp) (Some v) None) (find a id) (eq-eqb id.place id.place refl)
+      ∙ cond-true (id.place == id.place) (cond (a.counter == id.stamp) (Some v) None) (find a id)
+      (eq-eqb id.place id.place refl)
       ∙ cond-true (a.counter == id.stamp) (Some v) None (eq-eqb a.counter id.stamp (sym stamp))
 
   pub find-put_other : (a : Arena X) (id other : Id) (v : X) → id.place < capacity_of a → held_at a id.place ≡ None
@@ -367,25 +382,32 @@ module _ {X : Type 0} where
       ∙ elim (cases_eq other.place id.place) [
         | inl places ↦
             let newer : a.counter ≢ other.stamp =
-            λ e. differs (ap₂ (λ (p s : ℕ). let made : Id = record { place = p; stamp = s } in made) places (sym e ∙ sym stamp)) in
-            cond-true (other.place == id.place) (cond (a.counter == other.stamp) (Some v) None) (find a other) (eq-eqb other.place id.place places)
+            λ e. differs (ap₂ (λ (p s : ℕ). let made : Id = record { place = p; stamp = s } in made) places
+            (sym e ∙ sym stamp)) in
+            cond-true (other.place == id.place) (cond (a.counter == other.stamp) (Some v) None) (find a other)
+            (eq-eqb other.place id.place places)
             ∙ cond-false (a.counter == other.stamp) (Some v) None (ne_eqb a.counter other.stamp newer)
             ∙ sym (find-nothing a other (ap (λ (k : ℕ). held_at a k) places ∙ nothing))
         | inr elsewhere ↦
-            cond-false (other.place == id.place) (cond (a.counter == other.stamp) (Some v) None) (find a other) (ne_eqb other.place id.place elsewhere)
+            cond-false (other.place == id.place) (cond (a.counter == other.stamp) (Some v) None) (find a other)
+            (ne_eqb other.place id.place elsewhere)
       ]
 
   -- one value more is held once a vacant place has one
-  pub len_of-with_put : (a : Arena X) (p : ℕ) (v : X) → p < capacity_of a → held_at a p ≡ None → len_of (with_put a p v) ≡ len_of a + 1
+  pub len_of-with_put : (a : Arena X) (p : ℕ) (v : X) → p < capacity_of a → held_at a p ≡ None
+      → len_of (with_put a p v) ≡ len_of a + 1
   len_of-with_put a p v below nothing =
-      let zero_there : ones (is_some (get_or a.held p None)) ≡ ones false = ap (λ (slot : Option (ℕ × X)). ones (is_some slot)) nothing in
+      let zero_there : ones (is_some (get_or a.held p None)) ≡ ones false =
+      ap (λ (slot : Option (ℕ × X)). ones (is_some slot)) nothing in
       omega (arith, sum_by-set (λ x. ones (is_some x)) a.held p (Some (a.counter, v)) None below, zero_there)
 
   -- a map is bounded where the stamps of what it finds are below its counter
-  bounded_by : (a : Arena X) → ((id : Id) → IsSome (find a id) → id.stamp < a.counter) → a.counter < 2 ^ 64 → capacity_of a < 2 ^ 32
+  bounded_by : (a : Arena X) → ((id : Id) → IsSome (find a id) → id.stamp < a.counter) → a.counter < 2 ^ 64
+      → capacity_of a < 2 ^ 32
       → IsBoundedMap a
   bounded_by a stamps counter capacity =
-      bounded a (λ place own held. stamps (record { place = place; stamp = own.0 }) (ap is_some (found_of_held a place own held)))
+      bounded a (λ place own held.
+      stamps (record { place = place; stamp = own.0 }) (ap is_some (found_of_held a place own held)))
       counter capacity
 
   option-before : (o : Option X) (b : Bool) (f : X → X) → IsSome (cond b (option_map f o) o) → IsSome o
@@ -394,7 +416,8 @@ module _ {X : Type 0} where
   option-before (Some v) b f h = refl
 
   -- what a changed value's id found before
-  pub found-before : (a : Arena X) (p : ℕ) (f : X → X) (id : Id) → IsSome (find (changed_at a p f) id) → IsSome (find a id)
+  pub found-before : (a : Arena X) (p : ℕ) (f : X → X) (id : Id) → IsSome (find (changed_at a p f) id)
+      → IsSome (find a id)
   found-before a p f id h =
       option-before (find a id) (id.place == p) f (subst (λ (o : Option X). IsSome o) (find-changed_at a p f id) h)
 
@@ -403,7 +426,8 @@ module _ {X : Type 0} where
   option-after (Some v) true f h = refl
   option-after (Some v) false f h = refl
 
-  pub found-after : (a : Arena X) (p : ℕ) (f : X → X) (id : Id) → IsSome (find a id) → IsSome (find (changed_at a p f) id)
+  pub found-after : (a : Arena X) (p : ℕ) (f : X → X) (id : Id) → IsSome (find a id)
+      → IsSome (find (changed_at a p f) id)
   found-after a p f id h =
       subst (λ (o : Option X). IsSome o) (sym (find-changed_at a p f id)) (option-after (find a id) (id.place == p) f h)
 
@@ -420,11 +444,14 @@ module _ {X : Type 0} where
   pub bounded-without : (a : Arena X) (p : ℕ) → IsBoundedMap a → IsBoundedMap (without a p)
   bounded-without a p map =
       bounded_by (without a p)
-      (λ id h. map.stamps id (none-before (find a id) (id.place == p) (subst (λ (o : Option X). IsSome o) (find-without a p id) h)))
+      (λ id h. map.stamps id (none-before (find a id) (id.place == p)
+      (subst (λ (o : Option X). IsSome o) (find-without a p id) h)))
       map.counter (omega (arith, map.capacity, length-set a.held p None))
 
-  put-cases : (a : Arena X) (id : Id) (v : X) → id.place < capacity_of a → held_at a id.place ≡ None → id.stamp ≡ a.counter
-      → (other : Id) → IsSome (find (with_put a id.place v) other) → (other ≡ id) ⊎ ((other.place ≢ id.place) × IsSome (find a other))
+  put-cases : (a : Arena X) (id : Id) (v : X) → id.place < capacity_of a → held_at a id.place ≡ None
+      → id.stamp ≡ a.counter
+      → (other : Id) → IsSome (find (with_put a id.place v) other)
+      → (other ≡ id) ⊎ ((other.place ≢ id.place) × IsSome (find a other))
   put-cases a id v below free stamp other h =
       elim (cases_eq other.place id.place) [
         | inr elsewhere ↦
@@ -435,7 +462,8 @@ module _ {X : Type 0} where
             )
         | inl places ↦
             elim (cases_eq other.stamp id.stamp) [
-              | inl stamps ↦ inl (ap₂ (λ (p s : ℕ). let made : Id = record { place = p; stamp = s } in made) places stamps)
+              | inl stamps ↦
+                  inl (ap₂ (λ (p s : ℕ). let made : Id = record { place = p; stamp = s } in made) places stamps)
               | inr differ ↦
                   let other_id : other ≢ id = λ e. differ (ap (λ (i : Id). i.stamp) e) in
                   let is_none : find (with_put a id.place v) other ≡ None =
@@ -445,7 +473,8 @@ module _ {X : Type 0} where
             ]
       ]
 
-  pub bounded-put : (a : Arena X) (id : Id) (v : X) → id.place < capacity_of a → held_at a id.place ≡ None → id.stamp ≡ a.counter
+  pub bounded-put : (a : Arena X) (id : Id) (v : X) → id.place < capacity_of a → held_at a id.place ≡ None
+      → id.stamp ≡ a.counter
       → a.counter + 1 < 2 ^ 64 → IsBoundedMap a → IsBoundedMap (with_put a id.place v)
   bounded-put a id v below free stamp unworn map =
       bounded_by (with_put a id.place v)
@@ -461,7 +490,8 @@ module _ {X : Type 0} where
   replicate-none n p =
       elim (cases_lt p n) [
         | inl below ↦ get_or-replicate n p None None below
-        | inr past ↦ get_or_past (replicate n None) p None (omega (arith, length-replicate {A = Option (ℕ × X)} n None, past))
+        | inr past ↦
+            get_or_past (replicate n None) p None (omega (arith, length-replicate {A = Option (ℕ × X)} n None, past))
       ]
 
   pub find-vacant : (n first : ℕ) (id : Id) → find (vacant {X = X} n first) id ≡ None
@@ -469,12 +499,14 @@ module _ {X : Type 0} where
 
   pub bounded-vacant : (n first : ℕ) → n < 2 ^ 32 → first < 2 ^ 64 → IsBoundedMap (vacant {X = X} n first)
   bounded-vacant n first few small =
-      bounded_by (vacant n first) (λ id h. absurd (not-some (find (vacant n first) id) (find-vacant n first id) h)) small
+      bounded_by (vacant n first) (λ id h. absurd (not-some (find (vacant n first) id) (find-vacant n first id) h))
+      small
       (omega (arith, few, length-replicate {A = Option (ℕ × X)} n None))
 
 pub bounded-changed_all : {X Y : Type 0} (a : Arena X) (f : X → Y) → IsBoundedMap a → IsBoundedMap (changed_all a f)
 bounded-changed_all {X} {Y} a f map =
-    bounded_by (changed_all a f) (λ id h. map.stamps id (before (find a id) (subst (λ (o : Option Y). IsSome o) (find-changed_all a f id) h)))
+    bounded_by (changed_all a f)
+    (λ id h. map.stamps id (before (find a id) (subst (λ (o : Option Y). IsSome o) (find-changed_all a f id) h)))
     map.counter (omega (arith, map.capacity, capacity_of-changed_all a f))
   where
     before : (o : Option X) → IsSome (option_map f o) → IsSome o

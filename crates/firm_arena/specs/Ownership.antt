@@ -45,8 +45,10 @@ module _ (R : RattleType) where
   abbrev pub block_owns : Ptr → ℕ → List (Option R.Denot) → Fml
   block_owns null_ptr capacity row = ffalse
   block_owns (block_ptr memory byte) capacity row =
-      fsep (addressable capacity) (fsep (each_place (row_owns memory byte row) 0 capacity) (freeable capacity (block_ptr memory byte)))
+      fsep (addressable capacity)
+      (fsep (each_place (row_owns memory byte row) 0 capacity) (freeable capacity (block_ptr memory byte)))
 
   abbrev pub block_lends : Ptr → ℕ → List (Option R.Denot) → Lft → Fml
   block_lends null_ptr capacity row = said ffalse
-  block_lends (block_ptr memory byte) capacity row = beside (said (addressable capacity)) (λ κ. each_place (row_lends memory byte row κ) 0 capacity)
+  block_lends (block_ptr memory byte) capacity row =
+      beside (said (addressable capacity)) (λ κ. each_place (row_lends memory byte row κ) 0 capacity)

@@ -1,5 +1,6 @@
 -- How an arena lays out its slots. No public clause cites this module.
-use Rattle.std.specs.Prelude.{◌≡◌, ℕ, zero, suc, ◌+◌, ◌^◌, ◌<◌, ◌≤◌, List, map, length, Option, Some, None, is_some, IsSome, count_by, slice_index_or, slice_set, ◌⊎◌}
+use Rattle.std.specs.Prelude.{◌≡◌, ℕ, zero, suc, ◌+◌, ◌^◌, ◌<◌, ◌≤◌, List, map, length, Option, Some, None, is_some}
+use Rattle.std.specs.Prelude.{IsSome, count_by, slice_index_or, slice_set, ◌⊎◌}
 use Rattle.firm_arena.specs.declared.slot.Slot.{Slot}
 use Rattle.firm_arena.specs.declared.slot.Slot.TheVariants.{Free, Held}
 
@@ -59,5 +60,6 @@ module _ {X : Type 0} where
   -- a place that holds nothing is claimed: the first of the free list, or the first that was never written
   abbrev pub Claims : List (Option (Slot X)) → ℕ → Option ℕ → List (Option (Slot X)) → ℕ → Option ℕ → ℕ → Type 0
   Claims old used first row used' first' place =
-      ((first ≡ Some place) × (slot_at old place ≡ Some (Free first')) × (row ≡ slice_set old place None) × (used' ≡ used))
+      ((first ≡ Some place) × (slot_at old place ≡ Some (Free first')) × (row ≡ slice_set old place None)
+      × (used' ≡ used))
       ⊎ ((first ≡ None) × (place ≡ used) × (row ≡ old) × (used' ≡ used + 1) × (first' ≡ None))

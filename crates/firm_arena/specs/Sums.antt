@@ -1,10 +1,12 @@
 -- What callers may use of sums over the entries of an arena: what a change of a slot does to them.
-use Rattle.std.proofs.Common.{inl, inr, ◌≡◌, ℕ, zero, suc, ◌+◌, ◌<◌, Option, Some, None, List, [], ◌∷◌, map, length, get_or, set, arith, refl, ap, subst}
+use Rattle.std.proofs.Common.{inl, inr, ◌≡◌, ℕ, zero, suc, ◌+◌, ◌<◌, Option, Some, None, List, [], ◌∷◌, map, length}
+use Rattle.std.proofs.Common.{get_or, set, arith, refl, ap, subst}
 use Rattle.std.specs.List.{sum_by}
 use Rattle.std.proofs.lemmas.List.Sums.{sum_by-cons}
 use Rattle.std.proofs.lemmas.List.{set_past}
 use Rattle.std.proofs.lemmas.Bool.{cases_lt}
-use Rattle.firm_arena.specs.Arena.{Arena, entries_from, entries, held_at, capacity_of, with_put, without, changed_at, changed_all, slot_changed}
+use Rattle.firm_arena.specs.Arena.{Arena, entries_from, entries, held_at, capacity_of, with_put, without, changed_at}
+use Rattle.firm_arena.specs.Arena.{changed_all, slot_changed}
 use Rattle.firm_arena.specs.declared.Id.{Id}
 
 module _ {X : Type 0} where
@@ -24,7 +26,8 @@ module _ {X : Type 0} where
   sum-set_from f [] p i slot below = absurd (omega arith)
   sum-set_from f (o ∷ held) p zero slot below =
       let old : slot_weight f (p + 0) o ≡ slot_weight f p o = ap (λ (q : ℕ). slot_weight f q o) (omega arith) in
-      let new : slot_weight f (p + 0) slot ≡ slot_weight f p slot = ap (λ (q : ℕ). slot_weight f q slot) (omega arith) in
+      let new : slot_weight f (p + 0) slot ≡ slot_weight f p slot =
+      ap (λ (q : ℕ). slot_weight f q slot) (omega arith) in
       omega (arith, sum-slot f p o held, sum-slot f p slot held, old, new)
   sum-set_from f (o ∷ held) p (suc i) slot below =
       let q : p + 1 + i ≡ p + suc i = omega arith in
@@ -42,7 +45,8 @@ module _ {X : Type 0} where
 
   -- a slot written changes the sum by what it held and what it holds
   sum-set : (f : Id × X → ℕ) (a : Arena X) (place : ℕ) (slot : Option (ℕ × X)) (counter : ℕ) → place < capacity_of a
-      → sum_by f (entries (record { held = set a.held place slot; counter = counter })) + slot_weight f place (held_at a place)
+      → sum_by f (entries (record { held = set a.held place slot; counter = counter })) + slot_weight f place
+      (held_at a place)
       ≡ sum_by f (entries a) + slot_weight f place slot
   sum-set f a place slot counter below =
       subst (λ (q : ℕ). sum_by f (entries_from 0 (set a.held place slot)) + slot_weight f q (held_at a place)
@@ -71,17 +75,20 @@ module _ {X : Type 0} where
   sum-changed f a place stamp value g below there =
       let old : slot_weight f place (held_at a place) ≡ f (record { place = place; stamp = stamp }, value) =
       ap (slot_weight f place) there in
-      let new : slot_weight f place (slot_changed g (held_at a place)) ≡ f (record { place = place; stamp = stamp }, g value) =
+      let new : slot_weight f place (slot_changed g (held_at a place))
+      ≡ f (record { place = place; stamp = stamp }, g value) =
       ap (λ (o : Option (ℕ × X)). slot_weight f place (slot_changed g o)) there in
       omega (arith, sum-set f a place (slot_changed g (held_at a place)) a.counter below, old, new)
 
-  slot-same : (f : Id × X → ℕ) (g : X → X) → ((id : Id) (x : X) → f (id, g x) ≡ f (id, x)) → (p : ℕ) (o : Option (ℕ × X))
+  slot-same : (f : Id × X → ℕ) (g : X → X) → ((id : Id) (x : X) → f (id, g x) ≡ f (id, x))
+      → (p : ℕ) (o : Option (ℕ × X))
       → slot_weight f p (slot_changed g o) ≡ slot_weight f p o
   slot-same f g blind p None = refl
   slot-same f g blind p (Some own) = blind (record { place = p; stamp = own.0 }) own.1
 
   -- a change that the weight is blind to changes no sum, whatever is there
-  pub sum-changed_same : (f : Id × X → ℕ) (a : Arena X) (place : ℕ) (g : X → X) → ((id : Id) (x : X) → f (id, g x) ≡ f (id, x))
+  pub sum-changed_same : (f : Id × X → ℕ) (a : Arena X) (place : ℕ) (g : X → X)
+      → ((id : Id) (x : X) → f (id, g x) ≡ f (id, x))
       → sum_by f (entries (changed_at a place g)) ≡ sum_by f (entries a)
   sum-changed_same f a place g blind =
       elim (cases_lt place (capacity_of a)) [
@@ -97,7 +104,8 @@ module _ {X : Type 0} where
       ]
 
   all-same_from : (f : Id × X → ℕ) (g : X → X) → ((id : Id) (x : X) → f (id, g x) ≡ f (id, x)) → (p : ℕ)
-      (held : List (Option (ℕ × X))) → sum_by f (entries_from p (map (slot_changed g) held)) ≡ sum_by f (entries_from p held)
+      (held : List (Option (ℕ × X)))
+      → sum_by f (entries_from p (map (slot_changed g) held)) ≡ sum_by f (entries_from p held)
   all-same_from f g blind p [] = refl
   all-same_from f g blind p (o ∷ held) =
       omega (
@@ -118,7 +126,8 @@ module _ {X : Type 0} where
   entries-changed_from g p [] = refl
   entries-changed_from g p (None ∷ held) = entries-changed_from g (p + 1) held
   entries-changed_from {Y} g p (Some own ∷ held) =
-      ap (λ (rest : List (Id × Y)). (record { place = p; stamp = own.0 }, g own.1) ∷ rest) (entries-changed_from g (p + 1) held)
+      ap (λ (rest : List (Id × Y)). (record { place = p; stamp = own.0 }, g own.1) ∷ rest)
+      (entries-changed_from g (p + 1) held)
 
   pub entries-changed_all : {Y : Type 0} (a : Arena X) (g : X → Y)
       → entries (changed_all a g) ≡ map (λ e. (e.0, g e.1)) (entries a)

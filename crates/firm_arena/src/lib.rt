@@ -1,6 +1,6 @@
 #![tactic(auto)]
 //! A bounded map from ids to values in one block of memory, taken whole by the constructor.
-ghost use Rattle.std.specs.Prelude.{◌≡◌, ℕ, ◌+◌, ◌<◌, ◌≤◌, ◌^◌, ◌↔◌, IsOk, IsSome, OnSome, IfSome, IfNone, IfOk, IfErr, OnOk, OnErr, List, Some, None, option_copied};
+ghost use Rattle.std.specs.Prelude.{◌≡◌, ℕ, ◌+◌, ◌<◌, ◌^◌, ◌↔◌, IsOk, IsSome, OnSome, IfSome, IfNone, IfOk, IfErr, OnOk, OnErr, List, Some, None, option_copied};
 ghost use Rattle.std.specs.Option.{option_copied_mut};
 ghost use Rattle.std.specs.Borrow.{sem};
 ghost use Rattle.firm_arena.specs.Arena.{find, len_of, capacity_of, id_under, vacant, with_put, without, IsVacant, Refuses, IsBoundedMap, SameOthers};

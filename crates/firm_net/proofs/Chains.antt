@@ -1,12 +1,14 @@
 -- The lists that links show, and that they stay where links of other lists change.
-use Rattle.std.proofs.Common.{◌≡◌, ◌≢◌, ℕ, ◌==◌, ◌⊎◌, inl, inr, List, [], ◌∷◌, Contains, refl, sym, ap, ◌∙◌, subst, eq-eqb, ne_eqb, Option, Some, None, option_map}
+use Rattle.std.proofs.Common.{◌≡◌, ◌≢◌, ℕ, ◌==◌, ◌⊎◌, inl, inr, List, [], ◌∷◌, Contains, refl, sym, ap, ◌∙◌, subst}
+use Rattle.std.proofs.Common.{eq-eqb, ne_eqb, Option, Some, None, option_map}
 use Rattle.std.proofs.lemmas.Bool.{cases_eq}
 use Rattle.std.proofs.lemmas.Option.{none-some, same_Some}
 use Rattle.firm_arena.specs.Arena.{Arena, find}
 use Rattle.firm_arena.specs.declared.Id.{Id}
 use Rattle.firm_net.specs.Row.{Row}
 use Rattle.firm_net.specs.Net.{Lists, side_list, end_of, with_list}
-use Rattle.firm_net.specs.Links.{neighbours_of, with_neighbours, with_next, with_previous, list_of, with_arc_list, at_option, IsChain, ShowsList}
+use Rattle.firm_net.specs.Links.{neighbours_of, with_neighbours, with_next, with_previous, list_of, with_arc_list}
+use Rattle.firm_net.specs.Links.{at_option, IsChain, ShowsList}
 use Rattle.firm_net.specs.declared.row.NodeId.{NodeId}
 use Rattle.firm_net.specs.declared.row.ArcId.{ArcId}
 use Rattle.firm_net.specs.declared.links.Side.{Side}
@@ -29,7 +31,8 @@ cases_side Out In = inr refl
 cases_side In Out = inr refl
 cases_side In In = inl refl
 
-pub neighbours-with_same : (side : Side) (around : Neighbours) (link : Link) → neighbours_of side (with_neighbours side around link) ≡ around
+pub neighbours-with_same : (side : Side) (around : Neighbours) (link : Link)
+    → neighbours_of side (with_neighbours side around link) ≡ around
 neighbours-with_same Out around link = refl
 neighbours-with_same In around link = refl
 
@@ -38,7 +41,8 @@ pub neighbours-with_opposite : (side : Side) (around : Neighbours) (link : Link)
 neighbours-with_opposite Out around link = refl
 neighbours-with_opposite In around link = refl
 
-pub row-with_neighbours : (side : Side) (around : Neighbours) (link : Link) → (with_neighbours side around link).row ≡ link.row
+pub row-with_neighbours : (side : Side) (around : Neighbours) (link : Link)
+    → (with_neighbours side around link).row ≡ link.row
 row-with_neighbours Out around link = refl
 row-with_neighbours In around link = refl
 
@@ -126,7 +130,8 @@ find-at_option_other links (Some p) f id other =
     ∙ cond-false (id.place == p) (option_map f (find links id)) (find links id)
     (ne_eqb id.place p (λ e. other (ap (λ (q : ℕ). let made : Option ℕ = Some q in made) (sym e))))
 
-pub find-at_option_same : (links : Arena Link) (o : Option ℕ) (f : Link → Link) (id : Id) (link : Link) → o ≡ Some id.place
+pub find-at_option_same : (links : Arena Link) (o : Option ℕ) (f : Link → Link) (id : Id) (link : Link)
+    → o ≡ Some id.place
     → find links id ≡ Some link → find (at_option links o f) id ≡ Some (f link)
 find-at_option_same links None f id link same found = absurd (none-some id.place same)
 find-at_option_same links (Some p) f id link same found =
@@ -146,7 +151,8 @@ cases_named (Some q) p =
 -- a change of links that touches only their neighbours in the lists of one side
 abbrev pub Touches : Side → (Link → Link) → Type 0
 Touches side f =
-    (link : Link) → ((f link).row ≡ link.row) × (neighbours_of (opposite side) (f link) ≡ neighbours_of (opposite side) link)
+    (link : Link)
+    → ((f link).row ≡ link.row) × (neighbours_of (opposite side) (f link) ≡ neighbours_of (opposite side) link)
 
 pub touches-next : (side : Side) (o : Option ℕ) → Touches side (with_next side o)
 touches-next side o link =
@@ -162,7 +168,8 @@ pub touches-neighbours : (side : Side) (around : Neighbours) → Touches side (w
 touches-neighbours side around link = (row-with_neighbours side around link, neighbours-with_opposite side around link)
 
 -- such a change keeps every link's row and its neighbours on the other side
-pub touched : (side : Side) (links : Arena Link) (o : Option ℕ) (f : Link → Link) (id : Id) (link : Link) → Touches side f
+pub touched : (side : Side) (links : Arena Link) (o : Option ℕ) (f : Link → Link) (id : Id) (link : Link)
+    → Touches side f
     → find links id ≡ Some link
     → (new : Link) × (find (at_option links o f) id ≡ Some new) × (new.row ≡ link.row)
     × (neighbours_of (opposite side) new ≡ neighbours_of (opposite side) link)
@@ -174,7 +181,8 @@ touched side links o f id link touches found =
     ]
 
 -- so the lists of the other side are kept
-pub kept-opposite : (side : Side) (links : Arena Link) (o p : Option ℕ) (f g : Link → Link) → Touches side f → Touches side g
+pub kept-opposite : (side : Side) (links : Arena Link) (o p : Option ℕ) (f g : Link → Link) → Touches side f
+    → Touches side g
     → (n : NodeId) (ids : List ArcId) → KeptSide (opposite side) links (at_option (at_option links o f) p g) n ids
 kept-opposite side links o p f g touches_f touches_g n ids a link h found end =
     let one = touched side links o f a.id link touches_f found in
@@ -186,7 +194,8 @@ kept-opposite side links o p f g touches_f touches_g n ids a link h found end =
     )
 
 -- an arc of another node's list does not stand at a place of this node's list
-elsewhere : (side : Side) (links : Arena Link) (n m : NodeId) (a : ArcId) (link : Link) (o : Option ℕ) → IsOf side links n o
+elsewhere : (side : Side) (links : Arena Link) (n m : NodeId) (a : ArcId) (link : Link) (o : Option ℕ)
+    → IsOf side links n o
     → m ≢ n → find links a.id ≡ Some link → end_of side link.row ≡ m → o ≡ Some a.id.place → ⊥
 elsewhere side links n m a link o of other found end e =
     let there = of a.id.place e in
@@ -194,7 +203,8 @@ elsewhere side links n m a link o of other found end e =
     other (sym end ∙ ap (λ (l : Link). end_of side l.row) same.1 ∙ there.4)
 
 -- and the lists of other nodes on the same side
-pub kept-elsewhere : (side : Side) (links : Arena Link) (o p : Option ℕ) (f g : Link → Link) (n m : NodeId) (ids : List ArcId)
+pub kept-elsewhere : (side : Side) (links : Arena Link) (o p : Option ℕ) (f g : Link → Link) (n m : NodeId)
+    (ids : List ArcId)
     → IsOf side links n o → IsOf side links n p → m ≢ n
     → KeptSide side links (at_option (at_option links o f) p g) m ids
 kept-elsewhere side links o p f g n m ids of_o of_p other a link h found end =

@@ -6,12 +6,15 @@ use Rattle.firm_arena.specs.Arena.{Arena, held_at, capacity_of, changed_at, chan
 use Rattle.firm_net.specs.Links.{cleared_link, IsClearedTo}
 use Rattle.firm_net.specs.declared.links.Link.{Link}
 use Rattle.std.proofs.lemmas.Bool.{cond-true, cond-false}
-use Rattle.firm_arena.specs.Changes.{held_at-changed_at, held_at-changed_all, capacity_of-changed_at, capacity_of-changed_all, same_arenas}
+use Rattle.firm_arena.specs.Changes.{held_at-changed_at, held_at-changed_all, capacity_of-changed_at}
+use Rattle.firm_arena.specs.Changes.{capacity_of-changed_all, same_arenas}
 
 pub cleared-start : (old : Arena Link) → IsClearedTo old old 0
-cleared-start old = record { places = refl; same_counter = refl; cleared = λ p h. absurd (omega arith); same = λ p h. refl }
+cleared-start old =
+    record { places = refl; same_counter = refl; cleared = λ p h. absurd (omega arith); same = λ p h. refl }
 
-pub cleared-step : (old now : Arena Link) (k : ℕ) → IsClearedTo old now k → IsClearedTo old (changed_at now k cleared_link) (k + 1)
+pub cleared-step : (old now : Arena Link) (k : ℕ) → IsClearedTo old now k
+    → IsClearedTo old (changed_at now k cleared_link) (k + 1)
 cleared-step old now k is =
     record {
       places = capacity_of-changed_at now k cleared_link ∙ is.places;
@@ -33,9 +36,11 @@ cleared-step old now k is =
           ∙ is.same p (omega arith);
     }
 
-pub cleared-end : (old now : Arena Link) (k : ℕ) → IsClearedTo old now k → capacity_of old ≤ k → now ≡ changed_all old cleared_link
+pub cleared-end : (old now : Arena Link) (k : ℕ) → IsClearedTo old now k → capacity_of old ≤ k
+    → now ≡ changed_all old cleared_link
 cleared-end old now k is all =
-    same_arenas now (changed_all old cleared_link) (is.places ∙ sym (capacity_of-changed_all old cleared_link)) is.same_counter
+    same_arenas now (changed_all old cleared_link) (is.places ∙ sym (capacity_of-changed_all old cleared_link))
+    is.same_counter
     (λ p.
     elim (cases_lt p k) [
       | inl below ↦ is.cleared p below ∙ sym (held_at-changed_all old p cleared_link)

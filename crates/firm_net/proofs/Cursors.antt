@@ -1,9 +1,11 @@
 -- The first arc of a list and the arc behind one, as the links name them.
-use Rattle.std.proofs.Common.{◌≡◌, ℕ, ◌≤◌, inl, inr, true, List, [], ◌∷◌, length, Contains, sym, ap, ◌∙◌, subst, arith, Option, Some, None, option_map}
+use Rattle.std.proofs.Common.{◌≡◌, ℕ, ◌≤◌, inl, inr, true, List, [], ◌∷◌, length, Contains, sym, ap, ◌∙◌, subst, arith}
+use Rattle.std.proofs.Common.{Option, Some, None, option_map}
 use Rattle.std.proofs.lemmas.Option.{same_Some}
 use Rattle.firm_arena.specs.Arena.{Arena, find, capacity_of, id_of}
 use Rattle.firm_net.specs.Row.{Row}
-use Rattle.firm_net.specs.Net.{Lists, Net, IsNet, IsNode, IsListed, side_list, EachOnce, row_at, listed_in, arcs_on, end_of, first_of, next_in, next_on, behind, same_arc, Follows, rows_of, with_its_row}
+use Rattle.firm_net.specs.Net.{Lists, Net, IsNet, IsNode, IsListed, side_list, EachOnce, row_at, listed_in, arcs_on}
+use Rattle.firm_net.specs.Net.{end_of, first_of, next_in, next_on, behind, same_arc, Follows, rows_of, with_its_row}
 use Rattle.firm_net.specs.Links.{neighbours_of, list_of, arc_at, walk_rows, nodes_shown, IsChain, Shows}
 use Rattle.firm_net.specs.declared.row.NodeId.{NodeId}
 use Rattle.firm_net.specs.declared.row.ArcId.{ArcId}
@@ -26,26 +28,31 @@ chain-first : (side : Side) (links : Arena Link) (n : NodeId) (before from : Opt
 chain-first side links n before from [] chain = ap (λ (o : Option ℕ). arc_at links o) chain
 chain-first side links n before from (a ∷ rest) (link, stands, chain) =
     ap (λ (o : Option ℕ). arc_at links o) stands.starts
-    ∙ ap (λ (slot : Option (ℕ × Link)). option_map (λ id. let made : ArcId = record { id = id } in made) (id_of a.id.place slot))
+    ∙ ap (λ (slot : Option (ℕ × Link)).
+    option_map (λ id. let made : ArcId = record { id = id } in made) (id_of a.id.place slot))
     (find-held links a.id link stands.found)
 
 -- the arc behind one in a chain
-chain-next : (side : Side) (links : Arena Link) (n : NodeId) (before from : Option ℕ) (ids : List ArcId) (a : ArcId) (la : Link)
+chain-next : (side : Side) (links : Arena Link) (n : NodeId) (before from : Option ℕ) (ids : List ArcId) (a : ArcId)
+    (la : Link)
     → IsChain side links n before from ids → Contains ids a → find links a.id ≡ Some la
     → next_in a ids ≡ arc_at links (neighbours_of side la).next
 chain-next side links n before from [] a la chain has found = absurd (contains-nothing a has)
 chain-next side links n before from (x ∷ rest) a la (lx, stands, chain) has found =
     elim (same_arc_or_not a x) [
       | inl same ↦
-          let is : lx ≡ la = same_Some lx la (sym stands.found ∙ ap (λ (c : ArcId). find links c.id) (sym same) ∙ found) in
-          cond-true (same_arc a x) (first_of rest) (next_in a rest) (subst (λ (c : ArcId). same_arc a c ≡ true) same (same_arc_self a))
+          let is : lx ≡ la =
+          same_Some lx la (sym stands.found ∙ ap (λ (c : ArcId). find links c.id) (sym same) ∙ found) in
+          cond-true (same_arc a x) (first_of rest) (next_in a rest)
+          (subst (λ (c : ArcId). same_arc a c ≡ true) same (same_arc_self a))
           ∙ sym (chain-first side links n (Some x.id.place) (neighbours_of side lx).next rest chain)
           ∙ ap (λ (l : Link). arc_at links (neighbours_of side l).next) is
       | inr other ↦
           cond-false (same_arc a x) (first_of rest) (next_in a rest) (same_arc_other a x other)
           ∙ elim (contains-cases x rest a has) [
             | inl is ↦ absurd (other (sym is))
-            | inr later ↦ chain-next side links n (Some x.id.place) (neighbours_of side lx).next rest a la chain later found
+            | inr later ↦
+                chain-next side links n (Some x.id.place) (neighbours_of side lx).next rest a la chain later found
           ]
     ]
 
@@ -67,12 +74,14 @@ listed-on : (side : Side) (net : Net) → IsNet net → IsListed side net
 listed-on Out net is = is.outgoing
 listed-on In net is = is.incoming
 
-end-node : (side : Side) (net : Net) (a : ArcId) (row : Row) → IsNet net → row_at net a ≡ Some row → IsNode net (end_of side row)
+end-node : (side : Side) (net : Net) (a : ArcId) (row : Row) → IsNet net → row_at net a ≡ Some row
+    → IsNode net (end_of side row)
 end-node Out net a row is found = is.tails a row found
 end-node In net a row is found = is.heads a row found
 
 pub next-is : (side : Side) (links : Arena Link) (nodes : Arena Node) (old : Net) (a : ArcId) (la : Link)
-    → IsNet (shown_net links nodes) → Shows links nodes (nodes_shown links nodes) → shown_net links nodes ≡ old → find links a.id ≡ Some la
+    → IsNet (shown_net links nodes) → Shows links nodes (nodes_shown links nodes) → shown_net links nodes ≡ old
+    → find links a.id ≡ Some la
     → arc_at links (neighbours_of side la).next ≡ next_on side old a
 next-is side links nodes old a la is shows was found =
     let net : Net = shown_net links nodes in
@@ -82,7 +91,8 @@ next-is side links nodes old a la is shows was found =
     let own = shown-node links nodes (nodes_shown links nodes) n node.0 shows node.1 in
     let has : Contains (side_list side own.0) a =
     subst (λ (o : Option Lists). Contains (listed_in side o) a) own.1 ((listed-on side net is).all a la.row row) in
-    sym (chain-next side links n None (list_of side node.0).first (side_list side own.0) a la (own.2 side).chain has found)
+    sym (chain-next side links n None (list_of side node.0).first (side_list side own.0) a la (own.2 side).chain has
+    found)
     ∙ ap (λ (o : Option Lists). next_in a (listed_in side o)) (sym own.1)
     ∙ sym (ap (λ (o : Option Row). behind side net a o) row)
     ∙ ap (λ (k : Net). next_on side k a) was
@@ -92,11 +102,13 @@ pub next-none : (side : Side) (links : Arena Link) (nodes : Arena Node) (old : N
 next-none side links nodes old a was none =
     sym (ap (λ (o : Option Row). behind side old a o) (row-missing links nodes old a was none))
 
-pub follows : (side : Side) (net : Net) (a : ArcId) (next : Option ArcId) → IsNet net → next ≡ next_on side net a → Follows side net a next
+pub follows : (side : Side) (net : Net) (a : ArcId) (next : Option ArcId) → IsNet net → next ≡ next_on side net a
+    → Follows side net a next
 follows side net a next is e row before rest found stands =
     e ∙ ap (λ (o : Option Row). behind side net a o) found
     ∙ ap (λ (l : List ArcId). next_in a l) stands
-    ∙ next_in-append a before rest (subst (λ (l : List ArcId). EachOnce l) stands ((listed-on side net is).once (end_of side row)))
+    ∙ next_in-append a before rest
+    (subst (λ (l : List ArcId). EachOnce l) stands ((listed-on side net is).once (end_of side row)))
 
 pub walk-is : (side : Side) (links : Arena Link) (nodes : Arena Node) (old : Net) (n : NodeId) (node : Node)
     → Shows links nodes (nodes_shown links nodes) → shown_net links nodes ≡ old → find nodes n.id ≡ Some node
@@ -111,7 +123,8 @@ walk-is side links nodes old n node shows was there =
     ∙ ap (λ (k : Net). rows_of k (arcs_on side k n)) was
 
 pub walk-none : (side : Side) (links : Arena Link) (nodes : Arena Node) (old : Net) (n : NodeId)
-    → shown_net links nodes ≡ old → find nodes n.id ≡ None → walk_rows side links 0 None ≡ rows_of old (arcs_on side old n)
+    → shown_net links nodes ≡ old → find nodes n.id ≡ None
+    → walk_rows side links 0 None ≡ rows_of old (arcs_on side old n)
 walk-none side links nodes old n was none =
     sym (ap (λ (o : Option Lists). rows_of old (listed_in side o)) (node-missing links nodes old n was none))
 
@@ -124,5 +137,6 @@ rows-short : (net : Net) (ids : List ArcId) → length (rows_of net ids) ≤ len
 rows-short net [] = omega arith
 rows-short net (a ∷ rest) = row-short net a (row_at net a) rest (rows-short net rest)
 
-pub walk-short : (side : Side) (net : Net) (n : NodeId) → IsNet net → length (rows_of net (arcs_on side net n)) ≤ capacity_of net.arcs
+pub walk-short : (side : Side) (net : Net) (n : NodeId) → IsNet net
+    → length (rows_of net (arcs_on side net n)) ≤ capacity_of net.arcs
 walk-short side net n is = omega (arith, rows-short net (arcs_on side net n), listing-short side net n is)

@@ -5,19 +5,22 @@ use Rattle.std.proofs.lemmas.List.Sums.{sum_by-cons}
 use Rattle.firm_arena.specs.Arena.{Arena, entries, held_at, capacity_of, changed_at}
 use Rattle.firm_arena.specs.declared.Id.{Id}
 use Rattle.firm_net.specs.Row.{Row}
-use Rattle.firm_net.specs.Net.{Net, Lists, IsNet, lists_at, row_at, without_arc, with_node, without_node, with_arc, without_row, with_row, with_head, without_flow, with_list}
+use Rattle.firm_net.specs.Net.{Net, Lists, IsNet, lists_at, row_at, without_arc, with_node, without_node, with_arc}
+use Rattle.firm_net.specs.Net.{without_row, with_row, with_head, without_flow, with_list}
 use Rattle.firm_net.specs.Edits.{Span, span_of, nodes_of, spans_of, IsEdit}
 use Rattle.firm_net.specs.declared.links.Side.TheVariants.{Out, In}
 use Rattle.firm_net.specs.declared.row.NodeId.{NodeId}
 use Rattle.firm_net.specs.declared.row.ArcId.{ArcId}
 use Rattle.firm_arena.specs.Changes.{find-held, some-is, capacity_of-changed_at, capacity_of-changed_all}
 use Rattle.firm_arena.specs.Sums.{sum-put, sum-without, sum-changed, sum-changed_same, sum-changed_all}
-use Rattle.firm_net.proofs.Facts.{with_node-counts, without_node-fewer, with_arc-counts, without_row-fewer, with_row-counts, with_head-counts, without_flow-counts}
+use Rattle.firm_net.proofs.Facts.{with_node-counts, without_node-fewer, with_arc-counts, without_row-fewer}
+use Rattle.firm_net.proofs.Facts.{with_row-counts, with_head-counts, without_flow-counts}
 
 sum-map : {A B : Type 0} (f : B → ℕ) (g : A → B) (xs : List A) → sum_by f (map g xs) ≡ sum_by (λ x. f (g x)) xs
 sum-map f g [] = refl
 sum-map f g (x ∷ xs) =
-    sum_by-cons f (g x) (map g xs) ∙ ap (λ (n : ℕ). f (g x) + n) (sum-map f g xs) ∙ sym (sum_by-cons (λ y. f (g y)) x xs)
+    sum_by-cons f (g x) (map g xs) ∙ ap (λ (n : ℕ). f (g x) + n) (sum-map f g xs)
+    ∙ sym (sum_by-cons (λ y. f (g y)) x xs)
 
 -- what an entry weighs as a node, and as an arc apart from its flow
 abbrev node_weight : (NodeId → ℕ) → Id × Lists → ℕ
@@ -50,7 +53,8 @@ relisted-room : (nodes : Arena Lists) (f : Lists → Lists) (p : ℕ) (g : Lists
 relisted-room nodes f p g q = capacity_of-changed_at (changed_at nodes p f) q g ∙ capacity_of-changed_at nodes p f
 
 -- a row that is there lies below the room
-row-below : (net : Net) (a : ArcId) (row : Row) → IsNet net → row_at net a ≡ Some row → a.id.place < capacity_of net.arcs
+row-below : (net : Net) (a : ArcId) (row : Row) → IsNet net → row_at net a ≡ Some row
+    → a.id.place < capacity_of net.arcs
 row-below net a row is there = is.arc_map.places a.id (some-is (row_at net a) row there)
 
 -- a node is added
@@ -83,7 +87,8 @@ with_node-edit net n below free stamp is =
 pub without_node-edit : (net : Net) (n : NodeId) (lists : Lists) → IsNet net → lists_at net n ≡ Some lists
     → IsNet (without_node net n) → IsEdit net (without_node net n) (n ∷ []) [] [] []
 without_node-edit net n lists before there is =
-    let below : n.id.place < capacity_of net.nodes = before.node_map.places n.id (some-is (lists_at net n) lists there) in
+    let below : n.id.place < capacity_of net.nodes =
+    before.node_map.places n.id (some-is (lists_at net n) lists there) in
     record {
       nodes = λ w. omega (
         arith,
@@ -102,8 +107,10 @@ without_node-edit net n lists before there is =
     }
 
 -- an arc is added
-pub with_arc-edit : (net : Net) (a : ArcId) (row : Row) → a.id.place < capacity_of net.arcs → held_at net.arcs a.id.place ≡ None
-    → a.id.stamp ≡ net.arcs.counter → IsNet (with_arc net a row) → IsEdit net (with_arc net a row) [] [] [] (span_of a row ∷ [])
+pub with_arc-edit : (net : Net) (a : ArcId) (row : Row) → a.id.place < capacity_of net.arcs
+    → held_at net.arcs a.id.place ≡ None
+    → a.id.stamp ≡ net.arcs.counter → IsNet (with_arc net a row)
+    → IsEdit net (with_arc net a row) [] [] [] (span_of a row ∷ [])
 with_arc-edit net a row below free stamp is =
     let stamped : ℕ → ArcId = λ (s : ℕ). record { id = record { place = a.id.place; stamp = s } } in
     let same : stamped net.arcs.counter ≡ a = ap stamped (sym stamp) in
@@ -134,7 +141,8 @@ with_arc-edit net a row below free stamp is =
     }
 
 -- an arc is removed
-pub without_row-edit : (net : Net) (a : ArcId) (row : Row) → IsNet net → row_at net a ≡ Some row → IsNet (without_row net a row)
+pub without_row-edit : (net : Net) (a : ArcId) (row : Row) → IsNet net → row_at net a ≡ Some row
+    → IsNet (without_row net a row)
     → IsEdit net (without_row net a row) [] [] (span_of a row ∷ []) []
 without_row-edit net a row before there is =
     let outgoing : Lists → Lists = with_list Out (without_arc a) in
@@ -187,7 +195,8 @@ with_row-edit net a row f before there is =
     }
 
 -- the row of an arc is changed in its flow alone
-pub with_flow-edit : (net : Net) (a : ArcId) (f : Row → Row) → ((b : ArcId) (row : Row) → span_of b (f row) ≡ span_of b row)
+pub with_flow-edit : (net : Net) (a : ArcId) (f : Row → Row)
+    → ((b : ArcId) (row : Row) → span_of b (f row) ≡ span_of b row)
     → IsNet (with_row net a f) → IsEdit net (with_row net a f) [] [] [] []
 with_flow-edit net a f same is =
     record {

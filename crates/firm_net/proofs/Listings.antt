@@ -1,16 +1,20 @@
 -- The lists of one side of a net's nodes, through the steps of a change: each arc stands in the list of its end.
-use Rattle.std.proofs.Common.{◌≡◌, ◌≢◌, ℕ, ◌<◌, ◌==◌, ◌⊎◌, inl, inr, true, false, cond, List, ◌∷◌, Contains, refl, sym, ap, ap₂, ◌∙◌, subst, Option, Some, None, option_map}
+use Rattle.std.proofs.Common.{◌≡◌, ◌≢◌, ℕ, ◌<◌, ◌==◌, ◌⊎◌, inl, inr, true, false, cond, List, ◌∷◌, Contains, refl, sym}
+use Rattle.std.proofs.Common.{ap, ap₂, ◌∙◌, subst, Option, Some, None, option_map}
 use Rattle.std.proofs.lemmas.Bool.{cases_eq}
 use Rattle.std.proofs.lemmas.Option.{none-some, same_Some}
 use Rattle.firm_arena.specs.Arena.{Arena, find, held_at, capacity_of, with_put, without, changed_at}
 use Rattle.firm_arena.specs.declared.Id.{Id}
 use Rattle.firm_net.specs.Row.{Row}
-use Rattle.firm_net.specs.Net.{Lists, Net, IsListed, listed_in, end_of, with_list, EachOnce, without_arc, linked_at_front, unlinked}
+use Rattle.firm_net.specs.Net.{Lists, Net, IsListed, listed_in, end_of, with_list, EachOnce, without_arc}
+use Rattle.firm_net.specs.Net.{linked_at_front, unlinked}
 use Rattle.firm_net.specs.declared.row.NodeId.{NodeId}
 use Rattle.firm_net.specs.declared.row.ArcId.{ArcId}
 use Rattle.firm_net.specs.declared.links.Side.{Side}
-use Rattle.firm_arena.specs.Changes.{find-changed_at, find-nothing, find-changed_own, find-changed_other, find-without_own, find-without_other, find-put_other}
-use Rattle.firm_net.proofs.Lists.{contains-here, contains-there, contains-cases, contains-without, without-contains, once-without}
+use Rattle.firm_arena.specs.Changes.{find-changed_at, find-nothing, find-changed_own, find-changed_other}
+use Rattle.firm_arena.specs.Changes.{find-without_own, find-without_other, find-put_other}
+use Rattle.firm_net.proofs.Lists.{contains-here, contains-there, contains-cases, contains-without, without-contains}
+use Rattle.firm_net.proofs.Lists.{once-without}
 use Rattle.firm_net.specs.Laws.{same_arc_or_not}
 use Rattle.firm_net.proofs.Chains.{opposite, side_list-with_same, side_list-with_opposite}
 
@@ -53,7 +57,9 @@ cases_node n m =
     elim (cases_eq n.id.place m.id.place) [
       | inl places ↦
           elim (cases_eq n.id.stamp m.id.stamp) [
-            | inl stamps ↦ inl (ap₂ (λ (p s : ℕ). let made : NodeId = record { id = record { place = p; stamp = s } } in made) places stamps)
+            | inl stamps ↦ inl (ap₂
+                (λ (p s : ℕ). let made : NodeId = record { id = record { place = p; stamp = s } } in made) places
+                stamps)
             | inr other ↦ inr (λ e. other (ap (λ (c : NodeId). c.id.stamp) e))
           ]
       | inr other ↦ inr (λ e. other (ap (λ (c : NodeId). c.id.place) e))
@@ -66,14 +72,16 @@ arc-other : (a b : ArcId) → b ≢ a → b.id ≢ a.id
 arc-other a b other e = other (ap (λ (i : Id). let made : ArcId = record { id = i } in made) e)
 
 -- the list that changed, and the lists of other nodes on its side
-listing-own : (side : Side) (nodes : Arena Lists) (n : NodeId) (lists : Lists) (f : List ArcId → List ArcId) → find nodes n.id ≡ Some lists
+listing-own : (side : Side) (nodes : Arena Lists) (n : NodeId) (lists : Lists) (f : List ArcId → List ArcId)
+    → find nodes n.id ≡ Some lists
     → listing side (changed_at nodes n.id.place (with_list side f)) n ≡ f (listing side nodes n)
 listing-own side nodes n lists f there =
     ap (λ (o : Option Lists). listed_in side o) (find-changed_own nodes n.id lists (with_list side f) there)
     ∙ side_list-with_same side f lists
     ∙ ap (λ (o : Option Lists). f (listed_in side o)) (sym there)
 
-listing-other : (side : Side) (nodes : Arena Lists) (n m : NodeId) (lists : Lists) (f : List ArcId → List ArcId) → find nodes n.id ≡ Some lists
+listing-other : (side : Side) (nodes : Arena Lists) (n m : NodeId) (lists : Lists) (f : List ArcId → List ArcId)
+    → find nodes n.id ≡ Some lists
     → m ≢ n → listing side (changed_at nodes n.id.place (with_list side f)) m ≡ listing side nodes m
 listing-other side nodes n m lists f there other =
     ap (λ (o : Option Lists). listed_in side o)
@@ -108,10 +116,12 @@ listing-same side nodes new arcs E same listed =
     }
 
 -- a change of the other side's lists
-pub listing-beside : (side : Side) (nodes : Arena Lists) (arcs : Arena Row) (p : ℕ) (f : List ArcId → List ArcId) (E : ArcId → Type 0)
+pub listing-beside : (side : Side) (nodes : Arena Lists) (arcs : Arena Row) (p : ℕ) (f : List ArcId → List ArcId)
+    (E : ArcId → Type 0)
     → Listing (opposite side) nodes arcs E → Listing (opposite side) (changed_at nodes p (with_list side f)) arcs E
 listing-beside side nodes arcs p f E listed =
-    listing-same (opposite side) nodes (changed_at nodes p (with_list side f)) arcs E (listing-opposite side nodes p f) listed
+    listing-same (opposite side) nodes (changed_at nodes p (with_list side f)) arcs E (listing-opposite side nodes p f)
+    listed
 
 -- an arc is put: it is in no list yet
 pub listing-put : (side : Side) (nodes : Arena Lists) (arcs : Arena Row) (a : ArcId) (row : Row)
@@ -123,10 +133,12 @@ listing-put side nodes arcs a row below vacant stamp listed =
       arcs_of = λ n b has.
           let was = (listed.arcs_of n b has).1 in
           let other : b ≢ a =
-          λ e. none-some was.0 (sym (find-nothing arcs a.id vacant) ∙ ap (λ (c : ArcId). find arcs c.id) (sym e) ∙ was.1) in
+          λ e. none-some was.0
+          (sym (find-nothing arcs a.id vacant) ∙ ap (λ (c : ArcId). find arcs c.id) (sym e) ∙ was.1) in
           (other, (was.0, find-put_other arcs a.id b.id row below vacant stamp (arc-other a b other) ∙ was.1, was.2));
       all = λ b r other found.
-          listed.all b r (λ h. h) (sym (find-put_other arcs a.id b.id row below vacant stamp (arc-other a b other)) ∙ found);
+          listed.all b r (λ h. h)
+          (sym (find-put_other arcs a.id b.id row below vacant stamp (arc-other a b other)) ∙ found);
     }
 
 -- the arc that was in no list is listed first at its end
@@ -141,10 +153,13 @@ listing-listed side nodes arcs a row lists found there listed =
       once = λ m.
           elim (cases_node m n) [
             | inl same ↦
-                subst (λ (k : NodeId). EachOnce (listing side (changed_at nodes n.id.place (with_list side f)) k)) (sym same)
-                (subst (λ (l : List ArcId). EachOnce l) (sym (listing-own side nodes n lists f there)) (absent, listed.once n))
+                subst (λ (k : NodeId). EachOnce (listing side (changed_at nodes n.id.place (with_list side f)) k))
+                (sym same)
+                (subst (λ (l : List ArcId). EachOnce l) (sym (listing-own side nodes n lists f there))
+                (absent, listed.once n))
             | inr other ↦
-                subst (λ (l : List ArcId). EachOnce l) (sym (listing-other side nodes n m lists f there other)) (listed.once m)
+                subst (λ (l : List ArcId). EachOnce l) (sym (listing-other side nodes n m lists f there other))
+                (listed.once m)
           ];
       arcs_of = λ m b has. (
         λ h. h,
@@ -152,7 +167,8 @@ listing-listed side nodes arcs a row lists found there listed =
           | inl same ↦
               let here : Contains (a ∷ listing side nodes n) b =
               subst (λ (l : List ArcId). Contains l b) (listing-own side nodes n lists f there)
-              (subst (λ (k : NodeId). Contains (listing side (changed_at nodes n.id.place (with_list side f)) k) b) same has) in
+              (subst (λ (k : NodeId). Contains (listing side (changed_at nodes n.id.place (with_list side f)) k) b) same
+              has) in
               elim (contains-cases a (listing side nodes n) b here) [
                 | inl is ↦ (row, ap (λ (c : ArcId). find arcs c.id) (sym is) ∙ found, sym same)
                 | inr later ↦
@@ -160,25 +176,33 @@ listing-listed side nodes arcs a row lists found there listed =
                     (was.0, was.1, was.2 ∙ sym same)
               ]
           | inr other ↦
-              (listed.arcs_of m b (subst (λ (l : List ArcId). Contains l b) (listing-other side nodes n m lists f there other) has)).1
+              (listed.arcs_of m b
+              (subst (λ (l : List ArcId). Contains l b) (listing-other side nodes n m lists f there other) has)).1
         ],
       );
       all = λ b r _ found_b.
           elim (same_arc_or_not b a) [
             | inl is ↦
                 let same : r ≡ row = same_Some r row (sym found_b ∙ ap (λ (c : ArcId). find arcs c.id) is ∙ found) in
-                subst (λ (k : Row). Contains (listing side (changed_at nodes n.id.place (with_list side f)) (end_of side k)) b) (sym same)
+                subst (λ (k : Row).
+                Contains (listing side (changed_at nodes n.id.place (with_list side f)) (end_of side k)) b)
+                (sym same)
                 (subst (λ (l : List ArcId). Contains l b) (sym (listing-own side nodes n lists f there))
-                (subst (λ (c : ArcId). Contains (a ∷ listing side nodes n) c) (sym is) (contains-here a (listing side nodes n))))
+                (subst (λ (c : ArcId). Contains (a ∷ listing side nodes n) c) (sym is)
+                (contains-here a (listing side nodes n))))
             | inr other ↦
                 let was : Contains (listing side nodes (end_of side r)) b = listed.all b r other found_b in
                 elim (cases_node (end_of side r) n) [
                   | inl same ↦
-                      subst (λ (k : NodeId). Contains (listing side (changed_at nodes n.id.place (with_list side f)) k) b) (sym same)
+                      subst (λ (k : NodeId).
+                      Contains (listing side (changed_at nodes n.id.place (with_list side f)) k) b)
+                      (sym same)
                       (subst (λ (l : List ArcId). Contains l b) (sym (listing-own side nodes n lists f there))
-                      (contains-there a (listing side nodes n) b (subst (λ (k : NodeId). Contains (listing side nodes k) b) same was)))
+                      (contains-there a (listing side nodes n) b
+                      (subst (λ (k : NodeId). Contains (listing side nodes k) b) same was)))
                   | inr elsewhere ↦
-                      subst (λ (l : List ArcId). Contains l b) (sym (listing-other side nodes n (end_of side r) lists f there elsewhere)) was
+                      subst (λ (l : List ArcId). Contains l b)
+                      (sym (listing-other side nodes n (end_of side r) lists f there elsewhere)) was
                 ]
           ];
     }
@@ -193,11 +217,14 @@ listing-unlinked side nodes arcs a row lists found there listed =
       once = λ m.
           elim (cases_node m n) [
             | inl same ↦
-                subst (λ (k : NodeId). EachOnce (listing side (changed_at nodes n.id.place (with_list side (without_arc a))) k)) (sym same)
+                subst (λ (k : NodeId).
+                EachOnce (listing side (changed_at nodes n.id.place (with_list side (without_arc a))) k))
+                (sym same)
                 (subst (λ (l : List ArcId). EachOnce l) (sym (listing-own side nodes n lists (without_arc a) there))
                 (once-without a (listing side nodes n) (listed.once n)))
             | inr other ↦
-                subst (λ (l : List ArcId). EachOnce l) (sym (listing-other side nodes n m lists (without_arc a) there other)) (listed.once m)
+                subst (λ (l : List ArcId). EachOnce l)
+                (sym (listing-other side nodes n m lists (without_arc a) there other)) (listed.once m)
           ];
       arcs_of = λ m b has.
           elim (cases_node m n) [
@@ -205,13 +232,19 @@ listing-unlinked side nodes arcs a row lists found there listed =
                 let here : (a ≢ b) × Contains (listing side nodes n) b =
                 contains-without a (listing side nodes n) b
                 (subst (λ (l : List ArcId). Contains l b) (listing-own side nodes n lists (without_arc a) there)
-                (subst (λ (k : NodeId). Contains (listing side (changed_at nodes n.id.place (with_list side (without_arc a))) k) b) same has)) in
+                (subst (λ (k : NodeId).
+                Contains (listing side (changed_at nodes n.id.place (with_list side (without_arc a))) k) b)
+                same has)) in
                 let was = (listed.arcs_of n b here.1).1 in
                 (λ e. here.0 (sym e), (was.0, was.1, was.2 ∙ sym same))
             | inr other ↦
-                let was = (listed.arcs_of m b (subst (λ (l : List ArcId). Contains l b) (listing-other side nodes n m lists (without_arc a) there other) has)).1 in (
+                let was =
+                (listed.arcs_of m b
+                (subst (λ (l : List ArcId). Contains l b)
+                (listing-other side nodes n m lists (without_arc a) there other) has)).1 in (
                   λ e.
-                      let same : was.0 ≡ row = same_Some was.0 row (sym was.1 ∙ ap (λ (c : ArcId). find arcs c.id) e ∙ found) in
+                      let same : was.0 ≡ row =
+                      same_Some was.0 row (sym was.1 ∙ ap (λ (c : ArcId). find arcs c.id) e ∙ found) in
                       other (sym was.2 ∙ ap (λ (k : Row). end_of side k) same),
                   was,
                 )
@@ -220,17 +253,21 @@ listing-unlinked side nodes arcs a row lists found there listed =
           let was : Contains (listing side nodes (end_of side r)) b = listed.all b r (λ h. h) found_b in
           elim (cases_node (end_of side r) n) [
             | inl same ↦
-                subst (λ (k : NodeId). Contains (listing side (changed_at nodes n.id.place (with_list side (without_arc a))) k) b) (sym same)
+                subst (λ (k : NodeId).
+                Contains (listing side (changed_at nodes n.id.place (with_list side (without_arc a))) k) b)
+                (sym same)
                 (subst (λ (l : List ArcId). Contains l b) (sym (listing-own side nodes n lists (without_arc a) there))
                 (without-contains a (listing side nodes n) b (λ e. other (sym e))
                 (subst (λ (k : NodeId). Contains (listing side nodes k) b) same was)))
             | inr elsewhere ↦
-                subst (λ (l : List ArcId). Contains l b) (sym (listing-other side nodes n (end_of side r) lists (without_arc a) there elsewhere)) was
+                subst (λ (l : List ArcId). Contains l b)
+                (sym (listing-other side nodes n (end_of side r) lists (without_arc a) there elsewhere)) was
           ];
     }
 
 -- the arc that is in no list is taken
-pub listing-taken : (side : Side) (nodes : Arena Lists) (arcs : Arena Row) (a : ArcId) (row : Row) → find arcs a.id ≡ Some row
+pub listing-taken : (side : Side) (nodes : Arena Lists) (arcs : Arena Row) (a : ArcId) (row : Row)
+    → find arcs a.id ≡ Some row
     → Listing side nodes arcs (only a) → Listing side nodes (without arcs a.id.place) nothing
 listing-taken side nodes arcs a row found listed =
     record {
@@ -240,12 +277,14 @@ listing-taken side nodes arcs a row found listed =
           (λ h. h, (was.1.0, find-without_other arcs a.id b.id row found (arc-other a b was.0) ∙ was.1.1, was.1.2));
       all = λ b r _ found_b.
           let other : b ≢ a =
-          λ e. none-some r (sym (find-without_own arcs a.id) ∙ ap (λ (c : ArcId). find (without arcs a.id.place) c.id) (sym e) ∙ found_b) in
+          λ e. none-some r (sym (find-without_own arcs a.id)
+          ∙ ap (λ (c : ArcId). find (without arcs a.id.place) c.id) (sym e) ∙ found_b) in
           listed.all b r other (sym (find-without_other arcs a.id b.id row found (arc-other a b other)) ∙ found_b);
     }
 
 -- the row of the arc that is in no list changes
-pub listing-rewritten : (side : Side) (nodes : Arena Lists) (arcs : Arena Row) (a : ArcId) (row : Row) (f : Row → Row) → find arcs a.id ≡ Some row
+pub listing-rewritten : (side : Side) (nodes : Arena Lists) (arcs : Arena Row) (a : ArcId) (row : Row) (f : Row → Row)
+    → find arcs a.id ≡ Some row
     → Listing side nodes arcs (only a) → Listing side nodes (changed_at arcs a.id.place f) (only a)
 listing-rewritten side nodes arcs a row f found listed =
     record {
@@ -259,8 +298,10 @@ listing-rewritten side nodes arcs a row f found listed =
 
 -- rows change, their ends on this side stay
 pub listing-kept : (side : Side) (nodes : Arena Lists) (arcs new : Arena Row) (E : ArcId → Type 0)
-    → ((b : ArcId) (row : Row) → find arcs b.id ≡ Some row → (r : Row) × (find new b.id ≡ Some r) × (end_of side r ≡ end_of side row))
-    → ((b : ArcId) (r : Row) → find new b.id ≡ Some r → (row : Row) × (find arcs b.id ≡ Some row) × (end_of side r ≡ end_of side row))
+    → ((b : ArcId) (row : Row) → find arcs b.id ≡ Some row
+    → (r : Row) × (find new b.id ≡ Some r) × (end_of side r ≡ end_of side row))
+    → ((b : ArcId) (r : Row) → find new b.id ≡ Some r
+    → (row : Row) × (find arcs b.id ≡ Some row) × (end_of side r ≡ end_of side row))
     → Listing side nodes arcs E → Listing side nodes new E
 listing-kept side nodes arcs new E there back listed =
     record {

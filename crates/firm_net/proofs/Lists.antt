@@ -1,5 +1,6 @@
 -- Lists of arcs: what they contain, and a list without an arc.
-use Rattle.std.proofs.Common.{◌≡◌, ◌≢◌, ℕ, zero, suc, ◌+◌, ◌==◌, ◌⊎◌, inl, inr, true, false, not, List, [], ◌∷◌, ◌++◌, length, Contains, refl, sym, ap, ap₂, ◌∙◌, subst, arith, eq-eqb, ne_eqb}
+use Rattle.std.proofs.Common.{◌≡◌, ◌≢◌, ℕ, zero, suc, ◌+◌, ◌==◌, ◌⊎◌, inl, inr, true, false, not, List, [], ◌∷◌, ◌++◌}
+use Rattle.std.proofs.Common.{length, Contains, refl, sym, ap, ap₂, ◌∙◌, subst, arith, eq-eqb, ne_eqb}
 use Rattle.std.proofs.lemmas.List.Elements.{Contains-append_right}
 use Rattle.std.proofs.lemmas.Bool.{cases_eq, and_from, and_left, and_right}
 use Rattle.firm_net.specs.declared.row.ArcId.{ArcId}
@@ -45,7 +46,8 @@ pub without_arc-first : (a : ArcId) (rest : List ArcId) → (Contains rest a →
 without_arc-first a rest absent = without_arc-skips a rest ∙ without_arc-absent a rest absent
 
 -- what a list without an arc contains
-pub contains-without : (a : ArcId) (ids : List ArcId) (b : ArcId) → Contains (without_arc a ids) b → (a ≢ b) × Contains ids b
+pub contains-without : (a : ArcId) (ids : List ArcId) (b : ArcId) → Contains (without_arc a ids) b
+    → (a ≢ b) × Contains ids b
 contains-without a [] b h = absurd (contains-nothing b h)
 contains-without a (c ∷ rest) b h =
     elim (same_arc_or_not a c) [
@@ -56,7 +58,8 @@ contains-without a (c ∷ rest) b h =
           contains-without a rest b (subst (λ (l : List ArcId). Contains l b) shorter h) in
           (further.0, contains-there c rest b further.1)
       | inr other ↦
-          elim (contains-cases c (without_arc a rest) b (subst (λ (l : List ArcId). Contains l b) (without_arc-other a c rest other) h)) [
+          elim (contains-cases c (without_arc a rest) b
+          (subst (λ (l : List ArcId). Contains l b) (without_arc-other a c rest other) h)) [
             | inl is ↦
                 (λ e. other (e ∙ sym is), subst (λ (d : ArcId). Contains (c ∷ rest) d) is (contains-here c rest))
             | inr later ↦
@@ -65,7 +68,8 @@ contains-without a (c ∷ rest) b h =
           ]
     ]
 
-pub without-contains : (a : ArcId) (ids : List ArcId) (b : ArcId) → a ≢ b → Contains ids b → Contains (without_arc a ids) b
+pub without-contains : (a : ArcId) (ids : List ArcId) (b : ArcId) → a ≢ b → Contains ids b
+    → Contains (without_arc a ids) b
 without-contains a [] b other h = absurd (contains-nothing b h)
 without-contains a (c ∷ rest) b other h =
     elim (same_arc_or_not a c) [
@@ -79,7 +83,8 @@ without-contains a (c ∷ rest) b other h =
       | inr differ ↦
           subst (λ (l : List ArcId). Contains l b) (sym (without_arc-other a c rest differ))
           (elim (contains-cases c rest b h) [
-            | inl is ↦ subst (λ (d : ArcId). Contains (c ∷ without_arc a rest) d) is (contains-here c (without_arc a rest))
+            | inl is ↦
+                subst (λ (d : ArcId). Contains (c ∷ without_arc a rest) d) is (contains-here c (without_arc a rest))
             | inr later ↦ contains-there c (without_arc a rest) b (without-contains a rest b other later)
           ])
     ]
@@ -98,7 +103,8 @@ once-without a (c ∷ rest) once =
     ]
 
 -- one arc fewer
-pub length-without : (a : ArcId) (ids : List ArcId) → EachOnce ids → Contains ids a → length (without_arc a ids) + 1 ≡ length ids
+pub length-without : (a : ArcId) (ids : List ArcId) → EachOnce ids → Contains ids a
+    → length (without_arc a ids) + 1 ≡ length ids
 length-without a [] once h = absurd (contains-nothing a h)
 length-without a (c ∷ rest) once h =
     elim (same_arc_or_not a c) [
@@ -111,7 +117,11 @@ length-without a (c ∷ rest) once h =
           elim (contains-cases c rest a h) [
             | inl is ↦ absurd (differ (sym is))
             | inr later ↦
-                omega (arith, ap (λ (l : List ArcId). length l) (without_arc-other a c rest differ), length-without a rest once.1 later)
+                omega (
+                  arith,
+                  ap (λ (l : List ArcId). length l) (without_arc-other a c rest differ),
+                  length-without a rest once.1 later,
+                )
           ]
     ]
 
@@ -125,6 +135,7 @@ next_in-append a (b ∷ before) rest once =
           absurd (once.0 (subst (λ (c : ArcId). Contains (before ++ a ∷ rest) c) same
           (Contains-append_right before (a ∷ rest) a (contains-here a rest))))
       | inr other ↦
-          cond-false (same_arc a b) (first_of (before ++ a ∷ rest)) (next_in a (before ++ a ∷ rest)) (same_arc_other a b other)
+          cond-false (same_arc a b) (first_of (before ++ a ∷ rest)) (next_in a (before ++ a ∷ rest))
+          (same_arc_other a b other)
           ∙ next_in-append a before rest once.1
     ]

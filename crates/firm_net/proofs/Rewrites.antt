@@ -1,24 +1,29 @@
 -- What links and nodes show after an arc's row changed, its head moved, or all flow was cleared.
-use Rattle.std.proofs.Common.{◌≡◌, ◌≢◌, ℕ, ◌≤◌, List, ◌∷◌, Contains, set, map, replicate, zero, suc, refl, sym, ap, ◌∙◌, subst, subst₂, Option, Some, None}
+use Rattle.std.proofs.Common.{◌≡◌, ◌≢◌, ℕ, ◌≤◌, List, ◌∷◌, Contains, set, map, replicate, zero, suc, refl, sym, ap, ◌∙◌}
+use Rattle.std.proofs.Common.{subst, subst₂, Option, Some, None}
 use Rattle.std.proofs.lemmas.Option.{same_Some}
 use Rattle.std.proofs.lemmas.List.{length-replicate}
 use Rattle.firm_arena.specs.Arena.{Arena, find, held_at, vacant, changed_at, changed_all, slot_changed}
 use Rattle.firm_arena.specs.declared.Id.{Id}
 use Rattle.firm_net.specs.Row.{Row, IsRow}
-use Rattle.firm_net.specs.Net.{Lists, Net, IsNet, IsNode, side_list, end_of, unlinked, with_row, with_head, without_flow, empty_net}
-use Rattle.firm_net.specs.Links.{neighbours_of, list_of, with_arc_list, with_link_row, cleared_link, list_from, list_past, links_from, links_past, lists_of, nodes_shown, rows_shown, ShowsSlot, Shows}
+use Rattle.firm_net.specs.Net.{Lists, Net, IsNet, IsNode, side_list, end_of, unlinked, with_row, with_head}
+use Rattle.firm_net.specs.Net.{without_flow, empty_net}
+use Rattle.firm_net.specs.Links.{neighbours_of, list_of, with_arc_list, with_link_row, cleared_link, list_from}
+use Rattle.firm_net.specs.Links.{list_past, links_from, links_past, lists_of, nodes_shown, rows_shown, ShowsSlot, Shows}
 use Rattle.firm_net.specs.declared.row.NodeId.{NodeId}
 use Rattle.firm_net.specs.declared.row.ArcId.{ArcId}
 use Rattle.firm_net.specs.declared.links.Side.{Side}
 use Rattle.firm_net.specs.declared.links.Side.TheVariants.{Out, In}
 use Rattle.firm_net.specs.declared.links.Link.{Link}
 use Rattle.firm_net.specs.declared.links.Node.{Node}
-use Rattle.firm_arena.specs.Changes.{replicate-none, some-is, find-held, find-changed_own, changed_all-changed_at, changed_all-changed_all}
+use Rattle.firm_arena.specs.Changes.{replicate-none, some-is, find-held, find-changed_own, changed_all-changed_at}
+use Rattle.firm_arena.specs.Changes.{changed_all-changed_all}
 use Rattle.firm_net.proofs.Joins.{shows-listed, shows-unlinked}
 use Rattle.firm_net.proofs.Frames.{shows-changed, shows-changed_all}
 use Rattle.firm_net.proofs.Listings.{Listing, only, listing-of, listing-unlinked}
 use Rattle.firm_net.proofs.Nets.{net-with_row, net-with_head, net-without_flow, net-empty}
-use Rattle.firm_net.proofs.Shown.{shown_net, IsShown, is_shown, node-shown, row-shown, link-there, rows-links_from, rows-links_past}
+use Rattle.firm_net.proofs.Shown.{shown_net, IsShown, is_shown, node-shown, row-shown, link-there, rows-links_from}
+use Rattle.firm_net.proofs.Shown.{rows-links_past}
 use Rattle.firm_net.proofs.Moves.{once-found, contains-found, found-contains}
 
 -- two changes that agree on the value are one
@@ -30,7 +35,9 @@ changed-agree {X} a id v f g found e =
     ap (λ (s : Option (ℕ × X)). slot_changed f s) held
     ∙ ap (λ (w : X). let made : Option (ℕ × X) = Some (id.stamp, w) in made) e
     ∙ sym (ap (λ (s : Option (ℕ × X)). slot_changed g s) held) in
-    ap (λ (slot : Option (ℕ × X)). let made : Arena X = record { held = set a.held id.place slot; counter = a.counter } in made) slots
+    ap (λ (slot : Option (ℕ × X)). let made : Arena X =
+    record { held = set a.held id.place slot; counter = a.counter } in made)
+    slots
 
 -- the rows that are shown once one link has another row
 rows-rewritten : (links : Arena Link) (p : ℕ) (row : Row)
@@ -62,26 +69,33 @@ moved-row links nodes a link row f is shows found e is_row tail head =
 pub moved-retarget : (links : Arena Link) (nodes : Arena Node) (a : ArcId) (link : Link) (n : NodeId) (old new : Node)
     → IsNet (shown_net links nodes) → Shows links nodes (nodes_shown links nodes) → find links a.id ≡ Some link
     → find nodes link.row.head.id ≡ Some old → IsNode (shown_net links nodes) n → link.row.tail ≢ n
-    → find (changed_at nodes link.row.head.id.place (with_arc_list In (list_past link.incoming (list_of In old)))) n.id ≡ Some new
+    → find (changed_at nodes link.row.head.id.place (with_arc_list In (list_past link.incoming (list_of In old)))) n.id
+    ≡ Some new
     → IsShown
-    (links_from In a.id.place (list_of In new).first (changed_at (links_past In link.incoming links) a.id.place (with_link_row (record link.row { head = n }))))
-    (changed_at (changed_at nodes link.row.head.id.place (with_arc_list In (list_past link.incoming (list_of In old)))) n.id.place (with_arc_list In (list_from a.id.place (list_of In new))))
+    (links_from In a.id.place (list_of In new).first
+    (changed_at (links_past In link.incoming links) a.id.place (with_link_row (record link.row { head = n }))))
+    (changed_at (changed_at nodes link.row.head.id.place (with_arc_list In (list_past link.incoming (list_of In old))))
+    n.id.place (with_arc_list In (list_from a.id.place (list_of In new))))
     (with_head (shown_net links nodes) a link.row n)
 moved-retarget links nodes a link n old new is shows found there_old node differs there_new =
     let net : Net = shown_net links nodes in
     let row : Row = record link.row { head = n } in
     let links1 : Arena Link = links_past In link.incoming links in
     let links2 : Arena Link = changed_at links1 a.id.place (with_link_row row) in
-    let nodes1 : Arena Node = changed_at nodes link.row.head.id.place (with_arc_list In (list_past link.incoming (list_of In old))) in
+    let nodes1 : Arena Node =
+    changed_at nodes link.row.head.id.place (with_arc_list In (list_past link.incoming (list_of In old))) in
     let shown1 : Arena Lists = unlinked In a link.row.head net.nodes in
     let found_row : find net.arcs a.id ≡ Some link.row = row-shown links a.id link found in
-    let h : find net.nodes link.row.head.id ≡ Some (lists_of links old) = node-shown links nodes link.row.head.id old there_old in
+    let h : find net.nodes link.row.head.id ≡ Some (lists_of links old) =
+    node-shown links nodes link.row.head.id old there_old in
     let rows1 : rows_shown links1 ≡ net.arcs = rows-links_past In link.incoming links in
     let row1 : find (rows_shown links1) a.id ≡ Some link.row = ap (λ (r : Arena Row). find r a.id) rows1 ∙ found_row in
     let la1 = link-there links1 a.id (some-is (find (rows_shown links1) a.id) link.row row1) in
-    let is_row1 : la1.0.row ≡ link.row = same_Some la1.0.row link.row (sym (row-shown links1 a.id la1.0 la1.1) ∙ row1) in
+    let is_row1 : la1.0.row ≡ link.row =
+    same_Some la1.0.row link.row (sym (row-shown links1 a.id la1.0 la1.1) ∙ row1) in
     let into1 : Listing In shown1 net.arcs (only a) =
-    listing-unlinked In net.nodes net.arcs a link.row (lists_of links old) found_row h (listing-of In net is.incoming) in
+    listing-unlinked In net.nodes net.arcs a link.row (lists_of links old) found_row h
+    (listing-of In net is.incoming) in
     let s1 : Shows links1 nodes1 shown1 =
     shows-unlinked In link.row.head links nodes net.nodes old a link shows there_old found
     (λ lists there. (
@@ -96,9 +110,11 @@ moved-retarget links nodes a link n old new is shows found there_old node differ
       | In ↦ λ has. absurd ((into1.arcs_of m a (found-contains In shown1 m lists a there has)).0 refl)
     ])
     s1 in
-    let found2 : find links2 a.id ≡ Some (with_link_row row la1.0) = find-changed_own links1 a.id la1.0 (with_link_row row) la1.1 in
+    let found2 : find links2 a.id ≡ Some (with_link_row row la1.0) =
+    find-changed_own links1 a.id la1.0 (with_link_row row) la1.1 in
     is_shown (links_from In a.id.place (list_of In new).first links2)
-    (changed_at nodes1 n.id.place (with_arc_list In (list_from a.id.place (list_of In new)))) (with_head net a link.row n)
+    (changed_at nodes1 n.id.place (with_arc_list In (list_from a.id.place (list_of In new))))
+    (with_head net a link.row n)
     (shows-listed In n links2 nodes1 shown1 new a (with_link_row row la1.0) s2 there_new found2 refl
     (λ lists there. once-found In shown1 n lists there (into1.once n))
     (λ lists there has. (into1.arcs_of n a (found-contains In shown1 n lists a there has)).0 refl))
@@ -117,7 +133,8 @@ end-cleared Out link = refl
 end-cleared In link = refl
 
 -- all flow is cleared
-pub moved-clear : (links : Arena Link) (nodes : Arena Node) → IsNet (shown_net links nodes) → Shows links nodes (nodes_shown links nodes)
+pub moved-clear : (links : Arena Link) (nodes : Arena Node) → IsNet (shown_net links nodes)
+    → Shows links nodes (nodes_shown links nodes)
     → IsShown (changed_all links cleared_link) nodes (without_flow (shown_net links nodes))
 moved-clear links nodes is shows =
     let f : Row → Row = λ old. record old { low = 0; flow = 0 } in
@@ -126,26 +143,34 @@ moved-clear links nodes is shows =
     (changed_all-changed_all links cleared_link (λ l. l.row) ∙ sym (changed_all-changed_all links (λ l. l.row) f))
     (net-without_flow (shown_net links nodes) is)
 
-map-replicate : {X Y : Type 0} (n : ℕ) (f : X → Y) → map (slot_changed f) (replicate {A = Option (ℕ × X)} n None) ≡ replicate {A = Option (ℕ × Y)} n None
+map-replicate : {X Y : Type 0} (n : ℕ) (f : X → Y)
+    → map (slot_changed f) (replicate {A = Option (ℕ × X)} n None) ≡ replicate {A = Option (ℕ × Y)} n None
 map-replicate {X} {Y} zero f = refl
 map-replicate {X} {Y} (suc n) f = ap (λ (l : List (Option (ℕ × Y))). None ∷ l) (map-replicate {X = X} {Y = Y} n f)
 
-changed_all-vacant : {X Y : Type 0} (n first : ℕ) (f : X → Y) → changed_all (vacant {X = X} n first) f ≡ vacant {X = Y} n first
+changed_all-vacant : {X Y : Type 0} (n first : ℕ) (f : X → Y)
+    → changed_all (vacant {X = X} n first) f ≡ vacant {X = Y} n first
 changed_all-vacant {X} {Y} n first f =
-    ap (λ (h : List (Option (ℕ × Y))). let made : Arena Y = record { held = h; counter = first } in made) (map-replicate {X = X} {Y = Y} n f)
+    ap (λ (h : List (Option (ℕ × Y))). let made : Arena Y = record { held = h; counter = first } in made)
+    (map-replicate {X = X} {Y = Y} n f)
 
-slot-none : (links : Arena Link) (p : ℕ) (one : Option (ℕ × Node)) (two : Option (ℕ × Lists)) → one ≡ None → two ≡ None → ShowsSlot links p one two
-slot-none links p one two e g = subst₂ (λ (x : Option (ℕ × Node)) (y : Option (ℕ × Lists)). ShowsSlot links p x y) (sym e) (sym g) tt
+slot-none : (links : Arena Link) (p : ℕ) (one : Option (ℕ × Node)) (two : Option (ℕ × Lists)) → one ≡ None → two ≡ None
+    → ShowsSlot links p one two
+slot-none links p one two e g =
+    subst₂ (λ (x : Option (ℕ × Node)) (y : Option (ℕ × Lists)). ShowsSlot links p x y) (sym e) (sym g) tt
 
 -- a new net
-pub moved-new : (nodes arcs : ℕ) → nodes ≤ 4096 → arcs ≤ 65536 → IsShown (vacant arcs 0) (vacant nodes 0) (empty_net nodes arcs)
+pub moved-new : (nodes arcs : ℕ) → nodes ≤ 4096 → arcs ≤ 65536
+    → IsShown (vacant arcs 0) (vacant nodes 0) (empty_net nodes arcs)
 moved-new nodes arcs node_limit arc_limit =
     is_shown (vacant arcs 0) (vacant nodes 0) (empty_net nodes arcs)
     (record {
       places =
-          length-replicate {A = Option (ℕ × Node)} nodes None ∙ sym (length-replicate {A = Option (ℕ × Lists)} nodes None);
+          length-replicate {A = Option (ℕ × Node)} nodes None
+          ∙ sym (length-replicate {A = Option (ℕ × Lists)} nodes None);
       counter = refl;
-      at = λ p. slot-none (vacant arcs 0) p (held_at (vacant {X = Node} nodes 0) p) (held_at (vacant {X = Lists} nodes 0) p)
+      at = λ p.
+          slot-none (vacant arcs 0) p (held_at (vacant {X = Node} nodes 0) p) (held_at (vacant {X = Lists} nodes 0) p)
           (replicate-none {X = Node} nodes p) (replicate-none {X = Lists} nodes p);
     })
     (changed_all-vacant {X = Link} {Y = Row} arcs 0 (λ l. l.row)) (net-empty nodes arcs node_limit arc_limit)

@@ -1,11 +1,13 @@
 -- What a net's links and nodes show, and what they show after each change.
-use Rattle.std.proofs.Common.{◌≡◌, ◌≢◌, ℕ, ◌+◌, ◌<◌, ◌≤◌, ◌^◌, List, [], ◌∷◌, Contains, length, refl, sym, ap, ap₂, ◌∙◌, subst, arith, Option, Some, None, option_map, is_some, IsSome}
+use Rattle.std.proofs.Common.{◌≡◌, ◌≢◌, ℕ, ◌+◌, ◌<◌, ◌≤◌, ◌^◌, List, [], ◌∷◌, Contains, length, refl, sym, ap, ap₂, ◌∙◌}
+use Rattle.std.proofs.Common.{subst, arith, Option, Some, None, option_map, is_some, IsSome}
 use Rattle.std.proofs.lemmas.List.Sums.{count_by-le-length}
 use Rattle.firm_arena.specs.Arena.{Arena, find, capacity_of, len_of, without}
 use Rattle.firm_arena.specs.declared.Id.{Id}
 use Rattle.firm_net.specs.Row.{Row}
 use Rattle.firm_net.specs.Net.{Lists, Net, IsNet, listed_in, EachOnce}
-use Rattle.firm_net.specs.Links.{list_of, with_neighbours, with_next, with_previous, at_option, links_from, links_past, lists_of, nodes_shown, rows_shown, Shows}
+use Rattle.firm_net.specs.Links.{list_of, with_neighbours, with_next, with_previous, at_option, links_from, links_past}
+use Rattle.firm_net.specs.Links.{lists_of, nodes_shown, rows_shown, Shows}
 use Rattle.firm_net.specs.declared.row.NodeId.{NodeId}
 use Rattle.firm_net.specs.declared.row.ArcId.{ArcId}
 use Rattle.firm_net.specs.declared.links.Side.{Side}
@@ -13,7 +15,8 @@ use Rattle.firm_net.specs.declared.links.Side.TheVariants.{Out, In}
 use Rattle.firm_net.specs.declared.links.Neighbours.{Neighbours}
 use Rattle.firm_net.specs.declared.links.Link.{Link}
 use Rattle.firm_net.specs.declared.links.Node.{Node}
-use Rattle.firm_arena.specs.Changes.{some-is, is-some, find-changed_all, find-without_other, changed_all-same, len_of-without}
+use Rattle.firm_arena.specs.Changes.{some-is, is-some, find-changed_all, find-without_other, changed_all-same}
+use Rattle.firm_arena.specs.Changes.{len_of-without}
 use Rattle.firm_net.proofs.Lists.{contains-here, contains-there}
 use Rattle.firm_net.proofs.Relists.{shown-node}
 use Rattle.firm_net.proofs.Chains.{touches-next, touches-previous, touches-neighbours}
@@ -30,7 +33,8 @@ pub record IsShown (links : Arena Link) (nodes : Arena Node) (shown : Net) : Typ
   pub net : IsNet (shown_net links nodes)
   pub shows : Shows links nodes (nodes_shown links nodes)
 
-pub is_shown : (links : Arena Link) (nodes : Arena Node) (net : Net) → Shows links nodes net.nodes → rows_shown links ≡ net.arcs
+pub is_shown : (links : Arena Link) (nodes : Arena Node) (net : Net) → Shows links nodes net.nodes
+    → rows_shown links ≡ net.arcs
     → IsNet net → IsShown links nodes net
 is_shown links nodes net shows rows is_net =
     let lists : nodes_shown links nodes ≡ net.nodes = shows-walks links nodes net.nodes shows in
@@ -48,7 +52,8 @@ pub node-shown : (links : Arena Link) (nodes : Arena Node) (id : Id) (node : Nod
 node-shown links nodes id node there =
     find-changed_all nodes (lists_of links) id ∙ ap (λ (o : Option Node). option_map (lists_of links) o) there
 
-pub row-shown : (links : Arena Link) (id : Id) (link : Link) → find links id ≡ Some link → find (rows_shown links) id ≡ Some link.row
+pub row-shown : (links : Arena Link) (id : Id) (link : Link) → find links id ≡ Some link
+    → find (rows_shown links) id ≡ Some link.row
 row-shown links id link there =
     find-changed_all links (λ l. l.row) id ∙ ap (λ (o : Option Link). option_map (λ l. l.row) o) there
 
@@ -59,11 +64,14 @@ option-some (Some x) f h = (x, refl)
 pub node-there : (links : Arena Link) (nodes : Arena Node) (id : Id) → IsSome (find (nodes_shown links nodes) id)
     → (node : Node) × (find nodes id ≡ Some node)
 node-there links nodes id h =
-    option-some (find nodes id) (lists_of links) (subst (λ (o : Option Lists). IsSome o) (find-changed_all nodes (lists_of links) id) h)
+    option-some (find nodes id) (lists_of links)
+    (subst (λ (o : Option Lists). IsSome o) (find-changed_all nodes (lists_of links) id) h)
 
-pub link-there : (links : Arena Link) (id : Id) → IsSome (find (rows_shown links) id) → (link : Link) × (find links id ≡ Some link)
+pub link-there : (links : Arena Link) (id : Id) → IsSome (find (rows_shown links) id)
+    → (link : Link) × (find links id ≡ Some link)
 link-there links id h =
-    option-some (find links id) (λ l. l.row) (subst (λ (o : Option Row). IsSome o) (find-changed_all links (λ l. l.row) id) h)
+    option-some (find links id) (λ l. l.row)
+    (subst (λ (o : Option Row). IsSome o) (find-changed_all links (λ l. l.row) id) h)
 
 -- the change of one side's links leaves the rows
 pub rows-at_option : (links : Arena Link) (o : Option ℕ) (f : Link → Link) → ((link : Link) → (f link).row ≡ link.row)
@@ -71,21 +79,25 @@ pub rows-at_option : (links : Arena Link) (o : Option ℕ) (f : Link → Link) �
 rows-at_option links None f keeps = refl
 rows-at_option links (Some p) f keeps = changed_all-same links p f (λ l. l.row) keeps
 
-pub rows-links_from : (side : Side) (p : ℕ) (first : Option ℕ) (links : Arena Link) → rows_shown (links_from side p first links) ≡ rows_shown links
+pub rows-links_from : (side : Side) (p : ℕ) (first : Option ℕ) (links : Arena Link)
+    → rows_shown (links_from side p first links) ≡ rows_shown links
 rows-links_from side p first links =
     let fresh : Neighbours = record { next = first; previous = None } in
     rows-at_option (at_option links (Some p) (with_neighbours side fresh)) first (with_previous side (Some p))
     (λ l. (touches-previous side (Some p) l).0)
     ∙ rows-at_option links (Some p) (with_neighbours side fresh) (λ l. (touches-neighbours side fresh l).0)
 
-pub rows-links_past : (side : Side) (around : Neighbours) (links : Arena Link) → rows_shown (links_past side around links) ≡ rows_shown links
+pub rows-links_past : (side : Side) (around : Neighbours) (links : Arena Link)
+    → rows_shown (links_past side around links) ≡ rows_shown links
 rows-links_past side around links =
-    rows-at_option (at_option links around.previous (with_next side around.next)) around.next (with_previous side around.previous)
+    rows-at_option (at_option links around.previous (with_next side around.next)) around.next
+    (with_previous side around.previous)
     (λ l. (touches-previous side around.previous l).0)
     ∙ rows-at_option links around.previous (with_next side around.next) (λ l. (touches-next side around.next l).0)
 
 -- arcs that are there and differ are at most as many as are held
-pub list-short : {X : Type 0} (arena : Arena X) (ids : List ArcId) → EachOnce ids → ((a : ArcId) → Contains ids a → IsSome (find arena a.id))
+pub list-short : {X : Type 0} (arena : Arena X) (ids : List ArcId) → EachOnce ids
+    → ((a : ArcId) → Contains ids a → IsSome (find arena a.id))
     → length ids ≤ len_of arena
 list-short arena [] once there = omega arith
 list-short {X} arena (a ∷ rest) once there =
@@ -94,15 +106,18 @@ list-short {X} arena (a ∷ rest) once there =
     list-short (without arena a.id.place) rest once.1
     (λ b has.
     let other : b.id ≢ a.id =
-    λ e. once.0 (subst (λ (c : ArcId). Contains rest c) (ap (λ (i : Id). let made : ArcId = record { id = i } in made) e) has) in
-    subst (λ (o : Option X). IsSome o) (sym (find-without_other arena a.id b.id own.0 own.1 other)) (there b (contains-there a rest b has))) in
+    λ e. once.0 (subst (λ (c : ArcId). Contains rest c)
+    (ap (λ (i : Id). let made : ArcId = record { id = i } in made) e) has) in
+    subst (λ (o : Option X). IsSome o) (sym (find-without_other arena a.id b.id own.0 own.1 other))
+    (there b (contains-there a rest b has))) in
     omega (arith, fewer, len_of-without arena a.id own.0 own.1)
 
 pub len-le-capacity : {X : Type 0} (arena : Arena X) → len_of arena ≤ capacity_of arena
 len-le-capacity arena = count_by-le-length is_some arena.held
 
 -- a list of a net is no longer than its arcs are many
-pub listing-short : (side : Side) (net : Net) (n : NodeId) → IsNet net → length (listing side net.nodes n) ≤ capacity_of net.arcs
+pub listing-short : (side : Side) (net : Net) (n : NodeId) → IsNet net
+    → length (listing side net.nodes n) ≤ capacity_of net.arcs
 listing-short side net n is =
     let short : length (listing side net.nodes n) ≤ len_of net.arcs =
     elim side as (λ s. length (listing s net.nodes n) ≤ len_of net.arcs) [

@@ -1,16 +1,21 @@
 -- What callers may use of a net's rows: the list of what a function makes of each, and the rows after a change.
-use Rattle.std.specs.Prelude.{◌≡◌, ◌≢◌, ◌⊎◌, ◌==◌, true, false, ℕ, ◌+◌, ◌<◌, List, [], ◌∷◌, map, length, sum_by, Contains, Some, None, option_map}
+use Rattle.std.specs.Prelude.{◌≡◌, ◌≢◌, ◌⊎◌, ◌==◌, true, false, ℕ, ◌+◌, ◌<◌, List, [], ◌∷◌, map, length, sum_by}
+use Rattle.std.specs.Prelude.{Contains, Some, None, option_map}
 use Rattle.std.proofs.Common.{refl, sym, ap, ap₂, ◌∙◌, subst, arith, inl, inr, zero, suc, get_or, eq-eqb, ne_eqb}
 use Rattle.std.proofs.lemmas.Bool.{cases_eq, and_from, and_left, and_right}
 use Rattle.std.proofs.lemmas.List.Sums.{sum_by-cons}
 use Rattle.std.proofs.lemmas.Simd.{map-map}
 use Rattle.firm_arena.specs.Arena.{Arena, entries, held_at, capacity_of, IsVacant}
-use Rattle.firm_arena.specs.Laws.{entry_held, held_entry, held_of_found, found_of_held, found_within, length-entries_from}
-use Rattle.firm_arena.specs.Changes.{some-is, find-vacant, find-changed_own, find-changed_all, changed_all-same, changed_all-changed_all}
+use Rattle.firm_arena.specs.Laws.{entry_held, held_entry, held_of_found, found_of_held, found_within}
+use Rattle.firm_arena.specs.Laws.{length-entries_from}
+use Rattle.firm_arena.specs.Changes.{some-is, find-vacant, find-changed_own, find-changed_all, changed_all-same}
+use Rattle.firm_arena.specs.Changes.{changed_all-changed_all}
 use Rattle.firm_arena.specs.Sums.{sum-put, sum-without, sum-changed, entries-changed_all}
 use Rattle.firm_arena.specs.declared.Id.{Id}
 use Rattle.firm_net.specs.Row.{Row}
-use Rattle.firm_net.specs.Net.{Net, IsNet, IsNode, IsArc, IsListed, lists_at, row_at, end_of, arcs_on, out_list, in_list, arc_count, empty_net, with_arc, without_row, with_row, with_head, with_unit, without_flow, same_arc}
+use Rattle.firm_net.specs.Net.{Net, IsNet, IsNode, IsArc, IsListed, lists_at, row_at, end_of, arcs_on, out_list}
+use Rattle.firm_net.specs.Net.{in_list, arc_count, empty_net, with_arc, without_row, with_row, with_head, with_unit}
+use Rattle.firm_net.specs.Net.{without_flow, same_arc}
 use Rattle.firm_net.specs.declared.links.Side.{Side}
 use Rattle.firm_net.specs.declared.links.Side.TheVariants.{Out, In}
 use Rattle.firm_net.specs.declared.row.NodeId.{NodeId}

@@ -1,5 +1,6 @@
 -- What a contract sees of a `Net`: a map of nodes, each with its lists of arcs, and a map of arcs.
-use Rattle.std.specs.Prelude.{◌≡◌, ◌≢◌, ℕ, ◌+◌, ◌-◌, ◌<◌, ◌≤◌, ◌==◌, ◌&&◌, Bool, not, List, [], ◌∷◌, ◌++◌, filter, Contains, Option, Some, None, IsSome, if◌then◌else◌}
+use Rattle.std.specs.Prelude.{◌≡◌, ◌≢◌, ℕ, ◌+◌, ◌-◌, ◌<◌, ◌≤◌, ◌==◌, ◌&&◌, Bool, not, List, [], ◌∷◌, ◌++◌, filter}
+use Rattle.std.specs.Prelude.{Contains, Option, Some, None, IsSome, if◌then◌else◌}
 use Rattle.firm_arena.specs.Arena.{Arena, find, capacity_of, len_of, vacant, with_put, without, IsBoundedMap}
 pub use Rattle.firm_arena.specs.Arena.{changed_at, changed_all, slot_changed}
 use Rattle.firm_net.specs.Row.{Row, IsRow}

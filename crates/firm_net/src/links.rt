@@ -1,11 +1,12 @@
 //! The incidence lists of the nodes: each arc has an entry in the list of its tail, where it is outgoing, and one in
 //! the list of its head, where it is incoming. The entries lie in the arcs and name their neighbours by place.
-ghost use Rattle.std.specs.Prelude.{◌≡◌, ◌+◌, ◌-◌, ◌<◌, ◌≤◌, ◌^◌, IsSome, IfSome, IfOk, Some, None};
+ghost use Rattle.std.specs.Prelude.{◌≡◌, ◌+◌, ◌-◌, ◌<◌, ◌^◌, IsSome, IfSome, IfOk, Some, None};
+ghost use Rattle.std.specs.Option.{IsSomeAnd};
 ghost use Rattle.firm_arena.specs.Arena.{find, vacant, changed_at, changed_all};
 ghost use Rattle.firm_net.specs.Links.{neighbours_of, list_of, with_neighbours, with_next, with_previous, with_arc_list, empty_node, at_option, list_from, list_past, first_past, links_from, links_past, loose_link, arc_at, with_link_row, cleared_link};
 
 use crate::row::{ArcId, ArcRow, NodeId};
-use firm_arena::{Arena, Id};
+use firm_arena::Arena;
 use std::alloc::{AllocError, Global};
 
 /// Which of the two lists of a node: the arcs out of it, or the arcs into it.
@@ -165,7 +166,7 @@ fn set_neighbours(links: &mut Arena<Link>, side: Side, place: Option<u32>, neigh
         return;
     };
     let Some(link) = links.get_mut(id) else {
-        return;
+        unreachable!()
     };
     link.set_neighbours(side, neighbours);
 }
@@ -181,7 +182,7 @@ fn set_next(links: &mut Arena<Link>, side: Side, place: Option<u32>, next: Optio
         return;
     };
     let Some(link) = links.get_mut(id) else {
-        return;
+        unreachable!()
     };
     link.set_next(side, next);
 }
@@ -197,7 +198,7 @@ fn set_previous(links: &mut Arena<Link>, side: Side, place: Option<u32>, previou
         return;
     };
     let Some(link) = links.get_mut(id) else {
-        return;
+        unreachable!()
     };
     link.set_previous(side, previous);
 }
@@ -208,12 +209,12 @@ fn set_list(nodes: &mut Arena<Node>, side: Side, node: NodeId, list: ArcList)
     ensures { nodes.new ≡ changed_at nodes.old node.id.place (with_arc_list side list) }
 {
     let Some(owner) = nodes.get_mut(node.id) else {
-        return;
+        unreachable!()
     };
     owner.set_list(side, list);
 }
 
-/// Links an arc at the front of a node's list.
+/// Links an arc at the front of the list of a node that is there.
 pub fn link_at_front(
     nodes: &mut Arena<Node>,
     links: &mut Arena<Link>,
@@ -221,14 +222,14 @@ pub fn link_at_front(
     node: NodeId,
     arc: ArcId,
 )
-    requires { IfSome (find nodes.old node.id) (λ owner. (list_of side owner).count + 1 < 2 ^ 32) }
+    requires { IsSomeAnd (find nodes.old node.id) (λ owner. (list_of side owner).count + 1 < 2 ^ 32) }
     ensures nodes { IfSome (find nodes.old node.id) (λ owner.
         nodes.new ≡ changed_at nodes.old node.id.place (with_arc_list side (list_from arc.id.place (list_of side owner)))) }
     ensures links { IfSome (find nodes.old node.id) (λ owner.
         links.new ≡ links_from side arc.id.place (list_of side owner).first links.old) }
 {
     let Some(owner) = nodes.get(node.id).copied() else {
-        return;
+        unreachable!()
     };
     let list = owner.list(side);
     let place = Some(arc.id.place);
@@ -245,7 +246,7 @@ pub fn link_at_front(
     set_list(nodes, side, node, longer);
 }
 
-/// Unlinks the arc with these neighbours from a node's list.
+/// Unlinks the arc with these neighbours from the list of a node that is there.
 pub fn unlink(
     nodes: &mut Arena<Node>,
     links: &mut Arena<Link>,
@@ -253,7 +254,7 @@ pub fn unlink(
     node: NodeId,
     around: Neighbours,
 )
-    requires { IfSome (find nodes.old node.id) (λ owner. 0 < (list_of side owner).count) }
+    requires { IsSomeAnd (find nodes.old node.id) (λ owner. 0 < (list_of side owner).count) }
     ensures nodes { IfSome (find nodes.old node.id) (λ owner.
         nodes.new ≡ changed_at nodes.old node.id.place (with_arc_list side (list_past around (list_of side owner)))) }
     ensures links { links.new ≡ links_past side around links.old }
@@ -261,7 +262,7 @@ pub fn unlink(
     set_next(links, side, around.previous, around.next);
     set_previous(links, side, around.next, around.previous);
     let Some(owner) = nodes.get(node.id).copied() else {
-        return;
+        unreachable!()
     };
     let list = owner.list(side);
     let first = first_past(around, list.first);
@@ -286,12 +287,7 @@ fn first_past(around: Neighbours, first: Option<u32>) -> Option<u32>
 pub fn arc_at(links: &Arena<Link>, place: Option<u32>) -> Option<ArcId>
     ensures { result ≡ arc_at links.now place }
 {
-    let Some(place) = place else {
-        return None;
-    };
-    let Some(id) = links.id_at(place) else {
-        return None;
-    };
+    let id = links.id_at(place?)?;
     Some(ArcId { id })
 }
 
@@ -301,7 +297,7 @@ pub fn set_row(links: &mut Arena<Link>, arc: ArcId, row: ArcRow)
     ensures { links.new ≡ changed_at links.old arc.id.place (with_link_row row) }
 {
     let Some(link) = links.get_mut(arc.id) else {
-        return;
+        unreachable!()
     };
     link.row = row;
 }
@@ -314,7 +310,7 @@ fn clear_row(links: &mut Arena<Link>, place: u32)
         return;
     };
     let Some(link) = links.get_mut(id) else {
-        return;
+        unreachable!()
     };
     link.row = link.row.without_flow();
 }

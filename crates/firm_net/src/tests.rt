@@ -22,12 +22,19 @@ fn arc(rt: &impl Abort, net: &mut Net, tail: NodeId, head: NodeId) -> ArcId {
     net.add_arc(row).expect(rt, "there is room")
 }
 
-fn ids(alloc: Global, walk: Arcs<'_>) -> Result<Vec<ArcId>, AllocError> {
+// The walk is over these arcs, in this order.
+fn expect_ids(
+    rt: &impl Abort,
+    alloc: Global,
+    walk: Arcs<'_>,
+    wanted: &[ArcId],
+) -> Result<(), AllocError> {
     let mut all = Vec::new(alloc);
     for (arc, _) in walk {
         all.push(arc)?;
     }
-    Ok(all)
+    assert_eq!(rt; all.as_slice(), wanted);
+    Ok(())
 }
 
 #[test]
@@ -47,17 +54,11 @@ fn one_arc_between_two_nodes(rt: HostRuntime) -> Result<(), Fail> {
     assert!(rt; !net.push(only_arc, Way::Forward));
     assert!(rt; net.push(only_arc, Way::Backward));
     assert!(rt; !net.push(only_arc, Way::Backward));
-    assert_eq!(rt;
-        ids(rt.alloc(), net.out_arcs(tail))?.as_slice(),
-        [only_arc].as_slice()
-    );
-    assert_eq!(rt;
-        ids(rt.alloc(), net.in_arcs(head))?.as_slice(),
-        [only_arc].as_slice()
-    );
+    expect_ids(&rt, rt.alloc(), net.out_arcs(tail), &[only_arc])?;
+    expect_ids(&rt, rt.alloc(), net.in_arcs(head), &[only_arc])?;
     assert_eq!(rt; net.remove_arc(only_arc), Some(only));
-    assert_eq!(rt; ids(rt.alloc(), net.out_arcs(tail))?.len(), 0);
-    assert_eq!(rt; ids(rt.alloc(), net.in_arcs(head))?.len(), 0);
+    expect_ids(&rt, rt.alloc(), net.out_arcs(tail), &[])?;
+    expect_ids(&rt, rt.alloc(), net.in_arcs(head), &[])?;
     assert_eq!(rt; net.remove_node(tail), Ok(()));
     assert_eq!(rt; net.remove_node(tail), Err(NodeRefusal::Gone));
     Ok(())
@@ -95,45 +96,61 @@ fn walks_of_a_net_that_changes_in_the_middle(rt: HostRuntime) -> Result<(), Fail
     let to_middle = arc(&rt, &mut net, hub, middle);
     let to_right = arc(&rt, &mut net, hub, right);
     let left_to_right = arc(&rt, &mut net, left, right);
-    assert_eq!(rt;
-        ids(rt.alloc(), net.out_arcs(hub))?.as_slice(),
-        [to_right, to_middle, to_left].as_slice()
-    );
-    assert_eq!(rt;
-        ids(rt.alloc(), net.in_arcs(right))?.as_slice(),
-        [left_to_right, to_right].as_slice()
-    );
+    expect_ids(
+        &rt,
+        rt.alloc(),
+        net.out_arcs(hub),
+        &[to_right, to_middle, to_left],
+    )?;
+    expect_ids(
+        &rt,
+        rt.alloc(),
+        net.in_arcs(right),
+        &[left_to_right, to_right],
+    )?;
     assert!(rt; net.remove_arc(to_middle).is_some());
-    assert_eq!(rt;
-        ids(rt.alloc(), net.out_arcs(hub))?.as_slice(),
-        [to_right, to_left].as_slice()
-    );
-    assert_eq!(rt; ids(rt.alloc(), net.in_arcs(middle))?.len(), 0);
+    expect_ids(&rt, rt.alloc(), net.out_arcs(hub), &[to_right, to_left])?;
+    expect_ids(&rt, rt.alloc(), net.in_arcs(middle), &[])?;
     let to_middle_again = arc(&rt, &mut net, hub, middle);
-    assert_eq!(rt;
-        ids(rt.alloc(), net.out_arcs(hub))?.as_slice(),
-        [to_middle_again, to_right, to_left].as_slice()
-    );
+    expect_ids(
+        &rt,
+        rt.alloc(),
+        net.out_arcs(hub),
+        &[to_middle_again, to_right, to_left],
+    )?;
     assert!(rt; net.retarget(to_right, middle));
     assert!(rt; !net.retarget(to_right, hub));
-    assert_eq!(rt;
-        ids(rt.alloc(), net.out_arcs(hub))?.as_slice(),
-        [to_middle_again, to_right, to_left].as_slice()
-    );
-    assert_eq!(rt;
-        ids(rt.alloc(), net.in_arcs(middle))?.as_slice(),
-        [to_right, to_middle_again].as_slice()
-    );
-    assert_eq!(rt;
-        ids(rt.alloc(), net.in_arcs(right))?.as_slice(),
-        [left_to_right].as_slice()
-    );
-    assert_eq!(rt; net.out_first(hub), Some(to_middle_again));
-    assert_eq!(rt; net.out_after(to_middle_again), Some(to_right));
+    expect_ids(
+        &rt,
+        rt.alloc(),
+        net.out_arcs(hub),
+        &[to_middle_again, to_right, to_left],
+    )?;
+    expect_ids(
+        &rt,
+        rt.alloc(),
+        net.in_arcs(middle),
+        &[to_right, to_middle_again],
+    )?;
+    expect_ids(&rt, rt.alloc(), net.in_arcs(right), &[left_to_right])?;
+    Ok(())
+}
+
+#[test]
+fn a_walk_is_taken_arc_by_arc(rt: HostRuntime) -> Result<(), Fail> {
+    let mut net = Net::new(rt.alloc(), 3, 3)?;
+    let hub = node(&rt, &mut net);
+    let left = node(&rt, &mut net);
+    let right = node(&rt, &mut net);
+    let to_left = arc(&rt, &mut net, hub, left);
+    let to_right = arc(&rt, &mut net, hub, right);
+    let left_to_right = arc(&rt, &mut net, left, right);
+    assert_eq!(rt; net.out_first(hub), Some(to_right));
+    assert_eq!(rt; net.out_after(to_right), Some(to_left));
     assert_eq!(rt; net.out_after(to_left), None);
-    assert_eq!(rt; net.in_first(middle), Some(to_right));
-    assert_eq!(rt; net.in_after(to_right), Some(to_middle_again));
-    assert_eq!(rt; net.in_after(to_middle_again), None);
+    assert_eq!(rt; net.in_first(right), Some(left_to_right));
+    assert_eq!(rt; net.in_after(left_to_right), Some(to_right));
+    assert_eq!(rt; net.in_after(to_right), None);
     assert_eq!(rt; net.out_first(right), None);
     Ok(())
 }
@@ -157,7 +174,6 @@ fn numbers_places_and_limits(rt: HostRuntime) -> Result<(), Fail> {
         net.arc(only_arc),
         ArcRow::new(tail, head, 1, 4, 3_000_000, 3)
     );
-    assert_eq!(rt; ArcRow::new(tail, tail, 0, 1, 0, 0), None);
     net.clear_flow();
     assert_eq!(rt;
         net.arc(only_arc),
@@ -175,13 +191,20 @@ fn numbers_places_and_limits(rt: HostRuntime) -> Result<(), Fail> {
     let gone = row(&rt, head, tail, 1, 1);
     assert!(rt; net.added() < 1_000);
     assert_eq!(rt; net.add_arc(gone), Err(ArcRefusal::Gone));
+    Ok(())
+}
+
+#[test]
+fn a_row_is_read_as_it_was_made(rt: HostRuntime) -> Result<(), Fail> {
+    let mut net = Net::new(rt.alloc(), 2, 1)?;
+    let tail = node(&rt, &mut net);
+    let head = node(&rt, &mut net);
+    assert_eq!(rt; ArcRow::new(tail, tail, 0, 1, 0, 0), None);
     let read = row(&rt, tail, head, 2, 7);
     assert_eq!(rt; read.tail(), tail);
     assert_eq!(rt; read.head(), head);
-    assert_eq!(rt;
-        (read.low(), read.cap(), read.cost(), read.flow()),
-        (0, 2, 7, 0)
-    );
+    let numbers = (read.low(), read.cap(), read.cost(), read.flow());
+    assert_eq!(rt; numbers, (0, 2, 7, 0));
     Ok(())
 }
 

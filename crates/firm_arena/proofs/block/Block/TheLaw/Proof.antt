@@ -14,6 +14,9 @@ use Rattle.firm_arena.proofs.Reach.{block_copied, block_lent}
 
 pub shares : (R : RattleType) (laws : Laws R) → statement R laws
 shares R laws =
-    of_Lends (block.struct R) (block.the_codes R.Denot R.coded) (block.the_heap R) (block.the_lent R) (λ b p. block_copied R laws.shr_laws b.start b.capacity b.row)
+    of_Lends (block.struct R) (block.the_codes R.Denot R.coded) (block.the_heap R) (block.the_lent R)
+    (λ b p. block_copied R laws.shr_laws b.start b.capacity b.row)
     (copy_shared RawPtr-field RawPtr-copy, (copy_shared u32-field u32-copy, tt))
-    (λ M 𝓤 𝓛 b p. block_lent 𝓛 (block.the_row R).lives R laws (Incl-trans (meet_⊑_left (R.lives ++ []) _) (meet_⊑_left R.lives [])) b.start b.capacity b.row)
+    (λ M 𝓤 𝓛 b p. block_lent 𝓛 (block.the_row R).lives R laws (Incl-trans (meet_⊑_left (R.lives ++ []) _)
+    (meet_⊑_left R.lives []))
+    b.start b.capacity b.row)

@@ -13,4 +13,5 @@ send R crosses =
     let owner = inside.the_type R in
     let all : AllSend (fields owner) = (search sendable, (search sendable, tt)) in
     view_send (inside.the_row R) _ _ (block.the_view R) (block.the_invariant R)
-    (owning_send owner all (λ b. block_moves R crosses b.start b.capacity b.row) (λ key. quiet (to owner) (exits_of key (fields owner)) ((struct_send (shape owner) all).leaving key)))
+    (owning_send owner all (λ b. block_moves R crosses b.start b.capacity b.row)
+    (λ key. quiet (to owner) (exits_of key (fields owner)) ((struct_send (shape owner) all).leaving key)))

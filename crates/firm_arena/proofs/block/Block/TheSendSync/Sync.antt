@@ -10,4 +10,11 @@ pub sync : (R : RattleType) → IsSync R → IsSync (block.the_row R)
 sync R crosses =
     let owner = inside.the_type R in
     view_sync (inside.the_row R) _ _ (block.the_view R) (block.the_invariant R)
-    (record { shared = λ b memory byte κ. ((struct_sync (shape owner) (search sendable, (search sendable, tt))).shared (to owner b) memory byte κ, block_common R crosses b.start b.capacity b.row κ) })
+    (record {
+      shared =
+          λ b memory byte κ. (
+            (struct_sync (shape owner) (search sendable, (search sendable, tt))).shared (to owner b)
+                memory byte κ,
+            block_common R crosses b.start b.capacity b.row κ,
+          );
+    })

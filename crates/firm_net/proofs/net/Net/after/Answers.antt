@@ -11,10 +11,13 @@ next : (c : goal.After-arc_at) → c.arc_at.result ≡ next_on c.args.side c.arg
 next c =
     c.arc_at.ensures
     ∙ ap (λ (k : Neighbours). arc_at c.self.inside.links k.next) c.neighbours.ensures
-    ∙ next-is c.args.side c.self.inside.links c.self.inside.nodes c.args.self.now c.args.arc c.in-Some.link c.self.invariant.net c.self.invariant.shows c.self.view_is (sym c.get.ensures.value ∙ sym c.in-Some.ensures)
+    ∙ next-is c.args.side c.self.inside.links c.self.inside.nodes c.args.self.now c.args.arc c.in-Some.link
+    c.self.invariant.net c.self.invariant.shows c.self.view_is (sym c.get.ensures.value ∙ sym c.in-Some.ensures)
 
 none : (c : goal.In_default) → ◌≡◌ {A = Option ArcId} None (next_on c.args.side c.args.self.now c.args.arc)
-none c = next-none c.args.side c.self.inside.links c.self.inside.nodes c.args.self.now c.args.arc c.self.view_is (sym c.get.ensures.value ∙ sym c.in_default.ensures)
+none c =
+    next-none c.args.side c.self.inside.links c.self.inside.nodes c.args.self.now c.args.arc c.self.view_is
+    (sym c.get.ensures.value ∙ sym c.in_default.ensures)
 
 pub returns-clause-next : goal.returns-clause-next
 returns-clause-next c = next c

@@ -13,7 +13,8 @@ clears c =
 pub invariant_of-self : goal.invariant_of-self
 invariant_of-self c =
     record {
-      added = c.self.invariant.added ∙ ap (λ (l : Arena Link). c.self.inside.nodes.counter + l.counter) (sym c.clear_rows.ensures);
+      added = c.self.invariant.added
+          ∙ ap (λ (l : Arena Link). c.self.inside.nodes.counter + l.counter) (sym c.clear_rows.ensures);
       net = (clears c).net;
       shows = (clears c).shows;
     }

@@ -6,12 +6,15 @@ use Rattle.firm_net.specs.Row.{Row}
 use Rattle.firm_net.specs.Net.{with_unit, without_flow, row_at}
 use Rattle.firm_net.specs.Laws.{cleared_pushed}
 use Rattle.firm_net.specs.declared.links.Link.{Link}
-use Rattle.firm_net.proofs.Results.{ChangesRow, changes_row, row-found, row-missing, can-push, push-residual, push-none, unit-tail, unit-head, unit-span}
+use Rattle.firm_net.proofs.Results.{ChangesRow, changes_row, row-found, row-missing, can-push, push-residual, push-none}
+use Rattle.firm_net.proofs.Results.{unit-tail, unit-head, unit-span}
 use Rattle.firm_net.proofs.net.Net.push.Goals as goal
 
-changes : (c : goal.After-set_row) → ChangesRow c.set_row.new.links c.self.inside.nodes c.args.self.now c.args.arc (with_unit c.args.way)
+changes : (c : goal.After-set_row)
+    → ChangesRow c.set_row.new.links c.self.inside.nodes c.args.self.now c.args.arc (with_unit c.args.way)
 changes c =
-    changes_row c.self.inside.links c.set_row.new.links c.self.inside.nodes c.args.self.now c.args.arc c.in-Some.link c.with_unit.result
+    changes_row c.self.inside.links c.set_row.new.links c.self.inside.nodes c.args.self.now c.args.arc c.in-Some.link
+    c.with_unit.result
     (with_unit c.args.way) c.self.invariant.net c.self.invariant.shows c.self.view_is
     (sym c.get.ensures.value ∙ sym c.in-Some.ensures)
     (sym c.with_unit.ensures.unit) c.with_unit.ensures.row
@@ -22,7 +25,8 @@ changes c =
 pub invariant_of-self : goal.invariant_of-self
 invariant_of-self c =
     record {
-      added = c.self.invariant.added ∙ ap (λ (l : Arena Link). c.self.inside.nodes.counter + l.counter) (sym c.set_row.ensures);
+      added = c.self.invariant.added
+          ∙ ap (λ (l : Arena Link). c.self.inside.nodes.counter + l.counter) (sym c.set_row.ensures);
       net = (changes c).net;
       shows = (changes c).shows;
     }

@@ -4,7 +4,8 @@ use Rattle.std.proofs.lemmas.Bool.{false≢true}
 use Rattle.firm_arena.specs.Arena.{Arena, without}
 use Rattle.firm_net.specs.declared.links.Node.{Node}
 use Rattle.firm_net.specs.declared.links.Side.TheVariants.{Out, In}
-use Rattle.firm_net.proofs.Results.{RemovesNode, removes_node, node-found, node-missing, not-node, list-empty, list-busy, if-some}
+use Rattle.firm_net.proofs.Results.{RemovesNode, removes_node, node-found, node-missing, not-node, list-empty}
+use Rattle.firm_net.proofs.Results.{list-busy, if-some}
 use Rattle.firm_net.proofs.net.Net.remove_node.Goals as goal
 
 taken : (c : goal.After-take) → c.take.new.self ≡ without c.self.inside.nodes c.args.node.id.place
@@ -47,15 +48,20 @@ returns-clause-net c = (removes c).net
 pub returns-clause-gone : goal.returns-clause-gone
 returns-clause-gone c = (
   λ e. let wrong : ⊥ = cc in absurd wrong,
-  λ none. absurd (not-node c.args.self.now c.args.node none (node-found c.self.inside.links c.self.inside.nodes c.args.self.now c.args.node c.in-Some.lists c.self.view_is (sym c.get.ensures.value ∙ sym c.in-Some.ensures))),
+  λ none. absurd (not-node c.args.self.now c.args.node none
+      (node-found c.self.inside.links c.self.inside.nodes c.args.self.now c.args.node c.in-Some.lists c.self.view_is
+      (sym c.get.ensures.value ∙ sym c.in-Some.ensures))),
 )
 
 pub returns-clause-free : goal.returns-clause-free
 returns-clause-free c = (
   λ _. (
-    node-found c.self.inside.links c.self.inside.nodes c.args.self.now c.args.node c.in-Some.lists c.self.view_is (sym c.get.ensures.value ∙ sym c.in-Some.ensures),
-    list-empty Out c.self.inside.links c.self.inside.nodes c.args.self.now c.args.node c.in-Some.lists c.self.invariant.shows c.self.view_is (sym c.get.ensures.value ∙ sym c.in-Some.ensures) (omega arith),
-    list-empty In c.self.inside.links c.self.inside.nodes c.args.self.now c.args.node c.in-Some.lists c.self.invariant.shows c.self.view_is (sym c.get.ensures.value ∙ sym c.in-Some.ensures) (omega arith),
+    node-found c.self.inside.links c.self.inside.nodes c.args.self.now c.args.node c.in-Some.lists c.self.view_is
+        (sym c.get.ensures.value ∙ sym c.in-Some.ensures),
+    list-empty Out c.self.inside.links c.self.inside.nodes c.args.self.now c.args.node c.in-Some.lists
+        c.self.invariant.shows c.self.view_is (sym c.get.ensures.value ∙ sym c.in-Some.ensures) (omega arith),
+    list-empty In c.self.inside.links c.self.inside.nodes c.args.self.now c.args.node c.in-Some.lists
+        c.self.invariant.shows c.self.view_is (sym c.get.ensures.value ∙ sym c.in-Some.ensures) (omega arith),
   ),
   λ _. refl,
 )
@@ -65,7 +71,8 @@ returns-then-lists-ne0-clause-free c = (
   λ e. absurd (false≢true e),
   λ h.
       let none : c.in-Some.lists.outgoing.count ≡ 0 =
-      list-busy Out c.self.inside.links c.self.inside.nodes c.args.self.now c.args.node c.in-Some.lists c.self.invariant.shows c.self.view_is (sym c.get.ensures.value ∙ sym c.in-Some.ensures) h.1 in
+      list-busy Out c.self.inside.links c.self.inside.nodes c.args.self.now c.args.node c.in-Some.lists
+      c.self.invariant.shows c.self.view_is (sym c.get.ensures.value ∙ sym c.in-Some.ensures) h.1 in
       absurd (omega (arith, none)),
 )
 
@@ -74,31 +81,42 @@ returns-then-lists-ne0-2-clause-free c = (
   λ e. absurd (false≢true e),
   λ h.
       let none : c.in-Some.lists.incoming.count ≡ 0 =
-      list-busy In c.self.inside.links c.self.inside.nodes c.args.self.now c.args.node c.in-Some.lists c.self.invariant.shows c.self.view_is (sym c.get.ensures.value ∙ sym c.in-Some.ensures) h.2 in
+      list-busy In c.self.inside.links c.self.inside.nodes c.args.self.now c.args.node c.in-Some.lists
+      c.self.invariant.shows c.self.view_is (sym c.get.ensures.value ∙ sym c.in-Some.ensures) h.2 in
       absurd (omega (arith, none)),
 )
 
 pub returns-then-lists-ne0-clause-gone : goal.returns-then-lists-ne0-clause-gone
 returns-then-lists-ne0-clause-gone c = (
   λ e. let wrong : ⊥ = cc in absurd wrong,
-  λ none. absurd (not-node c.args.self.now c.args.node none (node-found c.self.inside.links c.self.inside.nodes c.args.self.now c.args.node c.in-Some.lists c.self.view_is (sym c.get.ensures.value ∙ sym c.in-Some.ensures))),
+  λ none. absurd (not-node c.args.self.now c.args.node none
+      (node-found c.self.inside.links c.self.inside.nodes c.args.self.now c.args.node c.in-Some.lists c.self.view_is
+      (sym c.get.ensures.value ∙ sym c.in-Some.ensures))),
 )
 
 pub returns-then-lists-ne0-2-clause-gone : goal.returns-then-lists-ne0-2-clause-gone
 returns-then-lists-ne0-2-clause-gone c = (
   λ e. let wrong : ⊥ = cc in absurd wrong,
-  λ none. absurd (not-node c.args.self.now c.args.node none (node-found c.self.inside.links c.self.inside.nodes c.args.self.now c.args.node c.in-Some.lists c.self.view_is (sym c.get.ensures.value ∙ sym c.in-Some.ensures))),
+  λ none. absurd (not-node c.args.self.now c.args.node none
+      (node-found c.self.inside.links c.self.inside.nodes c.args.self.now c.args.node c.in-Some.lists c.self.view_is
+      (sym c.get.ensures.value ∙ sym c.in-Some.ensures))),
 )
 
 pub returns-in_default-clause-free : goal.returns-in_default-clause-free
 returns-in_default-clause-free c = (
   λ e. absurd (false≢true e),
-  λ h. absurd (not-node c.args.self.now c.args.node (node-missing c.self.inside.links c.self.inside.nodes c.args.self.now c.args.node c.self.view_is (sym c.get.ensures.value ∙ sym c.in_default.ensures)) h.0),
+  λ h. absurd (not-node c.args.self.now c.args.node
+      (node-missing c.self.inside.links c.self.inside.nodes c.args.self.now c.args.node c.self.view_is
+      (sym c.get.ensures.value ∙ sym c.in_default.ensures))
+      h.0),
 )
 
 pub returns-in_default-clause-gone : goal.returns-in_default-clause-gone
-returns-in_default-clause-gone c =
-    (λ _. node-missing c.self.inside.links c.self.inside.nodes c.args.self.now c.args.node c.self.view_is (sym c.get.ensures.value ∙ sym c.in_default.ensures), λ _. refl)
+returns-in_default-clause-gone c = (
+  λ _. node-missing c.self.inside.links c.self.inside.nodes c.args.self.now c.args.node c.self.view_is
+      (sym c.get.ensures.value ∙ sym c.in_default.ensures),
+  λ _. refl,
+)
 
 pub returns-clause-edit : goal.returns-clause-edit
 returns-clause-edit c = λ _. (removes c).edit

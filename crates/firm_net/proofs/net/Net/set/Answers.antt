@@ -10,16 +10,29 @@ use Rattle.firm_net.proofs.Results.{ChangesRow, changes_row, row-found, row-miss
 use Rattle.firm_net.proofs.net.Net.set.Goals as goal
 
 abbrev numbered : goal.After-set_row → Row
-numbered c = record { tail = c.tail-tail.result; head = c.head-head.result; low = c.args.low; cap = c.args.cap; cost = c.args.cost; flow = c.args.flow }
+numbered c =
+    record {
+      tail = c.tail-tail.result;
+      head = c.head-head.result;
+      low = c.args.low;
+      cap = c.args.cap;
+      cost = c.args.cost;
+      flow = c.args.flow;
+    }
 
-changes : (c : goal.After-set_row) → ChangesRow c.set_row.new.links c.self.inside.nodes c.args.self.now c.args.arc (with_numbers c.args.low c.args.cap c.args.cost c.args.flow)
+changes : (c : goal.After-set_row)
+    → ChangesRow c.set_row.new.links c.self.inside.nodes c.args.self.now c.args.arc
+    (with_numbers c.args.low c.args.cap c.args.cost c.args.flow)
 changes c =
     let is : c.in-Some-new.row ≡ numbered c = c.in-Some-new.ensures.row in
     let same : numbered c ≡ with_numbers c.args.low c.args.cap c.args.cost c.args.flow c.in-Some.link.row =
-    ap₂ (λ (t h : NodeId). let made : Row = record { tail = t; head = h; low = c.args.low; cap = c.args.cap; cost = c.args.cost; flow = c.args.flow } in made)
+    ap₂ (λ (t h : NodeId). let made : Row =
+    record { tail = t; head = h; low = c.args.low; cap = c.args.cap; cost = c.args.cost; flow = c.args.flow } in made)
     c.tail-tail.ensures.value c.head-head.ensures.value in
-    changes_row c.self.inside.links c.set_row.new.links c.self.inside.nodes c.args.self.now c.args.arc c.in-Some.link c.in-Some-new.row
-    (with_numbers c.args.low c.args.cap c.args.cost c.args.flow) c.self.invariant.net c.self.invariant.shows c.self.view_is
+    changes_row c.self.inside.links c.set_row.new.links c.self.inside.nodes c.args.self.now c.args.arc c.in-Some.link
+    c.in-Some-new.row
+    (with_numbers c.args.low c.args.cap c.args.cost c.args.flow) c.self.invariant.net c.self.invariant.shows
+    c.self.view_is
     (sym c.get.ensures.value ∙ sym c.in-Some.ensures)
     (sym (is ∙ same)) (subst (λ (r : Row). IsRow r) (sym is) (c.in-Some-new.ensures.allowed.0 refl))
     (ap (λ (r : Row). r.tail) is ∙ c.tail-tail.ensures.value)
@@ -29,7 +42,8 @@ changes c =
 pub invariant_of-self : goal.invariant_of-self
 invariant_of-self c =
     record {
-      added = c.self.invariant.added ∙ ap (λ (l : Arena Link). c.self.inside.nodes.counter + l.counter) (sym c.set_row.ensures);
+      added = c.self.invariant.added
+          ∙ ap (λ (l : Arena Link). c.self.inside.nodes.counter + l.counter) (sym c.set_row.ensures);
       net = (changes c).net;
       shows = (changes c).shows;
     }
@@ -39,7 +53,8 @@ returns-clause-allowed c =
     let is = c.in-Some-new.ensures.allowed.0 refl in (
       λ _. (
         arc-is c.args.self.now c.args.arc c.in-Some.link.row
-            (row-found c.self.inside.links c.self.inside.nodes c.args.self.now c.args.arc c.in-Some.link c.self.view_is (sym c.get.ensures.value ∙ sym c.in-Some.ensures)),
+            (row-found c.self.inside.links c.self.inside.nodes c.args.self.now c.args.arc c.in-Some.link c.self.view_is
+            (sym c.get.ensures.value ∙ sym c.in-Some.ensures)),
         record { above_low = is.low; below_cap = is.flow; cap_limit = is.cap; cost_limit = is.cost },
       ),
       λ _. refl,
@@ -62,7 +77,9 @@ returns-in_default-clause-allowed c = (
   λ e. absurd (false≢true e),
   λ h.
       absurd (not-arc c.args.self.now c.args.arc
-      (row-missing c.self.inside.links c.self.inside.nodes c.args.self.now c.args.arc c.self.view_is (sym c.get.ensures.value ∙ sym c.in_default.ensures)) h.0),
+      (row-missing c.self.inside.links c.self.inside.nodes c.args.self.now c.args.arc c.self.view_is
+      (sym c.get.ensures.value ∙ sym c.in_default.ensures))
+      h.0),
 )
 
 pub returns-in_default-new-clause-allowed : goal.returns-in_default-new-clause-allowed
