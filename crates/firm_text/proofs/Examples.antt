@@ -25,7 +25,8 @@ a_rest : lines (codes "a" ++ line_feed ++ codes "b") ≡ codes "a" ∷ codes "b"
 a_rest = refl
 
 -- each line loses one carriage return at its end, a rest too
-carriage_returns : lines (codes "a" ++ carriage_return ++ carriage_return ++ line_feed ++ line_feed ++ codes "b" ++ carriage_return)
+carriage_returns : lines
+    (codes "a" ++ carriage_return ++ carriage_return ++ line_feed ++ line_feed ++ codes "b" ++ carriage_return)
     ≡ (codes "a" ++ carriage_return) ∷ [] ∷ codes "b" ∷ []
 carriage_returns = refl
 

@@ -19,9 +19,15 @@ loop-row-preserved c =
     record {
       same =
           c.loop-row.invariant.same
-          ∙ at_drop_more (λ rows. tenants_of c.args.width (map fields_of rows) earlier) c.args.rows.now c.loop-row.row-index c.row-item.result c.loop-row-test.true
-          ∙ ap (λ row. tenants_of c.args.width (fields_of row ∷ map fields_of (drop (c.loop-row.row-index + 1) c.args.rows.now)) earlier) is
-          ∙ tenants_of_next c.args.width (fields_of c.row-item.result) (map fields_of (drop (c.loop-row.row-index + 1) c.args.rows.now)) c.deref.result.now earlier c.push.new.self.items tenant seen (sym c.in_ok-tenant.ensures.value) pushed;
+          ∙ at_drop_more (λ rows. tenants_of c.args.width (map fields_of rows) earlier) c.args.rows.now
+          c.loop-row.row-index c.row-item.result c.loop-row-test.true
+          ∙ ap (λ row.
+          tenants_of c.args.width (fields_of row ∷ map fields_of (drop (c.loop-row.row-index + 1) c.args.rows.now))
+          earlier)
+          is
+          ∙ tenants_of_next c.args.width (fields_of c.row-item.result)
+          (map fields_of (drop (c.loop-row.row-index + 1) c.args.rows.now)) c.deref.result.now earlier
+          c.push.new.self.items tenant seen (sym c.in_ok-tenant.ensures.value) pushed;
       few = let same_length = ap length pushed in let seen_length = ap length seen in omega arith;
       differ = subst NamesDiffer (sym pushed) (names_differ_push earlier tenant c.loop-row.invariant.differ new);
     }

@@ -8,5 +8,6 @@ use Rattle.firm_text.proofs.replies.put_changes.Given as goal
 abbrev pub invariant-loop-change : goal.invariant-loop-change
 invariant-loop-change l = record {
   kept : StartsWith l.text.items l.initial.text.items;
-  added : l.text.items ++ flat_map spaced (flat_map change_words (drop l.change-index l.changes)) ≡ l.initial.text.items ++ flat_map spaced (flat_map change_words l.changes);
+  added : l.text.items ++ flat_map spaced (flat_map change_words (drop l.change-index l.changes)) ≡ l.initial.text.items
+      ++ flat_map spaced (flat_map change_words l.changes);
 }

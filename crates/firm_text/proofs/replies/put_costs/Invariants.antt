@@ -9,5 +9,6 @@ use Rattle.firm_text.proofs.replies.put_costs.Given as goal
 abbrev pub invariant-loop-cost : goal.invariant-loop-cost
 invariant-loop-cost l = record {
   kept : StartsWith l.text.items l.initial.text.items;
-  added : l.text.items ++ flat_map spaced (map signed_decimal (drop l.cost-index l.costs)) ≡ l.initial.text.items ++ flat_map spaced (map signed_decimal l.costs);
+  added : l.text.items ++ flat_map spaced (map signed_decimal (drop l.cost-index l.costs)) ≡ l.initial.text.items
+      ++ flat_map spaced (map signed_decimal l.costs);
 }

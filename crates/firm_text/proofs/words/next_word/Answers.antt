@@ -14,6 +14,9 @@ pub returns : goal.returns
 returns c =
     let rest : c.split_at.result.1.now ≡ drop (prefix_len is_blank c.args.line.now) c.args.line.now = cc in
     let some : length c.split_at.result.1.now ≢ 0 = grind (arith, common_steps) in
-    let front : c.split_at-2.result.0.now ≡ take (position_or_len is_blank c.split_at.result.1.now) c.split_at.result.1.now = cc in
-    let back : c.split_at-2.result.1.now ≡ drop (position_or_len is_blank c.split_at.result.1.now) c.split_at.result.1.now = cc in
-    words-some c.args.line.now c.split_at.result.1.now c.split_at-2.result.0.now c.split_at-2.result.1.now rest some front back
+    let front : c.split_at-2.result.0.now
+    ≡ take (position_or_len is_blank c.split_at.result.1.now) c.split_at.result.1.now = cc in
+    let back : c.split_at-2.result.1.now
+    ≡ drop (position_or_len is_blank c.split_at.result.1.now) c.split_at.result.1.now = cc in
+    words-some c.args.line.now c.split_at.result.1.now c.split_at-2.result.0.now c.split_at-2.result.1.now rest some
+    front back

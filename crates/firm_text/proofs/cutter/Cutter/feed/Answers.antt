@@ -6,4 +6,5 @@ use Rattle.firm_text.proofs.cutter.Cutter.feed.Goals as goal
 
 pub returns-clause-stands : goal.returns-clause-stands
 returns-clause-stands c text stands =
-    stands_more _ _ text (take (position_or_len is_line_feed c.args.piece.now) c.args.piece.now) stands (none_before is_line_feed c.args.piece.now) (search rules) (search rules)
+    stands_more _ _ text (take (position_or_len is_line_feed c.args.piece.now) c.args.piece.now) stands
+    (none_before is_line_feed c.args.piece.now) (search rules) (search rules)

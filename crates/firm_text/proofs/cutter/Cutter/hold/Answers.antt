@@ -5,6 +5,7 @@ use Rattle.firm_text.proofs.cutter.Cutter.hold.Goals as goal
 
 pub returns-clause-held : goal.returns-clause-held
 returns-clause-held c =
-    held_more c.self.inside.bytes c.copy_from_slice.new.self c.args.bytes.now c.self.inside.count c.min-begin.result c.min-fits.result c.min-self-inside.result
+    held_more c.self.inside.bytes c.copy_from_slice.new.self c.args.bytes.now c.self.inside.count c.min-begin.result
+    c.min-fits.result c.min-self-inside.result
     (search rules) c.self.invariant c.min-begin.ensures c.min-fits.ensures c.min-self-inside.ensures (search rules)
     ∙ ap (λ (k : Cut). take most_held (k.held ++ c.args.bytes.now)) c.self.view_is
