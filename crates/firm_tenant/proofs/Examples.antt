@@ -2,13 +2,17 @@
 use Rattle.std.proofs.Common.{◌≡◌, ℕ, true, false, List, [], ◌∷◌, map, Some, None, refl, codes}
 use Rattle.firm_rules.specs.Limits.{TenantLimits}
 use Rattle.firm_rules.specs.declared.commands.Command.{Command}
-use Rattle.firm_rules.specs.declared.commands.Command.TheVariants.{AddMachine, AddJob, AddTask, Drain, CloseJob, Done, Find, Show, Faulty}
+use Rattle.firm_rules.specs.declared.commands.Command.TheVariants.{AddMachine, AddJob, AddTask, Drain, CloseJob, Done}
+use Rattle.firm_rules.specs.declared.commands.Command.TheVariants.{Find, Show, Faulty}
 use Rattle.firm_rules.specs.declared.commands.LineFault.TheVariants.{BadCommand, BadName, BadNumber}
 use Rattle.firm_rules.specs.declared.replies.Reply.{Reply}
 use Rattle.firm_rules.specs.declared.replies.Outcome.{Outcome}
 use Rattle.firm_rules.specs.declared.replies.Outcome.TheVariants.{Plain, Evicted, At, Waits, Shown, Refused}
 use Rattle.firm_rules.specs.declared.replies.Refusal.{Refusal}
-use Rattle.firm_rules.specs.declared.replies.Refusal.TheVariants.{Worn, BadCommand as NoCommand, BadName as NoName, BadNumber as NoNumber, MachineExists, NoSuchMachine, JobExists, NoSuchJob, TaskExists, NoSuchTask, JobHasTasks, ArenaNodes, ArenaArcs, Memory}
+use Rattle.firm_rules.specs.declared.replies.Refusal.TheVariants.{Worn, BadCommand as NoCommand, BadName as NoName}
+use Rattle.firm_rules.specs.declared.replies.Refusal.TheVariants.{BadNumber as NoNumber, MachineExists, NoSuchMachine}
+use Rattle.firm_rules.specs.declared.replies.Refusal.TheVariants.{JobExists, NoSuchJob, TaskExists, NoSuchTask}
+use Rattle.firm_rules.specs.declared.replies.Refusal.TheVariants.{JobHasTasks, ArenaNodes, ArenaArcs, Memory}
 use Rattle.firm_tenant.specs.Alone.{alone, alone_marked, replies_from}
 use Rattle.firm_rules.specs.Book.{Book}
 
@@ -69,7 +73,9 @@ nodes_first : alone (limits 2 0 10) (AddMachine m1 1 ∷ AddJob j 1 ∷ []) ≡ 
 nodes_first = refl
 
 -- names are looked up before the arena is, and a task's job before its own name
-names_first : alone (limits 5 7 100) (AddTask j a ∷ AddMachine m1 2 ∷ AddMachine m1 2 ∷ AddJob j 5 ∷ AddJob j 5 ∷ AddTask j a ∷ AddTask j a ∷ AddTask b a ∷ [])
+names_first : alone (limits 5 7 100)
+    (AddTask j a ∷ AddMachine m1 2 ∷ AddMachine m1 2 ∷ AddJob j 5 ∷ AddJob j 5 ∷ AddTask j a ∷ AddTask j a ∷ AddTask b
+    a ∷ [])
     ≡ no 1 NoSuchJob ∷ ok 2 ∷ no 3 MachineExists ∷ ok 4 ∷ no 5 JobExists ∷ ok 6 ∷ no 7 TaskExists ∷ no 8 NoSuchJob ∷ []
 names_first = refl
 
@@ -79,16 +85,19 @@ three_name_spaces = refl
 
 -- what is added again, what is not there, and a job that is closed only once its tasks are done
 known_or_not : alone (limits 8 30 100)
-    (AddJob j 5 ∷ AddJob j 5 ∷ AddTask j a ∷ AddTask j a ∷ AddTask b a ∷ CloseJob j ∷ Drain m1 ∷ Find b ∷ Done a ∷ CloseJob j
+    (AddJob j 5 ∷ AddJob j 5 ∷ AddTask j a ∷ AddTask j a ∷ AddTask b a ∷ CloseJob j ∷ Drain m1 ∷ Find b ∷ Done
+    a ∷ CloseJob j
     ∷ CloseJob j ∷ Done a ∷ [])
-    ≡ ok 1 ∷ no 2 JobExists ∷ ok 3 ∷ no 4 TaskExists ∷ no 5 NoSuchJob ∷ no 6 JobHasTasks ∷ no 7 NoSuchMachine ∷ no 8 NoSuchTask
+    ≡ ok 1 ∷ no 2 JobExists ∷ ok 3 ∷ no 4 TaskExists ∷ no 5 NoSuchJob ∷ no 6 JobHasTasks ∷ no 7 NoSuchMachine ∷ no 8
+    NoSuchTask
     ∷ ok 9 ∷ ok 10 ∷ no 11 NoSuchJob ∷ no 12 NoSuchTask ∷ []
 known_or_not = refl
 
 -- a task waits, also once the only machine is gone
 a_drain_of_a_free_machine : alone (limits 8 30 100)
     (AddMachine m1 2 ∷ AddJob j 5 ∷ AddTask j a ∷ Find a ∷ Drain m1 ∷ Show ∷ Drain m1 ∷ [])
-    ≡ ok 1 ∷ ok 2 ∷ ok 3 ∷ reply 4 (Waits 0) ∷ reply 5 (Evicted 0) ∷ reply 6 (Shown 0 1 1 0 4 8 4 30) ∷ no 7 NoSuchMachine ∷ []
+    ≡ ok 1 ∷ ok 2 ∷ ok 3 ∷ reply 4 (Waits 0) ∷ reply 5 (Evicted 0) ∷ reply 6 (Shown 0 1 1 0 4 8 4 30) ∷ no 7
+    NoSuchMachine ∷ []
 a_drain_of_a_free_machine = refl
 
 abbrev m2 : List ℕ
@@ -102,7 +111,12 @@ running = record {
     machines = record { name = m1; slots = 2 } ∷ record { name = m2; slots = 1 } ∷ [];
     jobs = record { name = j; weight = 5 } ∷ [];
     tasks =
-        record { name = a; job = j; machine = Some m1; waited = 0 } ∷ record { name = b; job = j; machine = Some m2; waited = 0 }
+        record { name = a; job = j; machine = Some m1; waited = 0 } ∷ record {
+          name = b;
+          job = j;
+          machine = Some m2;
+          waited = 0;
+        }
         ∷ record { name = c; job = j; machine = None; waited = 3 } ∷ [];
   };
   costs = [];
@@ -123,19 +137,26 @@ a_running_task_is_done : replies (Done a ∷ Show ∷ Drain m1 ∷ Find a ∷ []
     ≡ ok 2 ∷ reply 3 (Shown 2 1 2 1 7 9 12 30) ∷ reply 4 (Evicted 0) ∷ no 5 NoSuchTask ∷ []
 a_running_task_is_done = refl
 
--- these verbs grow nothing, so want of memory is never their answer
+-- these verbs grow nothing, so a lack of memory is never their answer
 marks_change_nothing : alone_marked (limits 8 30 100)
-    ((AddJob j 5, false) ∷ (AddTask j a, false) ∷ (Find a, true) ∷ (Done a, true) ∷ (CloseJob j, true) ∷ (Drain m1, true) ∷ [])
+    ((AddJob j 5, false) ∷ (AddTask j a, false) ∷ (Find a, true) ∷ (Done a, true) ∷ (CloseJob j, true) ∷ (
+      Drain m1,
+      true,
+    ) ∷ [])
     ≡ ok 1 ∷ ok 2 ∷ reply 3 (Waits 0) ∷ ok 4 ∷ ok 5 ∷ no 6 NoSuchMachine ∷ []
 marks_change_nothing = refl
 
 -- each fault of a line has its refusal
-faults : alone (limits 2 0 100) (Faulty BadCommand ∷ Faulty BadName ∷ Faulty BadNumber ∷ []) ≡ no 1 NoCommand ∷ no 2 NoName ∷ no 3 NoNumber ∷ []
+faults : alone (limits 2 0 100) (Faulty BadCommand ∷ Faulty BadName ∷ Faulty BadNumber ∷ [])
+    ≡ no 1 NoCommand ∷ no 2 NoName ∷ no 3 NoNumber ∷ []
 faults = refl
 
--- want of memory is answered to a growth alone, after every other refusal, and leaves the rows as they were
+-- a lack of memory is answered to a growth alone, after every other refusal, and leaves the rows as they were
 marked : alone_marked (limits 4 10 7)
-    ((AddMachine m1 2, true) ∷ (AddMachine m1 2, false) ∷ (AddMachine m1 2, true) ∷ (Show, true) ∷ (Faulty BadName, true)
+    ((AddMachine m1 2, true) ∷ (AddMachine m1 2, false) ∷ (AddMachine m1 2, true) ∷ (Show, true) ∷ (
+      Faulty BadName,
+      true,
+    )
     ∷ (AddMachine b 64, true) ∷ (AddJob j 1, true) ∷ (AddJob j 1, true) ∷ [])
     ≡ no 1 Memory ∷ ok 2 ∷ no 3 MachineExists ∷ reply 4 (Shown 1 0 0 0 3 4 3 10) ∷ no 5 NoName
     ∷ no 6 ArenaArcs ∷ no 7 Memory ∷ no 8 Worn ∷ []

@@ -3,15 +3,17 @@ use Rattle.std.proofs.Common.{◌≡◌, ℕ, ◌+◌, false, true, List, [], �
 use Rattle.std.specs.Prelude.{pos}
 use Rattle.firm_rules.specs.Book.{Book, opening_book}
 use Rattle.firm_rules.specs.declared.commands.Command.{Command}
-use Rattle.firm_rules.specs.declared.commands.Command.TheVariants.{AddMachine, AddJob, AddTask, Drain, Done, Find, Show, Costs as Ask, Round}
+use Rattle.firm_rules.specs.declared.commands.Command.TheVariants.{AddMachine, AddJob, AddTask, Drain, Done, Find, Show}
+use Rattle.firm_rules.specs.declared.commands.Command.TheVariants.{Costs as Ask, Round}
 use Rattle.firm_rules.specs.declared.replies.Reply.{Reply}
 use Rattle.firm_rules.specs.declared.replies.Outcome.{Outcome}
-use Rattle.firm_rules.specs.declared.replies.Outcome.TheVariants.{Plain, Evicted, At, Waits, Shown, Costs, Round as Rounded, Refused}
+use Rattle.firm_rules.specs.declared.replies.Outcome.TheVariants.{Plain, Evicted, At, Waits, Shown, Costs}
+use Rattle.firm_rules.specs.declared.replies.Outcome.TheVariants.{Round as Rounded, Refused}
 use Rattle.firm_rules.specs.declared.replies.Refusal.TheVariants.{Worn, Memory}
 use Rattle.firm_rules.specs.declared.rounds.Change.TheVariants.{Start, Move, Preempt}
 use Rattle.firm_tenant.specs.Step.{step}
 
--- the replies to commands, of which none is refused for want of memory
+-- the replies to commands, of which none is refused for lack of memory
 abbrev replies : Book → List Command → List Reply
 replies book [] = []
 replies book (command ∷ commands) = let after = step book command false in after.0 ∷ replies after.1 commands

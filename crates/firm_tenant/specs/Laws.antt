@@ -5,21 +5,25 @@ use Rattle.firm_rules.specs.declared.commands.Command.{Command}
 use Rattle.firm_tenant.specs.Step.{step, is_memory}
 use Rattle.firm_tenant.specs.Alone.{replies_from, book_after}
 
--- a step without a mark is never refused for want of memory
+-- a step without a mark is never refused for lack of memory
 abbrev pub UnmarkedStepsAreGranted : Type 0
 UnmarkedStepsAreGranted = (book : Book) (command : Command) → is_memory (step book command false).0 ≡ false
 
 -- a step is the one with the mark that its reply tells
 abbrev pub RepliesTellTheirMarks : Type 0
-RepliesTellTheirMarks = (book : Book) (command : Command) (mark : Bool) → step book command (is_memory (step book command mark).0) ≡ step book command mark
+RepliesTellTheirMarks =
+    (book : Book) (command : Command) (mark : Bool)
+    → step book command (is_memory (step book command mark).0) ≡ step book command mark
 
 -- one more command adds its reply behind those before it, and its step to the book after them
 pub record AddsOneStep (book : Book) (commands : List (Command × Bool)) (last : Command × Bool) : Type 0 where
-  pub replies : replies_from book (commands ++ last ∷ []) ≡ replies_from book commands ++ (step (book_after book commands) last.0 last.1).0 ∷ []
+  pub replies : replies_from book (commands ++ last ∷ []) ≡ replies_from book commands
+      ++ (step (book_after book commands) last.0 last.1).0 ∷ []
   pub book_is : book_after book (commands ++ last ∷ []) ≡ (step (book_after book commands) last.0 last.1).1
 
 abbrev pub OneMoreCommandAddsOneStep : Type 0
-OneMoreCommandAddsOneStep = (book : Book) (commands : List (Command × Bool)) (last : Command × Bool) → AddsOneStep book commands last
+OneMoreCommandAddsOneStep =
+    (book : Book) (commands : List (Command × Bool)) (last : Command × Bool) → AddsOneStep book commands last
 
 -- a step keeps the limits, counts the command where life is left, and changes nothing where none is
 pub record CountsOnce (book : Book) (command : Command) (mark : Bool) : Type 0 where

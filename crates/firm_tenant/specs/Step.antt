@@ -1,6 +1,9 @@
 -- One command of a tenant: the reply to it, and the book after it.
-use Rattle.std.specs.Prelude.{ℕ, ℤ, pos, ◌+◌, Bool, true, false, not, List, nat_lt, nat_le, length, Option, Some, None, if◌then◌else◌}
-use Rattle.firm_rules.specs.Book.{Book, TenantRows, machine_names, job_names, task_names, with_machine, with_job, with_task, without_machine, without_job, without_task, running_on, running_count, has_tasks, task_named}
+use Rattle.std.specs.Prelude.{ℕ, ℤ, pos, ◌+◌, Bool, true, false, not, List, nat_lt, nat_le, length, Option, Some, None}
+use Rattle.std.specs.Prelude.{if◌then◌else◌}
+use Rattle.firm_rules.specs.Book.{Book, TenantRows, machine_names, job_names, task_names, with_machine, with_job}
+use Rattle.firm_rules.specs.Book.{with_task, without_machine, without_job, without_task, running_on, running_count}
+use Rattle.firm_rules.specs.Book.{has_tasks, task_named}
 use Rattle.firm_rules.specs.ArenaUse.{arena_nodes, arena_arcs}
 use Rattle.firm_rules.specs.Names.{is_among}
 use Rattle.firm_rules.specs.Placement.{placement_cost}
@@ -10,12 +13,17 @@ use Rattle.firm_rules.specs.Round.{case_of, round_placement, changes_made, rows_
 use Rattle.firm_rules.specs.declared.parts.Task.{Task}
 use Rattle.firm_rules.specs.declared.rounds.Choice.{Choice}
 use Rattle.firm_rules.specs.declared.commands.Command.{Command}
-use Rattle.firm_rules.specs.declared.commands.Command.TheVariants.{AddMachine, AddJob, AddTask, Drain, CloseJob, Done, Find, Show, Costs as CostsCommand, Round as RoundCommand, Faulty}
+use Rattle.firm_rules.specs.declared.commands.Command.TheVariants.{AddMachine, AddJob, AddTask, Drain, CloseJob, Done}
+use Rattle.firm_rules.specs.declared.commands.Command.TheVariants.{Find, Show, Costs as CostsCommand}
+use Rattle.firm_rules.specs.declared.commands.Command.TheVariants.{Round as RoundCommand, Faulty}
 use Rattle.firm_rules.specs.declared.replies.Reply.{Reply}
 use Rattle.firm_rules.specs.declared.replies.Outcome.{Outcome}
-use Rattle.firm_rules.specs.declared.replies.Outcome.TheVariants.{Plain, Evicted, At, Waits, Shown, Costs, Round, Refused}
+use Rattle.firm_rules.specs.declared.replies.Outcome.TheVariants.{Plain, Evicted, At, Waits, Shown, Costs, Round}
+use Rattle.firm_rules.specs.declared.replies.Outcome.TheVariants.{Refused}
 use Rattle.firm_rules.specs.declared.replies.Refusal.{Refusal}
-use Rattle.firm_rules.specs.declared.replies.Refusal.TheVariants.{Worn, MachineExists, NoSuchMachine, JobExists, NoSuchJob, TaskExists, NoSuchTask, JobHasTasks, ArenaNodes, ArenaArcs, Memory}
+use Rattle.firm_rules.specs.declared.replies.Refusal.TheVariants.{Worn, MachineExists, NoSuchMachine, JobExists}
+use Rattle.firm_rules.specs.declared.replies.Refusal.TheVariants.{NoSuchJob, TaskExists, NoSuchTask, JobHasTasks}
+use Rattle.firm_rules.specs.declared.replies.Refusal.TheVariants.{ArenaNodes, ArenaArcs, Memory}
 
 -- a refused command leaves the book, in which it is counted already, as it is
 abbrev pub refused : Book → Refusal → Outcome × Book
@@ -57,7 +65,7 @@ placed book placement =
       record book { rows = rows_after book.rows placement; costs = with_cost book.costs cost },
     )
 
--- what a command comes to, and the book after it; the mark says that a growth was refused for want of memory
+-- what a command comes to, and the book after it; the mark says that a growth was refused for lack of memory
 abbrev pub effect : Book → Command → Bool → Outcome × Book
 effect book (AddMachine name slots) mark =
     if is_among (machine_names book.rows) name then refused book MachineExists
@@ -93,10 +101,12 @@ counted book = record book { given = book.given + 1 }
 -- the reply to a command, and the book after it: a worn tenant changes no more, and otherwise each command counts
 abbrev pub step : Book → Command → Bool → Reply × Book
 step book command mark =
-    if nat_le book.rows.limits.life book.given then (record { number = book.rows.limits.life + 1; outcome = Refused Worn }, book)
-    else (let after = effect (counted book) command mark in (record { number = book.given + 1; outcome = after.0 }, after.1))
+    if nat_le book.rows.limits.life
+    book.given then (record { number = book.rows.limits.life + 1; outcome = Refused Worn }, book)
+    else (let after =
+    effect (counted book) command mark in (record { number = book.given + 1; outcome = after.0 }, after.1))
 
--- whether an outcome is the refusal for want of memory
+-- whether an outcome is the refusal for lack of memory
 abbrev pub is_memory_outcome : Outcome → Bool
 is_memory_outcome (Refused Memory) = true
 is_memory_outcome _ = false

@@ -41,7 +41,7 @@ impl Model for Pool {
 }
 
 impl Pool {
-    /// The pool of a tenant that has nothing yet, with all the memory of its net. The error comes for want of memory alone.
+    /// The pool of a tenant that has nothing yet, with all the memory of its net. The error comes only where memory is refused.
     pub(crate) fn open(alloc: Global, limits: Limits) -> Result<Pool, AllocError>
         ensures { IfOk result (λ pool. pool ≡ record { rows = opening_rows limits; costs = []; asked = 0 }) }
     {

@@ -28,7 +28,7 @@ impl Model for Tenant {
 }
 
 impl Tenant {
-    /// A tenant with these limits that has nothing yet and was given no command. The error comes for want of memory alone.
+    /// A tenant with these limits that has nothing yet and was given no command. The error comes only where memory is refused.
     pub fn admit(alloc: Global, limits: Limits) -> Result<Tenant, AllocError>
         ensures { IfOk result (λ tenant. tenant ≡ opening_book limits) }
     {
@@ -38,7 +38,7 @@ impl Tenant {
         })
     }
 
-    /// Answers a command. A growth that is refused for want of memory is answered as such, and only the count of commands
+    /// Answers a command. A growth that is refused for lack of memory is answered as such, and only the count of commands
     /// grows. The allocator is for the list in a reply.
     pub fn step(&mut self, alloc: Global, command: Command) -> Reply
         ensures { (result, self.new) ≡ step self.old command (is_memory result) }

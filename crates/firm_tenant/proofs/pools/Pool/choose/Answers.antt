@@ -11,5 +11,6 @@ returns-clause-legal c =
     let right : is_legal case (round_placement case) ≡ true =
     (c.legality_is_judged.ensures case (round_placement case)).only (c.the_round_is_the_first.ensures case).is.legal in
     let round : IfOk c.first_best.result (λ placement. placement.items ≡ round_placement case) = search rules in
-    IfOk-weaker c.first_best.result (λ placement. placement.items ≡ round_placement case) (λ placement. is_legal case placement.items ≡ true)
+    IfOk-weaker c.first_best.result (λ placement. placement.items ≡ round_placement case)
+    (λ placement. is_legal case placement.items ≡ true)
     (λ placement e. subst (λ (p : List Choice). is_legal case p ≡ true) (sym e) right) round

@@ -11,7 +11,14 @@ invariant_of-self c =
     let mark : Bool = is_memory_outcome c.answer.result in
     let kept = ap (λ (a : Outcome × Book). a.1.rows.limits.life) (c.answer.ensures.effect 0)
     ∙ ap (λ l. l.life) (effect-keeps (book_of c.self.inside.pool 0) c.args.command mark).0 in (
-      omega (arith, kept, c.if-life-self.false, c.life-life.ensures.value, ap (λ l. l.life) c.limits.ensures, ap (λ (b : Book). b.rows.limits.life) c.self.view_is),
+      omega (
+        arith,
+        kept,
+        c.if-life-self.false,
+        c.life-life.ensures.value,
+        ap (λ l. l.life) c.limits.ensures,
+        ap (λ (b : Book). b.rows.limits.life) c.self.view_is,
+      ),
       omega (arith, c.answer.ensures.asked, c.self.invariant.1),
     )
 
@@ -19,6 +26,12 @@ pub returns : goal.returns
 returns c =
     step-alive (book_of c.self.inside.pool c.self.inside.given) c.args.command (is_memory_outcome c.answer.result)
     (c.answer.result, book_of c.answer.new.self (c.self.inside.given + 1))
-    (omega (arith, c.if-life-self.false, c.life-life.ensures.value, ap (λ l. l.life) c.limits.ensures, ap (λ (b : Book). b.rows.limits.life) c.self.view_is))
+    (omega (
+      arith,
+      c.if-life-self.false,
+      c.life-life.ensures.value,
+      ap (λ l. l.life) c.limits.ensures,
+      ap (λ (b : Book). b.rows.limits.life) c.self.view_is,
+    ))
     (c.answer.ensures.effect (c.self.inside.given + 1))
     ∙ ap (λ (b : Book). step b c.args.command (is_memory_outcome c.answer.result)) c.self.view_is
