@@ -1,21 +1,25 @@
 -- Each step keeps the law of a tray.
-use Rattle.std.proofs.Common.{◌≡◌, ℕ, zero, suc, ◌==◌, List, [], ◌∷◌, get_or, set, ◌++◌, Option, Some, None, sym, refl, ap, ◌∙◌, subst}
+use Rattle.std.proofs.Common.{◌≡◌, ℕ, zero, suc, ◌==◌, List, [], ◌∷◌, get_or, set, ◌++◌, Option, Some, None, sym, refl}
+use Rattle.std.proofs.Common.{ap, ◌∙◌, subst}
 use mathlib.Core.Option.{some, some-injective, some-ne-none}
 use lib.ListN.{get_elem?}
 use prog.Atomic.{either}
-use Rattle.atomic_table.specs.Table.{State, Me, Act, keeps, takes, gives, step, Valid, stepped, carried_after, Allows, Splits, rest}
+use Rattle.atomic_table.specs.Table.{State, Me, Act, keeps, takes, gives, step, Valid, stepped, carried_after, Allows}
+use Rattle.atomic_table.specs.Table.{Splits, rest}
 use Rattle.firm_rules.specs.Book.{Book}
 use Rattle.firm_tray.specs.declared.protocol.Stage.{Stage}
 use Rattle.firm_tray.specs.declared.protocol.Stage.TheVariants.{Opening, Holding, Open, Spent, Asked, Taken}
 use Rattle.firm_tray.specs.declared.protocol.Sight.{Sight}
 use Rattle.firm_tray.specs.declared.protocol.Solved.{Solved}
 use Rattle.firm_tray.specs.Solved.{IsSolved}
-use Rattle.firm_tray.specs.Rule.{sight, Phase, fresh, dealt, waiting, answered, gone, Tray, state_of, IsFair, Keeps, Hand, takes_slot, answers, looks}
+use Rattle.firm_tray.specs.Rule.{sight, Phase, fresh, dealt, waiting, answered, gone, Tray, state_of, IsFair, Keeps}
+use Rattle.firm_tray.specs.Rule.{Hand, takes_slot, answers, looks}
 
 -- what a step at the word owes in the state s
 abbrev Goes : Book → ℕ → Hand → (ℕ → ℕ) → (ℕ → Hand → Type 0) → Tray → Type 0
 Goes b id me f then s =
-    (w : Sight) × (a : Act _) × Valid s.homes me.1 a × Keeps b (stepped s 0 (f (get_or s.words 0 0)) id me.1 w a) × then (get_or s.words 0 0) (w, carried_after me.1 a)
+    (w : Sight) × (a : Act _) × Valid s.homes me.1 a × Keeps b (stepped s 0 (f (get_or s.words 0 0)) id me.1 w a)
+    × then (get_or s.words 0 0) (w, carried_after me.1 a)
 
 by_phase : (b : Book) (slots id : ℕ) (me : Hand) (f : ℕ → ℕ) (then : ℕ → Hand → Type 0)
     → ((p : Phase) → IsFair b p → get_elem? (state_of b p).views id ≡ some me.0 → Goes b id me f then (state_of b p))
@@ -66,7 +70,8 @@ fills b x r (suc zero) gone fair at = let e : Taken ≡ Open = stage_in _ _ at i
 fills b x r (suc (suc id)) gone fair at = nowhere _ at
 
 sees : (b : Book) (id : ℕ) (p : Phase) → IsFair b p → Stands b id p Asked
-    → Goes b id (sight Asked b, []) (λ n. either (n == 1) 2 n) (λ n m. looks (step 1 0 1 2 mathlib.Core.Option.none) (sight Asked b, []) n m) (state_of b p)
+    → Goes b id (sight Asked b, []) (λ n. either (n == 1) 2 n)
+    (λ n m. looks (step 1 0 1 2 mathlib.Core.Option.none) (sight Asked b, []) n m) (state_of b p)
 sees b zero fresh fair at = let e : Opening ≡ Asked = stage_in _ _ at in cc
 sees b (suc id) fresh fair at = nowhere _ at
 sees b zero dealt fair at = let e : Holding ≡ Asked = stage_in _ _ at in cc
@@ -82,7 +87,11 @@ sees b (suc zero) gone fair at = let e : Taken ≡ Asked = stage_in _ _ at in cc
 sees b (suc (suc id)) gone fair at = nowhere _ at
 
 cuts : (b : Book) (id : ℕ) (p : Phase) → IsFair b p → Stands b id p Holding
-    → Keeps b (record { words = (state_of b p).words; homes = (state_of b p).homes; views = set (state_of b p).views id (sight Open b) ++ sight Asked b ∷ [] })
+    → Keeps b (record {
+      words = (state_of b p).words;
+      homes = (state_of b p).homes;
+      views = set (state_of b p).views id (sight Open b) ++ sight Asked b ∷ [];
+    })
 cuts b zero fresh fair at = let e : Opening ≡ Holding = stage_in _ _ at in cc
 cuts b (suc id) fresh fair at = nowhere _ at
 cuts b zero dealt fair at = (waiting, refl, tt)
@@ -98,23 +107,32 @@ cuts b (suc zero) gone fair at = let e : Taken ≡ Holding = stage_in _ _ at in 
 cuts b (suc (suc id)) gone fair at = nowhere _ at
 
 pub deals_allowed : (b : Book) (slots id : ℕ)
-    → Allows (Keeps b) slots id (sight Opening b, []) 0 (λ n. n) (takes_slot (step slots 0 0 0 mathlib.Core.Option.none) (sight Opening b, []))
+    → Allows (Keeps b) slots id (sight Opening b, []) 0 (λ n. n)
+    (takes_slot (step slots 0 0 0 mathlib.Core.Option.none) (sight Opening b, []))
 deals_allowed b slots id =
     by_phase b slots id (sight Opening b, []) (λ n. n) (λ n m. m ≡ (sight Holding b, (0, None) ∷ [])) (deals b id)
 
 pub fills_allowed : (b : Book) (x : Solved) (slots id : ℕ) → IsSolved b x
-    → Allows (Keeps b) slots id (sight Open b, (0, Some x) ∷ []) 0 (λ n. 1) (λ n. answers (step slots 0 1 0 mathlib.Core.Option.none) (sight Open b, (0, Some x) ∷ []) 1)
+    → Allows (Keeps b) slots id (sight Open b, (0, Some x) ∷ []) 0 (λ n. 1)
+    (λ n. answers (step slots 0 1 0 mathlib.Core.Option.none) (sight Open b, (0, Some x) ∷ []) 1)
 fills_allowed b x slots id r =
     by_phase b slots id (sight Open b, (0, Some x) ∷ []) (λ n. 1) (λ n m. m ≡ (sight Spent b, [])) (fills b x r id)
 
 pub sees_allowed : (b : Book) (slots id : ℕ)
-    → Allows (Keeps b) slots id (sight Asked b, []) 0 (λ n. either (n == 1) 2 n) (looks (step slots 0 1 2 mathlib.Core.Option.none) (sight Asked b, []))
+    → Allows (Keeps b) slots id (sight Asked b, []) 0 (λ n. either (n == 1) 2 n)
+    (looks (step slots 0 1 2 mathlib.Core.Option.none) (sight Asked b, []))
 sees_allowed b slots id =
-    by_phase b slots id (sight Asked b, []) (λ n. either (n == 1) 2 n) (λ n m. looks (step slots 0 1 2 mathlib.Core.Option.none) (sight Asked b, []) n m) (sees b id)
+    by_phase b slots id (sight Asked b, []) (λ n. either (n == 1) 2 n)
+    (λ n m. looks (step slots 0 1 2 mathlib.Core.Option.none) (sight Asked b, []) n m) (sees b id)
 
 pub cuts_allowed : (b : Book) (id : ℕ) → Splits (Keeps b) id (sight Holding b) (sight Open b) (sight Asked b)
 cuts_allowed b id s k at =
-    let P : Tray → Type 0 = λ (s : Tray). Keeps b (record { words = s.words; homes = s.homes; views = set s.views id (sight Open b) ++ sight Asked b ∷ [] }) in
+    let P : Tray → Type 0 =
+    λ (s : Tray). Keeps b (record {
+      words = s.words;
+      homes = s.homes;
+      views = set s.views id (sight Open b) ++ sight Asked b ∷ [];
+    }) in
     subst P (sym k.1) (cuts b id k.0 k.2 (ap (λ (t : Tray). get_elem? t.views id) (sym k.1) ∙ at))
 
 -- the same where the key and the seat are known to be those
@@ -142,7 +160,9 @@ one_carried y v m e = rw e refl
 pub slot_seen : (m m' : Hand) (n : ℕ) → looks (step 1 0 1 2 mathlib.Core.Option.none) m n m' → n ≡ 1
     → (x : Option Solved) × (m'.1 ≡ (0, x) ∷ rest m'.1)
 slot_seen m m' n h e =
-    let l : looks (step 1 0 1 2 mathlib.Core.Option.none) m 1 m' = subst (λ (k : ℕ). looks (step 1 0 1 2 mathlib.Core.Option.none) m k m') e h in (Some l.0, one_carried (Some l.0) _ m' l.2)
+    let l : looks (step 1 0 1 2 mathlib.Core.Option.none) m 1 m' =
+    subst (λ (k : ℕ). looks (step 1 0 1 2 mathlib.Core.Option.none) m k m') e h in
+    (Some l.0, one_carried (Some l.0) _ m' l.2)
 
 abbrev first_item : List (ℕ × Option Solved) → Option Solved
 first_item [] = None
@@ -153,9 +173,14 @@ same_first xs ys x y e = let items : Some x ≡ Some y = ap first_item e in cc
 
 -- where the word was 1, what is taken out of the slot is the round of the book
 pub solved_seen : (b : Book) (m m' : Hand) (n : ℕ) (got : Option Solved) (x : Solved) → m.0.book ≡ b
-    → looks (step 1 0 1 2 mathlib.Core.Option.none) m n m' → n ≡ 1 → m'.1 ≡ (0, got) ∷ rest m'.1 → got ≡ Some x → IsSolved b x
+    → looks (step 1 0 1 2 mathlib.Core.Option.none) m n m' → n ≡ 1 → m'.1 ≡ (0, got) ∷ rest m'.1 → got ≡ Some x
+    → IsSolved b x
 solved_seen b m m' n got x same h e carried is =
-    let l : looks (step 1 0 1 2 mathlib.Core.Option.none) m 1 m' = subst (λ (k : ℕ). looks (step 1 0 1 2 mathlib.Core.Option.none) m k m') e h in
-    let put : (0, Some x) ∷ rest m'.1 ≡ (0, got) ∷ rest m'.1 = ap (λ (g : Option Solved). (0, g) ∷ rest m'.1) (sym is) in
-    let both : (0, Some x) ∷ rest m'.1 ≡ (0, Some l.0) ∷ rest m'.1 = put ∙ (sym carried ∙ one_carried (Some l.0) _ m' l.2) in
-    subst (λ (y : Solved). IsSolved b y) (sym (same_first _ _ x l.0 both)) (subst (λ (c : Book). IsSolved c l.0) same l.1)
+    let l : looks (step 1 0 1 2 mathlib.Core.Option.none) m 1 m' =
+    subst (λ (k : ℕ). looks (step 1 0 1 2 mathlib.Core.Option.none) m k m') e h in
+    let put : (0, Some x) ∷ rest m'.1 ≡ (0, got) ∷ rest m'.1 =
+    ap (λ (g : Option Solved). (0, g) ∷ rest m'.1) (sym is) in
+    let both : (0, Some x) ∷ rest m'.1 ≡ (0, Some l.0) ∷ rest m'.1 =
+    put ∙ (sym carried ∙ one_carried (Some l.0) _ m' l.2) in
+    subst (λ (y : Solved). IsSolved b y) (sym (same_first _ _ x l.0 both))
+    (subst (λ (c : Book). IsSolved c l.0) same l.1)

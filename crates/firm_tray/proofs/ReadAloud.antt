@@ -1,5 +1,5 @@
 -- The states that the rule of a tray allows, read one by one.
-use Rattle.std.proofs.Common.{◌≡◌, ℕ, [], ◌∷◌, refl, ap, arith}
+use Rattle.std.proofs.Common.{◌≡◌, ℕ, [], ◌∷◌, refl, ap, arith, inl, inr}
 use mathlib.Core.Option.{some}
 use Rattle.firm_rules.specs.Book.{Book}
 use Rattle.firm_tray.specs.declared.protocol.Stage.{Stage}
@@ -17,12 +17,17 @@ seats_of book state phase e = ap (λ (s : Tray). s.views) e
 
 pub reads : (book : Book) (state : Tray) → Keeps book state → Reads book state
 reads book state (fresh, e, fair) =
-    one_seat Opening (record { word = words_of book state fresh e; one_book = seats_of book state fresh e })
+    one_seat Opening
+    (record { word = words_of book state fresh e; before = inl refl; one_book = seats_of book state fresh e })
 reads book state (dealt, e, fair) =
-    one_seat Holding (record { word = words_of book state dealt e; one_book = seats_of book state dealt e })
+    one_seat Holding
+    (record { word = words_of book state dealt e; before = inr refl; one_book = seats_of book state dealt e })
 reads book state (waiting, e, fair) =
     two_seats 0 Open Asked (record {
       one_word = words_of book state waiting e;
+      small = omega arith;
+      answers = inl refl;
+      asks = inl refl;
       one_book = seats_of book state waiting e;
       opens = ((λ _. refl), (λ _. refl));
       takes = ((λ (t : Asked ≡ Taken). cc), (λ (t : 0 ≡ 2). absurd (omega (arith, t))));
@@ -31,6 +36,9 @@ reads book state (waiting, e, fair) =
 reads book state (answered answer, e, fair) =
     two_seats 1 Spent Asked (record {
       one_word = words_of book state (answered answer) e;
+      small = omega arith;
+      answers = inr refl;
+      asks = inl refl;
       one_book = seats_of book state (answered answer) e;
       opens = ((λ (t : Spent ≡ Open). cc), (λ (t : 1 ≡ 0). absurd (omega (arith, t))));
       takes = ((λ (t : Asked ≡ Taken). cc), (λ (t : 1 ≡ 2). absurd (omega (arith, t))));
@@ -39,6 +47,9 @@ reads book state (answered answer, e, fair) =
 reads book state (gone, e, fair) =
     two_seats 2 Spent Taken (record {
       one_word = words_of book state gone e;
+      small = omega arith;
+      answers = inr refl;
+      asks = inr refl;
       one_book = seats_of book state gone e;
       opens = ((λ (t : Spent ≡ Open). cc), (λ (t : 2 ≡ 0). absurd (omega (arith, t))));
       takes = ((λ _. refl), (λ _. refl));

@@ -1,16 +1,19 @@
 -- The rule of a tray in words, above the list of its states.
-use Rattle.std.specs.Prelude.{◌≡◌, ◌↔◌, ℕ, [], ◌∷◌, All, Some}
+use Rattle.std.specs.Prelude.{◌≡◌, ◌↔◌, ◌⊎◌, ◌≤◌, ℕ, [], ◌∷◌, Some}
 use mathlib.Core.Option.{some}
 use Rattle.firm_rules.specs.Book.{Book}
 use Rattle.firm_tray.specs.Solved.{IsSolved}
 use Rattle.firm_tray.specs.Rule.{Tray, Keeps, sight}
 use Rattle.firm_tray.specs.declared.protocol.Solved.{Solved}
 use Rattle.firm_tray.specs.declared.protocol.Stage.{Stage}
-use Rattle.firm_tray.specs.declared.protocol.Stage.TheVariants.{Open, Taken}
+use Rattle.firm_tray.specs.declared.protocol.Stage.TheVariants.{Opening, Holding, Open, Spent, Asked, Taken}
 
--- what a tray that has two sides shows
+-- what a tray with two sides shows: one side is open or spent, and the other asks or has taken
 pub record IsReadAloud (book : Book) (state : Tray) (word : ℕ) (answering asking : Stage) : Type 0 where
   pub one_word : state.words ≡ word ∷ []
+  pub small : word ≤ 2
+  pub answers : (answering ≡ Open) ⊎ (answering ≡ Spent)
+  pub asks : (asking ≡ Asked) ⊎ (asking ≡ Taken)
   pub one_book : state.views ≡ sight answering book ∷ sight asking book ∷ []
   pub opens : answering ≡ Open ↔ word ≡ 0
   pub takes : asking ≡ Taken ↔ word ≡ 2
@@ -19,6 +22,7 @@ pub record IsReadAloud (book : Book) (state : Tray) (word : ℕ) (answering aski
 -- before it has two sides its one seat has the book, and the word is 0
 pub record IsOpening (book : Book) (state : Tray) (stage : Stage) : Type 0 where
   pub word : state.words ≡ 0 ∷ []
+  pub before : (stage ≡ Opening) ⊎ (stage ≡ Holding)
   pub one_book : state.views ≡ sight stage book ∷ []
 
 -- a tray that keeps the rule has one seat and is opening, or has two and reads so

@@ -12,4 +12,5 @@ exchange-requires c =
 
 pub returns-then-compare_exchange-eq1 : goal.returns-then-compare_exchange-eq1
 returns-then-compare_exchange-eq1 c =
-    solved_seen c.args.self.book c.self.inside.seat.me _ _ c.exchange.result c.unwrap.result (search rules) c.compare_exchange.ensures.2 c.if-compare_exchange-eq1.true (search rules) (search rules)
+    solved_seen c.args.self.book c.self.inside.seat.me _ _ c.exchange.result c.unwrap.result (search rules)
+    c.compare_exchange.ensures.2 c.if-compare_exchange-eq1.true (search rules) (search rules)
