@@ -1,5 +1,6 @@
 -- How many tickets there can be in all.
-use Rattle.std.proofs.Common.{◌≡◌, ℕ, zero, suc, ◌+◌, ◌-◌, ◌*◌, ◌^◌, ◌<◌, ◌≤◌, cond, nat_lt, true, false, List, [], ◌∷◌, ◌++◌, sym, refl, ap, ◌∙◌, arith, ⊎_elim}
+use Rattle.std.proofs.Common.{◌≡◌, ℕ, zero, suc, ◌+◌, ◌-◌, ◌*◌, ◌^◌, ◌<◌, ◌≤◌, cond, nat_lt, true, false, List, [], ◌∷◌}
+use Rattle.std.proofs.Common.{◌++◌, sym, refl, ap, ◌∙◌, arith, ⊎_elim}
 use Rattle.std.proofs.lemmas.Bool.{lt-ltb, le-ltb, cases_lt}
 use mathlib.Core.Logic.{dite}
 use native.Mathlib.Decide.{ℕ_discrete}
@@ -25,7 +26,8 @@ fresh_cap : (n : ℕ) → weigh cap (fresh 0 n) + 2 ^ 55 * (64 - n) ≤ 2 ^ 61
 fresh_cap zero = omega arith
 fresh_cap (suc n) =
     let e = fresh_cap n in let s = weigh-append cap (fresh 0 n) (share (0 + n) 0 [] ∷ []) in
-    ⊎_elim (λ (low : n < 64). let c = cap_here (0 + n) 0 [] (omega arith) in omega arith) (λ (high : 64 ≤ n). let c = cap_out (0 + n) 0 [] (omega arith) in omega arith) (cases_lt n 64)
+    ⊎_elim (λ (low : n < 64). let c = cap_here (0 + n) 0 [] (omega arith) in omega arith)
+    (λ (high : 64 ≤ n). let c = cap_out (0 + n) 0 [] (omega arith) in omega arith) (cases_lt n 64)
 
 pub cap_after : (n : ℕ) → weigh cap (fresh 0 n) + cap (share (0 + n) 0 []) ≤ 2 ^ 61
 cap_after n = let e = fresh_cap (suc n) in let s = weigh-append cap (fresh 0 n) (share (0 + n) 0 [] ∷ []) in omega arith
@@ -33,7 +35,11 @@ cap_after n = let e = fresh_cap (suc n) in let s = weigh-append cap (fresh 0 n) 
 numbered_ones : (place n : ℕ) → weigh (λ (t : Ticket). 1) (numbered place n) ≡ n
 numbered_ones place zero = refl
 numbered_ones place (suc n) =
-    omega (arith, numbered_ones place n, weigh-append (λ (t : Ticket). 1) (numbered place n) (record { place = place; number = suc n } ∷ []))
+    omega (
+      arith,
+      numbered_ones place n,
+      weigh-append (λ (t : Ticket). 1) (numbered place n) (record { place = place; number = suc n } ∷ []),
+    )
 
 shares_cover : (xs : List Share) → weigh (put_by (λ t. 1)) xs ≤ weigh cap xs + weigh excess xs
 shares_cover [] = omega arith

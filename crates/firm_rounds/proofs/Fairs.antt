@@ -1,5 +1,7 @@
 -- Each step keeps the rule of the round queue.
-use Rattle.std.proofs.Common.{◌≡◌, ◌≢◌, ℕ, zero, suc, ◌+◌, ◌-◌, ◌<◌, ◌≤◌, ◌==◌, cond, nat_lt, ◌*◌, ◌^◌, true, false, List, [], ◌∷◌, ◌++◌, map, length, set, sym, refl, ap, ◌∙◌, subst, arith, length-append, ⊎_elim, add-one, ne_eqb, eqb}
+use Rattle.std.proofs.Common.{◌≡◌, ◌≢◌, ℕ, zero, suc, ◌+◌, ◌-◌, ◌<◌, ◌≤◌, ◌==◌, cond, nat_lt, ◌*◌, ◌^◌, true, false}
+use Rattle.std.proofs.Common.{List, [], ◌∷◌, ◌++◌, map, length, set, sym, refl, ap, ◌∙◌, subst, arith, length-append}
+use Rattle.std.proofs.Common.{⊎_elim, add-one, ne_eqb, eqb}
 use Rattle.std.proofs.lemmas.List.{map-append}
 use Rattle.std.proofs.lemmas.Bool.Decides.{nat_tests}
 use Rattle.std.proofs.lemmas.Bool.{lt-ltb, le-ltb}
@@ -14,7 +16,10 @@ use Rattle.firm_rules.specs.declared.tickets.Ticket.{Ticket}
 use Rattle.firm_rounds.specs.declared.protocol.JobParts.{JobParts}
 use Rattle.firm_rounds.specs.declared.protocol.Share.{Share}
 use Rattle.firm_rounds.specs.declared.protocol.Sight.{Sight}
-use Rattle.firm_rounds.specs.Rounds.{weigh, total, count, tickets, ticket, share, sight, numbered, put_by, got_by, is_at, beyond, cap, excess, FewGot, Fair, opening, fresh, grown_to, nothing, grown, left_over, cut_off, ended, joined, without_second, second, one_more, after_put, got_more, after_pop, Holds, IsOf, share_of}
+use Rattle.firm_rounds.specs.Rounds.{weigh, total, count, tickets, ticket, share, sight, numbered, put_by, got_by}
+use Rattle.firm_rounds.specs.Rounds.{is_at, beyond, cap, excess, FewGot, Fair, opening, fresh, grown_to, nothing, grown}
+use Rattle.firm_rounds.specs.Rounds.{left_over, cut_off, ended, joined, without_second, second, one_more, after_put}
+use Rattle.firm_rounds.specs.Rounds.{got_more, after_pop, Holds, IsOf, share_of}
 use Rattle.firm_rounds.specs.Turning.{weigh-append}
 use Rattle.firm_rounds.proofs.Weighs.{weigh-set, weigh-at, weigh_none, total_one, other_none}
 
@@ -26,7 +31,9 @@ agree_set : (all : ℕ) (views : List Sight) (id : ℕ) (w : Sight) → (0 < len
     → ((j : ℕ) (u : Sight) → j ≢ id → get_elem? views j ≡ some u → 0 < length u.shares → u.all ≡ all)
     → Agree all (set views id w)
 agree_set all views id w mine others j u at some_share =
-    ⊎_elim (λ (x : (j ≡ id) × (w ≡ u)). let same : w.all ≡ u.all = ap (λ (y : Sight). y.all) x.1 in let wide : length w.shares ≡ length u.shares = ap (λ (y : Sight). length y.shares) x.1 in sym same ∙ mine (omega arith))
+    ⊎_elim (λ (x : (j ≡ id) × (w ≡ u)). let same : w.all
+    ≡ u.all = ap (λ (y : Sight). y.all) x.1 in let wide : length w.shares ≡ length u.shares =
+    ap (λ (y : Sight). length y.shares) x.1 in sym same ∙ mine (omega arith))
     (λ (x : (j ≢ id) × (get_elem? views j ≡ some u)). others j u x.0 x.1 some_share) (at_set views id j w u at)
 
 -- one seat's view changes, and the queue
@@ -34,14 +41,30 @@ changes : (items items' : List JobParts) (views : List Sight) (id : ℕ) (v w : 
     → get_elem? views id ≡ some v → w.all ≡ v.all → length w.shares ≡ length v.shares → length items' ≤ 8
     → ((place : ℕ) → weigh (is_at place) w.shares ≡ weigh (is_at place) v.shares)
     → (weigh excess w.shares ≡ weigh excess v.shares) → (weigh cap w.shares ≡ weigh cap v.shares)
-    → ((h : Ticket → ℕ) → (weigh (put_by h) w.shares + weigh (got_by h) v.shares) + weigh h (tickets items) ≡ (weigh (put_by h) v.shares + weigh (got_by h) w.shares) + weigh h (tickets items'))
+    → ((h : Ticket
+    → ℕ) → (weigh (put_by h) w.shares + weigh (got_by h) v.shares) + weigh h (tickets items)
+    ≡ (weigh (put_by h) v.shares + weigh (got_by h) w.shares) + weigh
+    h (tickets items'))
     → Fair items' (set views id w)
 changes items items' views id v w fair at same wide few there more caps balance = record {
   all = fair.all;
   agree = agree_set fair.all views id w (λ s. same ∙ fair.agree id v at (omega arith)) (λ j u ne. fair.agree j u);
   counted = omega (arith, fair.counted, weigh-set (λ (x : Sight). length x.shares) views id v w at);
-  balanced = λ h. omega (arith, fair.balanced h, balance h, weigh-set (λ (x : Sight). weigh (put_by h) x.shares) views id v w at, weigh-set (λ (x : Sight). weigh (got_by h) x.shares) views id v w at);
-  placed = λ place low. omega (arith, fair.placed place low, there place, weigh-set (λ (x : Sight). weigh (is_at place) x.shares) views id v w at);
+  balanced =
+      λ h. omega (
+        arith,
+        fair.balanced h,
+        balance h,
+        weigh-set (λ (x : Sight). weigh (put_by h) x.shares) views id v w at,
+        weigh-set (λ (x : Sight). weigh (got_by h) x.shares) views id v w at,
+      );
+  placed =
+      λ place low. omega (
+        arith,
+        fair.placed place low,
+        there place,
+        weigh-set (λ (x : Sight). weigh (is_at place) x.shares) views id v w at,
+      );
   within = omega (arith, fair.within, more, weigh-set (λ (x : Sight). weigh excess x.shares) views id v w at);
   capped = omega (arith, fair.capped, caps, weigh-set (λ (x : Sight). weigh cap x.shares) views id v w at);
   few = few;
@@ -50,7 +73,8 @@ changes items items' views id v w fair at same wide few there more caps balance 
 tickets-append : (items : List JobParts) (x : JobParts) (h : Ticket → ℕ)
     → weigh h (tickets (items ++ x ∷ [])) ≡ weigh h (tickets items) + h x.ticket
 tickets-append items x h =
-    ap (weigh h) (map-append (λ (y : JobParts). y.ticket) items (x ∷ [])) ∙ (weigh-append h (tickets items) (x.ticket ∷ []) ∙ omega arith)
+    ap (weigh h) (map-append (λ (y : JobParts). y.ticket) items (x ∷ []))
+    ∙ (weigh-append h (tickets items) (x.ticket ∷ []) ∙ omega arith)
 
 numbered_more : (place k : ℕ) → numbered place (k + 1) ≡ numbered place k ++ ticket place (k + 1) ∷ []
 numbered_more place k =
@@ -62,9 +86,15 @@ pub puts : (n id : ℕ) (all place k : ℕ) (x : JobParts) → place < 64 → k 
 puts n id all place k x low less eight next items views room fair at =
     let v = sight all (share place k [] ∷ []) in let w = after_put v in (
       w,
-      changes items (items ++ x ∷ []) views id v w fair at refl refl (omega (arith, length-append items (x ∷ []))) (λ p. refl) (within_here place k low less) refl
+      changes items (items ++ x ∷ []) views id v w fair at refl refl (omega (arith, length-append items (x ∷ [])))
+          (λ p. refl) (within_here place k low less) refl
           (λ h. let same : h x.ticket ≡ h (ticket place (k + 1)) = ap h next in
-          omega (arith, tickets-append items x h, weigh-append h (numbered place k) (ticket place (k + 1) ∷ []), ap (weigh h) (numbered_more place k))),
+          omega (
+            arith,
+            tickets-append items x h,
+            weigh-append h (numbered place k) (ticket place (k + 1) ∷ []),
+            ap (weigh h) (numbered_more place k),
+          )),
       refl,
     )
 
@@ -97,7 +127,8 @@ pub pops : (id : ℕ) (v : Sight) → 0 < length v.shares → Pops Fair id v (λ
 pops id v some_share x items views fair at =
     let w = after_pop x.ticket v in let few = fair.few in (
       w,
-      changes (x ∷ items) items views id v w fair at refl (got_more_wide x.ticket v.shares) (omega arith) (got_more_at x.ticket v.shares) (got_more_excess x.ticket v.shares) (got_more_cap x.ticket v.shares)
+      changes (x ∷ items) items views id v w fair at refl (got_more_wide x.ticket v.shares) (omega arith)
+          (got_more_at x.ticket v.shares) (got_more_excess x.ticket v.shares) (got_more_cap x.ticket v.shares)
           (λ h. omega (arith, got_more_put x.ticket v.shares h, got_more_got x.ticket v.shares h some_share)),
       refl,
     )
@@ -111,7 +142,8 @@ pops_few id v some_share x items views fair at =
     let one : Ticket → ℕ = λ (t : Ticket). 1 in
     let mine = weigh-at (λ (y : Sight). weigh (got_by one) y.shares) views id v at in
     let more = got_more_got x.ticket v.shares one some_share in
-    let few : FewGot (after_pop x.ticket v) = omega (arith, fair.balanced one, fair.within, fair.capped, caps_cover views) in
+    let few : FewGot (after_pop x.ticket v) =
+    omega (arith, fair.balanced one, fair.within, fair.capped, caps_cover views) in
     (after_pop x.ticket v, p.1, (refl, few))
 
 -- the seat with every share knows what the queue holds
@@ -120,10 +152,18 @@ ends id v whole some_share items views fair at =
     let all_is = fair.agree id v at (omega arith) in
     let within : length v.shares ≤ count views = weigh-at (λ (x : Sight). length x.shares) views id v at in
     let every : length v.shares ≡ count views = omega (arith, fair.counted) in (
-      (λ h. omega (arith, fair.balanced h, total_one (put_by h) views id v at every, total_one (got_by h) views id v at every)),
+      (λ h. omega
+          (arith, fair.balanced h, total_one (put_by h) views id v at every, total_one (got_by h) views id v at every)),
       (λ p low. omega (arith, fair.placed p low, total_one (is_at p) views id v at every)),
       fair.few,
-      (let one : Ticket → ℕ = λ (t : Ticket). 1 in omega (arith, fair.balanced one, fair.within, fair.capped, caps_cover views, weigh-at (λ (y : Sight). weigh (got_by one) y.shares) views id v at)),
+      (let one : Ticket → ℕ = λ (t : Ticket). 1 in omega (
+        arith,
+        fair.balanced one,
+        fair.within,
+        fair.capped,
+        caps_cover views,
+        weigh-at (λ (y : Sight). weigh (got_by one) y.shares) views id v at,
+      )),
     )
 
 one_agrees : (id : ℕ) (v : Sight) → get_elem? (opening ∷ []) id ≡ some v → v.all ≡ 1
@@ -195,15 +235,25 @@ forks : (items : List JobParts) (views : List Sight) (id all' : ℕ) (v l r : Si
     → (length l.shares + length r.shares) + fair.all ≡ all' + length v.shares
     → ((h : Ticket → ℕ) → weigh (put_by h) l.shares + weigh (put_by h) r.shares ≡ weigh (put_by h) v.shares)
     → ((h : Ticket → ℕ) → weigh (got_by h) l.shares + weigh (got_by h) r.shares ≡ weigh (got_by h) v.shares)
-    → ((p : ℕ) → p < beyond → total (is_at p) views + (weigh (is_at p) l.shares + weigh (is_at p) r.shares) ≤ 1 + weigh (is_at p) v.shares)
+    → ((p : ℕ) → p < beyond
+    → total (is_at p) views + (weigh (is_at p) l.shares + weigh (is_at p) r.shares) ≤ 1 + weigh (is_at p) v.shares)
     → (weigh excess l.shares + weigh excess r.shares ≡ weigh excess v.shares)
     → (total cap views + (weigh cap l.shares + weigh cap r.shares) ≤ 2 ^ 61 + weigh cap v.shares)
     → Fair items (set views id l ++ r ∷ [])
 forks items views id all' v l r fair at la ra others wide put got placed more caps = record {
   all = all';
   agree = λ j u e s. ⊎_elim (λ x. agree_set all' views id l la others j u x s)
-      (λ (x : r ≡ u). let same : r.all ≡ u.all = ap (λ (y : Sight). y.all) x in let w : length r.shares ≡ length u.shares = ap (λ (y : Sight). length y.shares) x in sym same ∙ ra (omega arith)) (at_snoc (set views id l) r u j e);
-  counted = omega (arith, wide, fair.counted, weigh-set (λ (x : Sight). length x.shares) views id v l at, weigh-append (λ (x : Sight). length x.shares) (set views id l) (r ∷ []));
+      (λ (x : r ≡ u). let same : r.all ≡ u.all = ap (λ (y : Sight). y.all) x in let w : length r.shares
+      ≡ length u.shares = ap (λ (y : Sight). length y.shares) x in sym same ∙ ra (omega arith))
+      (at_snoc (set views id l) r u j e);
+  counted =
+      omega (
+        arith,
+        wide,
+        fair.counted,
+        weigh-set (λ (x : Sight). length x.shares) views id v l at,
+        weigh-append (λ (x : Sight). length x.shares) (set views id l) (r ∷ []),
+      );
   balanced = λ h. omega (
     arith,
     put h,
@@ -214,9 +264,28 @@ forks items views id all' v l r fair at la ra others wide put got placed more ca
     weigh-set (λ (x : Sight). weigh (got_by h) x.shares) views id v l at,
     weigh-append (λ (x : Sight). weigh (got_by h) x.shares) (set views id l) (r ∷ []),
   );
-  placed = λ p low. omega (arith, placed p low, weigh-set (λ (x : Sight). weigh (is_at p) x.shares) views id v l at, weigh-append (λ (x : Sight). weigh (is_at p) x.shares) (set views id l) (r ∷ []));
-  within = omega (arith, fair.within, more, weigh-set (λ (x : Sight). weigh excess x.shares) views id v l at, weigh-append (λ (x : Sight). weigh excess x.shares) (set views id l) (r ∷ []));
-  capped = omega (arith, caps, weigh-set (λ (x : Sight). weigh cap x.shares) views id v l at, weigh-append (λ (x : Sight). weigh cap x.shares) (set views id l) (r ∷ []));
+  placed =
+      λ p low. omega (
+        arith,
+        placed p low,
+        weigh-set (λ (x : Sight). weigh (is_at p) x.shares) views id v l at,
+        weigh-append (λ (x : Sight). weigh (is_at p) x.shares) (set views id l) (r ∷ []),
+      );
+  within =
+      omega (
+        arith,
+        fair.within,
+        more,
+        weigh-set (λ (x : Sight). weigh excess x.shares) views id v l at,
+        weigh-append (λ (x : Sight). weigh excess x.shares) (set views id l) (r ∷ []),
+      );
+  capped =
+      omega (
+        arith,
+        caps,
+        weigh-set (λ (x : Sight). weigh cap x.shares) views id v l at,
+        weigh-append (λ (x : Sight). weigh cap x.shares) (set views id l) (r ∷ []),
+      );
   few = fair.few;
 }
 
@@ -258,9 +327,11 @@ cut_wide (x ∷ (y ∷ zs)) = omega arith
 pub cuts : (id : ℕ) (v : Sight) → 0 < length v.shares → Forks Fair id v (left_over v) (cut_off v)
 cuts id v some_share items views fair at =
     let all_is : v.all ≡ fair.all = fair.agree id v at some_share in
-    forks items views id fair.all v (left_over v) (cut_off v) fair at (λ s. all_is) (λ s. all_is) (λ j u ne. fair.agree j u)
+    forks items views id fair.all v (left_over v) (cut_off v) fair at (λ s. all_is) (λ s. all_is)
+    (λ j u ne. fair.agree j u)
     (omega (arith, cut_wide v.shares)) (λ h. cut_weight (put_by h) v.shares) (λ h. cut_weight (got_by h) v.shares)
-    (λ p low. omega (arith, fair.placed p low, cut_weight (is_at p) v.shares)) (cut_weight excess v.shares) (omega (arith, fair.capped, cut_weight cap v.shares))
+    (λ p low. omega (arith, fair.placed p low, cut_weight (is_at p) v.shares)) (cut_weight excess v.shares)
+    (omega (arith, fair.capped, cut_weight cap v.shares))
 
 -- one seat takes another's shares
 pub merges : (id other : ℕ) (v w : Sight) → 0 < length v.shares → Merges Fair id v other w (joined v w) nothing
@@ -273,7 +344,14 @@ merges id other v w some_share items views fair at ne at' =
     record {
       all = fair.all;
       agree = agree_set fair.all vs other nothing (λ s. absurd (omega arith)) (λ j u n. inner j u);
-      counted = omega (arith, fair.counted, one (λ (x : Sight). length x.shares), two (λ (x : Sight). length x.shares), length-append v.shares w.shares);
+      counted =
+          omega (
+            arith,
+            fair.counted,
+            one (λ (x : Sight). length x.shares),
+            two (λ (x : Sight). length x.shares),
+            length-append v.shares w.shares,
+          );
       balanced = λ h. omega (
         arith,
         fair.balanced h,
@@ -284,9 +362,30 @@ merges id other v w some_share items views fair at ne at' =
         two (λ (x : Sight). weigh (got_by h) x.shares),
         weigh-append (got_by h) v.shares w.shares,
       );
-      placed = λ p low. omega (arith, fair.placed p low, one (λ (x : Sight). weigh (is_at p) x.shares), two (λ (x : Sight). weigh (is_at p) x.shares), weigh-append (is_at p) v.shares w.shares);
-      within = omega (arith, fair.within, one (λ (x : Sight). weigh excess x.shares), two (λ (x : Sight). weigh excess x.shares), weigh-append excess v.shares w.shares);
-      capped = omega (arith, fair.capped, one (λ (x : Sight). weigh cap x.shares), two (λ (x : Sight). weigh cap x.shares), weigh-append cap v.shares w.shares);
+      placed =
+          λ p low. omega (
+            arith,
+            fair.placed p low,
+            one (λ (x : Sight). weigh (is_at p) x.shares),
+            two (λ (x : Sight). weigh (is_at p) x.shares),
+            weigh-append (is_at p) v.shares w.shares,
+          );
+      within =
+          omega (
+            arith,
+            fair.within,
+            one (λ (x : Sight). weigh excess x.shares),
+            two (λ (x : Sight). weigh excess x.shares),
+            weigh-append excess v.shares w.shares,
+          );
+      capped =
+          omega (
+            arith,
+            fair.capped,
+            one (λ (x : Sight). weigh cap x.shares),
+            two (λ (x : Sight). weigh cap x.shares),
+            weigh-append cap v.shares w.shares,
+          );
       few = fair.few;
     }
 
@@ -298,8 +397,10 @@ puts_as n id all place k v x low less eight next e = rw e (puts n id all place k
 pub gives : (id : ℕ) (v : Sight) → 0 < length v.shares → Forks Fair id v (ended v) v
 gives id v some_share items views fair at =
     let all_is : v.all ≡ fair.all = fair.agree id v at some_share in
-    forks items views id fair.all v (ended v) v fair at (λ s. absurd (omega arith)) (λ s. all_is) (λ j u ne. fair.agree j u)
-    (omega arith) (λ h. omega arith) (λ h. omega arith) (λ p low. omega (arith, fair.placed p low)) (omega arith) (omega (arith, fair.capped))
+    forks items views id fair.all v (ended v) v fair at (λ s. absurd (omega arith)) (λ s. all_is)
+    (λ j u ne. fair.agree j u)
+    (omega arith) (λ h. omega arith) (λ h. omega arith) (λ p low. omega (arith, fair.placed p low)) (omega arith)
+    (omega (arith, fair.capped))
 
 pub some_of : (x : Share) (v : Sight) → IsOf x v → 0 < v.all → 0 < length v.shares
 some_of x v is live = let wide = ap (λ (u : Sight). length u.shares) (is.1 live) in omega arith
@@ -315,7 +416,8 @@ Counts n w = (n ≡ length (share_of w).got) × (n ≤ 2 ^ 61) × IsOf (share (s
 counts_here : (t : Ticket) (all p n : ℕ) (got : List Ticket) → FewGot (after_pop t (sight all (share p 0 got ∷ [])))
     → n ≡ length got → Counts (n + 1) (after_pop t (sight all (share p 0 got ∷ [])))
 counts_here t all p n got few e =
-    let long = length-append got (t ∷ []) in let same = ones (got ++ t ∷ []) in (omega arith, omega arith, (refl, λ live. refl))
+    let long = length-append got (t ∷ []) in let same =
+    ones (got ++ t ∷ []) in (omega arith, omega arith, (refl, λ live. refl))
 
 pub counts : (t : Ticket) (all p n : ℕ) (got : List Ticket) (v w : Sight) → v ≡ sight all (share p 0 got ∷ [])
     → w ≡ after_pop t v → FewGot w → n ≡ length got → Counts (n + 1) w
@@ -329,13 +431,20 @@ got_more_wide' t xs = got_more_wide t xs
 
 -- what a pop by the seat with every share changes
 pub pop_changes : (t : Ticket) (v w : Sight) → 0 < length v.shares → w ≡ after_pop t v
-    → (w.all ≡ v.all) × (length w.shares ≡ length v.shares) × ((p : ℕ) → weigh (is_at p) w.shares ≡ weigh (is_at p) v.shares)
-    × ((h : Ticket → ℕ) → (weigh (put_by h) w.shares ≡ weigh (put_by h) v.shares) × (weigh (got_by h) w.shares ≡ weigh (got_by h) v.shares + h t))
+    → (w.all ≡ v.all) × (length w.shares ≡ length v.shares)
+    × ((p : ℕ) → weigh (is_at p) w.shares ≡ weigh (is_at p) v.shares)
+    × ((h : Ticket
+    → ℕ) → (weigh (put_by h) w.shares ≡ weigh (put_by h) v.shares)
+    × (weigh (got_by h) w.shares ≡ weigh (got_by h) v.shares + h t))
 pop_changes t v w s e = (
   ap (λ (u : Sight). u.all) e,
   ap (λ (u : Sight). length u.shares) e ∙ got_more_wide t v.shares,
   (λ p. ap (λ (u : Sight). weigh (is_at p) u.shares) e ∙ got_more_at t v.shares p),
-  λ h. (ap (λ (u : Sight). weigh (put_by h) u.shares) e ∙ got_more_put t v.shares h, ap (λ (u : Sight). weigh (got_by h) u.shares) e ∙ got_more_got t v.shares h s),
+  λ h. (
+    ap (λ (u : Sight). weigh (put_by h) u.shares) e
+        ∙ got_more_put t v.shares h,
+    ap (λ (u : Sight). weigh (got_by h) u.shares) e ∙ got_more_got t v.shares h s,
+  ),
 )
 
 weigh_ones : (xs : List Ticket) → weigh (λ (t : Ticket). 1) xs ≡ length xs

@@ -1,5 +1,6 @@
 -- What the keeping seat has when a share was added.
-use Rattle.std.proofs.Common.{◌≡◌, ℕ, ◌+◌, ◌<◌, List, [], ◌∷◌, ◌++◌, length, get_or, sym, refl, ap, ◌∙◌, arith, length-append}
+use Rattle.std.proofs.Common.{◌≡◌, ℕ, ◌+◌, ◌<◌, List, [], ◌∷◌, ◌++◌, length, get_or, sym, refl, ap, ◌∙◌, arith}
+use Rattle.std.proofs.Common.{length-append}
 use Rattle.firm_rounds.specs.declared.protocol.Share.{Share}
 use Rattle.firm_rounds.specs.declared.protocol.Sight.{Sight}
 use Rattle.firm_rounds.specs.Rounds.{weigh, share, sight, joined, put_by, got_by, is_at}
@@ -17,7 +18,8 @@ joined_weigh f v w n all x e s =
 
 pub joined_some : (v w n : Sight) → n ≡ joined v w → 0 < length v.shares → 0 < length n.shares
 joined_some v w n e s =
-    let both : length n.shares ≡ length (v.shares ++ w.shares) = ap (λ (u : Sight). length u.shares) e in omega (arith, length-append v.shares w.shares)
+    let both : length n.shares ≡ length (v.shares ++ w.shares) =
+    ap (λ (u : Sight). length u.shares) e in omega (arith, length-append v.shares w.shares)
 
 pub weigh_one : {A : Type 0} (xs : List A) → weigh (λ (x : A). 1) xs ≡ length xs
 weigh_one [] = refl
@@ -43,7 +45,27 @@ gathered v0 v1 v2 all p head rest pops puts d cut one first more adds =
     let wide : length pops ≡ length (head ++ rest) = ap (λ (ps : List PopIs). length ps) cut in
     record {
       put = λ h. omega (arith, alone (put_by h), more (put_by h), adds.puts h);
-      got = λ h. let g : PopIs → ℕ = λ (q : PopIs). weigh h q.got in omega (arith, alone (got_by h), more (got_by h), adds.gots h, whole g, weigh-append g head rest, single g head d one, none_got h puts);
-      count = omega (arith, alone (λ (s : Share). 1), more (λ (s : Share). 1), adds.count, weigh_one v2.shares, weigh_one puts, wide, length-append head rest);
+      got = λ h. let g : PopIs → ℕ =
+          λ (q : PopIs). weigh h q.got in
+          omega (
+            arith,
+            alone (got_by h),
+            more (got_by h),
+            adds.gots h,
+            whole g,
+            weigh-append g head rest,
+            single g head d one,
+            none_got h puts,
+          );
+      count = omega (
+        arith,
+        alone (λ (s : Share). 1),
+        more (λ (s : Share). 1),
+        adds.count,
+        weigh_one v2.shares,
+        weigh_one puts,
+        wide,
+        length-append head rest,
+      );
       places = λ q. omega (arith, more (is_at q), adds.places q);
     }

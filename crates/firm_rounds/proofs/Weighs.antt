@@ -1,5 +1,6 @@
 -- Weights over lists, and over lists of seats.
-use Rattle.std.proofs.Common.{◌≡◌, ◌≢◌, ℕ, zero, suc, ◌+◌, ◌-◌, ◌<◌, ◌≤◌, ◌==◌, cond, List, [], ◌∷◌, ◌++◌, map, length, set, sym, refl, ap, ◌∙◌, subst, arith, length-append}
+use Rattle.std.proofs.Common.{◌≡◌, ◌≢◌, ℕ, zero, suc, ◌+◌, ◌-◌, ◌<◌, ◌≤◌, ◌==◌, cond, List, [], ◌∷◌, ◌++◌, map, length}
+use Rattle.std.proofs.Common.{set, sym, refl, ap, ◌∙◌, subst, arith, length-append}
 use mathlib.Core.Option.{some, some-injective, some-ne-none}
 use lib.ListN.{get_elem?}
 use Rattle.firm_rules.specs.declared.tickets.Ticket.{Ticket}
@@ -9,7 +10,8 @@ use Rattle.firm_rounds.specs.declared.protocol.Sight.{Sight}
 use Rattle.firm_rounds.specs.Rounds.{weigh, total, count, tickets, ticket, share, fresh, is_at, beyond}
 
 module _ {A : Type 0} (f : A → ℕ) where
-  pub weigh-set : (xs : List A) (i : ℕ) (v w : A) → get_elem? xs i ≡ some v → weigh f (set xs i w) + f v ≡ weigh f xs + f w
+  pub weigh-set : (xs : List A) (i : ℕ) (v w : A) → get_elem? xs i ≡ some v
+      → weigh f (set xs i w) + f v ≡ weigh f xs + f w
   weigh-set [] i v w e = absurd (some-ne-none v (sym e))
   weigh-set (x ∷ xs) zero v w e = let same : f x ≡ f v = ap f (some-injective x v e) in omega arith
   weigh-set (x ∷ xs) (suc i) v w e = omega (arith, weigh-set xs i v w e)

@@ -9,4 +9,5 @@ abbrev pub IsFault : QueueIs → List PutIs → List PopIs → QueueFault → Ty
 IsFault queue puts pops (Missing q ps gs) =
     (q ≡ queue) × (ps.items ≡ puts) × (gs.items ≡ pops) × ((length puts < queue.puts) ⊎ (length pops < queue.pops))
 IsFault queue puts pops (Left ps gs jobs) =
-    (ps.items ≡ map spent_put puts) × (gs.items ≡ map spent_pop pops) × (0 < length jobs.items) × AsOften puts pops jobs.items
+    (ps.items ≡ map spent_put puts) × (gs.items ≡ map spent_pop pops) × (0 < length jobs.items)
+    × AsOften puts pops jobs.items

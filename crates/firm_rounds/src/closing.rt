@@ -39,8 +39,8 @@ impl Closing {
         ensures closing { self.new ≡ closing_is self.old.id (self.old.shares ++ share pass.old.place pass.old.put [] ∷ []) }
         ensures pass { pass.new ≡ spent_put pass.old }
     {
-        let seat = pass.give(&self.ring);
-        self.ring.absorb::<Whole>(&mut self.keep, seat);
+        let put = pass.give(&self.ring);
+        self.ring.absorb::<Whole>(&mut self.keep, put);
     }
 
     /// Takes in what a pass got.
@@ -49,8 +49,8 @@ impl Closing {
         ensures closing { (p : ℕ) × (self.new ≡ closing_is self.old.id (self.old.shares ++ share p 0 pass.old.got ∷ [])) }
         ensures pass { pass.new ≡ spent_pop pass.old }
     {
-        let seat = pass.give(&self.ring);
-        self.ring.absorb::<Whole>(&mut self.keep, seat);
+        let got = pass.give(&self.ring);
+        self.ring.absorb::<Whole>(&mut self.keep, got);
     }
 
     /// Ends the queue, and gives the jobs that it still held, front first.

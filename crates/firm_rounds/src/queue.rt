@@ -64,6 +64,7 @@ impl Queue {
     ) -> Result<(Queue, Vec<PutPass>, Vec<PopPass>), AllocError>
         requires { (puts ≤ 64) × (0 < pops) }
         ensures counts { IfOk result (λ r. (r.0.puts ≡ puts) × (r.0.pops ≡ pops)) }
+        ensures all { IfOk result (λ r. r.0.id.all ≡ puts + pops) }
         ensures passes { IfOk result (λ r. (r.1.items ≡ new_puts r.0.id puts) × (r.2.items ≡ new_pops r.0.id pops)) }
         ensures of_this { IfOk result (λ r. All (λ p. p.queue ≡ r.0.id) r.1.items × All (λ p. p.queue ≡ r.0.id) r.2.items) }
         ensures unused { IfOk result (λ r. All (λ p. p.put ≡ 0) r.1.items) }

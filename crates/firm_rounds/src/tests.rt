@@ -1,4 +1,4 @@
-ghost use Rattle.std.specs.Prelude.{◌≡◌, ◌<◌, ◌^◌, All, IfSome, vec_len};
+ghost use Rattle.std.specs.Prelude.{◌≡◌, ◌<◌, ◌^◌, All, IfSome, length, vec_len};
 ghost use Rattle.std.specs.Thread.{IsSync};
 
 use super::*;
@@ -62,7 +62,7 @@ fn ask_both<R: Wait>(
     puts: &mut Vec<PutPass>,
 ) -> Option<(AskSide, AskSide)>
     requires { (vec_len puts.old ≡ 2) × All (λ p. p.queue ≡ queue.now.id) puts.old.items × All (λ p. p.put ≡ 0) puts.old.items }
-    ensures { All (λ p. p.queue ≡ queue.now.id) puts.new.items }
+    ensures { (vec_len puts.new ≡ 2) × All (λ p. p.queue ≡ queue.now.id) puts.new.items }
 {
     let first = &mut puts[0];
     let early = ask(rt, alloc, queue, first);
@@ -175,6 +175,42 @@ fn put_and_left<R: Wait>(rt: &R, alloc: Global) -> Option<bool> {
     Some(leaves_both(rt, alloc, queue, puts, pops))
 }
 
+// The passes of two places and of two workers are handed in one by one.
+fn hand_in(queue: Queue, puts: Vec<PutPass>, pops: Vec<PopPass>) -> Closing
+    requires counts { (vec_len puts ≡ 2) × (vec_len pops ≡ 2) × (queue.id.all ≡ 4) }
+    requires passes { All (λ p. p.queue ≡ queue.id) puts.items × All (λ p. p.queue ≡ queue.id) pops.items }
+    ensures { (result.id.all ≡ 4) × (length result.shares ≡ 4) }
+{
+    let mut puts = puts;
+    let mut pops = pops;
+    let first = &mut pops[0];
+    let mut closing = queue.closing(first);
+    let put = &mut puts[0];
+    closing.put_pass(put);
+    let put = &mut puts[1];
+    closing.put_pass(put);
+    let second = &mut pops[1];
+    closing.pop_pass(second);
+    closing
+}
+
+// Whether this is the first job of the second place alone. It is finished.
+fn is_second(alloc: Global, jobs: Vec<Job>) -> bool {
+    let alone = jobs.len() == 1 && jobs[0].ticket() == ticket(1, 1);
+    finish_all(alloc, jobs);
+    alone
+}
+
+// Two tickets are put and one is got; the queue is closed one pass at a time, and the other job comes back.
+fn put_and_closed<R: Wait>(rt: &R, alloc: Global) -> Option<bool> {
+    let (queue, mut puts, mut pops) = Queue::open(alloc, 2, 2).ok()?;
+    let _sides = ask_both(rt, alloc, &queue, &mut puts)?;
+    let pass = &mut pops[0];
+    let got = serve(rt, alloc, &queue, pass);
+    let jobs = hand_in(queue, puts, pops).end(rt);
+    Some(is_second(alloc, jobs) && got == Some(ticket(0, 1)))
+}
+
 #[test]
 fn tickets_are_got_in_the_order_in_which_they_were_put(rt: HostRuntime) -> Result<(), Fail> {
     assert!(rt; put_and_got(&rt, rt.alloc()) == Some(true));
@@ -184,6 +220,12 @@ fn tickets_are_got_in_the_order_in_which_they_were_put(rt: HostRuntime) -> Resul
 #[test]
 fn jobs_that_are_left_come_back(rt: HostRuntime) -> Result<(), Fail> {
     assert!(rt; put_and_left(&rt, rt.alloc()) == Some(true));
+    Ok(())
+}
+
+#[test]
+fn a_queue_is_closed_one_pass_at_a_time(rt: HostRuntime) -> Result<(), Fail> {
+    assert!(rt; put_and_closed(&rt, rt.alloc()) == Some(true));
     Ok(())
 }
 

@@ -20,7 +20,9 @@ pop_as-requires-clause-rule g c =
 pub loop-preserved : goal.loop-preserved
 loop-preserved g c =
     let inv = c.loop.invariant in let a = inv.seat.1 in let b = inv.seat.2 in
-    let ch = pop_changes c.in-Some.parts.ticket (view c.loop.keep) (view c.pop_as.new.pass) (omega arith) c.in-Some.ensures.rule in
+    let ch =
+    pop_changes c.in-Some.parts.ticket (view c.loop.keep) (view c.pop_as.new.pass) (omega arith)
+    c.in-Some.ensures.rule in
     let all_is = ch.0 in let wide = ch.1 in
     let items = c.push_reserved.ensures.items in
     let long = ap (λ (js : List JobIs). length js) items in
@@ -30,9 +32,15 @@ loop-preserved g c =
       count = search rules;
       puts = λ h. (ch.3 h).0 ∙ inv.puts h;
       gots = λ h.
-          let more : job_weight h c.push_reserved.new.self.items ≡ job_weight h (c.loop.jobs.items ++ c.of_parts.result ∷ []) = ap (job_weight h) items in
+          let more : job_weight h c.push_reserved.new.self.items
+          ≡ job_weight h (c.loop.jobs.items ++ c.of_parts.result ∷ []) = ap (job_weight h) items in
           let t : h c.of_parts.result.ticket ≡ h c.in-Some.parts.ticket = ap h c.of_parts.ensures.0 in
-          omega (arith, inv.gots h, (ch.3 h).1, weigh-append (λ (j : JobIs). h j.ticket) c.loop.jobs.items (c.of_parts.result ∷ []));
+          omega (
+            arith,
+            inv.gots h,
+            (ch.3 h).1,
+            weigh-append (λ (j : JobIs). h j.ticket) c.loop.jobs.items (c.of_parts.result ∷ []),
+          );
       places = λ p. ch.2 p ∙ inv.places p;
     }
 
@@ -44,6 +52,7 @@ returns-clause-balanced g c h =
     let inv = c.loop.invariant in let one : Ticket → ℕ = λ (t : Ticket). 1 in
     let first = at_most_eight (view c.args.keep) c.learn_as.ensures.rule in
     let count = inv.count in let full = c.loop-test.false in
-    let le : weigh (put_by one) (view c.loop.keep).shares ≤ weigh (got_by one) (view c.loop.keep).shares = omega (arith, inv.puts one, inv.gots one, weigh_one c.loop.jobs.items) in
+    let le : weigh (put_by one) (view c.loop.keep).shares ≤ weigh (got_by one) (view c.loop.keep).shares =
+    omega (arith, inv.puts one, inv.gots one, weigh_one c.loop.jobs.items) in
     let same = settled_by_count (view c.loop.keep) c.learn_as-2.ensures.rule le h in
     omega (arith, inv.puts h, inv.gots h)

@@ -11,6 +11,7 @@ invariant-loop g l = record {
   room : 8 ≤ vec_capacity l.jobs;
   count : length l.jobs.items ≡ l.counter;
   puts : (h : Ticket → ℕ) → weigh (put_by h) (view l.keep).shares ≡ weigh (put_by h) (view l.fn.keep).shares;
-  gots : (h : Ticket → ℕ) → weigh (got_by h) (view l.keep).shares ≡ weigh (got_by h) (view l.fn.keep).shares + job_weight h l.jobs.items;
+  gots : (h : Ticket → ℕ)
+      → weigh (got_by h) (view l.keep).shares ≡ weigh (got_by h) (view l.fn.keep).shares + job_weight h l.jobs.items;
   places : (p : ℕ) → weigh (is_at p) (view l.keep).shares ≡ weigh (is_at p) (view l.fn.keep).shares;
 }

@@ -11,6 +11,8 @@ invariant-loop-i l = record {
   keep : IsPassOf l.ring l.keep;
   all : (view l.keep).all ≡ (view l.initial.keep).all;
   some : 0 < length (view l.keep).shares;
-  shares : (f : Share → ℕ) → weigh f (view l.keep).shares ≡ weigh f (view l.initial.keep).shares + weigh (λ p. f (share p.place p.put [])) (take l.i l.initial.passes);
+  shares : (f : Share → ℕ)
+      → weigh f (view l.keep).shares
+      ≡ weigh f (view l.initial.keep).shares + weigh (λ p. f (share p.place p.put [])) (take l.i l.initial.passes);
   passes : l.passes ≡ turned spent_put l.i l.initial.passes;
 }

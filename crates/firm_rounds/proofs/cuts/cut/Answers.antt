@@ -10,7 +10,9 @@ another-requires-clause-rule c = cuts _ _ (let wide = ap (λ (v : Sight). length
 
 pub returns-clause-kept : goal.returns-clause-kept
 returns-clause-kept c =
-    let now = c.another.ensures.rule.0 in (search rules, ap (λ (v : Sight). v.all) now, now ∙ held_left _ _ _ c.requires.2 c.requires.1)
+    let now =
+    c.another.ensures.rule.0 in
+    (search rules, ap (λ (v : Sight). v.all) now, now ∙ held_left _ _ _ c.requires.2 c.requires.1)
 
 pub returns-clause-cut : goal.returns-clause-cut
 returns-clause-cut c = (search rules, c.another.ensures.rule.1 ∙ held_cut _ _ _ c.requires.2 c.requires.1)

@@ -7,5 +7,7 @@ use Rattle.firm_rounds.proofs.job.Job.finish.Goals as goal
 
 pub answer-requires : goal.answer-requires
 answer-requires c = record {
-  round = c.step-reply.ensures ∙ ap (λ (book : Book). step book Round (is_memory c.step-reply.result)) (sym c.into_parts-tenant.result.same_book);
+  round = c.step-reply.ensures
+      ∙ ap (λ (book : Book). step book Round (is_memory c.step-reply.result))
+      (sym c.into_parts-tenant.result.same_book);
 }

@@ -13,5 +13,12 @@ another-requires-clause-rule c =
 pub returns-clause-seat : goal.returns-clause-seat
 returns-clause-seat c =
     let all = ap (λ (p : PopIs). p.queue.all) c.self.view_is in let live = c.requires.1 in
-    let place = (share_of (view c.self.inside.seat)).place in
-    (search rules, (place, c.another.ensures.rule.1 ∙ (c.self.invariant.3.1 (omega arith) ∙ ap (λ (p : PopIs). sight p.queue.all (share place 0 p.got ∷ [])) c.self.view_is)))
+    let place = (share_of (view c.self.inside.seat)).place in (
+      search rules,
+      (
+        place,
+        c.another.ensures.rule.1
+            ∙ (c.self.invariant.3.1 (omega arith)
+            ∙ ap (λ (p : PopIs). sight p.queue.all (share place 0 p.got ∷ [])) c.self.view_is),
+      ),
+    )

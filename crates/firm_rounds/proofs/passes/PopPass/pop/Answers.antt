@@ -15,5 +15,6 @@ invariant_of-self-2 g c =
     let all = ap (λ (p : PopIs). p.queue.all) c.self.view_is in let live = c.requires.1 in
     let was = share_of (view c.self.inside.seat) in
     let now = c.in_ok-parts.ensures.rule in
-    let n = counts _ _ was.place c.self.inside.count was.got _ _ (c.self.invariant.3.1 (omega arith)) now.0 now.1 c.self.invariant.1 in
+    let n = counts _ _ was.place c.self.inside.count was.got _ _ (c.self.invariant.3.1 (omega arith)) now.0 now.1
+    c.self.invariant.1 in
     (c.pop_as.ensures.queue.2 ∙ c.self.invariant.0, n.0, n.1, n.2)
