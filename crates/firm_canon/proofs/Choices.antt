@@ -37,7 +37,7 @@ only_key key k c = at c.0 c.1 c.2
     at zero l e = e
     at (suc i) l e = absurd (omega (arith, l))
 
-of_two : (key other k : Key) → Contains (key ∷ other ∷ []) k → (key ≡ k) ⊎ (other ≡ k)
+pub of_two : (key other k : Key) → Contains (key ∷ other ∷ []) k → (key ≡ k) ⊎ (other ≡ k)
 of_two key other k c = at c.0 c.1 c.2
   where
     at : (i : ℕ) → i < 2 → get_or (key ∷ other ∷ []) i k ≡ k → (key ≡ k) ⊎ (other ≡ k)

@@ -243,7 +243,7 @@ no_more_slack laws c p r x price e sound stands there slack legal cheap =
     there slack
 
 -- sums of what is carried do not read the lower bounds
-carried_sum : (F : Node → Node → ℕ → ℕ → ℕ) (c : Case) (low low' x : Key → ℕ)
+pub carried_sum : (F : Node → Node → ℕ → ℕ → ℕ) (c : Case) (low low' x : Key → ℕ)
     → sum_by (λ (a : Arc Node Key). F a.tail a.head a.cost a.flow) (network c low x)
     ≡ sum_by (λ (a : Arc Node Key). F a.tail a.head a.cost a.flow) (network c low' x)
 carried_sum F c low low' x =

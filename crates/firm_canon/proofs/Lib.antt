@@ -12,6 +12,7 @@ pub mod Cycles
 pub mod Shown
 pub mod Tries
 pub mod Choices
+pub mod Spent
 pub mod Prefixes
 pub mod Holdings
 pub mod Starts

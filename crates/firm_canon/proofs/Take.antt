@@ -66,6 +66,15 @@ at_task F x p o i z old here =
     (λ (q : (i ≡ length p) × (F (pick (p ++ o ∷ []) i) ≡ F (Some o))). omega (arith, q.1, here q.0))
     (pushed_at F p o i z)
 
+-- a further choice holds no less
+pub low_grows : (c : Case) (p : List Choice) (o : Choice) (k : Key) → low_of c p k ≤ low_of c (p ++ o ∷ []) k
+low_grows c p o (Through j) = guests-le c p (o ∷ []) j
+low_grows c p o (Slot j k) = omega arith
+low_grows c p o (Exit k) = omega arith
+low_grows c p o (Wide i) = grows (wide (demand c i).home) p (o ∷ []) i (wide_none (demand c i).home)
+low_grows c p o (Stay i) = grows (stay (demand c i).home) p (o ∷ []) i (stay_none (demand c i).home)
+low_grows c p o (Delay i) = grows waits p (o ∷ []) i refl
+
 -- TAKING A CHOICE that the flow has room for and before which none is left
 pub take_choice : (c : Case) (p : List Choice) (o : Choice) (x : Key → ℕ) (price : Node → ℕ)
     → Stands c p x price → length p < length c.tasks → IsPlace (length c.slots) o → HasRoom c p o x
@@ -99,12 +108,4 @@ take_choice c p o x price stands l place room none =
       );
     }))
     (λ b r legal cheap place_b less. none b place_b less r legal cheap)
-    higher
-  where
-    higher : (k : Key) → low_of c p k ≤ low_of c (p ++ o ∷ []) k
-    higher (Through j) = guests-le c p (o ∷ []) j
-    higher (Slot j k) = omega arith
-    higher (Exit k) = omega arith
-    higher (Wide i) = grows (wide (demand c i).home) p (o ∷ []) i (wide_none (demand c i).home)
-    higher (Stay i) = grows (stay (demand c i).home) p (o ∷ []) i (stay_none (demand c i).home)
-    higher (Delay i) = grows waits p (o ∷ []) i refl
+    (low_grows c p o)

@@ -72,6 +72,9 @@ pub(crate) fn more_through(
     ensures searched { HasSearchedUpTo scratch.old scratch.new 1 (arena_arcs graph.old.rows) }
     ensures tried { Tried (view_of graph.old) (view_of graph.new) (price_of prices.now) chosen.now
         (Through machine ∷ Wide (length chosen.now) ∷ []) (Through machine) result }
+    ensures blocked { result ≡ false → IsBlocked graph.old.net (price_of prices.now)
+        ((view_of graph.old).arc (Through machine))
+        ((view_of graph.old).arc (Through machine) ∷ (view_of graph.old).arc (Wide (length chosen.now)) ∷ []) }
 {
     let arc = through_arc(graph, machine);
     let wide = wide_arc(graph, chosen.len());

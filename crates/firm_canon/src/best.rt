@@ -1,5 +1,5 @@
 //! The first of the least placements.
-ghost use Rattle.std.specs.Prelude.{◌≡◌, ◌+◌, ◌*◌, ◌<◌, ◌≤◌, ◌∷◌, ◌++◌, [], length, IfOk, OnErr, vec_len, vec_capacity};
+ghost use Rattle.std.specs.Prelude.{◌≡◌, ◌+◌, ◌*◌, ◌<◌, ◌≤◌, ◌∷◌, ◌++◌, [], ℕ, length, IfOk, OnErr, vec_len, vec_capacity};
 ghost use Rattle.firm_paths.specs.NetArcs.{limits_of};
 ghost use Rattle.firm_paths.specs.PriceTable.{price_of};
 ghost use Rattle.firm_rules.specs.ArenaUse.{arena_arcs};
@@ -7,7 +7,7 @@ ghost use Rattle.firm_rules.specs.Round.{case_of, round_placement};
 ghost use Rattle.firm_canon.specs.Counts.{HasSearchedUpTo};
 ghost use Rattle.firm_graph.specs.Ids.{view_of};
 ghost use Rattle.firm_canon.specs.inner.Graphs.{IsSameGraph};
-ghost use Rattle.firm_canon.specs.inner.Choosing.{Keeps};
+ghost use Rattle.firm_canon.specs.inner.Choosing.{Keeps, IsSpent, best};
 
 use crate::choice::choose;
 use crate::holds::hold_choice;
@@ -47,11 +47,20 @@ fn start(graph: &mut Graph, prices: &mut Prices, scratch: &mut Scratch)
     graph.least(prices, scratch);
 }
 
-/// Chooses for the next task, and holds it to the choice.
-fn choose_next(graph: &mut Graph, prices: &Prices, scratch: &mut Scratch, chosen: &mut Vec<Choice>)
+/// Chooses for the next task, and holds it to the choice. The machines before `from` are spent, and stay so.
+fn choose_next(
+    graph: &mut Graph,
+    prices: &Prices,
+    scratch: &mut Scratch,
+    chosen: &mut Vec<Choice>,
+    from: &mut u32,
+)
     requires keeps { Keeps (view_of graph.old) (price_of prices.now) chosen.old.items }
     requires next { length chosen.old.items < length (view_of graph.old).case.tasks }
     requires room { vec_len chosen.old < vec_capacity chosen.old }
+    requires from { from.old ≤ length (view_of graph.old).case.slots }
+    requires spent { (j : ℕ) → j < from.old → IsSpent (view_of graph.old).case chosen.old.items
+        (best (view_of graph.old) chosen.old.items) j }
     requires made_for { (prices.now.limits ≡ limits_of graph.old.net) × (scratch.old.limits ≡ limits_of graph.old.net) }
     ensures same { IsSameGraph graph.old graph.new }
     ensures searched { HasSearchedUpTo scratch.old scratch.new (length graph.old.rows.machines + 3)
@@ -60,8 +69,11 @@ fn choose_next(graph: &mut Graph, prices: &Prices, scratch: &mut Scratch, chosen
     ensures capacity { vec_capacity chosen.old ≤ vec_capacity chosen.new }
     ensures len { vec_len chosen.new ≡ vec_len chosen.old + 1 }
     ensures more { length chosen.new.items ≡ length chosen.old.items + 1 }
+    ensures from { from.new ≤ length (view_of graph.new).case.slots }
+    ensures spent { (j : ℕ) → j < from.new → IsSpent (view_of graph.new).case chosen.new.items
+        (best (view_of graph.new) chosen.new.items) j }
 {
-    let choice = choose(graph, prices, scratch, chosen);
+    let choice = choose(graph, prices, scratch, chosen, from);
     hold_choice(graph, prices, chosen, choice);
     push_reserved(chosen, choice);
 }
@@ -88,9 +100,10 @@ pub fn first_best(
     let tasks = task_count(graph);
     let mut chosen = Vec::with_capacity(alloc, tasks)?;
     start(graph, prices, scratch);
+    let mut from = 0;
     for task in 0..tasks {
         prove!(chosen.len() == task);
-        choose_next(graph, prices, scratch, &mut chosen);
+        choose_next(graph, prices, scratch, &mut chosen, &mut from);
     }
     Ok(chosen)
 }

@@ -1,5 +1,5 @@
 //! The choice of one task's place.
-ghost use Rattle.std.specs.Prelude.{◌≡◌, ◌+◌, ◌<◌, ◌≤◌, ℕ, length, true, false, Some, None, IfSome, IfNone};
+ghost use Rattle.std.specs.Prelude.{◌≡◌, ◌+◌, ◌<◌, ◌≤◌, ◌∷◌, ◌++◌, ◌⊎◌, [], ℕ, length, true, false, Some, None, IfSome, IfNone};
 ghost use Rattle.firm_paths.specs.NetArcs.{limits_of};
 ghost use Rattle.firm_paths.specs.PriceTable.{price_of};
 ghost use Rattle.firm_rules.specs.ArenaUse.{arena_arcs};
@@ -10,7 +10,7 @@ ghost use Rattle.firm_canon.specs.Counts.{HasSearchedUpTo};
 ghost use Rattle.firm_graph.specs.View.{flows};
 ghost use Rattle.firm_graph.specs.Ids.{view_of};
 ghost use Rattle.firm_canon.specs.inner.Graphs.{IsSameGraph};
-ghost use Rattle.firm_canon.specs.inner.Choosing.{Keeps, Shut, IsChosen, best};
+ghost use Rattle.firm_canon.specs.inner.Choosing.{Keeps, Shut, IsChosen, IsSpent, IsSpentBeside, best};
 ghost use Rattle.firm_graph.specs.declared.network.Key.TheVariants.{Through, Wide, Stay};
 
 use crate::attempts::{more_stay, more_through, more_wide};
@@ -94,9 +94,8 @@ fn try_machine(
     ensures wide { flows (view_of graph.new) (Wide (length chosen.now)) ≡ 1 }
     ensures yes { result ≡ true → guests (view_of graph.old).case chosen.now machine
         < flows (view_of graph.new) (Through machine) }
-    ensures none { result ≡ false → flows (view_of graph.old) (Through machine)
-        ≤ guests (view_of graph.old).case chosen.now machine }
-    ensures shut { result ≡ false → Shut (view_of graph.old) chosen.now machine }
+    ensures spent { result ≡ false → IsSpentBeside (view_of graph.old).case chosen.now
+        (best (view_of graph.old) chosen.now) machine }
     ensures unchanged { result ≡ false → graph.new ≡ graph.old }
 {
     let arc = through_arc(graph, machine);
@@ -106,18 +105,22 @@ fn try_machine(
     more_through(graph, prices, scratch, chosen, machine)
 }
 
-/// Finds the first machine, but the task's own, to which it can go by the hub.
+/// Finds the first machine, but the task's own, to which it can go by the hub. The machines before `from` are spent.
 fn find_machine(
     graph: &mut Graph,
     prices: &Prices,
     scratch: &mut Scratch,
     chosen: &[Choice],
     home: Option<u32>,
+    from: u32,
 ) -> Option<u32>
     requires keeps { Keeps (view_of graph.old) (price_of prices.now) chosen.now }
     requires next { length chosen.now < length (view_of graph.old).case.tasks }
     requires home { home ≡ (demand (view_of graph.old).case (length chosen.now)).home }
     requires wide { flows (view_of graph.old) (Wide (length chosen.now)) ≡ 1 }
+    requires from { from ≤ length (view_of graph.old).case.slots }
+    requires spent { (j : ℕ) → j < from → IsSpent (view_of graph.old).case chosen.now
+        (best (view_of graph.old) chosen.now) j }
     requires made_for { (prices.now.limits ≡ limits_of graph.old.net) × (scratch.old.limits ≡ limits_of graph.old.net) }
     ensures same { IsSameGraph graph.old graph.new }
     ensures searched { HasSearchedUpTo scratch.old scratch.new (length graph.old.rows.machines)
@@ -126,13 +129,15 @@ fn find_machine(
     ensures best { best (view_of graph.new) chosen.now ≡ best (view_of graph.old) chosen.now }
     ensures wide { flows (view_of graph.new) (Wide (length chosen.now)) ≡ 1 }
     ensures some { IfSome result (λ j. (j < length (view_of graph.old).case.slots) × (runs_at home j ≡ false)
-        × (guests (view_of graph.old).case chosen.now j < flows (view_of graph.new) (Through j))
-        × ((k : ℕ) → k < j → runs_at home k ≡ false → Shut (view_of graph.old) chosen.now k)) }
+        × (guests (view_of graph.old).case chosen.now j < flows (view_of graph.new) (Through j))) }
+    ensures shut { IfSome result (λ j. (k : ℕ) → k < j → runs_at home k ≡ false → Shut (view_of graph.old) chosen.now k) }
+    ensures spent { IfSome result (λ j. (k : ℕ) → k < j → runs_at home k ≡ false
+        → IsSpentBeside (view_of graph.old).case chosen.now (best (view_of graph.old) chosen.now) k) }
     ensures none { IfNone result ((j : ℕ) → j < length (view_of graph.old).case.slots → runs_at home j ≡ false
         → flows (view_of graph.old) (Through j) ≤ guests (view_of graph.old).case chosen.now j) }
     ensures unchanged { IfNone result (graph.new ≡ graph.old) }
 {
-    for machine in 0..machine_count(graph) {
+    for machine in from..machine_count(graph) {
         if is_home(home, machine) {
             continue;
         }
@@ -143,13 +148,25 @@ fn find_machine(
     None
 }
 
-/// Chooses among the next task's choices but its own machine, which it does not go to.
+/// How far the machines are spent after a task has come by the hub: up to its machine, unless it has passed over its own.
+fn reach(home: Option<u32>, machine: u32, from: u32) -> u32
+    ensures { (result ≡ from) ⊎ ((home ≡ None) × (result ≡ machine)) }
+{
+    match home {
+        Some(_) => from,
+        None => machine,
+    }
+}
+
+/// Chooses among the next task's choices but its own machine, which it does not go to. The machines before `from` are
+/// spent, and stay so.
 fn choose_other(
     graph: &mut Graph,
     prices: &Prices,
     scratch: &mut Scratch,
     chosen: &[Choice],
     home: Option<u32>,
+    from: &mut u32,
 ) -> Choice
     requires keeps { Keeps (view_of graph.old) (price_of prices.now) chosen.now }
     requires next { length chosen.now < length (view_of graph.old).case.tasks }
@@ -157,17 +174,24 @@ fn choose_other(
     requires own { (j : ℕ) → runs_at (demand (view_of graph.old).case (length chosen.now)).home j ≡ true
         → Shut (view_of graph.old) chosen.now j }
     requires stay { flows (view_of graph.old) (Stay (length chosen.now)) ≡ 0 }
+    requires from { from.old ≤ length (view_of graph.old).case.slots }
+    requires spent { (j : ℕ) → j < from.old → IsSpent (view_of graph.old).case chosen.now
+        (best (view_of graph.old) chosen.now) j }
     requires made_for { (prices.now.limits ≡ limits_of graph.old.net) × (scratch.old.limits ≡ limits_of graph.old.net) }
     ensures same { IsSameGraph graph.old graph.new }
     ensures searched { HasSearchedUpTo scratch.old scratch.new (length graph.old.rows.machines + 2)
         (arena_arcs graph.old.rows) }
     ensures keeps { Keeps (view_of graph.new) (price_of prices.now) chosen.now }
     ensures chosen { IsChosen (view_of graph.new) chosen.now result }
+    ensures from { from.new ≤ length (view_of graph.new).case.slots }
+    ensures spent { (j : ℕ) → j < from.new → IsSpent (view_of graph.new).case (chosen.now ++ result ∷ [])
+        (best (view_of graph.new) chosen.now) j }
 {
     if !try_hub(graph, prices, scratch, chosen) {
         return Choice::Wait;
     }
-    if let Some(machine) = find_machine(graph, prices, scratch, chosen, home) {
+    if let Some(machine) = find_machine(graph, prices, scratch, chosen, home, *from) {
+        *from = reach(home, machine, *from);
         return Choice::On(machine);
     }
     // Only the own machine has surplus behind the hub, so the way there is open now.
@@ -178,28 +202,36 @@ fn choose_other(
     Choice::On(own)
 }
 
-/// Chooses for the next task: the first of its choices with which a least placement goes on.
+/// Chooses for the next task: the first of its choices with which a least placement goes on. The machines before `from`
+/// are spent, and stay so.
 pub(crate) fn choose(
     graph: &mut Graph,
     prices: &Prices,
     scratch: &mut Scratch,
     chosen: &[Choice],
+    from: &mut u32,
 ) -> Choice
     requires keeps { Keeps (view_of graph.old) (price_of prices.now) chosen.now }
     requires next { length chosen.now < length (view_of graph.old).case.tasks }
+    requires from { from.old ≤ length (view_of graph.old).case.slots }
+    requires spent { (j : ℕ) → j < from.old → IsSpent (view_of graph.old).case chosen.now
+        (best (view_of graph.old) chosen.now) j }
     requires made_for { (prices.now.limits ≡ limits_of graph.old.net) × (scratch.old.limits ≡ limits_of graph.old.net) }
     ensures same { IsSameGraph graph.old graph.new }
     ensures searched { HasSearchedUpTo scratch.old scratch.new (length graph.old.rows.machines + 3)
         (arena_arcs graph.old.rows) }
     ensures keeps { Keeps (view_of graph.new) (price_of prices.now) chosen.now }
     ensures chosen { IsChosen (view_of graph.new) chosen.now result }
+    ensures from { from.new ≤ length (view_of graph.new).case.slots }
+    ensures spent { (j : ℕ) → j < from.new → IsSpent (view_of graph.new).case (chosen.now ++ result ∷ [])
+        (best (view_of graph.new) chosen.now) j }
 {
     let home = home_of(graph, chosen.len());
     let Some(own) = home else {
-        return choose_other(graph, prices, scratch, chosen, home);
+        return choose_other(graph, prices, scratch, chosen, home, from);
     };
     if try_own(graph, prices, scratch, chosen) {
         return Choice::On(own);
     }
-    choose_other(graph, prices, scratch, chosen, home)
+    choose_other(graph, prices, scratch, chosen, home, from)
 }

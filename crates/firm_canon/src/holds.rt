@@ -6,7 +6,7 @@ ghost use Rattle.firm_paths.specs.PriceTable.{price_of};
 ghost use Rattle.firm_graph.specs.View.{Shows, CanHold, low_of_row, flow_of_row};
 ghost use Rattle.firm_graph.specs.Ids.{view_of};
 ghost use Rattle.firm_canon.specs.inner.Graphs.{IsSameGraph};
-ghost use Rattle.firm_canon.specs.inner.Choosing.{Keeps, IsChosen};
+ghost use Rattle.firm_canon.specs.inner.Choosing.{Keeps, IsChosen, best};
 
 use crate::choice::is_home;
 use crate::reads::{home_of, low_on, stay_arc, through_arc, wait_arc, wide_arc};
@@ -37,6 +37,7 @@ pub(crate) fn hold_choice(graph: &mut Graph, prices: &Prices, chosen: &[Choice],
     requires chosen { IsChosen (view_of graph.old) chosen.now choice }
     ensures same { IsSameGraph graph.old graph.new }
     ensures keeps { Keeps (view_of graph.new) (price_of prices.now) (chosen.now ++ choice ∷ []) }
+    ensures best { best (view_of graph.new) (chosen.now ++ choice ∷ []) ≡ best (view_of graph.old) chosen.now }
 {
     let task = chosen.len();
     match choice {

@@ -88,3 +88,17 @@ pub record IsChosen (v : View) (p : List Choice) (o : Choice) : Type 0 where
       → rank (length v.case.slots) (demand v.case (length p)).home b
       < rank (length v.case.slots) (demand v.case (length p)).home o
       → Barred v.case p (best v p) b
+
+-- a flow that does what the prefix holds, from the tasks to the sink, at no more than this cost
+pub record IsAsCheap (c : Case) (p : List Choice) (most : ℕ) (x : Key → ℕ) : Type 0 where
+  pub within : IsWithinBounds (network c (low_of c p) x) carried
+  pub balanced : Balanced (network c (low_of c p) x) (task_nodes c) Sink carried
+  pub cheap : cost_of (network c (low_of c p) x) carried ≤ most
+
+-- no flow as cheap that goes on from the prefix brings machine `j` a guest more by the hub
+pub record IsSpent (c : Case) (p : List Choice) (most j : ℕ) : Type 0 where
+  pub no_more : (x : Key → ℕ) → IsAsCheap c p most x → x (Through j) ≤ guests c p j
+
+-- none that sends the next task to the hub does
+pub record IsSpentBeside (c : Case) (p : List Choice) (most j : ℕ) : Type 0 where
+  pub no_more : (x : Key → ℕ) → IsAsCheap c p most x → x (Wide (length p)) ≡ 1 → x (Through j) ≤ guests c p j

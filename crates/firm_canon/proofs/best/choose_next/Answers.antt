@@ -1,8 +1,10 @@
-use Rattle.std.proofs.Common.{List, [], ◌∷◌, ◌++◌, sym, ap, subst, ◌∙◌}
+use Rattle.std.proofs.Common.{◌≡◌, ◌≤◌, ℕ, List, [], ◌∷◌, ◌++◌, length, sym, ap, subst, ◌∙◌}
+use Rattle.firm_rules.specs.Placement.{Case}
+use Rattle.firm_graph.specs.View.{View}
 use Rattle.firm_paths.specs.PriceTable.{price_of}
 use Rattle.firm_rules.specs.declared.rounds.Choice.{Choice}
 use Rattle.firm_graph.specs.Ids.{view_of}
-use Rattle.firm_canon.specs.inner.Choosing.{Keeps, IsChosen}
+use Rattle.firm_canon.specs.inner.Choosing.{Keeps, IsChosen, IsSpent, best}
 use Rattle.firm_canon.proofs.Graphs.{same_on}
 use Rattle.firm_canon.proofs.best.choose_next.Goals as goal
 
@@ -32,3 +34,29 @@ returns-clause-keeps c =
     (ap (λ (p : List Choice). p ++ c.choose-choice.result ∷ []) c.deref-2.ensures.value
     ∙ sym c.push_reserved.ensures.items)
     c.hold_choice.ensures.keeps
+
+pub choose-choice-requires-clause-spent : goal.choose-choice-requires-clause-spent
+choose-choice-requires-clause-spent c j l =
+    subst (λ (p : List Choice). IsSpent (view_of c.args.graph.now).case p (best (view_of c.args.graph.now) p) j)
+    (sym c.deref.ensures.value) (c.requires.spent j l)
+
+pub returns-clause-from : goal.returns-clause-from
+returns-clause-from c =
+    subst (λ (k : Case). c.choose-choice.new.from ≤ length k.slots) (sym c.hold_choice.ensures.same.case.case)
+    c.choose-choice.ensures.from
+
+pub returns-clause-spent : goal.returns-clause-spent
+returns-clause-spent c j l =
+    let mid : View = view_of c.choose-choice.new.graph in
+    let new : View = view_of c.hold_choice.new.graph in
+    let o : Choice = c.choose-choice.result in
+    let p : List Choice = c.deref-2.result.now in
+    let is : c.deref.result.now ≡ p = c.deref.ensures.value ∙ sym c.deref-2.ensures.value in
+    let held : best new (p ++ o ∷ []) ≡ best mid p = c.hold_choice.ensures.best in
+    let at_mid : IsSpent mid.case (p ++ o ∷ []) (best mid p) j =
+    subst (λ (q : List Choice). IsSpent mid.case (q ++ o ∷ []) (best mid q) j) is (c.choose-choice.ensures.spent j l) in
+    let at_new : IsSpent new.case (p ++ o ∷ []) (best new (p ++ o ∷ [])) j =
+    subst (λ (n : ℕ). IsSpent new.case (p ++ o ∷ []) n j) (sym held)
+    (subst (λ (k : Case). IsSpent k (p ++ o ∷ []) (best mid p) j) (sym c.hold_choice.ensures.same.case.case) at_mid) in
+    subst (λ (q : List Choice). IsSpent new.case q (best new q) j)
+    (ap (λ (q : List Choice). q ++ o ∷ []) c.deref-2.ensures.value ∙ sym c.push_reserved.ensures.items) at_new

@@ -41,6 +41,8 @@ loop-task-init c = record {
   so_far = ap (λ (p : List Choice). length p) c.in_ok-chosen.ensures.items;
   count = c.in_ok-chosen.ensures.len;
   room = omega arith;
+  in_range = omega arith;
+  spent = λ j l. absurd (omega (arith, l));
 }
 
 pub loop-task-preserved : goal.loop-task-preserved
@@ -60,6 +62,8 @@ loop-task-preserved c =
       so_far = omega (arith, next.more, kept.so_far);
       count = omega (arith, next.len, kept.count);
       room = omega (arith, next.capacity, kept.room);
+      in_range = next.from;
+      spent = next.spent;
     }
 
 pub returns-clause-searched : goal.returns-clause-searched

@@ -1,11 +1,11 @@
-use Rattle.std.proofs.Common.{◌≡◌, ◌≤◌, ◌+◌, ◌*◌, length}
+use Rattle.std.proofs.Common.{◌≡◌, ◌<◌, ◌≤◌, ◌+◌, ◌*◌, ℕ, length}
 use Rattle.std.specs.Prelude.{vec_len, vec_capacity}
 use Rattle.firm_paths.specs.PriceTable.{price_of}
 use Rattle.firm_rules.specs.ArenaUse.{arena_arcs}
 use Rattle.firm_canon.specs.Counts.{HasSearchedUpTo}
 use Rattle.firm_graph.specs.Graph.{Graph}
 use Rattle.firm_canon.specs.inner.Graphs.{IsSameGraph}
-use Rattle.firm_canon.specs.inner.Choosing.{Keeps}
+use Rattle.firm_canon.specs.inner.Choosing.{Keeps, IsSpent, best}
 use Rattle.firm_graph.specs.Ids.{view_of}
 use Rattle.firm_canon.proofs.best.first_best.Given as goal
 
@@ -21,4 +21,7 @@ invariant-loop-task l =
       so_far : length l.chosen.items ≡ l.task;
       count : vec_len l.chosen ≡ l.task;
       room : vec_capacity l.initial.chosen ≤ vec_capacity l.chosen;
+      in_range : l.from ≤ length (view_of now).case.slots;
+      spent : (j : ℕ) → j < l.from
+          → IsSpent (view_of now).case l.chosen.items (best (view_of now) l.chosen.items) j;
     }

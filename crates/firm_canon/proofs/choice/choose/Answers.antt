@@ -1,4 +1,9 @@
-use Rattle.std.proofs.Common.{◌+◌, ℕ, refl, arith, length, sym, ◌∙◌}
+use Rattle.std.proofs.Common.{◌+◌, ◌≤◌, ℕ, List, refl, arith, length, subst, sym, ◌∙◌}
+use Rattle.firm_rules.specs.Placement.{Case}
+use Rattle.firm_rules.specs.declared.rounds.Choice.{Choice}
+use Rattle.firm_rules.specs.declared.rounds.Choice.TheVariants.{On}
+use Rattle.firm_canon.specs.inner.Choosing.{best}
+use Rattle.firm_canon.proofs.Spent.{spent_on, spent_at}
 use Rattle.firm_paths.specs.PriceTable.{price_of}
 use Rattle.firm_canon.proofs.Choices.{no_stay_home, chose_own, next_at, home_at}
 use Rattle.firm_graph.specs.View.{View}
@@ -33,3 +38,26 @@ returns-clause-searched c =
     c.args.scratch.now c.try_own.new.scratch c.choose_other-2.new.scratch
     1 (length mid.rows.machines + 2) _ own.searched c.choose_other-2.ensures.searched
     (omega (arith, same_machines old mid own.same))
+
+pub returns-then-try_own-clause-from : goal.returns-then-try_own-clause-from
+returns-then-try_own-clause-from c =
+    subst (λ (k : Case). c.args.from.now ≤ length k.slots) (sym c.if-try_own.ensures.same.case.case) c.requires.from
+
+pub returns-then-try_own-clause-spent : goal.returns-then-try_own-clause-spent
+returns-then-try_own-clause-spent c j l =
+    let old : View = view_of c.args.graph.now in
+    let new : View = view_of c.try_own.new.graph in
+    let p : List Choice = c.args.chosen.now in
+    let own = c.if-try_own.ensures in
+    spent_on new.case p (On c.in-Some.own) (best new p) j
+    (spent_at old new p j own.same.case own.best (c.requires.spent j l))
+
+pub choose_other-requires-2-clause-from : goal.choose_other-requires-2-clause-from
+choose_other-requires-2-clause-from c =
+    subst (λ (k : Case). c.args.from.now ≤ length k.slots) (sym c.if-try_own.ensures.same.case.case) c.requires.from
+
+pub choose_other-requires-2-clause-spent : goal.choose_other-requires-2-clause-spent
+choose_other-requires-2-clause-spent c j l =
+    let own = c.if-try_own.ensures in
+    spent_at (view_of c.args.graph.now) (view_of c.try_own.new.graph) c.args.chosen.now j own.same.case own.best
+    (c.requires.spent j l)

@@ -1,11 +1,14 @@
-use Rattle.std.proofs.Common.{◌≡◌, ◌+◌, ℕ, ◌<◌, length, arith, refl, sym, ap, subst, ◌∙◌}
+use Rattle.std.proofs.Common.{◌≡◌, ◌+◌, ℕ, ◌<◌, ◌≤◌, List, Option, None, length, arith, refl, sym, ap, subst, ◌∙◌, ⊎_elim}
+use Rattle.firm_rules.specs.Placement.{Case, runs_at}
+use Rattle.firm_rules.specs.declared.rounds.Choice.{Choice}
+use Rattle.firm_canon.proofs.Spent.{spent_on, spent_at, spent_held, beside_at}
 use Rattle.firm_paths.specs.PriceTable.{price_of}
 use Rattle.firm_graph.specs.Network.{demand}
 use Rattle.firm_graph.specs.View.{View}
 use Rattle.firm_canon.proofs.Choices.{never_blocked, never_alone, chose_own, chose_wait, next_at, home_at, comes_by_hub}
 use Rattle.firm_canon.proofs.Choices.{found, none_here}
-use Rattle.firm_canon.specs.inner.Choosing.{IsChosen}
-use Rattle.firm_rules.specs.declared.rounds.Choice.TheVariants.{Wait}
+use Rattle.firm_canon.specs.inner.Choosing.{IsChosen, best}
+use Rattle.firm_rules.specs.declared.rounds.Choice.TheVariants.{On, Wait}
 use Rattle.firm_graph.specs.Graph.{Graph}
 use Rattle.firm_canon.specs.inner.Graphs.{IsSameGraph}
 use Rattle.firm_graph.specs.Ids.{view_of}
@@ -36,7 +39,7 @@ returns-in-Some-clause-chosen c =
     (view_of c.find_machine.new.graph) (price_of c.args.prices.now) c.args.chosen.now
     c.args.home c.in-Some.machine hub.same.case find.same.case hub.best find.best find.keeps c.requires.next
     c.requires.home
-    find.wide c.requires.own find.some
+    find.wide c.requires.own (find.some.0, find.some.1, find.some.2, find.shut)
 
 pub unreachable-requires : goal.unreachable-requires
 unreachable-requires c =
@@ -111,3 +114,90 @@ returns-clause-searched c =
     hub.searched c.find_machine.ensures.searched (omega arith))
     c.more_stay.ensures.searched
     (omega (arith, same_machines old mid hub.same))
+
+pub returns-then-not-try_hub-clause-spent : goal.returns-then-not-try_hub-clause-spent
+returns-then-not-try_hub-clause-spent c j l =
+    let old : View = view_of c.args.graph.now in
+    let new : View = view_of c.try_hub.new.graph in
+    let p : List Choice = c.args.chosen.now in
+    let hub = c.if-not-try_hub.ensures in
+    spent_on new.case p Wait (best new p) j (spent_at old new p j hub.same.case hub.best (c.requires.spent j l))
+
+pub returns-then-not-try_hub-clause-from : goal.returns-then-not-try_hub-clause-from
+returns-then-not-try_hub-clause-from c =
+    subst (λ (k : Case). c.args.from.now ≤ length k.slots) (sym c.if-not-try_hub.ensures.same.case.case) c.requires.from
+
+pub find_machine-requires-clause-from : goal.find_machine-requires-clause-from
+find_machine-requires-clause-from c =
+    subst (λ (k : Case). c.args.from.now ≤ length k.slots) (sym c.if-not-try_hub.ensures.same.case.case) c.requires.from
+
+pub find_machine-requires-clause-spent : goal.find_machine-requires-clause-spent
+find_machine-requires-clause-spent c j l =
+    let hub = c.if-not-try_hub.ensures in
+    spent_at (view_of c.args.graph.now) (view_of c.try_hub.new.graph) c.args.chosen.now j hub.same.case hub.best
+    (c.requires.spent j l)
+
+pub returns-in-Some-clause-from : goal.returns-in-Some-clause-from
+returns-in-Some-clause-from c =
+    let old : View = view_of c.args.graph.now in
+    let mid : View = view_of c.try_hub.new.graph in
+    let new : View = view_of c.find_machine.new.graph in
+    let hub = c.if-not-try_hub.ensures in
+    let find = c.in-Some.ensures in
+    let slots : length new.case.slots ≡ length old.case.slots =
+    ap (λ (k : Case). length k.slots) (find.same.case.case ∙ hub.same.case.case) in
+    let mids : length mid.case.slots ≡ length old.case.slots =
+    ap (λ (k : Case). length k.slots) hub.same.case.case in
+    ⊎_elim
+    (λ (e : c.reach.result ≡ c.args.from.now). omega (arith, e, slots, c.requires.from))
+    (λ (e : (c.args.home ≡ None) × (c.reach.result ≡ c.in-Some.machine)). omega (arith, e.1, slots, mids, find.some.0))
+    c.reach.ensures
+
+pub returns-in-Some-clause-spent : goal.returns-in-Some-clause-spent
+returns-in-Some-clause-spent c j l =
+    let old : View = view_of c.args.graph.now in
+    let mid : View = view_of c.try_hub.new.graph in
+    let new : View = view_of c.find_machine.new.graph in
+    let p : List Choice = c.args.chosen.now in
+    let n : ℕ = length p in
+    let m : ℕ = c.in-Some.machine in
+    let hub = c.if-not-try_hub.ensures in
+    let find = c.in-Some.ensures in
+    let next : n < length new.case.tasks = next_at mid new n find.same.case
+    (next_at old mid n hub.same.case c.requires.next) in
+    let home : c.args.home ≡ (demand new.case n).home = home_at mid new n c.args.home find.same.case
+    (home_at old mid n c.args.home hub.same.case c.requires.home) in
+    ⊎_elim
+    (λ (e : c.reach.result ≡ c.args.from.now).
+    spent_on new.case p (On m) (best new p) j
+    (spent_at mid new p j find.same.case find.best
+    (spent_at old mid p j hub.same.case hub.best (c.requires.spent j (omega (arith, l, e))))))
+    (λ (e : (c.args.home ≡ None) × (c.reach.result ≡ m)).
+    spent_held new.case p m (best new p) j next
+    (ap (λ (h : Option ℕ). runs_at h m) (sym home) ∙ find.some.1)
+    (beside_at mid new p j find.same.case find.best
+    (find.spent j (omega (arith, l, e.1)) (ap (λ (h : Option ℕ). runs_at h j) e.0))))
+    c.reach.ensures
+
+pub returns-clause-from : goal.returns-clause-from
+returns-clause-from c =
+    let hub = c.if-not-try_hub.ensures in
+    let find = c.in_default.ensures in
+    let stay = c.if-not-more_stay.ensures in
+    subst (λ (k : Case). c.args.from.now ≤ length k.slots)
+    (sym (stay.same.case.case ∙ (find.same.case.case ∙ hub.same.case.case))) c.requires.from
+
+pub returns-clause-spent : goal.returns-clause-spent
+returns-clause-spent c j l =
+    let old : View = view_of c.args.graph.now in
+    let mid : View = view_of c.try_hub.new.graph in
+    let new : View = view_of c.find_machine.new.graph in
+    let end : View = view_of c.more_stay.new.graph in
+    let p : List Choice = c.args.chosen.now in
+    let hub = c.if-not-try_hub.ensures in
+    let find = c.in_default.ensures in
+    let stay = c.if-not-more_stay.ensures in
+    spent_on end.case p (On c.in-Some-home.own) (best end p) j
+    (spent_at new end p j stay.same.case stay.tried.same_best
+    (spent_at mid new p j find.same.case find.best
+    (spent_at old mid p j hub.same.case hub.best (c.requires.spent j l))))

@@ -1,13 +1,14 @@
-use Rattle.std.proofs.Common.{◌≡◌, ◌+◌, ℕ, ◌≤◌, arith, refl, sym, ap, subst, ◌∙◌, ⊎_elim}
+use Rattle.std.proofs.Common.{◌≡◌, ◌+◌, ℕ, List, Option, arith, refl, sym, ap, subst, ◌∙◌, ⊎_elim}
 use Rattle.std.proofs.lemmas.Bool.{cases_eq}
 use Rattle.firm_paths.specs.PriceTable.{price_of}
-use Rattle.firm_graph.specs.declared.network.Key.TheVariants.{Through}
-use Rattle.firm_canon.specs.inner.Placed.{guests}
-use Rattle.firm_graph.specs.View.{View, flows}
-use Rattle.firm_canon.specs.inner.Choosing.{Shut, Keeps, best}
+use Rattle.firm_rules.specs.declared.rounds.Choice.{Choice}
+use Rattle.firm_rules.specs.Placement.{runs_at}
+use Rattle.firm_graph.specs.View.{View}
+use Rattle.firm_canon.specs.inner.Choosing.{IsSpentBeside, Keeps, best}
+use Rattle.firm_canon.proofs.Spent.{spent_beside, spent_shut, spent_few}
 use Rattle.firm_graph.specs.Graph.{Graph}
 use Rattle.firm_graph.specs.Ids.{view_of}
-use Rattle.firm_canon.proofs.Counts.{more_since, at_most}
+use Rattle.firm_canon.proofs.Counts.{none_made, more_since, at_most}
 use Rattle.firm_canon.proofs.choice.find_machine.Goals as goal
 
 pub returns-then-try_machine-clause-best : goal.returns-then-try_machine-clause-best
@@ -17,9 +18,19 @@ returns-then-try_machine-clause-best c = c.try_machine.ensures.best
 pub returns-clause-best : goal.returns-clause-best
 returns-clause-best c = ap (λ (h : Graph). best (view_of h) c.args.chosen.now) c.loop-machine.invariant.still
 
+pub loop-machine-init : goal.loop-machine-init
+loop-machine-init c = record {
+  still = refl;
+  searched = none_made c.args.scratch.now _ _;
+  in_range = c.requires.from;
+  spent = λ k l other. spent_beside (view_of c.args.graph.now).case c.args.chosen.now
+      (best (view_of c.args.graph.now) c.args.chosen.now) k (c.requires.spent k l);
+}
+
 pub loop-machine-preserved : goal.loop-machine-preserved
 loop-machine-preserved c =
     let old : View = view_of c.args.graph.now in
+    let p : List Choice = c.args.chosen.now in
     let machine : ℕ = c.loop-machine.machine in
     let same : view_of c.loop-machine.graph ≡ old = ap view_of c.loop-machine.invariant.still in
     let lost = c.if-try_machine.ensures in
@@ -29,19 +40,29 @@ loop-machine-preserved c =
           (ap (λ (h : Graph). h.rows) c.loop-machine.invariant.still)
           c.args.scratch.now c.loop-machine.scratch c.try_machine.new.scratch machine 1 (machine + 1)
           c.loop-machine.invariant.searched lost.searched (omega arith);
-      shut = λ k l other. ⊎_elim
-          (λ (e : k ≡ machine). subst (λ (z : ℕ). Shut old c.args.chosen.now z) (sym e)
-          (subst (λ (v : View). Shut v c.args.chosen.now machine) same (lost.shut refl)))
-          (λ (ne : k ≡ machine → ⊥). c.loop-machine.invariant.shut k (omega (arith, l, ne)) other)
-          (cases_eq k machine);
-      few = λ k l other. ⊎_elim
-          (λ (e : k ≡ machine). subst
-          (λ (z : ℕ). flows old (Through z) ≤ guests old.case c.args.chosen.now z) (sym e)
-          (subst (λ (v : View). flows v (Through machine) ≤ guests v.case c.args.chosen.now machine) same
-          (lost.none refl)))
-          (λ (ne : k ≡ machine → ⊥). c.loop-machine.invariant.few k (omega (arith, l, ne)) other)
+      in_range = omega (arith, c.loop-machine-test.true, c.machine_count-machine-end.ensures.case);
+      spent = λ k l other. ⊎_elim
+          (λ (e : k ≡ machine). subst (λ (z : ℕ). IsSpentBeside old.case p (best old p) z) (sym e)
+          (subst (λ (v : View). IsSpentBeside v.case p (best v p) machine) same (lost.spent refl)))
+          (λ (ne : k ≡ machine → ⊥). c.loop-machine.invariant.spent k (omega (arith, l, ne)) other)
           (cases_eq k machine);
     }
+
+pub returns-then-try_machine-clause-shut : goal.returns-then-try_machine-clause-shut
+returns-then-try_machine-clause-shut c k l other =
+    let old : View = view_of c.args.graph.now in
+    spent_shut old (price_of c.args.prices.now) c.args.chosen.now k c.requires.keeps c.requires.next
+    (ap (λ (h : Option ℕ). runs_at h k) (sym c.requires.home) ∙ other) (c.loop-machine.invariant.spent k l other)
+
+pub returns-then-try_machine-clause-spent : goal.returns-then-try_machine-clause-spent
+returns-then-try_machine-clause-spent c k l other = c.loop-machine.invariant.spent k l other
+
+pub returns-clause-none : goal.returns-clause-none
+returns-clause-none c j l other =
+    spent_few (view_of c.args.graph.now) (price_of c.args.prices.now) c.args.chosen.now j c.requires.keeps
+    c.requires.wide
+    (c.loop-machine.invariant.spent j
+    (omega (arith, l, c.loop-machine-test.false, c.machine_count-machine-end.ensures.case)) other)
 
 pub try_machine-requires-clause-keeps : goal.try_machine-requires-clause-keeps
 try_machine-requires-clause-keeps c =
@@ -64,4 +85,9 @@ returns-clause-keeps c =
 pub returns-clause-searched : goal.returns-clause-searched
 returns-clause-searched c =
     at_most c.args.scratch.now c.loop-machine.scratch c.loop-machine.machine _ _ c.loop-machine.invariant.searched
-    (omega (arith, c.loop-machine.auto.machine-end, c.machine_count-machine-end.ensures.rows))
+    (omega (
+      arith,
+      c.loop-machine.invariant.in_range,
+      c.machine_count-machine-end.ensures.case,
+      c.machine_count-machine-end.ensures.rows,
+    ))

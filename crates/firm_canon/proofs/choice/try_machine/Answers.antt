@@ -3,7 +3,8 @@ use Rattle.firm_net.specs.Net.{Net, IsArc}
 use Rattle.firm_paths.specs.PriceTable.{price_of}
 use Rattle.firm_graph.specs.declared.network.Key.TheVariants.{Through, Wide}
 use Rattle.firm_canon.proofs.Tries.{there_at, flow_is, low_is}
-use Rattle.firm_canon.proofs.Choices.{shut_through, through_held}
+use Rattle.firm_canon.proofs.Choices.{through_held}
+use Rattle.firm_canon.proofs.Spent.{spent_tried}
 use Rattle.firm_graph.specs.Ids.{view_of}
 use Rattle.firm_canon.proofs.choice.try_machine.Goals as goal
 
@@ -23,12 +24,10 @@ pub returns-clause-wide : goal.returns-clause-wide
 returns-clause-wide c = c.more_through.ensures.tried.kept (Wide (length c.args.chosen.now)) (1, omega arith, refl)
     (λ e. absurd cc) ∙ c.requires.wide
 
-pub returns-clause-shut : goal.returns-clause-shut
-returns-clause-shut c e =
-    shut_through (view_of c.args.graph.now) (view_of c.more_through.new.graph)
-    (price_of c.args.prices.now) c.args.chosen.now c.args.machine c.more_through.result c.more_through.ensures.tried
-    e
-    c.requires.wide c.requires.next
+pub returns-clause-spent : goal.returns-clause-spent
+returns-clause-spent c e =
+    spent_tried (view_of c.args.graph.now) (price_of c.args.prices.now) c.args.chosen.now c.args.machine
+    c.requires.keeps c.requires.next c.requires.machine (c.more_through.ensures.blocked e) c.requires.wide
     (omega (
       arith,
       c.if-flow_on-low_on.false,
@@ -38,7 +37,6 @@ returns-clause-shut c e =
           c.low_on.result c.net-2.ensures.value c.through_arc-arc.ensures c.low_on.ensures,
       c.requires.keeps.lows (Through c.args.machine) c.requires.machine,
     ))
-    c.requires.other
 
 pub returns-then-flow_on-low_on-clause-yes : goal.returns-then-flow_on-low_on-clause-yes
 returns-then-flow_on-low_on-clause-yes c e =
@@ -59,16 +57,4 @@ returns-clause-yes c e =
       c.more_through.ensures.tried.won e,
       through_held (view_of c.args.graph.now) (price_of c.args.prices.now) c.args.chosen.now
           c.args.machine c.requires.keeps c.requires.machine,
-    )
-
-pub returns-clause-none : goal.returns-clause-none
-returns-clause-none c e =
-    omega (
-      arith,
-      c.if-flow_on-low_on.false,
-      flow_is (view_of c.args.graph.now) c.net.result.now c.through_arc-arc.result
-          (Through c.args.machine) c.flow_on.result c.net.ensures.value c.through_arc-arc.ensures c.flow_on.ensures,
-      low_is (view_of c.args.graph.now) c.net-2.result.now c.through_arc-arc.result
-          (Through c.args.machine) c.low_on.result c.net-2.ensures.value c.through_arc-arc.ensures c.low_on.ensures,
-      c.requires.keeps.lows (Through c.args.machine) c.requires.machine,
     )

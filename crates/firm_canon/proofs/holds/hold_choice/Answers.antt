@@ -6,6 +6,7 @@ use Rattle.firm_graph.specs.declared.network.Key.TheVariants.{Through}
 use Rattle.firm_graph.specs.View.{View, IsSameCase}
 use Rattle.firm_canon.specs.inner.Choosing.{Keeps, IsChosen}
 use Rattle.firm_canon.proofs.Tries.{low_is}
+use Rattle.firm_canon.proofs.Spent.{best_held}
 use Rattle.firm_canon.proofs.Holdings.{held_wait, held_own, held_other, can_come}
 use Rattle.firm_graph.specs.Ids.{view_of}
 use Rattle.firm_canon.proofs.holds.hold_choice.Goals as goal
@@ -72,3 +73,27 @@ hold_at-requires-else-is_home-2-clause-allowed c =
     (low_is old c.net.result.now c.through_arc-arc.result (Through c.in-On.machine)
     c.low_on-low.result c.net.ensures.value c.through_arc-arc.ensures c.low_on-low.ensures)
     h.flows
+
+pub returns-in-Wait-clause-best : goal.returns-in-Wait-clause-best
+returns-in-Wait-clause-best c =
+    let h = c.hold_at.ensures in
+    best_held (view_of c.args.graph.now) (view_of c.hold_at.new.graph) c.args.chosen.now c.args.choice
+    h.same.case h.flows
+
+pub returns-then-is_home-clause-best : goal.returns-then-is_home-clause-best
+returns-then-is_home-clause-best c =
+    let h = c.hold_at-then-is_home.ensures in
+    best_held (view_of c.args.graph.now) (view_of c.hold_at-then-is_home.new.graph) c.args.chosen.now c.args.choice
+    h.same.case h.flows
+
+pub returns-else-is_home-clause-best : goal.returns-else-is_home-clause-best
+returns-else-is_home-clause-best c =
+    let h = c.hold_at-else-is_home.ensures in
+    let k = c.hold_at-else-is_home-2.ensures in
+    best_held (view_of c.args.graph.now) (view_of c.hold_at-else-is_home-2.new.graph) c.args.chosen.now c.args.choice
+    (record {
+      case = k.same.case.case ∙ h.same.case.case;
+      node = k.same.case.node ∙ h.same.case.node;
+      arc = k.same.case.arc ∙ h.same.case.arc;
+    })
+    (λ b. k.flows b ∙ h.flows b)
