@@ -6,6 +6,8 @@ mod best;
 mod choice;
 mod holds;
 mod reads;
+#[cfg(test)]
+mod tests;
 mod turns;
 
 pub use best::first_best;

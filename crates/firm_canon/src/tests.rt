@@ -1,0 +1,384 @@
+//! Rounds of small books made from a seed, beside a slow search over all placements.
+ghost use Rattle.std.specs.Prelude.{◌<◌};
+
+use crate::first_best;
+use firm_graph::Graph;
+use firm_paths::{Prices, Scratch};
+use firm_rules::{
+    Change, Changes, Choice, Limits, Name, Rows, Slots, Weight, changes_of, cost_of, legal,
+    ranks_before,
+};
+use std::alloc::{AllocError, Global};
+use std::process::Abort;
+
+/// A book has 3 machines at most and 5 tasks, so no more lists of choices than that.
+const MOST_PLACEMENTS: usize = 1_024;
+
+/// Numbers from a seed, each by one step of a linear congruential generator.
+#[derive(Drop)]
+struct Random {
+    state: u64,
+}
+
+impl Random {
+    /// A number below the bound.
+    fn below(&mut self, bound: u64) -> u64
+        requires { 0 < bound }
+        ensures { result < bound }
+    {
+        self.state = self
+            .state
+            .wrapping_mul(6_364_136_223_846_793_005)
+            .wrapping_add(1_442_695_040_888_963_407);
+        (self.state >> 33) % bound
+    }
+}
+
+/// The first of the cheapest placements that were seen, and how many cost as little.
+#[derive(Drop)]
+struct Best {
+    placement: Vec<Choice>,
+    cost: i64,
+    count: u64,
+}
+
+/// A waiting task tries the first machine, then each further one, and waits again.
+fn following(choice: Choice, machines: usize) -> Choice {
+    let place = match choice {
+        Choice::On(place) => place.saturating_add(1),
+        Choice::Wait => 0,
+    };
+    if (place as usize) < machines {
+        Choice::On(place)
+    } else {
+        Choice::Wait
+    }
+}
+
+/// The next list of choices; false where that is the first again, in which all wait.
+fn advance(placement: &mut [Choice], machines: usize) -> bool {
+    for choice in placement.iter_mut() {
+        *choice = following(*choice, machines);
+        if *choice != Choice::Wait {
+            return true;
+        }
+    }
+    false
+}
+
+/// Keeps a placement that is legal and costs less than the best, or as much and comes before it.
+fn consider(
+    rt: &impl Abort,
+    alloc: Global,
+    rows: &Rows,
+    best: &mut Best,
+    placement: &[Choice],
+) -> Result<(), AllocError> {
+    if !legal(rows, placement) {
+        return Ok(());
+    }
+    let cost = cost_of(rows, placement);
+    assert!(rt; legal(rows, &best.placement));
+    if best.cost < cost {
+        return Ok(());
+    }
+    let cheaper = cost < best.cost;
+    best.count = if cheaper {
+        1
+    } else {
+        best.count.saturating_add(1)
+    };
+    if cheaper || ranks_before(rows, placement, &best.placement) {
+        best.cost = cost;
+        best.placement = Vec::from_slice(alloc, placement)?;
+    }
+    Ok(())
+}
+
+/// The placement in which all wait.
+fn waiting(rt: &impl Abort, alloc: Global, rows: &Rows) -> Result<Best, AllocError> {
+    let placement = vec![in alloc; Choice::Wait; rows.task_count()]?;
+    assert!(rt; legal(rows, &placement));
+    let cost = cost_of(rows, &placement);
+    Ok(Best {
+        placement,
+        cost,
+        count: 1,
+    })
+}
+
+/// The first of the cheapest placements, sought among all lists of choices.
+fn first_of_all(rt: &impl Abort, alloc: Global, rows: &Rows) -> Result<Best, AllocError> {
+    let mut best = waiting(rt, alloc, rows)?;
+    let mut placement = vec![in alloc; Choice::Wait; rows.task_count()]?;
+    for _ in 0..MOST_PLACEMENTS {
+        if !advance(&mut placement, rows.machine_count()) {
+            return Ok(best);
+        }
+        consider(rt, alloc, rows, &mut best, &placement)?;
+    }
+    panic!(rt; "a book with too many placements")
+}
+
+/// What was met in the rounds of all books.
+#[derive(Clone, Copy)]
+struct Met {
+    ties: u64,
+    starts: u64,
+    moves: u64,
+    preemptions: u64,
+    evictions: u64,
+    full: u64,
+    free_of_churn: u64,
+}
+
+fn count_change(met: &mut Met, change: &Change) {
+    match change {
+        Change::Start(_, _) => met.starts = met.starts.saturating_add(1),
+        Change::Move(_, _, _) => met.moves = met.moves.saturating_add(1),
+        Change::Preempt(_, _) => met.preemptions = met.preemptions.saturating_add(1),
+    }
+}
+
+/// How many tasks have room on all machines.
+fn slots_of(rows: &Rows) -> u64 {
+    let mut slots = 0_u64;
+    for machine in rows.machines() {
+        slots = slots.saturating_add(u64::from(machine.slots.get()));
+    }
+    slots
+}
+
+fn count_round(met: &mut Met, rows: &Rows, changes: &Changes, least: u64) {
+    for change in changes.as_slice() {
+        count_change(met, change);
+    }
+    if 1 < least {
+        met.ties = met.ties.saturating_add(1);
+    }
+    if rows.running() == slots_of(rows) && rows.running() < rows.task_count() as u64 {
+        met.full = met.full.saturating_add(1);
+    }
+    if rows.limits().churn() == 0 {
+        met.free_of_churn = met.free_of_churn.saturating_add(1);
+    }
+}
+
+fn placement_of(alloc: Global, graph: &mut Graph) -> Result<Vec<Choice>, AllocError> {
+    let mut prices = Prices::new(alloc, graph.net())?;
+    let mut scratch = Scratch::new(alloc, graph.net())?;
+    first_best(alloc, graph, &mut prices, &mut scratch)
+}
+
+/// The round's placement is the one that the slow search finds; it becomes the tenant's own.
+fn expect_round(
+    rt: &impl Abort,
+    alloc: Global,
+    graph: &mut Graph,
+    met: &mut Met,
+) -> Result<(), AllocError> {
+    let best = first_of_all(rt, alloc, graph.rows())?;
+    let placement = placement_of(alloc, graph)?;
+    assert!(rt; placement.as_slice() == best.placement.as_slice());
+    assert!(rt; legal(graph.rows(), &placement));
+    let changes = changes_of(alloc, graph.rows(), &placement)?;
+    graph.settle(&placement);
+    count_round(met, graph.rows(), &changes, best.count);
+    Ok(())
+}
+
+fn add_machine(rt: &impl Abort, alloc: Global, graph: &mut Graph, name: Name, slots: u64) {
+    let Some(slots) = Slots::check(slots) else {
+        panic!(rt; "not slots")
+    };
+    if graph.rows().has_machine(name) {
+        return;
+    }
+    assert!(rt; graph.asked() < 1_000);
+    assert!(rt; graph.add_machine(alloc, name, slots).is_ok());
+}
+
+fn add_job(rt: &impl Abort, graph: &mut Graph, name: Name, weight: u64) {
+    let Some(weight) = Weight::check(weight) else {
+        panic!(rt; "not a weight")
+    };
+    if graph.rows().has_job(name) {
+        return;
+    }
+    assert!(rt; graph.asked() < 1_000);
+    assert!(rt; graph.add_job(name, weight).is_ok());
+}
+
+fn add_task(rt: &impl Abort, graph: &mut Graph, job: Name, name: Name) {
+    if !graph.rows().has_job(job) || graph.rows().has_task(name) {
+        return;
+    }
+    assert!(rt; graph.asked() < 1_000);
+    assert!(rt; graph.add_task(job, name).is_ok());
+}
+
+fn drain(graph: &mut Graph, name: Name, met: &mut Met) {
+    if graph.rows().has_machine(name) {
+        let evicted = graph.drop_machine(name);
+        met.evictions = met.evictions.saturating_add(u64::from(evicted));
+    }
+}
+
+fn remove_task(graph: &mut Graph, name: Name) {
+    if graph.rows().has_task(name) {
+        graph.drop_task(name);
+    }
+}
+
+fn name(rt: &impl Abort, bytes: &[u8]) -> Name {
+    let Some(name) = Name::read(bytes) else {
+        panic!(rt; "not a name")
+    };
+    name
+}
+
+/// The names of tasks; the first three are also those of machines and of jobs.
+fn names(rt: &impl Abort) -> [Name; 5] {
+    [
+        name(rt, b"a"),
+        name(rt, b"b"),
+        name(rt, b"c"),
+        name(rt, b"d"),
+        name(rt, b"e"),
+    ]
+}
+
+/// A machine of three slots, a job of some weight and three tasks, so that machines which come later are worth a move.
+fn open_book(rt: &impl Abort, alloc: Global, graph: &mut Graph, names: &[Name; 5], weight: u64) {
+    add_machine(rt, alloc, graph, names[0], 3);
+    add_job(rt, graph, names[0], weight);
+    add_task(rt, graph, names[0], names[0]);
+    add_task(rt, graph, names[0], names[1]);
+    add_task(rt, graph, names[0], names[2]);
+}
+
+/// A change of the rows, among 3 machines, 3 jobs and 5 tasks.
+fn change(
+    rt: &impl Abort,
+    alloc: Global,
+    graph: &mut Graph,
+    names: &[Name; 5],
+    random: &mut Random,
+    met: &mut Met,
+) {
+    let few = names[random.below(3) as usize];
+    let many = names[random.below(5) as usize];
+    match random.below(9) {
+        0 | 1 => add_machine(rt, alloc, graph, few, 1 + random.below(3)),
+        2 => add_job(rt, graph, few, 1 + random.below(9)),
+        3..=6 => add_task(rt, graph, few, many),
+        7 => drain(graph, few, met),
+        _ => remove_task(graph, many),
+    }
+}
+
+/// A book of thirty commands. Spread, churn and weights are small, so that many placements cost as much.
+fn run_book(
+    rt: &impl Abort,
+    alloc: Global,
+    limits: Limits,
+    names: &[Name; 5],
+    random: &mut Random,
+    met: &mut Met,
+) -> Result<(), AllocError> {
+    let mut graph = Graph::open(alloc, limits)?;
+    open_book(rt, alloc, &mut graph, names, 1 + random.below(9));
+    for _ in 0..30 {
+        if random.below(14) < 9 {
+            change(rt, alloc, &mut graph, names, random, met);
+        } else {
+            expect_round(rt, alloc, &mut graph, met)?;
+        }
+    }
+    Ok(())
+}
+
+fn random_limits(rt: &impl Abort, random: &mut Random) -> Limits {
+    let (spread, churn) = (random.below(4), random.below(3));
+    let Some(limits) = Limits::check(13, 40, 100, spread, churn) else {
+        panic!(rt; "not limits")
+    };
+    limits
+}
+
+/// Each kind of round is among them.
+fn expect_all_kinds(rt: &impl Abort, met: Met) {
+    for count in [met.ties, met.starts, met.full, met.free_of_churn] {
+        assert!(rt; 100 < count);
+    }
+    for count in [met.moves, met.preemptions, met.evictions] {
+        assert!(rt; 20 < count);
+    }
+}
+
+#[test]
+fn rounds_of_small_books_beside_all_their_placements(rt: HostRuntime) -> Result<(), AllocError> {
+    let mut random = Random { state: 2_026 };
+    let mut met = Met {
+        ties: 0,
+        starts: 0,
+        moves: 0,
+        preemptions: 0,
+        evictions: 0,
+        full: 0,
+        free_of_churn: 0,
+    };
+    let names = names(&rt);
+    for _ in 0..120 {
+        let limits = random_limits(&rt, &mut random);
+        run_book(&rt, rt.alloc(), limits, &names, &mut random, &mut met)?;
+    }
+    expect_all_kinds(&rt, met);
+    Ok(())
+}
+
+/// Machines of two slots and waiting tasks, so many of each, with names of two digits.
+fn add_many(rt: &impl Abort, alloc: Global, graph: &mut Graph, machines: u8, tasks: u8) {
+    let job = name(rt, b"j");
+    add_job(rt, graph, job, 100);
+    for number in 0..machines {
+        let digits = [b'0' + number / 10, b'0' + number % 10];
+        add_machine(rt, alloc, graph, name(rt, &digits), 2);
+    }
+    for number in 0..tasks {
+        let digits = [b'0' + number / 10, b'0' + number % 10];
+        add_task(rt, graph, job, name(rt, &digits));
+    }
+}
+
+/// A first round makes no more searches than that, and no more looks, and counts what it makes.
+fn expect_counts(
+    rt: &impl Abort,
+    alloc: Global,
+    limits: Option<Limits>,
+    machines: u8,
+    tasks: u8,
+    most: (u64, u64),
+) -> Result<(), AllocError> {
+    let Some(limits) = limits else {
+        panic!(rt; "not limits")
+    };
+    let mut graph = Graph::open(alloc, limits)?;
+    add_many(rt, alloc, &mut graph, machines, tasks);
+    let mut prices = Prices::new(alloc, graph.net())?;
+    let mut scratch = Scratch::new(alloc, graph.net())?;
+    let placement = first_best(alloc, &mut graph, &mut prices, &mut scratch)?;
+    assert!(rt; placement.len() == tasks as usize);
+    let (searches, looks) = (scratch.searches(), scratch.looks());
+    assert!(rt; u64::from(tasks) <= searches && searches <= most.0);
+    assert!(rt; u64::from(tasks) <= looks && looks <= most.1);
+    Ok(())
+}
+
+#[test]
+fn searches_and_looks_of_a_round_are_counted(rt: HostRuntime) -> Result<(), AllocError> {
+    let small = Limits::check(9, 24, 100, 1, 2);
+    expect_counts(&rt, rt.alloc(), small, 2, 2, (12, 312))?;
+    let large = Limits::check(33, 91, 100, 1, 2);
+    expect_counts(&rt, rt.alloc(), large, 10, 20, (280, 50_960))
+}
