@@ -11,7 +11,8 @@ use Rattle.firm_paths.specs.Laws.{EachArcHasItsRow, EachRowIsListed, ChangedRowI
 pub each_arc_has_its_row : EachArcHasItsRow
 each_arc_has_its_row net arc there =
     let own = listed_row arc_of net arc there in
-    subst (λ (a : Arc ℕ ArcId). (row : Row) × (row_at net a.key ≡ Some row) × (a ≡ arc_of a.key row)) (sym own.3) (own.1, own.2, refl)
+    subst (λ (a : Arc ℕ ArcId). (row : Row) × (row_at net a.key ≡ Some row) × (a ≡ arc_of a.key row)) (sym own.3)
+    (own.1, own.2, refl)
 
 pub each_row_is_listed : EachRowIsListed
 each_row_is_listed = row_listed arc_of

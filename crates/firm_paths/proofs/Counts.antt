@@ -1,5 +1,6 @@
 -- Counts of searches.
-use Rattle.std.proofs.Common.{◌≡◌, ◌+◌, ◌*◌, ◌∙◌, arith, refl}
+use Rattle.std.proofs.Common.{◌≡◌, ◌+◌, ◌-◌, ◌*◌, ◌^◌, ◌<◌, ◌≤◌, ◌∙◌, ⊎_elim, arith, refl}
+use Rattle.std.proofs.lemmas.Bool.{cases_lt}
 use Rattle.std.proofs.Math.Nat.{add-mul}
 use Rattle.firm_paths.specs.Laws.{NoneCountsNothing, SearchesAddUp}
 
@@ -7,7 +8,14 @@ pub none_counts_nothing : NoneCountsNothing
 none_counts_nothing scratch arcs = record {
   limits = refl;
   begins = refl;
-  searches = record { exact = λ _. omega arith; kept = omega arith; no_more = omega arith };
+  searches =
+      record {
+        exact = λ _. omega arith;
+        full = λ small past. omega (arith, small, past);
+        kept = omega arith;
+        no_more =
+            omega arith;
+      };
   looks_kept = omega arith;
   looks = omega arith;
 }
@@ -20,6 +28,18 @@ searches_add_up old now new made more arcs first then = record {
     exact = λ room.
         let now_is : now.searches ≡ old.searches + made = first.searches.exact (omega (arith, room)) in
         omega (arith, now_is, then.searches.exact (omega (arith, room, now_is)));
+    full = λ small past.
+        ⊎_elim
+        (λ (below : old.searches + made < 2 ^ 64).
+        let now_is : now.searches ≡ old.searches + made = first.searches.exact below in
+        then.searches.full (omega (arith, now_is, below)) (omega (arith, now_is, past)))
+        (λ (above : 2 ^ 64 ≤ old.searches + made).
+        let now_is : now.searches ≡ 2 ^ 64 - 1 = first.searches.full small above in
+        ⊎_elim
+        (λ (some : 0 < more). then.searches.full (omega (arith, now_is)) (omega (arith, now_is, some)))
+        (λ (none : more ≤ 0). omega (arith, now_is, none, then.searches.exact (omega (arith, now_is, none))))
+        (cases_lt 0 more))
+        (cases_lt (old.searches + made) (2 ^ 64));
     kept = omega (arith, first.searches.kept, then.searches.kept);
     no_more = omega (arith, first.searches.no_more, then.searches.no_more);
   };

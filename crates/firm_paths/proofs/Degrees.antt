@@ -1,12 +1,13 @@
 -- How many arcs leave or enter a node, and how many those of the settled nodes are together.
-use Rattle.std.proofs.Common.{◌≡◌, ℕ, ◌+◌, ◌*◌, ◌<◌, ◌≤◌, ◌==◌, Bool, true, false, cond, eqb, eqb-true, ap₂, Option, Some, None, List, [], ◌∷◌, length, set, arith, refl, sym, ap, subst, ◌∙◌, ⊎_elim}
+use Rattle.std.proofs.Common.{◌≡◌, ℕ, ◌+◌, ◌*◌, ◌<◌, ◌≤◌, ◌==◌, Bool, true, false, cond, eqb, eqb-true, ap₂, Option}
+use Rattle.std.proofs.Common.{Some, None, List, [], ◌∷◌, length, set, arith, refl, sym, ap, subst, ◌∙◌, ⊎_elim}
 use Rattle.std.specs.Prelude.{Contains, is_some, not, ◌&&◌}
 use Rattle.std.specs.List.{count_by}
 use Rattle.std.proofs.lemmas.List.{get_or-set_other, get_or-set_same}
 use Rattle.std.proofs.lemmas.List.Sums.{sum_by-cons, count_by-le-length}
 use Rattle.std.proofs.lemmas.Bool.{cases_Bool, cases_eq, cond-true, cond-false, eq-eqb, ne_eqb}
 use Rattle.firm_net.specs.Row.{Row}
-use Rattle.firm_net.specs.Net.{Net, IsNet, row_at, rows_of, with_its_row, arcs_on, same_arc, EachOnce}
+use Rattle.firm_net.specs.Net.{Net, IsNet, row_at, rows_of, with_its_row, arcs_on, same_arc, EachOnce, IsListed, end_of}
 use Rattle.firm_net.specs.Laws.{rows_counted}
 use Rattle.firm_net.specs.declared.row.NodeId.{NodeId}
 use Rattle.firm_net.specs.declared.row.ArcId.{ArcId}
@@ -27,7 +28,9 @@ abbrev but : (Arc ℕ ArcId → Bool) → ArcId → Arc ℕ ArcId → Bool
 but P a x = P x && not (same_arc x.key a)
 
 same_arc-self : (a : ArcId) → same_arc a a ≡ true
-same_arc-self a = and_both (a.id.place == a.id.place) (a.id.stamp == a.id.stamp) (eq-eqb a.id.place a.id.place refl) (eq-eqb a.id.stamp a.id.stamp refl)
+same_arc-self a =
+    and_both (a.id.place == a.id.place) (a.id.stamp == a.id.stamp) (eq-eqb a.id.place a.id.place refl)
+    (eq-eqb a.id.stamp a.id.stamp refl)
   where
     and_both : (p q : Bool) → p ≡ true → q ≡ true → (p && q) ≡ true
     and_both true true e f = refl
@@ -71,7 +74,8 @@ fewer P a (x ∷ xs) =
       and_le (P x) (not (same_arc x.key a)),
     )
 
-drop_one : (P : Arc ℕ ArcId → Bool) (a : ArcId) (xs : List (Arc ℕ ArcId)) (y : Arc ℕ ArcId) → Contains xs y → P y ≡ true → y.key ≡ a
+drop_one : (P : Arc ℕ ArcId → Bool) (a : ArcId) (xs : List (Arc ℕ ArcId)) (y : Arc ℕ ArcId) → Contains xs y → P y ≡ true
+    → y.key ≡ a
     → count_by (but P a) xs + 1 ≤ count_by P xs
 drop_one P a [] y c t e = absurd (omega (arith, c.1))
 drop_one P a (x ∷ xs) y c t e =
@@ -79,7 +83,8 @@ drop_one P a (x ∷ xs) y c t e =
     let r = sum_by-cons (λ (m : Arc ℕ ArcId). cond {A = ℕ} (P m) 1 0) x xs in
     ⊎_elim
     (λ (s : x ≡ y).
-    let same : same_arc x.key a ≡ true = subst (λ (z : ArcId). same_arc z a ≡ true) (sym (ap (λ (m : Arc ℕ ArcId). m.key) s ∙ e)) (same_arc-self a) in
+    let same : same_arc x.key a ≡ true =
+    subst (λ (z : ArcId). same_arc z a ≡ true) (sym (ap (λ (m : Arc ℕ ArcId). m.key) s ∙ e)) (same_arc-self a) in
     omega (
       arith,
       l,
@@ -93,7 +98,8 @@ drop_one P a (x ∷ xs) y c t e =
 
 -- as many arcs as a list has, each once, pass a test that each of them passes
 pub many : (P : Arc ℕ ArcId → Bool) (xs : List (Arc ℕ ArcId)) (net : Net) (ids : List ArcId) → EachOnce ids
-    → ((id : ArcId) (row : Row) → Contains ids id → row_at net id ≡ Some row → Contains xs (arc_of id row) × (P (arc_of id row) ≡ true))
+    → ((id : ArcId) (row : Row) → Contains ids id → row_at net id ≡ Some row
+    → Contains xs (arc_of id row) × (P (arc_of id row) ≡ true))
     → length (rows_of net ids) ≤ count_by P xs
 many P xs net [] once all = omega arith
 many P xs net (a ∷ ids) once all =
@@ -103,8 +109,11 @@ many P xs net (a ∷ ids) once all =
       | Some r ↦ λ e.
           let current = all a r (cons_first a ids) e in
           let rest = many (but P a) xs net ids once.1 (λ id row c is.
-          let was = all id row (cons_more a ids id c) is in
-          (was.0, and_both (P (arc_of id row)) (same_arc id a) was.1 (same_arc-other id a (λ same. once.0 (subst (Contains ids) same c))))) in
+          let was = all id row (cons_more a ids id c) is in (
+            was.0,
+            and_both (P (arc_of id row)) (same_arc id a) was.1
+                (same_arc-other id a (λ same. once.0 (subst (Contains ids) same c))),
+          )) in
           omega (arith, rest, drop_one P a xs (arc_of a r) current.0 current.1 refl)
     ] in
     step (row_at net a) refl
@@ -114,20 +123,30 @@ abbrev pub start_place : Way → Arc ℕ ArcId → ℕ
 start_place Forward a = a.tail
 start_place Backward a = a.head
 
-pub degree : (way : Way) (net : Net) (node : NodeId) → IsNet net
-    → length (rows_of net (arcs_on (side_of way) net node)) ≤ count_by (λ (a : Arc ℕ ArcId). eqb (start_place way a) node.id.place) (arcs_of net)
-degree Forward net node net_is =
-    many (λ (a : Arc ℕ ArcId). eqb a.tail node.id.place) (arcs_of net) net (arcs_on (side_of Forward) net node) (net_is.outgoing.once node)
+-- the lists of a net on the side of a way, and the end at which they list an arc
+listed_on : (way : Way) (net : Net) → IsNet net → IsListed (side_of way) net
+listed_on Forward net is = is.outgoing
+listed_on Backward net is = is.incoming
+
+starts_at : (way : Way) (id : ArcId) (row : Row) (node : NodeId) → end_of (side_of way) row ≡ node
+    → start_place way (arc_of id row) ≡ node.id.place
+starts_at Forward id row node at = ap (λ (n : NodeId). n.id.place) at
+starts_at Backward id row node at = ap (λ (n : NodeId). n.id.place) at
+
+-- no more arcs stand in the list of a node than leave it that way
+pub degree : (way : Way) (net : Net) (node : NodeId) (u : ℕ) → IsNet net → node.id.place ≡ u
+    → length (rows_of net (arcs_on (side_of way) net node))
+    ≤ count_by (λ (a : Arc ℕ ArcId). eqb (start_place way a) u) (arcs_of net)
+degree way net node u net_is is_place =
+    many (λ (a : Arc ℕ ArcId). eqb (start_place way a) u) (arcs_of net) net (arcs_on (side_of way) net node)
+    ((listed_on way net net_is).once node)
     (λ id row c is.
-    let at = net_is.outgoing.arcs node id c in
-    let same : at.0 ≡ row = let e : Some at.0 ≡ Some row = sym at.1 ∙ is in cc in
-    (listed net id row is, eq-eqb row.tail.id.place node.id.place (ap (λ (r : Row). r.tail.id.place) (sym same) ∙ ap (λ (n : NodeId). n.id.place) at.2)))
-degree Backward net node net_is =
-    many (λ (a : Arc ℕ ArcId). eqb a.head node.id.place) (arcs_of net) net (arcs_on (side_of Backward) net node) (net_is.incoming.once node)
-    (λ id row c is.
-    let at = net_is.incoming.arcs node id c in
-    let same : at.0 ≡ row = let e : Some at.0 ≡ Some row = sym at.1 ∙ is in cc in
-    (listed net id row is, eq-eqb row.head.id.place node.id.place (ap (λ (r : Row). r.head.id.place) (sym same) ∙ ap (λ (n : NodeId). n.id.place) at.2)))
+    let at = (listed_on way net net_is).arcs node id c in
+    let same : at.0 ≡ row = let e : Some at.0 ≡ Some row = sym at.1 ∙ is in cc in (
+      listed net id row is,
+      eq-eqb (start_place way (arc_of id row)) u
+          (starts_at way id row node (subst (λ (r : Row). end_of (side_of way) r ≡ node) same at.2) ∙ is_place),
+    ))
 
 -- the arcs that leave settled nodes, read one way
 abbrev pub followed_from : Way → Net → List NodeState → ℕ
@@ -151,11 +170,14 @@ count_sum P Q R (x ∷ xs) h =
     )
 
 -- one node more is settled: its arcs are added
-pub followed_more : (way : Way) (net : Net) (old new : List NodeState) (u : ℕ) → settled old u ≡ false → settled new u ≡ true
+pub followed_more : (way : Way) (net : Net) (old new : List NodeState) (u : ℕ) → settled old u ≡ false
+    → settled new u ≡ true
     → ((v : ℕ) → (v ≡ u → ⊥) → settled new v ≡ settled old v)
-    → followed_from way net old + count_by (λ (a : Arc ℕ ArcId). eqb (start_place way a) u) (arcs_of net) ≤ followed_from way net new
+    → followed_from way net old + count_by (λ (a : Arc ℕ ArcId). eqb (start_place way a) u) (arcs_of net)
+    ≤ followed_from way net new
 followed_more way net old new u open_ done others =
-    count_sum (λ (a : Arc ℕ ArcId). settled old (start_place way a)) (λ (a : Arc ℕ ArcId). eqb (start_place way a) u) (λ (a : Arc ℕ ArcId). settled new (start_place way a)) (arcs_of net)
+    count_sum (λ (a : Arc ℕ ArcId). settled old (start_place way a)) (λ (a : Arc ℕ ArcId). eqb (start_place way a) u)
+    (λ (a : Arc ℕ ArcId). settled new (start_place way a)) (arcs_of net)
     (λ x. let v : ℕ = start_place way x in
     ⊎_elim
     (λ (e : v ≡ u).
@@ -174,36 +196,42 @@ followed_more way net old new u open_ done others =
     (cases_eq v u))
 
 -- a round counts no more looks than the arcs of the node that it settles
-pub round_counted : (net : Net) (ms m2 m3 : List NodeState) (u : ℕ) (node : NodeId) (looks base : ℕ) → IsNet net → node.id.place ≡ u → u < length ms → settled ms u ≡ false
-    → IsLowered (set ms u (record (state ms u) { settled = true })) m2 → IsLowered m2 m3
-    → looks ≤ base + (followed_from Forward net ms + followed_from Backward net ms)
-    → looks + length (rows_of net (arcs_on Out net node)) + length (rows_of net (arcs_on In net node)) ≤ base + (followed_from Forward net m3 + followed_from Backward net m3)
-round_counted net ms m2 m3 u node looks base net_is at listed open_ low2 low3 few =
+pub round_counted : (net : Net) (ms m2 : List NodeState) (u : ℕ) (node : NodeId) (looks : ℕ) → IsNet net
+    → node.id.place ≡ u → u < length ms → settled ms u ≡ false
+    → IsLowered (set ms u (record (state ms u) { settled = true })) m2
+    → looks ≤ followed_from Forward net ms + followed_from Backward net ms
+    → looks + length (rows_of net (arcs_on Out net node)) + length (rows_of net (arcs_on In net node))
+    ≤ followed_from Forward net m2 + followed_from Backward net m2
+round_counted net ms m2 u node looks net_is at listed open_ low few =
     let none_ : NodeState = record { node = None; label = 0; settled = false; predecessor = None } in
     let done : NodeState = record (state ms u) { settled = true } in
-    let current : settled m3 u ≡ true = low3.settled u ∙ (low2.settled u ∙ ap (λ (m : NodeState). m.settled) (get_or-set_same ms u done none_ listed)) in
-    let others : (v : ℕ) → (v ≡ u → ⊥) → settled m3 v ≡ settled ms v =
-    λ v ne. low3.settled v ∙ (low2.settled v ∙ ap (λ (m : NodeState). m.settled) (get_or-set_other ms u v done none_ ne)) in
+    let current : settled m2 u ≡ true =
+    low.settled u ∙ ap (λ (m : NodeState). m.settled) (get_or-set_same ms u done none_ listed) in
+    let others : (v : ℕ) → (v ≡ u → ⊥) → settled m2 v ≡ settled ms v =
+    λ v ne. low.settled v ∙ ap (λ (m : NodeState). m.settled) (get_or-set_other ms u v done none_ ne) in
     omega (
       arith,
       few,
-      followed_more Forward net ms m3 u open_ current others,
-      followed_more Backward net ms m3 u open_ current others,
-      subst (λ (z : ℕ). length (rows_of net (arcs_on Out net node)) ≤ count_by (λ (a : Arc ℕ ArcId). eqb (start_place Forward a) z) (arcs_of net)) at (degree Forward net node net_is),
-      subst (λ (z : ℕ). length (rows_of net (arcs_on In net node)) ≤ count_by (λ (a : Arc ℕ ArcId). eqb (start_place Backward a) z) (arcs_of net)) at (degree Backward net node net_is),
+      followed_more Forward net ms m2 u open_ current others,
+      followed_more Backward net ms m2 u open_ current others,
+      degree Forward net node u net_is at,
+      degree Backward net node u net_is at,
     )
 
 -- there are no more arcs than places
 pub arcs_few : (net : Net) → length (arcs_of net) ≤ capacity_of net.arcs
-arcs_few net = omega (arith, rows_counted arc_of net, count_by-le-length (λ (o : Option (ℕ × Row)). is_some o) net.arcs.held)
+arcs_few net =
+    omega (arith, rows_counted arc_of net, count_by-le-length (λ (o : Option (ℕ × Row)). is_some o) net.arcs.held)
 
-pub start_counted : (net : Net) (looks : ℕ) (ms : List NodeState) → looks ≤ looks + (followed_from Forward net ms + followed_from Backward net ms)
-start_counted net looks ms = omega arith
+pub all_counted : (net : Net) (ms : List NodeState) (looks : ℕ)
+    → looks ≤ followed_from Forward net ms + followed_from Backward net ms → looks ≤ 2 * length (arcs_of net)
+all_counted net ms looks few = omega (arith, few, followed_few Forward net ms, followed_few Backward net ms)
 
-pub all_counted : (net : Net) (ms : List NodeState) (looks base : ℕ) → looks ≤ base + (followed_from Forward net ms + followed_from Backward net ms)
-    → looks ≤ base + 2 * length (arcs_of net)
-all_counted net ms looks base few = omega (arith, few, followed_few Forward net ms, followed_few Backward net ms)
-
-pub degree_few : (way : Way) (net : Net) (node : NodeId) → IsNet net → length (rows_of net (arcs_on (side_of way) net node)) ≤ length (arcs_of net)
+pub degree_few : (way : Way) (net : Net) (node : NodeId) → IsNet net
+    → length (rows_of net (arcs_on (side_of way) net node)) ≤ length (arcs_of net)
 degree_few way net node net_is =
-    omega (arith, degree way net node net_is, count_by-le-length (λ (a : Arc ℕ ArcId). eqb (start_place way a) node.id.place) (arcs_of net))
+    omega (
+      arith,
+      degree way net node node.id.place net_is refl,
+      count_by-le-length (λ (a : Arc ℕ ArcId). eqb (start_place way a) node.id.place) (arcs_of net),
+    )

@@ -1,6 +1,5 @@
 pub mod Trees
 pub mod Tournament
-pub mod Forgets
 pub mod Listed
 pub mod ArcRows
 pub mod Counts

@@ -10,7 +10,8 @@ use Rattle.firm_paths.specs.declared.search.NodeState.{NodeState}
 abbrev pub below : ℕ → List ℕ → List ℕ
 below base less = map (λ (l : ℕ). base - l) less
 
-pub below_at : (base : ℕ) (less : List ℕ) (v : ℕ) → v < length less → slice_index (below base less) v ≡ base - slice_index less v
+pub below_at : (base : ℕ) (less : List ℕ) (v : ℕ) → v < length less
+    → slice_index (below base less) v ≡ base - slice_index less v
 below_at base less v l = get_or-map (λ (l : ℕ). base - l) less v 0 0 l
 
 pub below_zero : (less : List ℕ) (v : ℕ) → slice_index (below 0 less) v ≡ 0
@@ -20,10 +21,13 @@ below_zero less v =
     (λ (p : length less ≤ v). get_or_past (below 0 less) v 0 (omega (arith, p, length-map less (λ (l : ℕ). 0 - l))))
     (cases_lt v (length less))
 
-pub raised_below : (base new_base distance goal : ℕ) (less new_less : List ℕ) (ms : List NodeState) → length new_less ≡ length less → goal < length less
+pub raised_below : (base new_base distance goal : ℕ) (less new_less : List ℕ) (ms : List NodeState)
+    → length new_less ≡ length less → goal < length less
     → ((v : ℕ) → slice_index less v ≤ base)
-    → ((v : ℕ) → v < length less → settled ms v ≡ true → label ms v ≤ base - slice_index less goal + distance → new_base - slice_index new_less v ≡ label ms v)
-    → ((v : ℕ) → v < length less → settled ms v ≡ false → slice_index less goal ≤ slice_index less v → new_base - slice_index new_less v ≡ base - slice_index less v + distance)
+    → ((v : ℕ) → v < length less → settled ms v ≡ true → label ms v ≤ base - slice_index less goal + distance
+    → new_base - slice_index new_less v ≡ label ms v)
+    → ((v : ℕ) → v < length less → settled ms v ≡ false → slice_index less goal ≤ slice_index less v
+    → new_base - slice_index new_less v ≡ base - slice_index less v + distance)
     → AreRaised (below base less) ms goal distance (below new_base new_less)
 raised_below base new_base distance goal less new_less ms lengths listed within at_settled at_others =
     let size : length (below base less) ≡ length less = length-map less (λ (l : ℕ). base - l) in
@@ -40,6 +44,13 @@ raised_below base new_base distance goal less new_less ms lengths listed within 
             below_at new_base new_less v (omega (arith, l, lengths, size)),
             below_at base less v (omega (arith, l, size)),
             at_others v (omega (arith, l, size)) s
-                (omega (arith, low, below_at base less goal listed, below_at base less v (omega (arith, l, size)), within v, within goal)),
+                (omega (
+                  arith,
+                  low,
+                  below_at base less goal listed,
+                  below_at base less v (omega (arith, l, size)),
+                  within v,
+                  within goal,
+                )),
           );
     }

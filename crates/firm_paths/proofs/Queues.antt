@@ -1,5 +1,6 @@
 -- The queue and the visits beside the states: at the start, when a node is settled, and at the end.
-use Rattle.std.proofs.Common.{◌≡◌, ℕ, ◌+◌, ◌<◌, true, false, Some, None, List, [], ◌∷◌, ◌++◌, length, set, arith, sym, ap, ◌∙◌, inl, inr, ⊎_elim}
+use Rattle.std.proofs.Common.{◌≡◌, ℕ, ◌+◌, ◌<◌, true, false, Some, None, List, [], ◌∷◌, ◌++◌, length, set, arith, sym}
+use Rattle.std.proofs.Common.{ap, ◌∙◌, inl, inr, ⊎_elim}
 use Rattle.std.specs.Prelude.{slice_index, is_some}
 use Rattle.std.proofs.lemmas.List.{get_or-set_other, get_or-set_same, length-set}
 use Rattle.std.proofs.lemmas.Bool.{cases_eq, cases_Bool, both_ways}
@@ -16,7 +17,8 @@ abbrev none_ : NodeState
 none_ = record { node = None; label = 0; settled = false; predecessor = None }
 
 -- the least key is that of the nearest open node
-pub queue_nearest : (price : ℕ → ℕ) (ms : List NodeState) (keys : List ℕ) (u : ℕ) → IsQueued price ms keys → IsLeastKey keys u
+pub queue_nearest : (price : ℕ → ℕ) (ms : List NodeState) (keys : List ℕ) (u : ℕ) → IsQueued price ms keys
+    → IsLeastKey keys u
     → IsNearestBelow price ms (length ms) u
 queue_nearest price ms keys u q least =
     let at = q.shut u least.listed least.present in
@@ -32,32 +34,54 @@ pub queue_none : (price : ℕ → ℕ) (ms : List NodeState) (keys : List ℕ) �
     → (v : ℕ) → v < length ms → known ms v ≡ true → settled ms v ≡ true
 queue_none price ms keys q none v l k =
     ⊎_elim (λ (s : settled ms v ≡ true). s)
-    (λ (s : settled ms v ≡ false). absurd (omega (arith, none v (omega (arith, l, q.size)), q.open_ v k s, q.below v k s)))
+    (λ (s : settled ms v ≡ false).
+    absurd (omega (arith, none v (omega (arith, l, q.size)), q.open_ v k s, q.below v k s)))
     (cases_Bool (settled ms v))
 
-pub queue_start : (price : ℕ → ℕ) (ms : List NodeState) (keys : List ℕ) (from : ℕ) (node : NodeId) → from < length ms → price from < 18446744073709551615
+pub queue_start : (price : ℕ → ℕ) (ms : List NodeState) (keys : List ℕ) (from : ℕ) (node : NodeId) → from < length ms
+    → price from < 18446744073709551615
     → IsIdle ms keys
-    → IsQueued price (set ms from (record { node = Some node; label = price from; settled = false; predecessor = None })) (set keys from 0)
+    → IsQueued price
+    (set ms from (record { node = Some node; label = price from; settled = false; predecessor = None }))
+    (set keys from 0)
 queue_start price ms keys from node listed low idle =
     let first : NodeState = record { node = Some node; label = price from; settled = false; predecessor = None } in
     let ms1 : List NodeState = set ms from first in
     let same : state ms1 from ≡ first = get_or-set_same ms from first none_ listed in
-    let key : slice_index (set keys from 0) from ≡ 0 = get_or-set_same keys from 0 0 (omega (arith, listed, idle.size)) in
+    let key : slice_index (set keys from 0) from ≡ 0 =
+    get_or-set_same keys from 0 0 (omega (arith, listed, idle.size)) in
     let only : (v : ℕ) → known ms1 v ≡ true → v ≡ from =
     λ v k. ⊎_elim (λ (e : v ≡ from). e)
-    (λ (ne : v ≡ from → ⊥). absurd (both_ways (known ms v) (idle.unknown v).0 (sym (ap (λ (m : NodeState). is_some m.node) (get_or-set_other ms from v first none_ ne)) ∙ k))) (cases_eq v from) in
+    (λ (ne : v ≡ from
+    → ⊥). absurd (both_ways (known ms v) (idle.unknown v).0
+    (sym (ap (λ (m : NodeState). is_some m.node) (get_or-set_other ms from v first none_ ne)) ∙ k)))
+    (cases_eq v from) in
     let at_from : label ms1 from ≡ price from = ap (λ (m : NodeState). m.label) same in
     record {
       size = omega (arith, length-set keys from 0, length-set ms from first, idle.size);
-      open_ = λ v k s. omega (arith, ap (slice_index (set keys from 0)) (only v k), key, ap (label ms1) (only v k), at_from, ap price (only v k));
+      open_ = λ v k s. omega (
+        arith,
+        ap (slice_index (set keys from 0)) (only v k),
+        key,
+        ap (label ms1) (only v k),
+        at_from,
+        ap price (only v k),
+      );
       below = λ v k s. omega (arith, ap (label ms1) (only v k), at_from, low);
       shut = λ v l p. ⊎_elim
-          (λ (e : v ≡ from). (ap (known ms1) e ∙ ap (λ (m : NodeState). is_some m.node) same, ap (settled ms1) e ∙ ap (λ (m : NodeState). m.settled) same))
-          (λ (ne : v ≡ from → ⊥). absurd (omega (arith, p, get_or-set_other keys from v 0 0 ne, idle.empty v (omega (arith, l, length-set keys from 0)))))
+          (λ (e : v ≡ from). (
+            ap (known ms1) e ∙ ap (λ (m : NodeState). is_some m.node) same,
+            ap (settled ms1) e
+                ∙ ap (λ (m : NodeState). m.settled) same,
+          ))
+          (λ (ne : v ≡ from
+          → ⊥). absurd (omega
+          (arith, p, get_or-set_other keys from v 0 0 ne, idle.empty v (omega (arith, l, length-set keys from 0)))))
           (cases_eq v from);
     }
 
-pub queue_settle : (price : ℕ → ℕ) (ms : List NodeState) (keys : List ℕ) (u : ℕ) → u < length ms → IsQueued price ms keys
+pub queue_settle : (price : ℕ → ℕ) (ms : List NodeState) (keys : List ℕ) (u : ℕ) → u < length ms
+    → IsQueued price ms keys
     → IsQueued price (set ms u (record (state ms u) { settled = true })) (set keys u 18446744073709551615)
 queue_settle price ms keys u listed q =
     let done : NodeState = record (state ms u) { settled = true } in
@@ -74,11 +98,17 @@ queue_settle price ms keys u listed q =
             arith,
             get_or-set_other keys u v 18446744073709551615 0 (away v s),
             ap (λ (m : NodeState). m.label) o,
-            q.open_ v (sym (ap (λ (m : NodeState). is_some m.node) o) ∙ k) (sym (ap (λ (m : NodeState). m.settled) o) ∙ s),
+            q.open_ v (sym (ap (λ (m : NodeState). is_some m.node) o) ∙ k)
+                (sym (ap (λ (m : NodeState). m.settled) o) ∙ s),
           );
       below = λ v k s.
           let o = other v (away v s) in
-          omega (arith, ap (λ (m : NodeState). m.label) o, q.below v (sym (ap (λ (m : NodeState). is_some m.node) o) ∙ k) (sym (ap (λ (m : NodeState). m.settled) o) ∙ s));
+          omega (
+            arith,
+            ap (λ (m : NodeState). m.label) o,
+            q.below v (sym (ap (λ (m : NodeState). is_some m.node) o) ∙ k)
+                (sym (ap (λ (m : NodeState). m.settled) o) ∙ s),
+          );
       shut = λ v l p. ⊎_elim
           (λ (e : v ≡ u). absurd (omega (
             arith,
@@ -88,18 +118,27 @@ queue_settle price ms keys u listed q =
           )))
           (λ (ne : v ≡ u → ⊥).
           let o = other v ne in
-          let was = q.shut v (omega (arith, l, length-set keys u 18446744073709551615)) (omega (arith, p, get_or-set_other keys u v 18446744073709551615 0 ne)) in
+          let was =
+          q.shut v (omega (arith, l, length-set keys u 18446744073709551615))
+          (omega (arith, p, get_or-set_other keys u v 18446744073709551615 0 ne)) in
           (ap (λ (m : NodeState). is_some m.node) o ∙ was.0, ap (λ (m : NodeState). m.settled) o ∙ was.1))
           (cases_eq v u);
     }
 
-pub visited_start : (ms : List NodeState) (from : ℕ) (first : NodeState) → ((v : ℕ) → (known ms v ≡ false) × (settled ms v ≡ false)) → first.settled ≡ false → from < length ms
+pub visited_start : (ms : List NodeState) (from : ℕ) (first : NodeState)
+    → ((v : ℕ) → (known ms v ≡ false) × (settled ms v ≡ false)) → first.settled ≡ false → from < length ms
     → AreVisited (set ms from first) []
 visited_start ms from first none free listed = record {
   places = λ i l. absurd (omega (arith, l));
   settled = λ v s. ⊎_elim
-      (λ (e : v ≡ from). absurd (both_ways (settled (set ms from first) v) (ap (settled (set ms from first)) e ∙ (ap (λ (m : NodeState). m.settled) (get_or-set_same ms from first none_ listed) ∙ free)) s))
-      (λ (ne : v ≡ from → ⊥). absurd (both_ways (settled (set ms from first) v) (ap (λ (m : NodeState). m.settled) (get_or-set_other ms from v first none_ ne) ∙ (none v).1) s))
+      (λ (e : v
+      ≡ from). absurd (both_ways (settled (set ms from first) v)
+      (ap (settled (set ms from first)) e
+      ∙ (ap (λ (m : NodeState). m.settled) (get_or-set_same ms from first none_ listed) ∙ free))
+      s))
+      (λ (ne : v ≡ from
+      → ⊥). absurd (both_ways (settled (set ms from first) v)
+      (ap (λ (m : NodeState). m.settled) (get_or-set_other ms from v first none_ ne) ∙ (none v).1) s))
       (cases_eq v from);
 }
 
@@ -111,10 +150,16 @@ visited_more vs x v w = record {
   place = ap (λ (y : Visit). y.place) (visit_before vs x w.number w.listed) ∙ w.place;
 }
 
-pub visited_push : (ms : List NodeState) (vs : List Visit) (x : Visit) → x.place < length ms → AreVisited ms vs → AreVisited ms (vs ++ x ∷ [])
+pub visited_push : (ms : List NodeState) (vs : List Visit) (x : Visit) → x.place < length ms → AreVisited ms vs
+    → AreVisited ms (vs ++ x ∷ [])
 visited_push ms vs x l a = record {
   places = λ i p. ⊎_elim
-      (λ (e : i ≡ length vs). omega (arith, l, ap (λ (z : ℕ). (visit (vs ++ x ∷ []) z).place) e, ap (λ (y : Visit). y.place) (visit_last vs x)))
+      (λ (e : i ≡ length vs). omega (
+        arith,
+        l,
+        ap (λ (z : ℕ). (visit (vs ++ x ∷ []) z).place) e,
+        ap (λ (y : Visit). y.place) (visit_last vs x),
+      ))
       (λ (ne : i ≡ length vs → ⊥).
       let before : i < length vs = omega (arith, p, length_push vs x, ne) in
       omega (arith, a.places i before, ap (λ (y : Visit). y.place) (visit_before vs x i before)))
@@ -122,7 +167,8 @@ visited_push ms vs x l a = record {
   settled = λ v s. visited_more vs x v (a.settled v s);
 }
 
-pub visited_settle : (ms : List NodeState) (vs : List Visit) (x : Visit) (u : ℕ) → x.place ≡ u → u < length ms → AreVisited ms vs
+pub visited_settle : (ms : List NodeState) (vs : List Visit) (x : Visit) (u : ℕ) → x.place ≡ u → u < length ms
+    → AreVisited ms vs
     → AreVisited (set ms u (record (state ms u) { settled = true })) (vs ++ x ∷ [])
 visited_settle ms vs x u at l a =
     let done : NodeState = record (state ms u) { settled = true } in
@@ -130,18 +176,27 @@ visited_settle ms vs x u at l a =
     record {
       places = λ i p. omega (arith, pushed.places i p, length-set ms u done);
       settled = λ v s. ⊎_elim
-          (λ (e : v ≡ u). record { number = length vs; from = omega arith; listed = omega (arith, length_push vs x); place = ap (λ (y : Visit). y.place) (visit_last vs x) ∙ (at ∙ sym e) })
-          (λ (ne : v ≡ u → ⊥). pushed.settled v (sym (ap (λ (m : NodeState). m.settled) (get_or-set_other ms u v done none_ ne)) ∙ s))
+          (λ (e : v ≡ u). record {
+            number = length vs;
+            from = omega arith;
+            listed =
+                omega (arith, length_push vs x);
+            place = ap (λ (y : Visit). y.place) (visit_last vs x) ∙ (at ∙ sym e);
+          })
+          (λ (ne : v ≡ u → ⊥).
+          pushed.settled v (sym (ap (λ (m : NodeState). m.settled) (get_or-set_other ms u v done none_ ne)) ∙ s))
           (cases_eq v u);
     }
 
-pub visited_kept : (old new : List NodeState) (vs : List Visit) → IsLowered old new → AreVisited old vs → AreVisited new vs
+pub visited_kept : (old new : List NodeState) (vs : List Visit) → IsLowered old new → AreVisited old vs
+    → AreVisited new vs
 visited_kept old new vs lowers a = record {
   places = λ i l. omega (arith, a.places i l, lowers.length);
   settled = λ v s. a.settled v (sym (lowers.settled v) ∙ s);
 }
 
-pub all_left : (price : ℕ → ℕ) (ms : List NodeState) (keys : List ℕ) (vs : List Visit) → IsQueued price ms keys → AreVisited ms vs → AreLeft ms keys vs 0
+pub all_left : (price : ℕ → ℕ) (ms : List NodeState) (keys : List ℕ) (vs : List Visit) → IsQueued price ms keys
+    → AreVisited ms vs → AreLeft ms keys vs 0
 all_left price ms keys vs q a v =
     ⊎_elim
     (λ (s : settled ms v ≡ true). inr (inl (a.settled v s)))
@@ -153,7 +208,8 @@ all_left price ms keys vs q a v =
     (cases_Bool (settled ms v))
 
 -- an open node at the present distance is a nearest one, so the same round settles it with no queue
-pub tight_nearest : (net : Net) (price : ℕ → ℕ) (from goal : ℕ) (ms : List NodeState) (vs : List Visit) (s : IsSearching net price from goal ms vs) (u : ℕ)
+pub tight_nearest : (net : Net) (price : ℕ → ℕ) (from goal : ℕ) (ms : List NodeState) (vs : List Visit)
+    (s : IsSearching net price from goal ms vs) (u : ℕ)
     → known ms u ≡ true → settled ms u ≡ false → label ms u ≡ price u + s.near → IsNearestBelow price ms (length ms) u
 tight_nearest net price from goal ms vs s u k o at = record {
   listed = known_listed ms u k;

@@ -1,5 +1,6 @@
 -- The arcs of the nodes that had their turn in the order of the visits, counted.
-use Rattle.std.proofs.Common.{◌≡◌, ℕ, zero, suc, ◌+◌, ◌*◌, ◌<◌, ◌≤◌, Bool, true, false, cond, eqb, List, length, arith, refl, sym, ap, subst, ◌∙◌, ⊎_elim}
+use Rattle.std.proofs.Common.{◌≡◌, ℕ, zero, suc, ◌+◌, ◌*◌, ◌<◌, ◌≤◌, Bool, true, false, cond, eqb, List, length, arith}
+use Rattle.std.proofs.Common.{refl, sym, ap, subst, ◌∙◌, ⊎_elim}
 use Rattle.std.specs.Prelude.{◌||◌}
 use Rattle.std.specs.List.{count_by}
 use Rattle.std.proofs.lemmas.Bool.{cases_eq, cond-true, cond-false, eq-eqb, ne_eqb}
@@ -12,7 +13,7 @@ use Rattle.firm_net.specs.declared.row.Way.{Way}
 use Rattle.firm_net.specs.declared.row.Way.TheVariants.{Forward, Backward}
 use Rattle.firm_paths.specs.Network.{Arc}
 use Rattle.firm_paths.specs.NetArcs.{arcs_of}
-use Rattle.firm_paths.specs.inner.Search.{visit}
+use Rattle.firm_paths.specs.inner.Search.{visit, side_of}
 use Rattle.firm_paths.specs.declared.search.Visit.{Visit}
 use Rattle.firm_paths.proofs.Degrees.{start_place, degree, count_sum}
 
@@ -35,7 +36,8 @@ turned_not vs (suc n) v h =
     or_right (eqb (visit vs n).place v) (turned vs n v) (ne_eqb (visit vs n).place v (h n (omega arith)))
     ∙ turned_not vs n v (λ i l. h i (omega (arith, l)))
 
-turned_kept : (old new : List Visit) (n v : ℕ) → ((i : ℕ) → i < n → (visit new i).place ≡ (visit old i).place) → turned new n v ≡ turned old n v
+turned_kept : (old new : List Visit) (n v : ℕ) → ((i : ℕ) → i < n → (visit new i).place ≡ (visit old i).place)
+    → turned new n v ≡ turned old n v
 turned_kept old new zero v h = refl
 turned_kept old new (suc n) v h =
     ap (λ (p : ℕ). eqb p v || turned new n v) (h n (omega arith))
@@ -45,10 +47,13 @@ abbrev pub turned_from : Way → Net → List Visit → ℕ → ℕ
 turned_from way net vs n = count_by (λ (a : Arc ℕ ArcId). turned vs n (start_place way a)) (arcs_of net)
 
 turned_more : (way : Way) (net : Net) (old new : List Visit) (n u : ℕ) → (visit old n).place ≡ u
-    → ((i : ℕ) → i < n → (visit old i).place ≡ u → ⊥) → ((i : ℕ) → i < suc n → (visit new i).place ≡ (visit old i).place)
-    → turned_from way net old n + count_by (λ (a : Arc ℕ ArcId). eqb (start_place way a) u) (arcs_of net) ≤ turned_from way net new (suc n)
+    → ((i : ℕ) → i < n → (visit old i).place ≡ u → ⊥)
+    → ((i : ℕ) → i < suc n → (visit new i).place ≡ (visit old i).place)
+    → turned_from way net old n + count_by (λ (a : Arc ℕ ArcId). eqb (start_place way a) u) (arcs_of net)
+    ≤ turned_from way net new (suc n)
 turned_more way net old new n u at apart same =
-    count_sum (λ (a : Arc ℕ ArcId). turned old n (start_place way a)) (λ (a : Arc ℕ ArcId). eqb (start_place way a) u) (λ (a : Arc ℕ ArcId). turned new (suc n) (start_place way a)) (arcs_of net)
+    count_sum (λ (a : Arc ℕ ArcId). turned old n (start_place way a)) (λ (a : Arc ℕ ArcId). eqb (start_place way a) u)
+    (λ (a : Arc ℕ ArcId). turned new (suc n) (start_place way a)) (arcs_of net)
     (λ x. let v : ℕ = start_place way x in
     let current : (visit new n).place ≡ u = same n (omega arith) ∙ at in
     let rest : turned new n v ≡ turned old n v = turned_kept old new n v (λ i l. same i (omega (arith, l))) in
@@ -56,28 +61,34 @@ turned_more way net old new n u at apart same =
     (λ (e : v ≡ u).
     omega (
       arith,
-      cond-true {A = ℕ} (turned new (suc n) v) 1 0 (or_left (eqb (visit new n).place v) (turned new n v) (eq-eqb (visit new n).place v (current ∙ sym e))),
+      cond-true {A = ℕ} (turned new (suc n) v) 1 0
+          (or_left (eqb (visit new n).place v) (turned new n v) (eq-eqb (visit new n).place v (current ∙ sym e))),
       cond-false {A = ℕ} (turned old n v) 1 0 (turned_not old n v (λ i l f. apart i l (f ∙ e))),
       cond-true {A = ℕ} (eqb v u) 1 0 (eq-eqb v u e),
     ))
     (λ (ne : v ≡ u → ⊥).
     omega (
       arith,
-      ap (λ (b : Bool). cond {A = ℕ} b 1 0) (or_right (eqb (visit new n).place v) (turned new n v) (ne_eqb (visit new n).place v (λ e. ne (sym e ∙ current))) ∙ rest),
+      ap (λ (b : Bool). cond {A = ℕ} b 1 0)
+          (or_right (eqb (visit new n).place v) (turned new n v)
+          (ne_eqb (visit new n).place v (λ e. ne (sym e ∙ current))) ∙ rest),
       cond-false {A = ℕ} (eqb v u) 1 0 (ne_eqb v u ne),
     ))
     (cases_eq v u))
 
 -- a turn counts no more looks than its node has arcs
-pub turn_counted : (net : Net) (old v2 new : List Visit) (n next u : ℕ) (node : NodeId) (looks base : ℕ) → IsNet net → node.id.place ≡ u → next ≡ n + 1
-    → (visit old n).place ≡ u → n < length old → ((i j : ℕ) → i < j → j < length old → (visit old i).place ≡ (visit old j).place → ⊥)
-    → ((i : ℕ) → i < length old → visit v2 i ≡ visit old i) → length old ≤ length v2 → ((i : ℕ) → i < length v2 → visit new i ≡ visit v2 i)
-    → looks ≤ base + (turned_from Forward net old n + turned_from Backward net old n)
-    → looks + length (rows_of net (arcs_on Out net node)) + length (rows_of net (arcs_on In net node)) ≤ base + (turned_from Forward net new next + turned_from Backward net new next)
-turn_counted net old v2 new n next u node looks base net_is at step current listed apart same2 more same3 few =
+pub turn_counted : (net : Net) (old new : List Visit) (n next u : ℕ) (node : NodeId) (looks : ℕ) → IsNet net
+    → node.id.place ≡ u → next ≡ n + 1
+    → (visit old n).place ≡ u → n < length old
+    → ((i j : ℕ) → i < j → j < length old → (visit old i).place ≡ (visit old j).place → ⊥)
+    → ((i : ℕ) → i < length old → visit new i ≡ visit old i)
+    → looks ≤ turned_from Forward net old n + turned_from Backward net old n
+    → looks + length (rows_of net (arcs_on Out net node)) + length (rows_of net (arcs_on In net node))
+    ≤ turned_from Forward net new next + turned_from Backward net new next
+turn_counted net old new n next u node looks net_is at step current listed apart kept few =
     let is_suc : next ≡ suc n = omega (arith, step) in
     let same : (i : ℕ) → i < suc n → (visit new i).place ≡ (visit old i).place =
-    λ i l. ap (λ (x : Visit). x.place) (same3 i (omega (arith, l, listed, more)) ∙ same2 i (omega (arith, l, listed))) in
+    λ i l. ap (λ (x : Visit). x.place) (kept i (omega (arith, l, listed))) in
     let differ : (i : ℕ) → i < n → (visit old i).place ≡ u → ⊥ = λ i l e. apart i n l listed (e ∙ sym current) in
     omega (
       arith,
@@ -86,13 +97,13 @@ turn_counted net old v2 new n next u node looks base net_is at step current list
       turned_more Backward net old new n u current differ same,
       ap (turned_from Forward net new) is_suc,
       ap (turned_from Backward net new) is_suc,
-      subst (λ (z : ℕ). length (rows_of net (arcs_on Out net node)) ≤ count_by (λ (a : Arc ℕ ArcId). eqb (start_place Forward a) z) (arcs_of net)) at (degree Forward net node net_is),
-      subst (λ (z : ℕ). length (rows_of net (arcs_on In net node)) ≤ count_by (λ (a : Arc ℕ ArcId). eqb (start_place Backward a) z) (arcs_of net)) at (degree Backward net node net_is),
+      degree Forward net node u net_is at,
+      degree Backward net node u net_is at,
     )
 
-pub turns_counted : (net : Net) (vs : List Visit) (n looks base : ℕ) → looks ≤ base + (turned_from Forward net vs n + turned_from Backward net vs n)
-    → looks ≤ base + 2 * length (arcs_of net)
-turns_counted net vs n looks base few =
+pub turns_counted : (net : Net) (vs : List Visit) (n looks : ℕ)
+    → looks ≤ turned_from Forward net vs n + turned_from Backward net vs n → looks ≤ 2 * length (arcs_of net)
+turns_counted net vs n looks few =
     omega (
       arith,
       few,

@@ -42,12 +42,16 @@ SearchesAddUp =
     → HasSearched old new (made + more) arcs
 
 -- what holds of the arc of each row holds of all arcs, and the other way round
-pub all_arcs : (net : Net) (P : Arc ℕ ArcId → Type 0) → ((id : ArcId) (row : Row) → row_at net id ≡ Some row → P (arc_of id row))
+pub all_arcs : (net : Net) (P : Arc ℕ ArcId → Type 0)
+    → ((id : ArcId) (row : Row) → row_at net id ≡ Some row → P (arc_of id row))
     → All P (arcs_of net)
 all_arcs net P each k d within =
-    let own = listed_row arc_of net (get_or (arcs_of net) k d) (k, within, get_or_default (arcs_of net) k (get_or (arcs_of net) k d) d within) in
+    let own =
+    listed_row arc_of net (get_or (arcs_of net) k d)
+    (k, within, get_or_default (arcs_of net) k (get_or (arcs_of net) k d) d within) in
     subst P (sym own.3) (each own.0 own.1 own.2)
 
-pub at_row : (net : Net) (P : Arc ℕ ArcId → Type 0) (id : ArcId) (row : Row) → row_at net id ≡ Some row → All P (arcs_of net)
+pub at_row : (net : Net) (P : Arc ℕ ArcId → Type 0) (id : ArcId) (row : Row) → row_at net id ≡ Some row
+    → All P (arcs_of net)
     → P (arc_of id row)
 at_row net P id row there all = All-contains P (arcs_of net) (arc_of id row) all (row_listed arc_of net id row there)

@@ -1,5 +1,5 @@
 -- What a contract sees of a `Scratch`, and how searches are counted.
-use Rattle.std.specs.Prelude.{◌≡◌, ℕ, ◌+◌, ◌*◌, ◌^◌, ◌<◌, ◌≤◌}
+use Rattle.std.specs.Prelude.{◌≡◌, ℕ, ◌+◌, ◌-◌, ◌*◌, ◌^◌, ◌<◌, ◌≤◌}
 
 -- the limits of the net for whose searches the room was reserved, how often `begin` was called, and how many searches
 -- and looks were counted since
@@ -9,9 +9,10 @@ pub record Workspace : Type 0 where
   pub searches : ℕ
   pub looks : ℕ
 
--- a counter grew by this number where there was room for it below 2^64; else it stopped there, and did not fall
+-- a counter grew by this number where there was room for it below 2^64; else it stands at 2^64 - 1, and did not fall
 pub record HasCounted (old new more : ℕ) : Type 0 where
   pub exact : old + more < 2 ^ 64 → new ≡ old + more
+  pub full : old < 2 ^ 64 → 2 ^ 64 ≤ old + more → new ≡ 2 ^ 64 - 1
   pub kept : old ≤ new
   pub no_more : new ≤ old + more
 

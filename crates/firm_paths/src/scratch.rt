@@ -4,7 +4,9 @@ ghost use Rattle.firm_paths.specs.Workspace.{HasCounted};
 ghost use Rattle.firm_paths.specs.NetArcs.{limits_of};
 
 use crate::queue::Queue;
-use crate::search::{NodeState, Step, Visit};
+use crate::search::{NodeState, Step};
+use crate::shortest::Labels;
+use crate::tight::Reach;
 use firm_net::Net;
 use std::alloc::{AllocError, Global};
 use std::marker::Model;
@@ -16,10 +18,8 @@ pub struct Scratch {
     begins: u64,
     pub(crate) searches: u64,
     pub(crate) looks: u64,
-    pub(crate) states: Vec<NodeState>,
-    pub(crate) queue: Queue,
-    pub(crate) seen: Vec<bool>,
-    pub(crate) visits: Vec<Visit>,
+    pub(crate) labels: Labels,
+    pub(crate) reach: Reach,
     pub(crate) steps: Vec<Step>,
 }
 
@@ -27,13 +27,15 @@ impl Model for Scratch {
     ghost use Rattle.std.specs.Prelude.{◌≡◌, ◌≤◌, length, vec_capacity};
     ghost use Rattle.firm_paths.specs.Workspace.{Workspace};
     ghost use Rattle.firm_paths.specs.inner.Queue.{IsIdle};
+    ghost use Rattle.firm_paths.specs.inner.Spread.{AreMarked};
 
     ghost Value = { Workspace };
 
     ghost view = { λ s. record { limits = s.limits; begins = s.begins; searches = s.searches; looks = s.looks } };
 
-    ghost invariant = { λ s. (length s.states.items ≡ s.limits.0) × (length s.seen.items ≡ s.limits.0)
-        × IsIdle s.states.items s.queue × (s.limits.0 ≤ vec_capacity s.visits) × (s.limits.0 ≤ vec_capacity s.steps) };
+    ghost invariant = { λ s. (length s.labels.states.items ≡ s.limits.0) × (length s.reach.seen.items ≡ s.limits.0)
+        × IsIdle s.labels.states.items s.labels.queue × AreMarked s.reach.seen.items s.reach.visits.items 0 × (s.limits.0 ≤ vec_capacity s.labels.visits)
+        × (s.limits.0 ≤ vec_capacity s.reach.visits) × (s.limits.0 ≤ vec_capacity s.steps) };
 }
 
 impl Scratch {
@@ -44,15 +46,24 @@ impl Scratch {
     {
         let limits = net.limits();
         let nodes = limits.0 as usize;
+        let labels = Labels {
+            states: vec![in alloc; NodeState::UNKNOWN; nodes]?,
+            queue: Queue::new(alloc, limits.0)?,
+            visits: Vec::with_capacity(alloc, nodes)?,
+            looks: 0,
+        };
+        let reach = Reach {
+            seen: vec![in alloc; false; nodes]?,
+            visits: Vec::with_capacity(alloc, nodes)?,
+            looks: 0,
+        };
         Ok(Scratch {
             limits,
             begins: 0,
             searches: 0,
             looks: 0,
-            states: vec![in alloc; NodeState::UNKNOWN; nodes]?,
-            queue: Queue::new(alloc, limits.0)?,
-            seen: vec![in alloc; false; nodes]?,
-            visits: Vec::with_capacity(alloc, nodes)?,
+            labels,
+            reach,
             steps: Vec::with_capacity(alloc, nodes)?,
         })
     }

@@ -1,17 +1,19 @@
 //! Prices raised until a tight path leads from one node to another.
-ghost use Rattle.std.specs.Prelude.{◌≡◌, ◌≢◌, ℕ, ◌+◌, ◌-◌, ◌*◌, ◌<◌, ◌≤◌, ◌^◌, Bool, true, false, length, Some, None};
-ghost use Rattle.std.specs.Prelude.{IfSome, IfNone, MatchOption, slice_index, vec_len, vec_capacity, if◌then◌else◌};
+ghost use Rattle.std.specs.Prelude.{◌≡◌, ◌≢◌, ℕ, ◌+◌, ◌-◌, ◌*◌, ◌<◌, ◌≤◌, ◌^◌, ◌++◌, ◌∷◌, Bool, true, false, [], length};
+ghost use Rattle.std.specs.Prelude.{Some, None, is_some, IfSome, IfNone, slice_index, slice_set, vec_capacity};
 ghost use Rattle.std.specs.Borrow.{sem};
 ghost use Rattle.firm_arena.specs.Arena.{capacity_of};
-ghost use Rattle.firm_net.specs.Net.{IsNode, IsNet, arc_count, row_at, rows_of, arcs_on, IsResidual as IsOpen};
+ghost use Rattle.firm_net.specs.Net.{IsNode, IsNet, arc_count, row_at, rows_of, arcs_on};
+ghost use Rattle.firm_net.specs.declared.links.Side.TheVariants.{Out, In};
 ghost use Rattle.firm_paths.specs.Network.{AreValid};
 ghost use Rattle.firm_paths.specs.NetArcs.{arcs_of, limits_of};
 ghost use Rattle.firm_paths.specs.Paths.{IsTightPath, IsHighest, IsCut};
 ghost use Rattle.firm_paths.specs.PriceTable.{price_of};
-ghost use Rattle.firm_paths.specs.inner.Search.{known, settled, label, state, offered, side_of, start_of, IsLowered};
-ghost use Rattle.firm_paths.specs.inner.Search.{IsReached, IsEnd, Looks, LooksAll, HasEnough, AllEnough, visit};
-ghost use Rattle.firm_paths.specs.Lending.{Rests};
+ghost use Rattle.firm_paths.specs.inner.Search.{known, settled, state, offered, side_of, start_of};
+ghost use Rattle.firm_paths.specs.inner.Search.{visit, visit_at, with_settled, IsLowered};
+ghost use Rattle.firm_paths.specs.inner.Search.{IsReady, IsReached, IsEnd, IsRaised, Looks, LooksAll, LooksBoth};
 ghost use Rattle.firm_paths.specs.inner.Queue.{IsQueued, IsIdle, AreVisited, AreLeft};
+ghost use Rattle.firm_paths.specs.Lending.{Rests};
 
 use crate::prices::Prices;
 use crate::queue::{ABSENT, Queue};
@@ -21,123 +23,288 @@ use crate::search::{
 };
 use firm_net::{ArcRow, Net, NodeId, Way};
 
-/// Labels the node at `place`, if it is open to a lower label, and puts it into the queue.
-fn relax(
-    states: &mut [NodeState],
-    queue: &mut Queue,
-    prices: &Prices,
-    place: usize,
-    node: NodeId,
-    label: u64,
-    predecessor: Predecessor,
-)
-    requires place { place < length states.old }
-    requires length { length prices.now.prices ≡ length states.old }
-    requires label { label < 18446744073709551615 }
-    requires queued { IsQueued (slice_index prices.now.prices) states.old queue.old }
-    ensures states { states.new ≡ offered states.old place
-        (record { node = Some node; label = label; settled = false; predecessor = Some predecessor }) }
-    ensures queued { IsQueued (slice_index prices.now.prices) states.new queue.new }
-{
-    let state = states[place];
-    if !state.settled && (state.node.is_none() || label < state.label) {
-        states[place] = NodeState {
+/// What the search by labels fills: the state of each place, the open nodes by their distances, the nodes in the order
+/// of their visits, and how many arcs were looked at.
+#[derive(Drop)]
+pub struct Labels {
+    pub states: Vec<NodeState>,
+    pub queue: Queue,
+    pub visits: Vec<Visit>,
+    pub looks: u64,
+}
+
+impl Labels {
+    /// Gives the node at `place` another state and puts it into the queue, if it is open to a lower label.
+    fn relax(&mut self, prices: &Prices, place: usize, reached: NodeState)
+        requires place { place < length self.old.states.items }
+        requires length { length prices.now.prices ≡ length self.old.states.items }
+        requires reached { (is_some reached.node ≡ true) × (reached.settled ≡ false)
+            × (reached.label < 18446744073709551615) }
+        requires queued { IsQueued (slice_index prices.now.prices) self.old.states.items self.old.queue }
+        ensures states { self.new.states.items ≡ offered self.old.states.items place reached }
+        ensures queued { IsQueued (slice_index prices.now.prices) self.new.states.items self.new.queue }
+        ensures others { (self.new.visits ≡ self.old.visits) × (self.new.looks ≡ self.old.looks) }
+    {
+        let state = self.states[place];
+        if !state.settled && (state.node.is_none() || reached.label < state.label) {
+            self.states[place] = reached;
+            let key = reached.label.saturating_sub(prices.at(place));
+            self.queue.set(place, key);
+        }
+    }
+
+    /// Relaxes one arc: labels the node to which a step along it leads from the node where the search stands.
+    fn relax_arc(&mut self, net: &Net, prices: &Prices, current: Current, step: Step, row: ArcRow)
+        requires length { (length self.old.states.items ≡ capacity_of net.now.nodes)
+            × (length prices.now.prices ≡ capacity_of net.now.nodes) }
+        requires place { current.place < length self.old.states.items }
+        requires row { row_at net.now step.arc ≡ Some row }
+        requires start { (start_of step.way row).id.place ≡ current.place }
+        requires ready { IsReady net.now current self.old.states.items }
+        requires queued { IsQueued (slice_index prices.now.prices) self.old.states.items self.old.queue }
+        ensures lowers { IsLowered self.old.states.items self.new.states.items }
+        ensures looks { Looks net.now current step.way row self.old.states.items self.new.states.items }
+        ensures queued { IsQueued (slice_index prices.now.prices) self.new.states.items self.new.queue }
+        ensures others { (self.new.visits ≡ self.old.visits) × (self.new.looks ≡ self.old.looks) }
+    {
+        if !is_residual(row, step.way) {
+            return;
+        }
+        let node = entered(row, step.way);
+        let Some(place) = net.place(node) else {
+            return;
+        };
+        let from = self.states[current.place].label;
+        let cost = u64::from(row.cost());
+        let label = match step.way {
+            Way::Forward => from + cost,
+            Way::Backward => from - cost,
+        };
+        let after = current.number;
+        let reached = NodeState {
             node: Some(node),
             label,
             settled: false,
-            predecessor: Some(predecessor),
+            predecessor: Some(Predecessor { step, after }),
         };
-        queue.set(place, label.saturating_sub(prices.at(place)));
+        self.relax(prices, place as usize, reached);
     }
-}
 
-/// Relaxes one arc: labels the node to which a step along it leads from the node where the search stands.
-fn relax_arc(
-    net: &Net,
-    prices: &Prices,
-    states: &mut [NodeState],
-    queue: &mut Queue,
-    current: Current,
-    step: Step,
-    row: ArcRow,
-)
-    requires length { (length states.old ≡ capacity_of net.now.nodes)
-        × (length prices.now.prices ≡ capacity_of net.now.nodes) }
-    requires place { current.place < length states.old }
-    requires row { row_at net.now step.arc ≡ Some row }
-    requires start { (start_of step.way row).id.place ≡ current.place }
-    requires room { label states.old current.place + 3000001 < 2 ^ 64 }
-    requires enough { HasEnough step.way (label states.old current.place) row }
-    requires queued { IsQueued (slice_index prices.now.prices) states.old queue.old }
-    ensures lowers { IsLowered states.old states.new }
-    ensures looks { Looks net.now current step.way row states.old states.new }
-    ensures queued { IsQueued (slice_index prices.now.prices) states.new queue.new }
-{
-    if is_residual(row, step.way) {
-        let node = entered(row, step.way);
-        if let Some(place) = net.place(node) {
-            let from = states[current.place].label;
-            let cost = u64::from(row.cost());
-            let label = match step.way {
-                Way::Forward => from + cost,
-                Way::Backward => from - cost,
-            };
-            let predecessor = Predecessor {
-                step,
-                after: current.number,
-            };
-            relax(
-                states,
-                queue,
-                prices,
-                place as usize,
-                node,
-                label,
-                predecessor,
-            );
+    /// Relaxes every arc by which a step this way leaves the node where the search stands.
+    fn relax_arcs(&mut self, net: &Net, prices: &Prices, current: Current, way: Way)
+        requires length { (length self.old.states.items ≡ capacity_of net.now.nodes)
+            × (length prices.now.prices ≡ capacity_of net.now.nodes) }
+        requires place { current.place < length self.old.states.items }
+        requires node { IsNode net.now current.node × (current.node.id.place ≡ current.place) }
+        requires ready { IsReady net.now current self.old.states.items }
+        requires queued { IsQueued (slice_index prices.now.prices) self.old.states.items self.old.queue }
+        requires count { self.old.looks ≤ 2 ^ 62 }
+        ensures lowers { IsLowered self.old.states.items self.new.states.items }
+        ensures looks { LooksAll net.now current way self.old.states.items self.new.states.items }
+        ensures queued { IsQueued (slice_index prices.now.prices) self.new.states.items self.new.queue }
+        ensures counts { self.new.looks
+            ≡ self.old.looks + length (rows_of net.now (arcs_on (side_of way) net.now current.node)) }
+        ensures visits { self.new.visits ≡ self.old.visits }
+        ensures net { IsNet net.now }
+    {
+        for (arc, row) in arcs_leaving(net, current.node, way) {
+            self.relax_arc(net, prices, current, Step { arc, way }, row);
+            self.looks += 1;
         }
     }
-}
 
-/// Relaxes every arc by which a step this way leaves the node where the search stands.
-fn relax_arcs(
-    net: &Net,
-    prices: &Prices,
-    states: &mut [NodeState],
-    queue: &mut Queue,
-    current: Current,
-    node: NodeId,
-    way: Way,
-    looks: &mut u64,
-)
-    requires length { (length states.old ≡ capacity_of net.now.nodes)
-        × (length prices.now.prices ≡ capacity_of net.now.nodes) }
-    requires place { current.place < length states.old }
-    requires node { IsNode net.now node × (node.id.place ≡ current.place) }
-    requires settled { settled states.old current.place ≡ true }
-    requires room { label states.old current.place + 3000001 < 2 ^ 64 }
-    requires enough { AllEnough way net.now current.place (label states.old current.place) }
-    requires queued { IsQueued (slice_index prices.now.prices) states.old queue.old }
-    requires count { looks.old ≤ 2 ^ 63 }
-    ensures lowers { IsLowered states.old states.new }
-    ensures looks { LooksAll net.now current way states.old states.new }
-    ensures queued { IsQueued (slice_index prices.now.prices) states.new queue.new }
-    ensures counts { looks.new ≡ looks.old + length (rows_of net.now (arcs_on (side_of way) net.now node)) }
-    ensures net { IsNet net.now }
-    ensures node { node.id.place ≡ current.place }
-{
-    for (arc, row) in arcs_leaving(net, node, way) {
-        relax_arc(net, prices, states, queue, current, Step { arc, way }, row);
-        *looks += 1;
+    /// Relaxes every arc of the residual network that leaves the node where the search stands.
+    fn relax_node(&mut self, net: &Net, prices: &Prices, current: Current)
+        requires length { (length self.old.states.items ≡ capacity_of net.now.nodes)
+            × (length prices.now.prices ≡ capacity_of net.now.nodes) }
+        requires place { current.place < length self.old.states.items }
+        requires node { IsNode net.now current.node × (current.node.id.place ≡ current.place) }
+        requires ready { IsReady net.now current self.old.states.items }
+        requires queued { IsQueued (slice_index prices.now.prices) self.old.states.items self.old.queue }
+        requires count { self.old.looks ≤ 2 ^ 61 }
+        ensures lowers { IsLowered self.old.states.items self.new.states.items }
+        ensures looks { LooksBoth net.now current self.old.states.items self.new.states.items }
+        ensures queued { IsQueued (slice_index prices.now.prices) self.new.states.items self.new.queue }
+        ensures counts { self.new.looks
+            ≡ self.old.looks + length (rows_of net.now (arcs_on Out net.now current.node))
+            + length (rows_of net.now (arcs_on In net.now current.node)) }
+        ensures visits { self.new.visits ≡ self.old.visits }
+        ensures net { IsNet net.now }
+    {
+        self.relax_arcs(net, prices, current, Way::Forward);
+        self.relax_arcs(net, prices, current, Way::Backward);
+    }
+
+    /// Forgets every state, and empties the queue.
+    fn forget(&mut self)
+        requires length { length self.old.queue ≡ length self.old.states.items }
+        requires places { (i : ℕ) → i < length self.old.visits.items
+            → (visit self.old.visits.items i).place < length self.old.states.items }
+        requires left { AreLeft self.old.states.items self.old.queue self.old.visits.items 0 }
+        ensures idle { IsIdle self.new.states.items self.new.queue }
+        ensures size { length self.new.states.items ≡ length self.old.states.items }
+        ensures others { (self.new.visits ≡ self.old.visits) × (self.new.looks ≡ self.old.looks) }
+    {
+        forget_states(&mut self.states, &self.queue, &self.visits);
+        self.queue.clear();
+    }
+
+    /// Makes the start the only open node.
+    fn open(&mut self, prices: &Prices, start: Visit)
+        requires place { start.place < length self.old.states.items }
+        requires length { length prices.now.prices ≡ length self.old.states.items }
+        requires idle { IsIdle self.old.states.items self.old.queue }
+        ensures states { self.new.states.items ≡ slice_set self.old.states.items start.place
+            (record {
+              node = Some start.node;
+              label = slice_index prices.now.prices start.place;
+              settled = false;
+              predecessor = None;
+            }) }
+        ensures queue { self.new.queue ≡ slice_set self.old.queue start.place 0 }
+        ensures visits { self.new.visits.items ≡ [] }
+        ensures capacity { vec_capacity self.new.visits ≡ vec_capacity self.old.visits }
+        ensures looks { self.new.looks ≡ 0 }
+    {
+        self.looks = 0;
+        self.visits.clear();
+        self.states[start.place] = NodeState {
+            node: Some(start.node),
+            label: prices.at(start.place),
+            settled: false,
+            predecessor: None,
+        };
+        self.queue.set(start.place, 0);
+    }
+
+    /// Visits the node at a place; says where the search then stands.
+    fn visit(&mut self, place: usize) -> Option<Current>
+        requires place { place < length self.old.states.items }
+        requires room { length self.old.visits.items < vec_capacity self.old.visits }
+        ensures current { IfSome result (λ current. (Some current.node ≡ (state self.old.states.items place).node)
+            × (current.place ≡ place) × (current.number ≡ length self.old.visits.items)) }
+        ensures visits { IfSome result (λ current. self.new.visits.items
+            ≡ self.old.visits.items ++ visit_at self.old.states.items place current.node ∷ []) }
+        ensures unknown { IfNone result ((known self.old.states.items place ≡ false) × (self.new ≡ self.old)) }
+        ensures capacity { vec_capacity self.new.visits ≡ vec_capacity self.old.visits }
+        ensures others { (self.new.states ≡ self.old.states) × (self.new.queue ≡ self.old.queue)
+            × (self.new.looks ≡ self.old.looks) }
+    {
+        let state = self.states[place];
+        let node = state.node?;
+        let number = self.visits.len();
+        self.visits.push_reserved(Visit {
+            node,
+            place,
+            predecessor: state.predecessor,
+        });
+        Some(Current {
+            node,
+            place,
+            number,
+        })
+    }
+
+    /// Settles the node at a place, which leaves the queue.
+    fn settle(&mut self, place: usize)
+        requires place { (place < length self.old.states.items) × (place < length self.old.queue) }
+        ensures states { self.new.states.items ≡ with_settled self.old.states.items place }
+        ensures queue { self.new.queue ≡ slice_set self.old.queue place 18446744073709551615 }
+        ensures others { (self.new.visits ≡ self.old.visits) × (self.new.looks ≡ self.old.looks) }
+    {
+        self.states[place].settled = true;
+        self.queue.set(place, ABSENT);
+    }
+
+    /// Settles nodes from the start on, nearest first, until the goal is next; says as which number it was visited.
+    fn dijkstra(&mut self, net: &Net, prices: &Prices, start: Visit, goal: usize) -> Option<usize>
+        requires length { (length prices.now.prices ≡ capacity_of net.now.nodes)
+            × (length self.old.states.items ≡ capacity_of net.now.nodes) }
+        requires room { capacity_of net.now.nodes ≤ vec_capacity self.old.visits }
+        requires start { IsNode net.now start.node × (start.node.id.place ≡ start.place) }
+        requires goal { (goal < capacity_of net.now.nodes) × (start.place ≢ goal) }
+        requires valid { AreValid (arcs_of net.now) (slice_index prices.now.prices) }
+        requires low { (slice_index prices.now.prices start.place ≤ 2 ^ 60) × (capacity_of net.now.nodes ≤ 4096) }
+        requires idle { IsIdle self.old.states.items self.old.queue }
+        requires net { IsNet net.now }
+        ensures found { IfSome result (IsReached net.now (slice_index prices.now.prices) start.place goal
+            self.new.states.items self.new.visits.items) }
+        ensures none { IfNone result (IsEnd net.now start.place goal self.new.states.items) }
+        ensures size { length self.new.states.items ≡ length self.old.states.items }
+        ensures capacity { vec_capacity self.new.visits ≡ vec_capacity self.old.visits }
+        ensures visited { AreVisited self.new.states.items self.new.visits.items }
+        ensures queued { IsQueued (slice_index prices.now.prices) self.new.states.items self.new.queue }
+        ensures counts { self.new.looks ≤ 2 * length (arcs_of net.now) }
+    {
+        self.open(prices, start);
+        while let Some(place) = self.queue.least() {
+            let current = self.visit(place)?;
+            if place == goal {
+                return Some(current.number);
+            }
+            self.settle(place);
+            self.relax_node(net, prices, current);
+        }
+        None
+    }
+
+    /// What `raise` does, with the tables of the search; `steps` is then the path, where there is one.
+    #[tactic(auto, using(crate::proofs::ArcRows::as_many_as_counted))]
+    fn find_shortest(
+        &mut self,
+        net: &Net,
+        prices: &mut Prices,
+        from: NodeId,
+        to: NodeId,
+        steps: &mut Vec<Step>,
+    ) -> bool
+        requires nodes { IsNode net.now from × IsNode net.now to × (from ≢ to) }
+        requires length { (length prices.old.prices ≡ capacity_of net.now.nodes)
+            × (length self.old.states.items ≡ capacity_of net.now.nodes) }
+        requires capacity { (capacity_of net.now.nodes ≤ vec_capacity self.old.visits)
+            × (capacity_of net.now.nodes ≤ vec_capacity steps.old) }
+        requires valid { AreValid (arcs_of net.now) (slice_index prices.old.prices) }
+        requires highest { IsHighest net.now (slice_index prices.old.prices) to.id.place }
+        requires room { slice_index prices.old.prices to.id.place ≤ 2 ^ 60 }
+        requires idle { IsIdle self.old.states.items self.old.queue }
+        ensures counts { self.new.looks ≤ 2 * arc_count net.now }
+        ensures idle { IsIdle self.new.states.items self.new.queue }
+        ensures size { length self.new.states.items ≡ length self.old.states.items }
+        ensures limits { prices.new.limits ≡ prices.old.limits }
+        ensures found { result ≡ true → IsRaised net.now prices.old.prices prices.new.prices to.id.place
+            × IsTightPath net.now (slice_index prices.new.prices) from.id.place to.id.place steps.new.items }
+        ensures unchanged { result ≡ false → prices.new ≡ prices.old }
+        ensures none { result ≡ false → (inside : ℕ → Bool) × IsCut net.now from.id.place to.id.place inside }
+        ensures capacity { (vec_capacity self.new.visits ≡ vec_capacity self.old.visits)
+            × (vec_capacity steps.new ≡ vec_capacity steps.old) }
+    {
+        let (Some(place), Some(goal)) = (net.place(from), net.place(to)) else {
+            return false;
+        };
+        let (place, goal) = (place as usize, goal as usize);
+        let start = Visit {
+            node: from,
+            place,
+            predecessor: None,
+        };
+        let Some(end) = self.dijkstra(net, prices, start, goal) else {
+            self.forget();
+            return false;
+        };
+        let distance = self.states[goal].label - prices.at(goal);
+        prices.raise(&self.states, &self.visits, goal, distance);
+        walk_back(&self.visits, end, steps);
+        self.forget();
+        true
     }
 }
 
-/// Forgets every state, and empties the queue.
-fn forget(states: &mut [NodeState], queue: &mut Queue, visits: &[Visit])
-    requires length { length queue.old ≡ length states.old }
+/// Forgets the state of each node that was visited or stands in the queue.
+fn forget_states(states: &mut [NodeState], queue: &Queue, visits: &[Visit])
+    requires length { length queue.now ≡ length states.old }
     requires places { (i : ℕ) → i < length visits.now → (visit visits.now i).place < length states.old }
-    requires left { AreLeft states.old queue.old visits.now 0 }
-    ensures { IsIdle states.new queue.new }
+    requires left { AreLeft states.old queue.now visits.now 0 }
+    ensures { (v : ℕ) → (known states.new v ≡ false) × (settled states.new v ≡ false) }
 {
     for i in 0..visits.len() {
         states[visits[i].place] = NodeState::UNKNOWN;
@@ -147,143 +314,6 @@ fn forget(states: &mut [NodeState], queue: &mut Queue, visits: &[Visit])
             states[place] = NodeState::UNKNOWN;
         }
     }
-    queue.clear();
-}
-
-/// Settles nodes from the start on, nearest first, until the goal is next; says as which number it was visited.
-fn dijkstra(
-    net: &Net,
-    prices: &Prices,
-    states: &mut [NodeState],
-    queue: &mut Queue,
-    visits: &mut Vec<Visit>,
-    start: Visit,
-    goal: usize,
-    looks: &mut u64,
-) -> Option<usize>
-    requires length { (length prices.now.prices ≡ capacity_of net.now.nodes)
-        × (length states.old ≡ capacity_of net.now.nodes) }
-    requires room { capacity_of net.now.nodes ≤ vec_capacity visits.old }
-    requires start { IsNode net.now start.node × (start.node.id.place ≡ start.place) × (start.predecessor ≡ None) }
-    requires goal { (goal < capacity_of net.now.nodes) × (start.place ≢ goal) }
-    requires valid { AreValid (arcs_of net.now) (slice_index prices.now.prices) }
-    requires low { (slice_index prices.now.prices start.place ≤ 2 ^ 60) × (capacity_of net.now.nodes ≤ 4096) }
-    requires idle { IsIdle states.old queue.old }
-    requires net { IsNet net.now }
-    requires count { looks.old ≤ 2 ^ 62 }
-    ensures found { IfSome result (IsReached net.now
-        (slice_index prices.now.prices) start.place goal states.new visits.new.items) }
-    ensures none { IfNone result (IsEnd net.now start.place goal states.new) }
-    ensures capacity { vec_capacity visits.new ≡ vec_capacity visits.old }
-    ensures visited { AreVisited states.new visits.new.items }
-    ensures queued { IsQueued (slice_index prices.now.prices) states.new queue.new }
-    ensures counts { (looks.old ≤ looks.new) × (looks.new ≤ looks.old + 2 * length (arcs_of net.now)) }
-{
-    visits.clear();
-    let label = prices.at(start.place);
-    states[start.place] = NodeState {
-        node: Some(start.node),
-        label,
-        settled: false,
-        predecessor: None,
-    };
-    queue.set(start.place, 0);
-    while let Some(place) = queue.least() {
-        let state = states[place];
-        let node = state.node?;
-        let number = visits.len();
-        let visit = Visit {
-            node,
-            place,
-            predecessor: state.predecessor,
-        };
-        visits.push_reserved(visit);
-        if place == goal {
-            return Some(number);
-        }
-        states[place].settled = true;
-        queue.set(place, ABSENT);
-        let current = Current { place, number };
-        relax_arcs(
-            net,
-            prices,
-            states,
-            queue,
-            current,
-            node,
-            Way::Forward,
-            looks,
-        );
-        relax_arcs(
-            net,
-            prices,
-            states,
-            queue,
-            current,
-            node,
-            Way::Backward,
-            looks,
-        );
-    }
-    None
-}
-
-/// What `raise` does, on the tables of prices and of the search; `steps` is then the path, where there is one.
-#[tactic(auto, using(crate::proofs::ArcRows::as_many_as_counted))]
-fn find_shortest(
-    net: &Net,
-    prices: &mut Prices,
-    states: &mut [NodeState],
-    queue: &mut Queue,
-    visits: &mut Vec<Visit>,
-    steps: &mut Vec<Step>,
-    from: NodeId,
-    to: NodeId,
-    looks: &mut u64,
-) -> bool
-    requires nodes { IsNode net.now from × IsNode net.now to × (from ≢ to) }
-    requires length { (length prices.old.prices ≡ capacity_of net.now.nodes)
-        × (length states.old ≡ capacity_of net.now.nodes) }
-    requires capacity { (capacity_of net.now.nodes ≤ vec_capacity visits.old)
-        × (capacity_of net.now.nodes ≤ vec_capacity steps.old) }
-    requires valid { AreValid (arcs_of net.now) (slice_index prices.old.prices) }
-    requires highest { IsHighest net.now (slice_index prices.old.prices) to.id.place }
-    requires room { slice_index prices.old.prices to.id.place ≤ 2 ^ 60 }
-    requires idle { IsIdle states.old queue.old }
-    requires count { looks.old ≤ 2 ^ 62 }
-    ensures counts { (looks.old ≤ looks.new) × (looks.new ≤ looks.old + 2 * arc_count net.now) }
-    ensures idle { IsIdle states.new queue.new }
-    ensures valid { AreValid (arcs_of net.now) (slice_index prices.new.prices) }
-    ensures highest { IsHighest net.now (slice_index prices.new.prices) to.id.place }
-    ensures limits { prices.new.limits ≡ prices.old.limits }
-    ensures rises { (node : NodeId) → IsNode net.now node
-        → slice_index prices.old.prices node.id.place ≤ slice_index prices.new.prices node.id.place }
-    ensures bound { slice_index prices.new.prices to.id.place ≤ slice_index prices.old.prices to.id.place + 4095 * 3000000 }
-    ensures path { result ≡ true → IsTightPath net.now
-        (slice_index prices.new.prices) from.id.place to.id.place steps.new.items }
-    ensures unchanged { result ≡ false → prices.new ≡ prices.old }
-    ensures none { result ≡ false → (inside : ℕ → Bool) × IsCut net.now from.id.place to.id.place inside }
-    ensures capacity { (vec_capacity visits.new ≡ vec_capacity visits.old)
-        × (vec_capacity steps.new ≡ vec_capacity steps.old) }
-{
-    let (Some(place), Some(goal)) = (net.place(from), net.place(to)) else {
-        return false;
-    };
-    let (place, goal) = (place as usize, goal as usize);
-    let start = Visit {
-        node: from,
-        place,
-        predecessor: None,
-    };
-    let Some(end) = dijkstra(net, prices, states, queue, visits, start, goal, looks) else {
-        forget(states, queue, visits);
-        return false;
-    };
-    let distance = states[goal].label - prices.at(goal);
-    prices.raise(states, visits, goal, distance);
-    walk_back(visits, end, steps);
-    forget(states, queue, visits);
-    true
 }
 
 /// Raises prices, which stay valid, until a path over residual arcs of reduced cost 0 leads from `from` to `to`, and
@@ -316,20 +346,11 @@ pub fn raise<'s>(
     ensures none { IfNone result ((inside : ℕ → Bool) × IsCut net.now from.id.place to.id.place inside) }
 {
     let _places = prices.places();
-    let mut looks = 0;
-    let found = find_shortest(
-        net,
-        prices,
-        &mut scratch.states,
-        &mut scratch.queue,
-        &mut scratch.visits,
-        &mut scratch.steps,
-        from,
-        to,
-        &mut looks,
-    );
+    let found = scratch
+        .labels
+        .find_shortest(net, prices, from, to, &mut scratch.steps);
     scratch.searches = scratch.searches.saturating_add(1);
-    scratch.looks = scratch.looks.saturating_add(looks);
+    scratch.looks = scratch.looks.saturating_add(scratch.labels.looks);
     if !found {
         return None;
     }

@@ -1,15 +1,17 @@
 //! Paths over residual arcs of reduced cost 0.
-ghost use Rattle.std.specs.Prelude.{◌≡◌, ◌≢◌, ℕ, ◌+◌, ◌*◌, ◌^◌, ◌<◌, ◌≤◌, ◌↔◌, Bool, true, false, length, Contains};
+ghost use Rattle.std.specs.Prelude.{◌≡◌, ◌≢◌, ℕ, ◌+◌, ◌*◌, ◌^◌, ◌<◌, ◌≤◌, ◌↔◌, ◌⊎◌, Bool, false, true, [], length, Contains};
 ghost use Rattle.std.specs.Prelude.{IsTrue, Some, None, IfSome, IfNone, slice_index, slice_index_or, vec_capacity};
 ghost use Rattle.std.specs.Borrow.{sem};
 ghost use Rattle.firm_arena.specs.Arena.{capacity_of};
 ghost use Rattle.firm_net.specs.Net.{IsNode, IsNet, arc_count, row_at, rows_of, arcs_on};
+ghost use Rattle.firm_net.specs.declared.links.Side.TheVariants.{Out, In};
 ghost use Rattle.firm_paths.specs.NetArcs.{arcs_of, limits_of};
 ghost use Rattle.firm_paths.specs.Paths.{IsTightPath, Avoids, IsTightCut};
 ghost use Rattle.firm_paths.specs.PriceTable.{price_of};
-ghost use Rattle.firm_paths.specs.inner.Search.{side_of, start_of};
+ghost use Rattle.firm_paths.specs.inner.Search.{side_of, start_of, visit};
+ghost use Rattle.firm_paths.specs.inner.Queue.{IsVisited};
 ghost use Rattle.firm_paths.specs.inner.Spread.{seen_with, visits_with, IsGrown, IsCounted, Spreads, SpreadsAll};
-ghost use Rattle.firm_paths.specs.inner.Spread.{IsReachedBy, IsSpent};
+ghost use Rattle.firm_paths.specs.inner.Spread.{SpreadsBoth, AreMarked, IsReachedBy, IsSpent};
 ghost use Rattle.firm_paths.specs.Lending.{Rests};
 
 use crate::prices::Prices;
@@ -19,18 +21,13 @@ use crate::search::{
 };
 use firm_net::{ArcId, ArcRow, Net, NodeId, Way};
 
-/// Visits a node, unless it was seen.
-fn visit_once(seen: &mut [bool], visits: &mut Vec<Visit>, visit: Visit)
-    requires place { visit.place < length seen.old }
-    requires counted { IsCounted seen.old visits.old.items (vec_capacity visits.old) }
-    ensures seen { seen.new ≡ seen_with seen.old visit }
-    ensures visits { visits.new.items ≡ visits_with seen.old visits.old.items visit }
-    ensures capacity { vec_capacity visits.new ≡ vec_capacity visits.old }
-{
-    if !seen[visit.place] {
-        seen[visit.place] = true;
-        visits.push_reserved(visit);
-    }
+/// What the search for a tight path fills: whether the node of each place was seen, the nodes in the order of their
+/// visits, and how many arcs were looked at.
+#[derive(Drop)]
+pub struct Reach {
+    pub seen: Vec<bool>,
+    pub visits: Vec<Visit>,
+    pub looks: u64,
 }
 
 /// Whether the reduced cost of an arc is 0, by the prices of its ends.
@@ -47,222 +44,228 @@ fn is_barred(barred: &[ArcId], arc: ArcId) -> bool
     barred.contains(&arc)
 }
 
-/// Follows one arc: visits the node to which a step along it leads, if the step is tight and not barred.
-fn follow_arc(
-    net: &Net,
-    prices: &Prices,
-    barred: &[ArcId],
-    seen: &mut [bool],
-    visits: &mut Vec<Visit>,
-    current: Current,
-    step: Step,
-    row: ArcRow,
-)
-    requires length { (length prices.now.prices ≡ capacity_of net.now.nodes)
-        × (length seen.old ≡ capacity_of net.now.nodes) }
-    requires place { current.place < capacity_of net.now.nodes }
-    requires counted { IsCounted seen.old visits.old.items (vec_capacity visits.old) }
-    requires row { row_at net.now step.arc ≡ Some row }
-    requires start { (start_of step.way row).id.place ≡ current.place }
-    ensures grown { IsGrown seen.old visits.old.items seen.new visits.new.items }
-    ensures counted { IsCounted seen.new visits.new.items (vec_capacity visits.new) }
-    ensures spreads { Spreads net.now
-        (slice_index prices.now.prices) barred.now current step.way step.arc row seen.old visits.old.items seen.new visits.new.items }
-    ensures capacity { vec_capacity visits.new ≡ vec_capacity visits.old }
-{
-    if is_barred(barred, step.arc) || !is_residual(row, step.way) {
-        return;
-    }
-    let node = entered(row, step.way);
-    let Some(place) = net.place(node) else {
-        return;
-    };
-    let place = place as usize;
-    let tight = match step.way {
-        Way::Forward => is_tight(prices.at(current.place), prices.at(place), row.cost()),
-        Way::Backward => is_tight(prices.at(place), prices.at(current.place), row.cost()),
-    };
-    if tight {
-        let predecessor = Some(Predecessor {
-            step,
-            after: current.number,
-        });
-        visit_once(
-            seen,
-            visits,
-            Visit {
-                node,
-                place,
-                predecessor,
-            },
-        );
-    }
-}
-
-/// Follows every arc by which a step this way leaves the node where the search stands.
-fn follow_arcs(
-    net: &Net,
-    prices: &Prices,
-    barred: &[ArcId],
-    seen: &mut [bool],
-    visits: &mut Vec<Visit>,
-    current: Current,
-    node: NodeId,
-    way: Way,
-    looks: &mut u64,
-)
-    requires length { (length prices.now.prices ≡ capacity_of net.now.nodes)
-        × (length seen.old ≡ capacity_of net.now.nodes) }
-    requires node { IsNode net.now node × (node.id.place ≡ current.place) }
-    requires counted { IsCounted seen.old visits.old.items (vec_capacity visits.old) }
-    requires count { looks.old ≤ 2 ^ 63 }
-    ensures grown { IsGrown seen.old visits.old.items seen.new visits.new.items }
-    ensures counted { IsCounted seen.new visits.new.items (vec_capacity visits.new) }
-    ensures spreads { SpreadsAll net.now
-        (slice_index prices.now.prices) barred.now current way seen.old visits.old.items seen.new visits.new.items }
-    ensures capacity { vec_capacity visits.new ≡ vec_capacity visits.old }
-    ensures counts { looks.new ≡ looks.old + length (rows_of net.now (arcs_on (side_of way) net.now node)) }
-    ensures net { IsNet net.now }
-    ensures node { node.id.place ≡ current.place }
-{
-    for (arc, row) in arcs_leaving(net, node, way) {
-        follow_arc(
-            net,
-            prices,
-            barred,
-            seen,
-            visits,
-            current,
-            Step { arc, way },
-            row,
-        );
-        *looks += 1;
-    }
-}
-
-/// Forgets what was seen.
-fn clear(seen: &mut [bool])
+/// Forgets that the nodes of the visits were seen.
+fn unmark(seen: &mut [bool], visits: &[Visit])
+    requires places { (k : ℕ) → k < length visits.now → (visit visits.now k).place < length seen.old }
+    requires unseen { (v : ℕ) → (slice_index_or seen.old v false ≡ false) ⊎ IsVisited visits.now 0 v }
     ensures { (v : ℕ) → slice_index_or seen.new v false ≡ false }
 {
-    for test in seen.iter_mut() {
-        *test = false;
+    for i in 0..visits.len() {
+        seen[visits[i].place] = false;
     }
 }
 
-/// Visits nodes from the start on, in the order in which they are found; says as which number the goal was visited.
-fn breadth_first(
-    net: &Net,
-    prices: &Prices,
-    barred: &[ArcId],
-    seen: &mut [bool],
-    visits: &mut Vec<Visit>,
-    start: Visit,
-    goal: usize,
-    looks: &mut u64,
-) -> Option<usize>
-    requires length { (length prices.now.prices ≡ capacity_of net.now.nodes)
-        × (length seen.old ≡ capacity_of net.now.nodes) }
-    requires room { capacity_of net.now.nodes ≤ vec_capacity visits.old }
-    requires start { IsNode net.now start.node × (start.node.id.place ≡ start.place) × (start.predecessor ≡ None) }
-    requires net { IsNet net.now }
-    requires count { looks.old ≤ 2 ^ 62 }
-    ensures found { IfSome result (IsReachedBy net.now
-        (slice_index prices.now.prices) barred.now start.place goal visits.new.items) }
-    ensures few { length visits.new.items ≤ capacity_of net.now.nodes }
-    ensures none { IfNone result (IsSpent net.now
-        (slice_index prices.now.prices) barred.now start.place goal seen.new) }
-    ensures capacity { vec_capacity visits.new ≡ vec_capacity visits.old }
-    ensures counts { (looks.old ≤ looks.new) × (looks.new ≤ looks.old + 2 * length (arcs_of net.now)) }
-{
-    clear(seen);
-    visits.clear();
-    visit_once(seen, visits, start);
-    let mut number = 0;
-    while number < visits.len() {
-        let visit = visits[number];
-        if visit.place == goal {
-            return Some(number);
+impl Reach {
+    /// Forgets all visits, and that their nodes were seen.
+    fn clear(&mut self)
+        requires { AreMarked self.old.seen.items self.old.visits.items 0 }
+        ensures none { (v : ℕ) → slice_index_or self.new.seen.items v false ≡ false }
+        ensures size { length self.new.seen.items ≡ length self.old.seen.items }
+        ensures visits { self.new.visits.items ≡ [] }
+        ensures capacity { vec_capacity self.new.visits ≡ vec_capacity self.old.visits }
+        ensures looks { self.new.looks ≡ 0 }
+    {
+        unmark(&mut self.seen, &self.visits);
+        self.visits.clear();
+        self.looks = 0;
+    }
+
+    /// Visits a node, unless it was seen.
+    fn visit_once(&mut self, visit: Visit)
+        requires place { visit.place < length self.old.seen.items }
+        requires counted { IsCounted self.old.seen.items self.old.visits.items (vec_capacity self.old.visits) }
+        ensures seen { self.new.seen.items ≡ seen_with self.old.seen.items visit }
+        ensures size { length self.new.seen.items ≡ length self.old.seen.items }
+        ensures visits { self.new.visits.items ≡ visits_with self.old.seen.items self.old.visits.items visit }
+        ensures capacity { vec_capacity self.new.visits ≡ vec_capacity self.old.visits }
+        ensures looks { self.new.looks ≡ self.old.looks }
+    {
+        if !self.seen[visit.place] {
+            self.seen[visit.place] = true;
+            self.visits.push_reserved(visit);
         }
-        let current = Current {
-            place: visit.place,
-            number,
-        };
-        follow_arcs(
-            net,
-            prices,
-            barred,
-            seen,
-            visits,
-            current,
-            visit.node,
-            Way::Forward,
-            looks,
-        );
-        follow_arcs(
-            net,
-            prices,
-            barred,
-            seen,
-            visits,
-            current,
-            visit.node,
-            Way::Backward,
-            looks,
-        );
-        number += 1;
     }
-    None
-}
 
-/// What `tight_path` does, on the tables of the search; `steps` is then the path, where there is one.
-#[tactic(auto, using(crate::proofs::ArcRows::as_many_as_counted))]
-fn find_tight(
-    net: &Net,
-    prices: &Prices,
-    barred: &[ArcId],
-    seen: &mut [bool],
-    visits: &mut Vec<Visit>,
-    steps: &mut Vec<Step>,
-    from: NodeId,
-    to: NodeId,
-    looks: &mut u64,
-) -> bool
-    requires nodes { IsNode net.now from × IsNode net.now to × (from ≢ to) }
-    requires length { (length prices.now.prices ≡ capacity_of net.now.nodes)
-        × (length seen.old ≡ capacity_of net.now.nodes) }
-    requires capacity { (capacity_of net.now.nodes ≤ vec_capacity visits.old)
-        × (capacity_of net.now.nodes ≤ vec_capacity steps.old) }
-    requires count { looks.old ≤ 2 ^ 62 }
-    ensures counts { (looks.old ≤ looks.new) × (looks.new ≤ looks.old + 2 * arc_count net.now) }
-    ensures path { result ≡ true → IsTightPath net.now
-        (slice_index prices.now.prices) from.id.place to.id.place steps.new.items × Avoids barred.now steps.new.items }
-    ensures none { result ≡ false → (inside : ℕ → Bool)
-        × IsTightCut net.now (slice_index prices.now.prices) barred.now from.id.place to.id.place inside }
-    ensures capacity { (vec_capacity visits.new ≡ vec_capacity visits.old)
-        × (vec_capacity steps.new ≡ vec_capacity steps.old) }
-{
-    let (Some(place), Some(goal)) = (net.place(from), net.place(to)) else {
-        return false;
-    };
-    let start = Visit {
-        node: from,
-        place: place as usize,
-        predecessor: None,
-    };
-    let Some(end) = breadth_first(
-        net,
-        prices,
-        barred,
-        seen,
-        visits,
-        start,
-        goal as usize,
-        looks,
-    ) else {
-        return false;
-    };
-    walk_back(visits, end, steps);
-    true
+    /// Follows one arc: visits the node to which a step along it leads, if the step is tight and not barred.
+    fn follow_arc(
+        &mut self,
+        net: &Net,
+        prices: &Prices,
+        barred: &[ArcId],
+        current: Current,
+        step: Step,
+        row: ArcRow,
+    )
+        requires length { (length prices.now.prices ≡ capacity_of net.now.nodes)
+            × (length self.old.seen.items ≡ capacity_of net.now.nodes) }
+        requires place { current.place < capacity_of net.now.nodes }
+        requires counted { IsCounted self.old.seen.items self.old.visits.items (vec_capacity self.old.visits) }
+        requires row { row_at net.now step.arc ≡ Some row }
+        requires start { (start_of step.way row).id.place ≡ current.place }
+        ensures grown { IsGrown self.old.seen.items self.old.visits.items self.new.seen.items self.new.visits.items }
+        ensures counted { IsCounted self.new.seen.items self.new.visits.items (vec_capacity self.new.visits) }
+        ensures spreads { Spreads net.now (slice_index prices.now.prices) barred.now current step.way step.arc row
+            self.old.seen.items self.old.visits.items self.new.seen.items self.new.visits.items }
+        ensures capacity { vec_capacity self.new.visits ≡ vec_capacity self.old.visits }
+        ensures looks { self.new.looks ≡ self.old.looks }
+    {
+        if is_barred(barred, step.arc) || !is_residual(row, step.way) {
+            return;
+        }
+        let node = entered(row, step.way);
+        let Some(place) = net.place(node) else {
+            return;
+        };
+        let place = place as usize;
+        let tight = match step.way {
+            Way::Forward => is_tight(prices.at(current.place), prices.at(place), row.cost()),
+            Way::Backward => is_tight(prices.at(place), prices.at(current.place), row.cost()),
+        };
+        if tight {
+            let after = current.number;
+            self.visit_once(Visit {
+                node,
+                place,
+                predecessor: Some(Predecessor { step, after }),
+            });
+        }
+    }
+
+    /// Follows every arc by which a step this way leaves the node where the search stands.
+    fn follow_arcs(
+        &mut self,
+        net: &Net,
+        prices: &Prices,
+        barred: &[ArcId],
+        current: Current,
+        way: Way,
+    )
+        requires length { (length prices.now.prices ≡ capacity_of net.now.nodes)
+            × (length self.old.seen.items ≡ capacity_of net.now.nodes) }
+        requires node { IsNode net.now current.node × (current.node.id.place ≡ current.place) }
+        requires counted { IsCounted self.old.seen.items self.old.visits.items (vec_capacity self.old.visits) }
+        requires count { self.old.looks ≤ 2 ^ 62 }
+        ensures grown { IsGrown self.old.seen.items self.old.visits.items self.new.seen.items self.new.visits.items }
+        ensures counted { IsCounted self.new.seen.items self.new.visits.items (vec_capacity self.new.visits) }
+        ensures spreads { SpreadsAll net.now (slice_index prices.now.prices) barred.now current way
+            self.old.seen.items self.old.visits.items self.new.seen.items self.new.visits.items }
+        ensures capacity { vec_capacity self.new.visits ≡ vec_capacity self.old.visits }
+        ensures counts { self.new.looks
+            ≡ self.old.looks + length (rows_of net.now (arcs_on (side_of way) net.now current.node)) }
+        ensures net { IsNet net.now }
+    {
+        for (arc, row) in arcs_leaving(net, current.node, way) {
+            self.follow_arc(net, prices, barred, current, Step { arc, way }, row);
+            self.looks += 1;
+        }
+    }
+
+    /// Follows every arc of the residual network that leaves the node where the search stands.
+    fn follow_node(&mut self, net: &Net, prices: &Prices, barred: &[ArcId], current: Current)
+        requires length { (length prices.now.prices ≡ capacity_of net.now.nodes)
+            × (length self.old.seen.items ≡ capacity_of net.now.nodes) }
+        requires node { IsNode net.now current.node × (current.node.id.place ≡ current.place) }
+        requires counted { IsCounted self.old.seen.items self.old.visits.items (vec_capacity self.old.visits) }
+        requires count { self.old.looks ≤ 2 ^ 61 }
+        ensures grown { IsGrown self.old.seen.items self.old.visits.items self.new.seen.items self.new.visits.items }
+        ensures counted { IsCounted self.new.seen.items self.new.visits.items (vec_capacity self.new.visits) }
+        ensures spreads { SpreadsBoth net.now (slice_index prices.now.prices) barred.now current
+            self.old.seen.items self.old.visits.items self.new.seen.items self.new.visits.items }
+        ensures capacity { vec_capacity self.new.visits ≡ vec_capacity self.old.visits }
+        ensures counts { self.new.looks
+            ≡ self.old.looks + length (rows_of net.now (arcs_on Out net.now current.node))
+            + length (rows_of net.now (arcs_on In net.now current.node)) }
+        ensures net { IsNet net.now }
+    {
+        self.follow_arcs(net, prices, barred, current, Way::Forward);
+        self.follow_arcs(net, prices, barred, current, Way::Backward);
+    }
+
+    /// Visits nodes from the start on, in the order in which they are found; says as which number the goal was visited.
+    fn breadth_first(
+        &mut self,
+        net: &Net,
+        prices: &Prices,
+        barred: &[ArcId],
+        start: Visit,
+        goal: usize,
+    ) -> Option<usize>
+        requires length { (length prices.now.prices ≡ capacity_of net.now.nodes)
+            × (length self.old.seen.items ≡ capacity_of net.now.nodes) }
+        requires room { capacity_of net.now.nodes ≤ vec_capacity self.old.visits }
+        requires start { IsNode net.now start.node × (start.node.id.place ≡ start.place) × (start.predecessor ≡ None) }
+        requires net { IsNet net.now }
+        requires marked { AreMarked self.old.seen.items self.old.visits.items 0 }
+        ensures marked { AreMarked self.new.seen.items self.new.visits.items 0 }
+        ensures found { IfSome result (IsReachedBy net.now (slice_index prices.now.prices) barred.now
+            start.place goal self.new.visits.items) }
+        ensures few { length self.new.visits.items ≤ capacity_of net.now.nodes }
+        ensures none { IfNone result (IsSpent net.now (slice_index prices.now.prices) barred.now
+            start.place goal self.new.seen.items) }
+        ensures size { length self.new.seen.items ≡ length self.old.seen.items }
+        ensures capacity { vec_capacity self.new.visits ≡ vec_capacity self.old.visits }
+        ensures counts { self.new.looks ≤ 2 * length (arcs_of net.now) }
+    {
+        self.clear();
+        self.visit_once(start);
+        let mut number = 0;
+        while number < self.visits.len() {
+            let Visit { node, place, .. } = self.visits[number];
+            if place == goal {
+                return Some(number);
+            }
+            let current = Current {
+                node,
+                place,
+                number,
+            };
+            self.follow_node(net, prices, barred, current);
+            number += 1;
+        }
+        None
+    }
+
+    /// What `tight_path` does, with the tables of the search; `steps` is then the path, where there is one.
+    #[tactic(auto, using(crate::proofs::ArcRows::as_many_as_counted))]
+    fn find_tight(
+        &mut self,
+        net: &Net,
+        prices: &Prices,
+        barred: &[ArcId],
+        from: NodeId,
+        to: NodeId,
+        steps: &mut Vec<Step>,
+    ) -> bool
+        requires nodes { IsNode net.now from × IsNode net.now to × (from ≢ to) }
+        requires length { (length prices.now.prices ≡ capacity_of net.now.nodes)
+            × (length self.old.seen.items ≡ capacity_of net.now.nodes) }
+        requires capacity { (capacity_of net.now.nodes ≤ vec_capacity self.old.visits)
+            × (capacity_of net.now.nodes ≤ vec_capacity steps.old) }
+        requires marked { AreMarked self.old.seen.items self.old.visits.items 0 }
+        ensures marked { AreMarked self.new.seen.items self.new.visits.items 0 }
+        ensures counts { self.new.looks ≤ 2 * arc_count net.now }
+        ensures path { result ≡ true → IsTightPath net.now (slice_index prices.now.prices)
+            from.id.place to.id.place steps.new.items × Avoids barred.now steps.new.items }
+        ensures none { result ≡ false → (inside : ℕ → Bool) × IsTightCut net.now (slice_index prices.now.prices)
+            barred.now from.id.place to.id.place inside }
+        ensures size { length self.new.seen.items ≡ length self.old.seen.items }
+        ensures capacity { (vec_capacity self.new.visits ≡ vec_capacity self.old.visits)
+            × (vec_capacity steps.new ≡ vec_capacity steps.old) }
+    {
+        let (Some(place), Some(goal)) = (net.place(from), net.place(to)) else {
+            return false;
+        };
+        let start = Visit {
+            node: from,
+            place: place as usize,
+            predecessor: None,
+        };
+        let Some(end) = self.breadth_first(net, prices, barred, start, goal as usize) else {
+            return false;
+        };
+        walk_back(&self.visits, end, steps);
+        true
+    }
 }
 
 /// A path from `from` to `to` over residual arcs of reduced cost 0 that are not barred. `None` only where a set of
@@ -286,20 +289,11 @@ pub fn tight_path<'s>(
         × IsTightCut net.now (price_of prices.now) barred.now from.id.place to.id.place inside) }
 {
     let _places = prices.places();
-    let mut looks = 0;
-    let found = find_tight(
-        net,
-        prices,
-        barred,
-        &mut scratch.seen,
-        &mut scratch.visits,
-        &mut scratch.steps,
-        from,
-        to,
-        &mut looks,
-    );
+    let found = scratch
+        .reach
+        .find_tight(net, prices, barred, from, to, &mut scratch.steps);
     scratch.searches = scratch.searches.saturating_add(1);
-    scratch.looks = scratch.looks.saturating_add(looks);
+    scratch.looks = scratch.looks.saturating_add(scratch.reach.looks);
     if !found {
         return None;
     }

@@ -13,7 +13,8 @@ pub record IsLesser (k a b : ℕ) : Type 0 where
 -- twice as many keys as places: the last are those of the places, and each before them is the lesser of its two
 pub record IsTournament (places : ℕ) (keys : List ℕ) : Type 0 where
   pub length : length keys ≡ 2 * places
-  pub lesser : (i : ℕ) → 1 ≤ i → i < places → IsLesser (slice_index keys i) (slice_index keys (2 * i)) (slice_index keys (2 * i + 1))
+  pub lesser : (i : ℕ) → 1 ≤ i → i < places
+      → IsLesser (slice_index keys i) (slice_index keys (2 * i)) (slice_index keys (2 * i + 1))
   pub bounded : (i : ℕ) → slice_index keys i ≤ 18446744073709551615
 
 -- the place has a key, and no place has a lower one
@@ -27,7 +28,8 @@ pub record IsQueued (price : ℕ → ℕ) (ms : List NodeState) (keys : List ℕ
   pub size : length keys ≡ length ms
   pub open_ : (v : ℕ) → known ms v ≡ true → settled ms v ≡ false → slice_index keys v ≡ label ms v - price v
   pub below : (v : ℕ) → known ms v ≡ true → settled ms v ≡ false → label ms v < 18446744073709551615
-  pub shut : (v : ℕ) → v < length keys → slice_index keys v < 18446744073709551615 → (known ms v ≡ true) × (settled ms v ≡ false)
+  pub shut : (v : ℕ) → v < length keys → slice_index keys v < 18446744073709551615
+      → (known ms v ≡ true) × (settled ms v ≡ false)
 
 -- nothing is known, and the queue is empty
 pub record IsIdle (ms : List NodeState) (keys : List ℕ) : Type 0 where
@@ -50,4 +52,5 @@ pub record AreVisited (ms : List NodeState) (vs : List Visit) : Type 0 where
 -- what is not yet forgotten was visited from number `i` on, or stands in the queue
 abbrev pub AreLeft : List NodeState → List ℕ → List Visit → ℕ → Type 0
 AreLeft ms keys vs i =
-    (v : ℕ) → ((known ms v ≡ false) × (settled ms v ≡ false)) ⊎ (IsVisited vs i v ⊎ (slice_index keys v < 18446744073709551615))
+    (v : ℕ) → ((known ms v ≡ false) × (settled ms v ≡ false))
+    ⊎ (IsVisited vs i v ⊎ (slice_index keys v < 18446744073709551615))

@@ -1,5 +1,7 @@
 -- What the searches keep.
-use Rattle.std.specs.Prelude.{◌≡◌, ℕ, ◌+◌, ◌-◌, ◌*◌, ◌<◌, ◌≤◌, Bool, true, false, List, [], length, Contains, Some, None, is_some, MatchOption, ◌⊎◌, slice_index, slice_index_or, slice_set, count_by, if◌then◌else◌, not, ◌&&◌, ◌||◌, nat_lt, ⊤}
+use Rattle.std.specs.Prelude.{◌≡◌, ℕ, ◌+◌, ◌-◌, ◌*◌, ◌^◌, ◌<◌, ◌≤◌, Bool, true, false, List, [], length, Contains, Some}
+use Rattle.std.specs.Prelude.{None, is_some, MatchOption, ◌⊎◌, slice_index, slice_index_or, slice_set, count_by}
+use Rattle.std.specs.Prelude.{if◌then◌else◌, not, ◌&&◌, ◌||◌, nat_lt, ⊤}
 use Rattle.firm_net.specs.Row.{Row}
 use Rattle.firm_net.specs.Net.{Net, IsNode, row_at, IsResidual as IsOpen}
 use Rattle.firm_net.specs.declared.links.Side.{Side}
@@ -10,6 +12,7 @@ use Rattle.firm_net.specs.declared.row.Way.{Way}
 use Rattle.firm_net.specs.declared.row.Way.TheVariants.{Forward, Backward}
 use Rattle.firm_paths.specs.Network.{Tight, AreValid, IsResidual, leaves, enters}
 use Rattle.firm_paths.specs.NetArcs.{arcs_of, residual_of}
+use Rattle.firm_paths.specs.Paths.{IsHighest}
 use Rattle.firm_paths.specs.declared.search.Current.{Current}
 use Rattle.firm_paths.specs.declared.search.Predecessor.{Predecessor}
 use Rattle.firm_paths.specs.declared.search.NodeState.{NodeState}
@@ -17,10 +20,13 @@ use Rattle.firm_paths.specs.declared.search.Visit.{Visit}
 
 -- the visit of a number
 abbrev pub visit : List Visit → ℕ → Visit
-visit vs i = slice_index_or vs i (record { node = record { id = record { place = 0; stamp = 0 } }; place = 0; predecessor = None })
+visit vs i =
+    slice_index_or vs i
+    (record { node = record { id = record { place = 0; stamp = 0 } }; place = 0; predecessor = None })
 
 -- a residual arc of reduced cost 0, not barred, leads from a node that was visited to node `v`
-pub record IsPredecessor (net : Net) (price : ℕ → ℕ) (barred : List ArcId) (vs : List Visit) (v : ℕ) (h : Predecessor) : Type 0 where
+pub record IsPredecessor (net : Net) (price : ℕ → ℕ) (barred : List ArcId) (vs : List Visit) (v : ℕ)
+    (h : Predecessor) : Type 0 where
   pub visited : h.after < length vs
   pub residual : IsResidual (arcs_of net) (residual_of net h.step)
   pub start : leaves (residual_of net h.step) ≡ (visit vs h.after).place
@@ -48,6 +54,14 @@ settled ms v = (state ms v).settled
 abbrev pub label : List NodeState → ℕ → ℕ
 label ms v = (state ms v).label
 
+-- the visit of the node at a place, by the way on which the search came to it
+abbrev pub visit_at : List NodeState → ℕ → NodeId → Visit
+visit_at ms v node = record { node = node; place = v; predecessor = (state ms v).predecessor }
+
+-- the states after the node at a place was settled
+abbrev pub with_settled : List NodeState → ℕ → List NodeState
+with_settled ms v = slice_set ms v (record (state ms v) { settled = true })
+
 -- a state is open to a label where its node is not settled, and not known or labelled higher
 abbrev pub is_open_to : NodeState → ℕ → Bool
 is_open_to old value = not old.settled && (not (is_some old.node) || nat_lt value old.label)
@@ -58,14 +72,16 @@ offered ms v new = if is_open_to (state ms v) new.label then slice_set ms v new 
 
 -- settled nodes lie within `near`, open ones no nearer, and every label is at most `top`
 pub record IsNearBy (price : ℕ → ℕ) (ms : List NodeState) (near top : ℕ) : Type 0 where
-  pub within : (v : ℕ) → settled ms v ≡ true → (known ms v ≡ true) × (price v ≤ label ms v) × (label ms v ≤ price v + near)
+  pub within : (v : ℕ) → settled ms v ≡ true
+      → (known ms v ≡ true) × (price v ≤ label ms v) × (label ms v ≤ price v + near)
   pub beyond : (v : ℕ) → known ms v ≡ true → settled ms v ≡ false → price v + near ≤ label ms v
   pub below : (v : ℕ) → known ms v ≡ true → label ms v ≤ top
 
 -- what is known of the nodes that were reached, and of those that were visited
 pub record IsLabelled (net : Net) (from : ℕ) (ms : List NodeState) (vs : List Visit) : Type 0 where
   pub named : (v : ℕ) → known ms v ≡ true → MatchOption (state ms v).node ⊥ (λ n. IsNode net n × (n.id.place ≡ v))
-  pub predecessors : (v : ℕ) → known ms v ≡ true → MatchOption (state ms v).predecessor (v ≡ from) (IsPredecessor net (label ms) [] vs v)
+  pub predecessors : (v : ℕ) → known ms v ≡ true
+      → MatchOption (state ms v).predecessor (v ≡ from) (IsPredecessor net (label ms) [] vs v)
   pub tree : IsTree net (label ms) [] vs from
   pub visited : (i : ℕ) → i < length vs → settled ms (visit vs i).place ≡ true
   pub count : count_by (λ m. m.settled) ms ≡ length vs
@@ -108,7 +124,8 @@ NearFollowed net price ms distance =
 -- those out of all nodes but `u`
 abbrev pub OthersFollowed : Net → List NodeState → ℕ → Type 0
 OthersFollowed net ms u =
-    (way : Way) (id : ArcId) (row : Row) → row_at net id ≡ Some row → ((start_of way row).id.place ≡ u → ⊥) → IsFollowed ms way row
+    (way : Way) (id : ArcId) (row : Row) → row_at net id ≡ Some row → ((start_of way row).id.place ≡ u → ⊥)
+    → IsFollowed ms way row
 
 -- those out of `u`, read in one way
 abbrev pub NodeFollowed : Net → List NodeState → ℕ → Way → Type 0
@@ -124,7 +141,8 @@ pub record IsLowered (old new : List NodeState) : Type 0 where
   pub length : length new ≡ length old
 
 -- the search stands at a node that was visited, is settled and lies at the distance `near`
-pub record IsAt (net : Net) (price : ℕ → ℕ) (from : ℕ) (vs : List Visit) (near top : ℕ) (current : Current) (ms : List NodeState) : Type 0 where
+pub record IsAt (net : Net) (price : ℕ → ℕ) (from : ℕ) (vs : List Visit) (near top : ℕ) (current : Current)
+    (ms : List NodeState) : Type 0 where
   pub near_by : IsNearBy price ms near top
   pub labelled : IsLabelled net from ms vs
   pub number : current.number < length vs
@@ -142,6 +160,12 @@ abbrev pub AllEnough : Way → Net → ℕ → ℕ → Type 0
 AllEnough way net u value =
     (id : ArcId) (row : Row) → row_at net id ≡ Some row → (start_of way row).id.place ≡ u → HasEnough way value row
 
+-- where the search stands, the node is settled, its label leaves room for an arc, and suffices for each step back
+pub record IsReady (net : Net) (current : Current) (ms : List NodeState) : Type 0 where
+  pub settled_here : settled ms current.place ≡ true
+  pub room : label ms current.place + 3000001 < 2 ^ 64
+  pub enough : (way : Way) → AllEnough way net current.place (label ms current.place)
+
 -- of the places below `n` whose nodes are known and not settled, `u` lies nearest
 pub record IsNearestBelow (price : ℕ → ℕ) (ms : List NodeState) (n u : ℕ) : Type 0 where
   pub listed : u < n
@@ -151,8 +175,17 @@ pub record IsNearestBelow (price : ℕ → ℕ) (ms : List NodeState) (n u : ℕ
 
 -- the prices after the settled ones were raised to their labels, and those no higher than the goal's by `distance`
 pub record AreRaised (old : List ℕ) (ms : List NodeState) (goal distance : ℕ) (new : List ℕ) : Type 0 where
-  pub at_settled : (v : ℕ) → v < length old → settled ms v ≡ true → label ms v ≤ slice_index old goal + distance → slice_index new v ≡ label ms v
-  pub at_others : (v : ℕ) → v < length old → settled ms v ≡ false → slice_index old v ≤ slice_index old goal → slice_index new v ≡ slice_index old v + distance
+  pub at_settled : (v : ℕ) → v < length old → settled ms v ≡ true → label ms v ≤ slice_index old goal + distance
+      → slice_index new v ≡ label ms v
+  pub at_others : (v : ℕ) → v < length old → settled ms v ≡ false → slice_index old v ≤ slice_index old goal
+      → slice_index new v ≡ slice_index old v + distance
+
+-- valid prices that rose, of which the goal's is the highest and rose no more than the longest path can cost
+pub record IsRaised (net : Net) (old new : List ℕ) (goal : ℕ) : Type 0 where
+  pub valid : AreValid (arcs_of net) (slice_index new)
+  pub highest : IsHighest net (slice_index new) goal
+  pub rises : (n : NodeId) → IsNode net n → slice_index old n.id.place ≤ slice_index new n.id.place
+  pub bound : slice_index new goal ≤ slice_index old goal + 4095 * 3000000
 
 -- the search stays where it stands, and the row is followed from there
 abbrev pub Looks : Net → Current → Way → Row → List NodeState → List NodeState → Type 0
@@ -164,10 +197,19 @@ Looks net current way row old new =
 abbrev pub LooksAll : Net → Current → Way → List NodeState → List NodeState → Type 0
 LooksAll net current way old new =
     (price : ℕ → ℕ) (from : ℕ) (vs : List Visit) (near top : ℕ) → AreValid (arcs_of net) price
-    → IsAt net price from vs near top current old → IsAt net price from vs near top current new × NodeFollowed net new current.place way
+    → IsAt net price from vs near top current old
+    → IsAt net price from vs near top current new × NodeFollowed net new current.place way
+
+-- the looks along all arcs that leave the node in either way
+abbrev pub LooksBoth : Net → Current → List NodeState → List NodeState → Type 0
+LooksBoth net current old new =
+    (price : ℕ → ℕ) (from : ℕ) (vs : List Visit) (near top : ℕ) → AreValid (arcs_of net) price
+    → IsAt net price from vs near top current old
+    → IsAt net price from vs near top current new × ((way : Way) → NodeFollowed net new current.place way)
 
 -- the goal is the nearest open node, it was visited last, and all that was settled was followed
-pub record IsReached (net : Net) (price : ℕ → ℕ) (from goal : ℕ) (ms : List NodeState) (vs : List Visit) (number : ℕ) : Type 0 where
+pub record IsReached (net : Net) (price : ℕ → ℕ) (from goal : ℕ) (ms : List NodeState) (vs : List Visit)
+    (number : ℕ) : Type 0 where
   pub near_by : IsNearBy price ms (label ms goal - price goal) (price from + 4095 * 3000000)
   pub followed : NearFollowed net price ms (label ms goal - price goal)
   pub is_known : known ms goal ≡ true

@@ -1,10 +1,12 @@
 -- What the search for a tight path keeps.
-use Rattle.std.specs.Prelude.{◌≡◌, ℕ, ◌+◌, ◌<◌, ◌≤◌, Bool, true, false, List, [], ◌∷◌, ◌++◌, length, Contains, Some, ◌⊎◌, slice_index_or, slice_set, count_by, if◌then◌else◌}
+use Rattle.std.specs.Prelude.{◌≡◌, ℕ, ◌+◌, ◌<◌, ◌≤◌, Bool, true, false, List, [], ◌∷◌, ◌++◌, length, Contains, Some}
+use Rattle.std.specs.Prelude.{◌⊎◌, slice_index_or, slice_set, count_by, if◌then◌else◌}
 use Rattle.firm_net.specs.Row.{Row}
 use Rattle.firm_net.specs.Net.{Net, IsNode, row_at, IsResidual as IsOpen}
 use Rattle.firm_net.specs.declared.row.ArcId.{ArcId}
 use Rattle.firm_net.specs.declared.row.Way.{Way}
 use Rattle.firm_paths.specs.inner.Search.{visit, IsTree, start_of, end_of}
+use Rattle.firm_paths.specs.inner.Queue.{IsVisited}
 use Rattle.firm_paths.specs.declared.search.Current.{Current}
 use Rattle.firm_paths.specs.declared.search.Visit.{Visit}
 
@@ -32,43 +34,65 @@ pub record IsCounted (seen : List Bool) (vs : List Visit) (capacity : ℕ) : Typ
   pub room : length seen ≤ capacity
 
 -- the nodes that were visited are those that were seen, and they are a tree of tight residual arcs
-pub record IsSpread (net : Net) (price : ℕ → ℕ) (barred : List ArcId) (from : ℕ) (seen : List Bool) (vs : List Visit) : Type 0 where
+pub record IsSpread (net : Net) (price : ℕ → ℕ) (barred : List ArcId) (from : ℕ) (seen : List Bool)
+    (vs : List Visit) : Type 0 where
   pub tree : IsTree net price barred vs from
   pub named : (i : ℕ) → i < length vs → IsNode net (visit vs i).node × ((visit vs i).node.id.place ≡ (visit vs i).place)
   pub marked : (i : ℕ) → i < length vs → is seen (visit vs i).place ≡ true
   pub found : (v : ℕ) → is seen v ≡ true → (i : ℕ) × (i < length vs) × ((visit vs i).place ≡ v)
 
+-- each visit has a place, and what was not visited, from number `i` on, is not seen
+pub record AreMarked (seen : List Bool) (vs : List Visit) (i : ℕ) : Type 0 where
+  pub places : (k : ℕ) → k < length vs → (visit vs k).place < length seen
+  pub unseen : (v : ℕ) → (is seen v ≡ false) ⊎ IsVisited vs i v
+
 -- the arc is barred, or where it is residual and tight it leads to a node that was seen
 abbrev pub IsSpreadTo : (ℕ → ℕ) → List ArcId → List Bool → Way → ArcId → Row → Type 0
 IsSpreadTo price barred seen way id row =
     Contains barred id
-    ⊎ (IsOpen way row → row.cost + price row.tail.id.place ≡ price row.head.id.place → is seen (end_of way row).id.place ≡ true)
+    ⊎ (IsOpen way row → row.cost + price row.tail.id.place ≡ price row.head.id.place
+    → is seen (end_of way row).id.place ≡ true)
 
 -- the same of all rows that leave the node at `u` in one way
 abbrev pub NodeSpread : Net → (ℕ → ℕ) → List ArcId → List Bool → ℕ → Way → Type 0
 NodeSpread net price barred seen u way =
-    (id : ArcId) (row : Row) → row_at net id ≡ Some row → (start_of way row).id.place ≡ u → IsSpreadTo price barred seen way id row
+    (id : ArcId) (row : Row) → row_at net id ≡ Some row → (start_of way row).id.place ≡ u
+    → IsSpreadTo price barred seen way id row
 
 -- one look keeps what the search keeps, and follows the arc
-abbrev pub Spreads : Net → (ℕ → ℕ) → List ArcId → Current → Way → ArcId → Row → List Bool → List Visit → List Bool → List Visit → Type 0
+abbrev pub Spreads : Net → (ℕ → ℕ) → List ArcId → Current → Way → ArcId → Row → List Bool → List Visit → List Bool
+    → List Visit → Type 0
 Spreads net price barred current way id row seen vs new_seen new_vs =
-    (from : ℕ) → current.number < length vs → (visit vs current.number).place ≡ current.place → IsSpread net price barred from seen vs
+    (from : ℕ) → current.number < length vs → (visit vs current.number).place ≡ current.place
+    → IsSpread net price barred from seen vs
     → IsSpread net price barred from new_seen new_vs × IsSpreadTo price barred new_seen way id row
 
 -- the looks along all arcs that leave the node in one way
-abbrev pub SpreadsAll : Net → (ℕ → ℕ) → List ArcId → Current → Way → List Bool → List Visit → List Bool → List Visit → Type 0
+abbrev pub SpreadsAll : Net → (ℕ → ℕ) → List ArcId → Current → Way → List Bool → List Visit → List Bool → List Visit
+    → Type 0
 SpreadsAll net price barred current way seen vs new_seen new_vs =
-    (from : ℕ) → current.number < length vs → (visit vs current.number).place ≡ current.place → IsSpread net price barred from seen vs
+    (from : ℕ) → current.number < length vs → (visit vs current.number).place ≡ current.place
+    → IsSpread net price barred from seen vs
     → IsSpread net price barred from new_seen new_vs × NodeSpread net price barred new_seen current.place way
 
+-- the looks along all arcs that leave the node in either way
+abbrev pub SpreadsBoth : Net → (ℕ → ℕ) → List ArcId → Current → List Bool → List Visit → List Bool → List Visit → Type 0
+SpreadsBoth net price barred current seen vs new_seen new_vs =
+    (from : ℕ) → current.number < length vs → (visit vs current.number).place ≡ current.place
+    → IsSpread net price barred from seen vs
+    → IsSpread net price barred from new_seen new_vs
+    × ((way : Way) → NodeSpread net price barred new_seen current.place way)
+
 -- the goal was visited as this number
-pub record IsReachedBy (net : Net) (price : ℕ → ℕ) (barred : List ArcId) (from goal : ℕ) (vs : List Visit) (number : ℕ) : Type 0 where
+pub record IsReachedBy (net : Net) (price : ℕ → ℕ) (barred : List ArcId) (from goal : ℕ) (vs : List Visit)
+    (number : ℕ) : Type 0 where
   pub tree : IsTree net price barred vs from
   pub last : (number < length vs) × ((visit vs number).place ≡ goal)
 
 -- all arcs out of the nodes that were seen were followed; the start was seen, and the goal was not
 pub record IsSpent (net : Net) (price : ℕ → ℕ) (barred : List ArcId) (from goal : ℕ) (seen : List Bool) : Type 0 where
-  pub followed : (way : Way) (id : ArcId) (row : Row) → row_at net id ≡ Some row → is seen (start_of way row).id.place ≡ true
+  pub followed : (way : Way) (id : ArcId) (row : Row) → row_at net id ≡ Some row
+      → is seen (start_of way row).id.place ≡ true
       → IsSpreadTo price barred seen way id row
   pub from_in : is seen from ≡ true
   pub goal_out : is seen goal ≡ false

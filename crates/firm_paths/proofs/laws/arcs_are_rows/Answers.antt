@@ -1,4 +1,5 @@
-use Rattle.firm_paths.proofs.ArcRows.{each_arc_has_its_row, each_row_is_listed, changed_row_is_found, as_many_as_counted}
+use Rattle.firm_paths.proofs.ArcRows.{each_arc_has_its_row, each_row_is_listed, changed_row_is_found}
+use Rattle.firm_paths.proofs.ArcRows.{as_many_as_counted}
 use Rattle.firm_paths.proofs.laws.arcs_are_rows.Goals as goal
 
 pub returns-clause-arcs : goal.returns-clause-arcs

@@ -5,8 +5,10 @@ use Rattle.firm_paths.proofs.tight.tight_path.Goals as goal
 pub returns : goal.returns
 returns c =
     let found = c.find_tight-found.ensures.path c.if-not-found.false in
-    let searches : c.scratch.inside.searches ≡ c.args.scratch.now.searches = ap (λ (w : Workspace). w.searches) c.scratch.view_is in
-    let looks : c.scratch.inside.looks ≡ c.args.scratch.now.looks = ap (λ (w : Workspace). w.looks) c.scratch.view_is in (
+    let searches : c.scratch.inside.searches ≡ c.args.scratch.now.searches =
+    ap (λ (w : Workspace). w.searches) c.scratch.view_is in
+    let looks : c.scratch.inside.looks ≡ c.args.scratch.now.looks =
+    ap (λ (w : Workspace). w.looks) c.scratch.view_is in (
       (
         refl,
         (λ _. tt),
@@ -15,6 +17,7 @@ returns c =
           begins = ap (λ (w : Workspace). w.begins) c.scratch.view_is;
           searches = record {
             exact = λ room. omega (arith, room, searches, c.saturating_add-scratch-inside.ensures);
+            full = λ small past. omega (arith, small, past, searches, c.saturating_add-scratch-inside.ensures);
             kept = omega (arith, searches, c.saturating_add-scratch-inside.ensures, c.scratch.ranges);
             no_more = omega (arith, searches, c.saturating_add-scratch-inside.ensures);
           };

@@ -13,14 +13,33 @@ returns-clause-raises c =
     let base : ℕ = c.raise_table-self-inside.result in
     let value : c.deref_mut.result.now ≡ c.self.inside.less.items = c.deref_mut.ensures.value in
     let size : length c.deref_mut.result.now ≡ length c.self.inside.less.items = ap (λ (z : List ℕ). length z) value in
-    let at : (v : ℕ) → slice_index c.deref_mut.result.now v ≡ slice_index c.self.inside.less.items v = λ v. ap (λ (z : List ℕ). slice_index z v) value in
+    let at : (v : ℕ) → slice_index c.deref_mut.result.now v ≡ slice_index c.self.inside.less.items v =
+    λ v. ap (λ (z : List ℕ). slice_index z v) value in
     let items : (with_items c.self.inside.less new).items ≡ new =
-    with_items_is c.self.inside.less new (omega (arith, c.raise_table-self-inside.auto.less, size, c.self.inside.less.ok.0)) in
-    let before : below c.self.inside.base c.self.inside.less.items ≡ c.args.self.now.prices = ap (λ (p : PriceTable). p.prices) c.self.view_is in
-    let listed : c.args.goal < length c.self.inside.less.items = omega (arith, c.requires.goal, ap (λ (z : List ℕ). length z) before, length-map c.self.inside.less.items (λ (l : ℕ). c.self.inside.base - l)) in
-    subst (λ (z : List ℕ). AreRaised z c.args.states.now c.args.goal c.args.distance (below base (with_items c.self.inside.less new).items)) before
-    (subst (λ (z : List ℕ). AreRaised (below c.self.inside.base c.self.inside.less.items) c.args.states.now c.args.goal c.args.distance (below base z)) (sym items)
+    with_items_is c.self.inside.less new
+    (omega (arith, c.raise_table-self-inside.auto.less, size, c.self.inside.less.ok.0)) in
+    let before : below c.self.inside.base c.self.inside.less.items ≡ c.args.self.now.prices =
+    ap (λ (p : PriceTable). p.prices) c.self.view_is in
+    let listed : c.args.goal < length c.self.inside.less.items =
+    omega (
+      arith,
+      c.requires.goal,
+      ap (λ (z : List ℕ). length z) before,
+      length-map c.self.inside.less.items (λ (l : ℕ). c.self.inside.base - l),
+    ) in
+    subst (λ (z : List ℕ). AreRaised z c.args.states.now c.args.goal c.args.distance (below base
+    (with_items c.self.inside.less new).items))
+    before
+    (subst (λ (z : List ℕ).
+    AreRaised (below c.self.inside.base c.self.inside.less.items) c.args.states.now c.args.goal c.args.distance
+    (below base z))
+    (sym items)
     (raised_below c.self.inside.base base c.args.distance c.args.goal c.self.inside.less.items new c.args.states.now
     (omega (arith, c.raise_table-self-inside.auto.less, size)) listed c.self.invariant.1
-    (λ v l s low. c.raise_table-self-inside.ensures.settled v (omega (arith, l, size)) s (omega (arith, low, at c.args.goal)))
-    (λ v l s low. omega (arith, at v, c.raise_table-self-inside.ensures.others v (omega (arith, l, size)) s (omega (arith, low, at c.args.goal, at v))))))
+    (λ v l s low.
+    c.raise_table-self-inside.ensures.settled v (omega (arith, l, size)) s (omega (arith, low, at c.args.goal)))
+    (λ v l s low. omega (
+      arith,
+      at v,
+      c.raise_table-self-inside.ensures.others v (omega (arith, l, size)) s (omega (arith, low, at c.args.goal, at v)),
+    ))))

@@ -5,16 +5,18 @@ use Rattle.std.specs.Prelude.{slice_index}
 use Rattle.firm_arena.specs.Arena.{capacity_of}
 use Rattle.firm_paths.specs.inner.Spread.{IsCounted}
 use Rattle.firm_paths.proofs.Spreading.{IsSpreadOut}
-use Rattle.firm_paths.proofs.tight.breadth_first.Given as goal
+use Rattle.firm_paths.proofs.tight.Reach.breadth_first.Given as goal
 
 abbrev pub invariant-loop-number : goal.invariant-loop-number
 invariant-loop-number l = record {
-  length : length l.seen ≡ capacity_of l.net.nodes;
-  counted : IsCounted l.seen l.visits.items (vec_capacity l.visits);
-  capacity : vec_capacity l.visits ≡ vec_capacity l.fn.visits;
-  looked : l.looks ≤ l.fn.looks + (turned_from Forward l.net l.visits.items l.number + turned_from Backward l.net l.visits.items l.number);
-  grows : l.fn.looks ≤ l.looks;
-  out : IsSpreadOut l.net (slice_index l.prices.prices) l.barred l.fn.start.place l.goal l.seen l.visits.items l.number;
+  length : length l.self.seen.items ≡ capacity_of l.net.nodes;
+  counted : IsCounted l.self.seen.items l.self.visits.items (vec_capacity l.self.visits);
+  capacity : vec_capacity l.self.visits ≡ vec_capacity l.fn.self.visits;
+  looked : l.self.looks
+      ≤ turned_from Forward l.net l.self.visits.items l.number + turned_from Backward l.net l.self.visits.items
+      l.number;
+  out : IsSpreadOut l.net (slice_index l.prices.prices) l.barred l.fn.start.place l.goal l.self.seen.items
+      l.self.visits.items l.number;
 }
 
 abbrev pub decreases-loop-number : goal.decreases-loop-number

@@ -4,7 +4,7 @@ use Rattle.std.proofs.Common.{◌∙◌, List, length, ap, arith}
 use Rattle.std.specs.Prelude.{slice_index}
 use Rattle.firm_paths.proofs.Walks.{cons_first}
 use Rattle.firm_paths.proofs.Spreading.{spreading_start, spreading_more, spreading_done}
-use Rattle.firm_paths.proofs.tight.follow_arcs.Goals as goal
+use Rattle.firm_paths.proofs.tight.Reach.follow_arcs.Goals as goal
 
 pub loop-arc-init : goal.loop-arc-init
 loop-arc-init c = record {
@@ -12,8 +12,13 @@ loop-arc-init c = record {
   is_finite = tt;
   counted = c.requires.counted;
   capacity = omega arith;
-  looked = omega (arith, ap (λ (z : List (ArcId × Row)). length z) (c.into_iter-arc-iterator.ensures.into_iter_gives ∙ c.arcs_leaving-arc-items.ensures.arcs));
-  spreading = spreading_start c.args.net.now (slice_index c.args.prices.now.prices) c.args.barred.now c.args.current c.args.way c.args.seen.now c.args.visits.now.items c.args.node _
+  looked = omega (
+    arith,
+    ap (λ (z : List (ArcId × Row)). length z)
+        (c.into_iter-arc-iterator.ensures.into_iter_gives ∙ c.arcs_leaving-arc-items.ensures.arcs),
+  );
+  spreading = spreading_start c.args.net.now (slice_index c.args.prices.now.prices) c.args.barred.now c.args.current
+      c.args.way c.args.self.now.seen.items c.args.self.now.visits.items c.args.current.node _
       c.arcs_leaving-arc-items.ensures.net c.requires.node.0 c.requires.node.1
       (c.into_iter-arc-iterator.ensures.into_iter_gives ∙ c.arcs_leaving-arc-items.ensures.arcs);
 }
@@ -32,13 +37,21 @@ loop-arc-preserved c = record {
   is_finite = tt;
   counted = c.follow_arc.ensures.counted;
   capacity = omega (arith, c.follow_arc.ensures.capacity, c.loop-arc.invariant.capacity);
-  looked = omega (arith, c.loop-arc.invariant.looked, ap (λ (z : List (ArcId × Row)). length z) c.in-Some.ensures.steps);
-  spreading = spreading_more c.args.net.now (slice_index c.args.prices.now.prices) c.args.barred.now c.args.current c.args.way c.args.seen.now c.args.visits.now.items
-      c.loop-arc.seen c.loop-arc.visits.items c.follow_arc.new.seen c.follow_arc.new.visits.items c.loop-arc.arc-iterator c.next.new.self c.in-Some.arc c.in-Some.row
+  looked = omega (
+    arith,
+    c.loop-arc.invariant.looked,
+    c.follow_arc.ensures.looks,
+    ap (λ (z : List (ArcId × Row)). length z) c.in-Some.ensures.steps,
+  );
+  spreading = spreading_more c.args.net.now (slice_index c.args.prices.now.prices) c.args.barred.now c.args.current
+      c.args.way c.args.self.now.seen.items c.args.self.now.visits.items c.loop-arc.self.seen.items
+      c.loop-arc.self.visits.items c.follow_arc.new.self.seen.items c.follow_arc.new.self.visits.items
+      c.loop-arc.arc-iterator c.next.new.self c.in-Some.arc c.in-Some.row
       c.loop-arc.invariant.spreading c.in-Some.ensures.steps c.follow_arc.ensures.grown c.follow_arc.ensures.spreads;
 }
 
 pub returns-clause-spreads : goal.returns-clause-spreads
 returns-clause-spreads c =
-    spreading_done c.args.net.now (slice_index c.args.prices.now.prices) c.args.barred.now c.args.current c.args.way c.args.seen.now c.args.visits.now.items
-    c.loop-arc.seen c.loop-arc.visits.items c.loop-arc.arc-iterator c.loop-arc.invariant.spreading c.in-None.ensures.steps.0
+    spreading_done c.args.net.now (slice_index c.args.prices.now.prices) c.args.barred.now c.args.current c.args.way
+    c.args.self.now.seen.items c.args.self.now.visits.items c.loop-arc.self.seen.items c.loop-arc.self.visits.items
+    c.loop-arc.arc-iterator c.loop-arc.invariant.spreading c.in-None.ensures.steps.0

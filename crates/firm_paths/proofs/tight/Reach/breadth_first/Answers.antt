@@ -1,0 +1,105 @@
+use Rattle.std.proofs.Common.{◌≡◌, ◌+◌, ◌<◌, ◌∙◌, sym, List, [], arith, refl, ap, length, vec_capacity}
+use Rattle.std.specs.Prelude.{slice_index}
+use Rattle.std.proofs.lemmas.List.{get_or_default}
+use Rattle.firm_paths.specs.inner.Search.{visit}
+use Rattle.firm_paths.specs.inner.Spread.{visits_with}
+use Rattle.firm_paths.specs.declared.search.Visit.{Visit}
+use Rattle.firm_paths.proofs.Listed.{node_listed}
+use Rattle.firm_paths.proofs.Spreading.{counted_start, visit_counted, out_start, out_more, out_done, spread_marked}
+use Rattle.firm_paths.proofs.Degrees.{arcs_few}
+use Rattle.firm_paths.proofs.Turns.{turn_counted, turns_counted}
+use Rattle.firm_paths.proofs.tight.Reach.breadth_first.Goals as goal
+
+pub visit_once-requires-clause-counted : goal.visit_once-requires-clause-counted
+visit_once-requires-clause-counted c =
+    rw c.clear.ensures.visits (counted_start c.clear.new.self.seen.items _ c.clear.ensures.none
+    (omega (arith, c.clear.ensures.size, c.requires.length.1, c.requires.room, c.clear.ensures.capacity)))
+
+pub loop-number-init : goal.loop-number-init
+loop-number-init c =
+    let seen = c.clear.new.self.seen.items in
+    let listed : c.args.start.place < length seen =
+    omega (
+      arith,
+      node_listed c.args.net.now c.args.start.node c.requires.start.0,
+      c.requires.start.1,
+      c.clear.ensures.size,
+      c.requires.length.1,
+    ) in
+    let items : c.visit_once.new.self.visits.items ≡ visits_with seen [] c.args.start =
+    c.visit_once.ensures.visits ∙ ap (λ (z : List Visit). visits_with seen z c.args.start) c.clear.ensures.visits in
+    record {
+      length = omega (arith, c.visit_once.ensures.size, c.clear.ensures.size, c.requires.length.1);
+      counted = rw (c.visit_once.ensures.seen, items)
+          (visit_counted seen [] c.args.start listed (vec_capacity c.visit_once.new.self.visits)
+          (counted_start seen _ c.clear.ensures.none (omega (
+            arith,
+            c.clear.ensures.size,
+            c.requires.length.1,
+            c.requires.room,
+            c.clear.ensures.capacity,
+            c.visit_once.ensures.capacity,
+          ))));
+      capacity = omega (arith, c.visit_once.ensures.capacity, c.clear.ensures.capacity);
+      looked = omega (arith, c.visit_once.ensures.looks, c.clear.ensures.looks);
+      out = rw (c.visit_once.ensures.seen, items)
+          (out_start c.args.net.now (slice_index c.args.prices.now.prices) c.args.barred.now c.args.goal seen
+          c.args.start
+          listed c.clear.ensures.none c.requires.start.0 c.requires.start.1 c.requires.start.2);
+    }
+
+pub loop-number-preserved : goal.loop-number-preserved
+loop-number-preserved c =
+    let vs = c.loop-number.self.visits.items in
+    let n = c.loop-number.number in
+    let within : n < length vs =
+    omega (arith, c.loop-number-test.true, c.len.ensures, c.loop-number.self.visits.ok.0) in
+    let is_visit : c.index.result.now ≡ visit vs n = c.index.ensures ∙ get_or_default vs n _ _ within in
+    record {
+      length = omega (arith, c.loop-number.invariant.length, c.follow_node.ensures.grown.length);
+      counted = c.follow_node.ensures.counted;
+      capacity = omega (arith, c.loop-number.invariant.capacity, c.follow_node.ensures.capacity);
+      looked =
+          let more = turn_counted c.args.net.now vs c.follow_node.new.self.visits.items n (n + 1)
+          c.index.result.now.place c.index.result.now.node c.loop-number.self.looks c.requires.net
+          (ap (λ (y : Visit). y.node.id.place) is_visit ∙ ((c.loop-number.invariant.out.spread.named n within).1
+          ∙ sym (ap (λ (y : Visit). y.place) is_visit)))
+          refl (sym (ap (λ (y : Visit). y.place) is_visit)) within c.loop-number.invariant.out.spread.tree.apart
+          c.follow_node.ensures.grown.visits c.loop-number.invariant.looked in
+          omega (arith, more, c.follow_node.ensures.counts);
+      out = out_more c.args.net.now (slice_index c.args.prices.now.prices) c.args.barred.now c.args.start.place
+          c.args.goal c.loop-number.self.seen.items vs c.follow_node.new.self.seen.items
+          c.follow_node.new.self.visits.items n
+          (record { node = c.index.result.now.node; place = c.index.result.now.place; number = n })
+          c.loop-number.invariant.out within (ap (λ (y : Visit). y.place) is_visit) refl
+          (λ e. c.if-place-goal.false (ap (λ (y : Visit). y.place) is_visit ∙ e))
+          c.follow_node.ensures.grown c.follow_node.ensures.spreads;
+    }
+
+pub follow_node-requires-clause-count : goal.follow_node-requires-clause-count
+follow_node-requires-clause-count c =
+    omega (
+      arith,
+      turns_counted c.args.net.now c.loop-number.self.visits.items c.loop-number.number c.loop-number.self.looks
+          c.loop-number.invariant.looked,
+      arcs_few c.args.net.now,
+      c.requires.net.arc_limit,
+    )
+
+pub returns-clause-none : goal.returns-clause-none
+returns-clause-none c =
+    out_done c.args.net.now (slice_index c.args.prices.now.prices) c.args.barred.now c.args.start.place c.args.goal
+    c.loop-number.self.seen.items c.loop-number.self.visits.items c.loop-number.number
+    c.loop-number.invariant.out (omega (arith, c.loop-number-test.false, c.len.ensures, c.loop-number.self.visits.ok.0))
+
+pub returns-then-place-goal-clause-marked : goal.returns-then-place-goal-clause-marked
+returns-then-place-goal-clause-marked c =
+    spread_marked c.args.net.now (slice_index c.args.prices.now.prices) c.args.barred.now c.args.start.place
+    c.loop-number.self.seen.items c.loop-number.self.visits.items c.loop-number.invariant.length
+    c.loop-number.invariant.out.spread
+
+pub returns-clause-marked : goal.returns-clause-marked
+returns-clause-marked c =
+    spread_marked c.args.net.now (slice_index c.args.prices.now.prices) c.args.barred.now c.args.start.place
+    c.loop-number.self.seen.items c.loop-number.self.visits.items c.loop-number.invariant.length
+    c.loop-number.invariant.out.spread

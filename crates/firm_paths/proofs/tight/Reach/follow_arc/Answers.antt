@@ -1,0 +1,84 @@
+use Rattle.std.proofs.Common.{◌≡◌, ℕ, ◌+◌, ◌∙◌, Some, true, arith, refl, sym, ap, subst, inr}
+use Rattle.std.specs.Prelude.{slice_index}
+use Rattle.firm_net.specs.Net.{lists_at, IsResidual as IsOpen}
+use Rattle.firm_net.specs.declared.row.Way.{Way}
+use Rattle.firm_net.specs.declared.row.NodeId.{NodeId}
+use Rattle.firm_paths.specs.inner.Search.{start_of, end_of, IsPredecessor}
+use Rattle.firm_paths.specs.inner.Spread.{is}
+use Rattle.firm_paths.specs.declared.search.Visit.{Visit}
+use Rattle.firm_paths.proofs.Looks.{place_value, make_hop}
+use Rattle.firm_paths.proofs.Spreading.{visit_counted, visit_spread}
+use Rattle.firm_paths.proofs.tight.Reach.follow_arc.Goals as goal
+use Rattle.firm_paths.proofs.tight.Reach.follow_arc.Goals.{in-Forward, in-Backward}
+
+pub returns-then-tight-clause-spreads : goal.returns-then-tight-clause-spreads
+returns-then-tight-clause-spreads c from number place old =
+    let there =
+    place_value c.entered-node.result (lists_at c.args.net.now c.entered-node.result) c.in-Some.place
+    c.in-Some.ensures.value in
+    let open_ : IsOpen c.args.step.way c.args.row = c.if-not-is_residual.ensures.0 refl in
+    let ends : c.in-Some.place ≡ (end_of c.args.step.way c.args.row).id.place =
+    there.1 ∙ ap (λ (n : NodeId). n.id.place) c.entered-node.ensures in
+    let tight : c.args.row.cost + slice_index c.args.prices.now.prices c.args.row.tail.id.place
+    ≡ slice_index c.args.prices.now.prices c.args.row.head.id.place =
+    elim c.match-step.branch [
+      | in-Forward w ↦
+          let start : c.args.row.tail.id.place ≡ c.args.current.place =
+          subst (λ (way : Way). (start_of way c.args.row).id.place ≡ c.args.current.place) w.in-Forward.is
+          c.requires.start in
+          let end : c.in-Some.place ≡ c.args.row.head.id.place =
+          subst (λ (way : Way). c.in-Some.place ≡ (end_of way c.args.row).id.place) w.in-Forward.is ends in
+          let t = w.is_tight-tight.ensures.0 (sym w.tight-is ∙ c.if-tight.true) in
+          omega (
+            arith,
+            t,
+            w.cost.ensures.value,
+            ap (slice_index c.args.prices.now.prices) start,
+            ap (slice_index c.args.prices.now.prices) end,
+          )
+      | in-Backward w ↦
+          let start : c.args.row.head.id.place ≡ c.args.current.place =
+          subst (λ (way : Way). (start_of way c.args.row).id.place ≡ c.args.current.place) w.in-Backward.is
+          c.requires.start in
+          let end : c.in-Some.place ≡ c.args.row.tail.id.place =
+          subst (λ (way : Way). c.in-Some.place ≡ (end_of way c.args.row).id.place) w.in-Backward.is ends in
+          let t = w.is_tight-tight-in-Backward.ensures.0 (sym w.tight-is ∙ c.if-tight.true) in
+          omega (
+            arith,
+            t,
+            w.cost-in-Backward.ensures.value,
+            ap (slice_index c.args.prices.now.prices) start,
+            ap (slice_index c.args.prices.now.prices) end,
+          )
+    ] in
+    let predecessor : IsPredecessor c.args.net.now (slice_index c.args.prices.now.prices) c.args.barred.now
+    c.args.self.now.visits.items c.in-Some.place
+    (record { step = c.args.step; after = c.args.current.number }) =
+    subst (λ (z : ℕ). IsPredecessor c.args.net.now (slice_index
+    c.args.prices.now.prices) c.args.barred.now c.args.self.now.visits.items
+    z (record { step = c.args.step; after = c.args.current.number }))
+    (sym ends)
+    (make_hop c.args.net.now (slice_index c.args.prices.now.prices) c.args.barred.now c.args.self.now.visits.items
+    c.args.step.arc c.args.row c.args.step.way c.args.current.number
+    c.requires.row open_ number (c.requires.start ∙ sym place) tight
+    (λ b. let t : c.is_barred.result ≡ true = c.is_barred.ensures.1 b in absurd (cc (t, c.if-is_barred.false)))) in
+    let x : Visit =
+    record {
+      node = c.entered-node.result;
+      place = c.in-Some.place;
+      predecessor =
+          Some (record { step = c.args.step; after = c.args.current.number });
+    } in
+    let spread =
+    visit_spread c.args.self.now.seen.items c.args.self.now.visits.items x
+    (omega (arith, c.in-Some.ensures.below, c.requires.length.1)) c.args.net.now (slice_index c.args.prices.now.prices)
+    c.args.barred.now from
+    there.0 (sym there.1) predecessor old in
+    rw (c.visit_once.ensures.seen, c.visit_once.ensures.visits)
+    (spread.0, inr (λ o t. ap (is _) (sym ends) ∙ spread.1))
+
+pub returns-then-tight-clause-counted : goal.returns-then-tight-clause-counted
+returns-then-tight-clause-counted c =
+    rw (c.visit_once.ensures.seen, c.visit_once.ensures.visits, c.visit_once.ensures.capacity)
+    (visit_counted c.args.self.now.seen.items c.args.self.now.visits.items _
+    (omega (arith, c.in-Some.ensures.below, c.requires.length.1)) _ c.requires.counted)
