@@ -1,0 +1,5 @@
+mod Alls
+mod Live
+mod Opening
+mod Once
+mod Shutting

@@ -1,0 +1,6 @@
+pub mod Desks
+pub mod Polls
+pub mod Opening
+pub mod Closed
+pub mod Gathered
+pub mod Faults

@@ -1,0 +1,11 @@
+-- What a look at an asked round gives.
+use Rattle.std.specs.Prelude.{◌≡◌}
+use Rattle.firm_rules.specs.declared.commands.Command.TheVariants.{Round}
+use Rattle.firm_hall.specs.Desks.{DeskIs, IsStep}
+use Rattle.firm_hall.specs.declared.desks.AskedPoll.{AskedPoll}
+use Rattle.firm_hall.specs.declared.desks.AskedPoll.TheVariants.{Back, Not}
+
+-- the round of the book that was handed over, or the same token again
+abbrev pub IsPolled : DeskIs → AskedPoll → Type 0
+IsPolled asked (Back desk reply) = IsStep asked Round reply desk
+IsPolled asked (Not same) = same ≡ asked

@@ -1,0 +1,136 @@
+//! The hall itself: the round queue and the stop word, which desks and workers share.
+ghost use Rattle.std.specs.Prelude.{◌≡◌, ◌+◌, ◌<◌, ◌≤◌, ◌^◌, ◌++◌, ◌∷◌, [], All, IfOk, MatchOption, length};
+ghost use Rattle.firm_rounds.specs.Passes.{put_is, pop_is, new_puts, new_pops};
+ghost use Rattle.firm_rounds.specs.Rounds.{ticket};
+ghost use Rattle.firm_hall.specs.Opening.{opening_desks};
+
+use crate::desks::Desk;
+use crate::workers::WorkerPass;
+use crossbeam_utils::CachePadded;
+use firm_rounds::{Job, PopPass, PutPass, Queue};
+use firm_text::Roster;
+use std::alloc::{AllocError, Global};
+use std::marker::Model;
+use std::sync::Wait;
+use std::sync::atomic::{AtomicU64, Ordering};
+use std::thread;
+use std::time::Duration;
+
+// How often a worker looks and yields in vain before it also sleeps between looks.
+const TRIES_BEFORE_REST: u32 = 10_000;
+
+/// What desks and workers share. Contracts see which queue it has, and how many desks and workers.
+#[derive(Drop)]
+pub struct Hall {
+    queue: Queue,
+    // 1 once the hall is shut. Each worker reads it at every turn, so nothing else lies on its cache line.
+    stop: CachePadded<AtomicU64>,
+}
+
+impl Model for Hall {
+    ghost use Rattle.firm_rounds.specs.Passes.{QueueIs};
+
+    ghost Value = { QueueIs };
+
+    ghost view = { λ h. h.queue };
+}
+
+impl Hall {
+    /// A hall for the tenants of the roster, which are admitted, and for 1 to 8 workers: a desk for each row, in order, and a pass for
+    /// each worker. All its memory is taken here; the error comes for want of it alone.
+    pub fn open(
+        alloc: Global,
+        roster: &Roster,
+        workers: usize,
+    ) -> Result<(Hall, Vec<Desk>, Vec<WorkerPass>), AllocError>
+        requires { (1 ≤ workers) × (workers ≤ 8) }
+        ensures counts { IfOk result (λ r. (r.0.puts ≡ length roster.now) × (r.0.pops ≡ workers)) }
+        ensures desks { IfOk result (λ r. r.1.items ≡ opening_desks r.0.id 0 roster.now) }
+        ensures passes { IfOk result (λ r. r.2.items ≡ new_pops r.0.id workers) }
+        ensures of_this { IfOk result (λ r. All (λ d. d.queue ≡ r.0.id) r.1.items × All (λ p. p.queue ≡ r.0.id) r.2.items) }
+    {
+        let (queue, puts, pops) = Queue::open(alloc, roster.len(), workers)?;
+        let desks = open_desks(alloc, roster, puts)?;
+        let passes = open_passes(alloc, pops)?;
+        let hall = Hall {
+            queue,
+            stop: CachePadded::new(AtomicU64::new(0)),
+        };
+        Ok((hall, desks, passes))
+    }
+
+    /// Tells the workers to end once the queue is empty. It takes no memory.
+    pub fn shut(&self) {
+        self.stop.store(1, Ordering::SeqCst);
+        self.stop.wake_all();
+    }
+
+    pub(crate) fn is_shut(&self) -> bool {
+        self.stop.load(Ordering::SeqCst) == 1
+    }
+
+    // Yields, and after many tries in vain sleeps for a millisecond at most. Gives the number of tries, with this one.
+    pub(crate) fn rest<R: Wait>(&self, rt: &R, tries: u32) -> u32 {
+        if tries < TRIES_BEFORE_REST {
+            thread::yield_now();
+            return tries + 1;
+        }
+        self.stop.park_timeout(rt, 0, Duration::from_millis(1));
+        tries
+    }
+
+    pub(crate) fn put<R: Wait>(&self, rt: &R, pass: &mut PutPass, job: Job)
+        requires of { pass.old.queue ≡ self.now.id }
+        requires next { job.ticket ≡ ticket pass.old.place (pass.old.put + 1) }
+        requires room { pass.old.put < 2 ^ 55 }
+        ensures { pass.new ≡ put_is pass.old.queue pass.old.place (pass.old.put + 1) }
+    {
+        self.queue.put(rt, pass, job);
+    }
+
+    pub(crate) fn pop<R: Wait>(&self, rt: &R, pass: &mut PopPass) -> Option<Job>
+        requires { pass.old.queue ≡ self.now.id }
+        ensures { MatchOption result (pass.new ≡ pass.old) (λ job. pass.new ≡ pop_is pass.old.queue (pass.old.got ++ job.ticket ∷ [])) }
+    {
+        self.queue.pop(rt, pass)
+    }
+
+    // How many desks there are, and how many workers.
+    pub(crate) fn counts(&self) -> (usize, usize)
+        ensures { (result.0 ≡ self.now.puts) × (result.1 ≡ self.now.pops) }
+    {
+        (self.queue.puts(), self.queue.pops())
+    }
+
+    pub(crate) fn into_queue(self) -> Queue
+        ensures { result ≡ self }
+    {
+        let Hall { queue, stop: _ } = self;
+        queue
+    }
+}
+
+// A desk for each row of the roster, in order.
+fn open_desks(alloc: Global, roster: &Roster, passes: Vec<PutPass>) -> Result<Vec<Desk>, AllocError>
+    requires count { length passes.items ≡ length roster.now }
+    requires unused { All (λ p. p.put ≡ 0) passes.items }
+    ensures { IfOk result (λ desks. (id : _) → passes.items ≡ new_puts id (length roster.now) → desks.items ≡ opening_desks id 0 roster.now) }
+{
+    let mut desks = Vec::with_capacity(alloc, roster.len())?;
+    for pass in passes {
+        let (_, limits) = roster.get(desks.len()).unwrap();
+        desks.push_reserved(Desk::open(alloc, limits, pass)?);
+    }
+    Ok(desks)
+}
+
+// A worker's pass for each.
+fn open_passes(alloc: Global, passes: Vec<PopPass>) -> Result<Vec<WorkerPass>, AllocError>
+    ensures { IfOk result (λ all. all.items ≡ passes.items) }
+{
+    let mut all = Vec::with_capacity(alloc, passes.len())?;
+    for pass in passes {
+        all.push_reserved(WorkerPass::of(pass));
+    }
+    Ok(all)
+}

@@ -1,0 +1,119 @@
+//! The workers of a hall.
+ghost use Rattle.std.specs.Prelude.{◌≡◌, ◌++◌, List, length, ◌∷◌, [], ◌<◌, ℕ};
+ghost use Rattle.firm_rules.specs.declared.tickets.Ticket.{Ticket};
+ghost use Rattle.firm_rounds.specs.Passes.{closing_is, spent_pop};
+ghost use Rattle.firm_rounds.specs.Rounds.{share};
+
+use crate::halls::Hall;
+use firm_rounds::{Closing, PopPass, Queue};
+use firm_rules::Ticket;
+use std::alloc::Global;
+use std::marker::Model;
+use std::sync::Wait;
+
+/// What a worker does between taking a round and solving it.
+pub trait Gate {
+    /// Called by the worker that took the round of this ticket, before it solves it.
+    fn pass(&self, ticket: Ticket);
+}
+
+/// The gate that does nothing.
+pub struct Open;
+
+impl Gate for Open {
+    fn pass(&self, _ticket: Ticket) {}
+}
+
+/// The right to be one worker of a hall. Contracts see its hall and the tickets that it took, in order.
+#[derive(Drop)]
+pub struct WorkerPass {
+    taken: PopPass,
+}
+
+impl Model for WorkerPass {
+    ghost use Rattle.firm_rounds.specs.Passes.{PopIs};
+
+    ghost Value = { PopIs };
+
+    ghost view = { λ p. p.taken };
+}
+
+impl WorkerPass {
+    pub(crate) fn of(taken: PopPass) -> WorkerPass
+        ensures { result ≡ taken }
+    {
+        WorkerPass { taken }
+    }
+}
+
+/// What a worker did. Contracts see its hall and the tickets that it took, in order; at run time it keeps their number alone.
+#[derive(Drop)]
+pub struct Report {
+    taken: PopPass,
+}
+
+impl Model for Report {
+    ghost use Rattle.firm_rounds.specs.Passes.{PopIs};
+
+    ghost Value = { PopIs };
+
+    ghost view = { λ r. r.taken };
+}
+
+impl Report {
+    /// How many rounds the worker took. It takes no memory.
+    pub fn count(&self) -> u64
+        ensures { result ≡ length self.now.got }
+    {
+        self.taken.count()
+    }
+
+    // Hands the pass in.
+    pub(crate) fn give(&mut self, closing: &mut Closing)
+        requires { self.old.queue ≡ closing.old.id }
+        ensures closing { (p : ℕ) × (closing.new ≡ closing_is closing.old.id (closing.old.shares ++ share p 0 self.old.got ∷ [])) }
+        ensures report { self.new ≡ spent_pop self.old }
+    {
+        closing.pop_pass(&mut self.taken);
+    }
+
+    // Hands the pass in as the first.
+    pub(crate) fn begin(&mut self, queue: Queue) -> Closing
+        requires { (self.old.queue ≡ queue.id) × (0 < queue.id.all) }
+        ensures closing { (p : ℕ) × (result ≡ closing_is queue.id (share p 0 self.old.got ∷ [])) }
+        ensures report { self.new ≡ spent_pop self.old }
+    {
+        queue.closing(&mut self.taken)
+    }
+}
+
+/// Solves the rounds that it gets from the queue, each after it passed the gate. It ends once it has read the stop word as set and then
+/// found the queue empty. Where it finds nothing otherwise it yields, and after 10,000 tries in vain it also sleeps for a
+/// millisecond at most before the next. The allocator is for the lists in replies.
+pub fn worker<R: Wait, G: Gate>(
+    rt: &R,
+    alloc: Global,
+    hall: &Hall,
+    pass: WorkerPass,
+    gate: &G,
+) -> Report
+    requires { pass.queue ≡ hall.now.id }
+    ensures hall { result.queue ≡ hall.now.id }
+    ensures tickets { (more : List Ticket) × (result.got ≡ pass.got ++ more) }
+{
+    let WorkerPass { mut taken } = pass;
+    let mut tries = 0;
+    for _ in rt.forever() {
+        let is_shut = hall.is_shut();
+        match hall.pop(rt, &mut taken) {
+            Some(job) => {
+                tries = 0;
+                gate.pass(job.ticket());
+                let _spent = job.finish(alloc);
+            }
+            None if is_shut => return Report { taken },
+            None => tries = hall.rest(rt, tries),
+        }
+    }
+    unreachable!()
+}
