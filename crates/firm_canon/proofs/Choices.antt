@@ -1,6 +1,6 @@
 -- What attempts rule out, and what a choice rests on.
-use Rattle.std.proofs.Common.{◌≡◌, ℕ, zero, suc, ◌+◌, ◌<◌, ◌≤◌, Bool, true, false, cond, eqb, List, [], ◌∷◌, ◌++◌}
-use Rattle.std.proofs.Common.{length, get_or, Some, None, Option, refl, sym, ap, subst, ◌∙◌, arith, inl, inr, ◌⊎◌}
+use Rattle.std.proofs.Common.{◌≡◌, ℕ, zero, suc, ◌+◌, ◌<◌, ◌≤◌, Bool, true, false, cond, eqb, List, [], ◌∷◌}
+use Rattle.std.proofs.Common.{length, get_or, Some, None, Option, refl, sym, ap, subst, ◌∙◌, arith}
 use Rattle.std.proofs.Common.{⊎_elim}
 use Rattle.std.specs.Prelude.{Contains}
 use Rattle.std.proofs.lemmas.Bool.{cases_Bool, cases_lt, cond-true, cond-false, eqb-true, eq-eqb}
@@ -18,17 +18,18 @@ use Rattle.firm_graph.specs.declared.network.Key.TheVariants.{Through, Wide, Sta
 use Rattle.firm_graph.specs.Network.{network, demand, stay_head}
 use Rattle.firm_rules.specs.Placement.{IsPlace}
 use Rattle.firm_graph.specs.Network.{runs}
-use Rattle.firm_canon.specs.inner.Placed.{pick, wide, stay, guests, placed, wide_at}
+use Rattle.firm_canon.specs.inner.Placed.{wide, stay, guests, wide_at}
 use Rattle.firm_graph.specs.View.{View, Shows, IsSameCase, flows, spot_of}
 use Rattle.firm_graph.specs.Network.{IsNodeOf}
 use Rattle.firm_canon.specs.inner.Turns.{IsBlocked}
 use Rattle.firm_canon.specs.inner.Choosing.{low_of, Keeps, Tried, Shut, Barred, best, IsChosen}
 use Rattle.firm_canon.proofs.Parts.{parts}
 use Rattle.firm_canon.proofs.Read.{task_sends}
-use Rattle.firm_canon.proofs.First.{pick_end, pick_past, guests_more, wide_none}
+use Rattle.firm_canon.proofs.First.{pick_past, wide_none}
 use Rattle.firm_canon.proofs.Choose.{bar_own, bar_others, wide_one, ranks_before_on, no_guest, own_way}
 use Rattle.firm_canon.proofs.Shown.{row_shown, closed_keyed, listed_at, stay_arc}
-use Rattle.firm_canon.proofs.Tries.{shown_is, one_key}
+use Rattle.firm_canon.proofs.AsCheap.{shown_is}
+use Rattle.firm_canon.proofs.Tries.{one_key}
 
 only_key : (key k : Key) → Contains (key ∷ []) k → key ≡ k
 only_key key k c = at c.0 c.1 c.2
@@ -36,14 +37,6 @@ only_key key k c = at c.0 c.1 c.2
     at : (i : ℕ) → i < 1 → get_or (key ∷ []) i k ≡ k → key ≡ k
     at zero l e = e
     at (suc i) l e = absurd (omega (arith, l))
-
-pub of_two : (key other k : Key) → Contains (key ∷ other ∷ []) k → (key ≡ k) ⊎ (other ≡ k)
-of_two key other k c = at c.0 c.1 c.2
-  where
-    at : (i : ℕ) → i < 2 → get_or (key ∷ other ∷ []) i k ≡ k → (key ≡ k) ⊎ (other ≡ k)
-    at zero l e = inl e
-    at (suc zero) l e = inr e
-    at (suc (suc i)) l e = absurd (omega (arith, l))
 
 pub shut_own : (old new : View) (price : ℕ → ℕ) (p : List Choice) (result : Bool)
     → Tried old new price p (Stay (length p) ∷ []) (Stay (length p)) result → result ≡ false
@@ -71,25 +64,6 @@ shut_others old new price p result tried is_lost none j other = record {
         tried.lost is_lost r legal cheap
             (λ k c ne. absurd (ne (sym (only_key (Wide (length p)) k c)))),
       ));
-}
-
-pub shut_through : (old new : View) (price : ℕ → ℕ) (p : List Choice) (j : ℕ) (result : Bool)
-    → Tried old new price p (Through j ∷ Wide (length p) ∷ []) (Through j) result → result ≡ false
-    → flows old (Wide (length p)) ≡ 1 → length p < length old.case.tasks
-    → flows old (Through j) ≤ guests old.case p j → runs_at (demand old.case (length p)).home j ≡ false → Shut old p j
-shut_through old new price p j result tried is_lost one l few other = record {
-  barred = λ r legal cheap.
-      let n : ℕ = length p in
-      let w : wide (demand old.case n).home (pick (p ++ On j ∷ r) n) ≡ 1 =
-      ap (wide (demand old.case n).home) (pick_end p r (On j)) ∙ wide_one (demand old.case n).home j other in
-      omega (
-        arith,
-        tried.lost is_lost (On j ∷ r) legal cheap (λ k c ne. ⊎_elim (λ (e : Through j ≡ k). absurd (ne (sym e)))
-            (λ (e : Wide n ≡ k). subst (λ (z : Key). placed old.case (p ++ On j ∷ r) z ≡ flows old z) e (w ∙ sym one))
-            (of_two (Through j) (Wide n) k c)),
-        few,
-        guests_more old.case p r j l (wide_one (demand old.case n).home j other),
-      );
 }
 
 pub shut_same : (old new : View) (p : List Choice) (j : ℕ) → IsSameCase old new → best new p ≡ best old p → Shut old p j

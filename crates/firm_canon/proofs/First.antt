@@ -1,15 +1,15 @@
 -- The first of the least placements: what the loop over the tasks keeps.
-use Rattle.std.proofs.Common.{◌≡◌, ℕ, zero, suc, ◌+◌, ◌*◌, ◌<◌, ◌≤◌, Bool, true, false, cond, eqb, ltb, ◌&&◌, List, []}
+use Rattle.std.proofs.Common.{◌≡◌, ℕ, zero, suc, ◌+◌, ◌*◌, ◌<◌, ◌≤◌, true, false, cond, eqb, ltb, ◌&&◌, List, []}
 use Rattle.std.proofs.Common.{◌∷◌, ◌++◌, length, get_or, arith, refl, sym, ap, subst, ◌∙◌, inl, inr, ◌⊎◌, ⊎_elim}
 use Rattle.std.proofs.Common.{Option, Some, None}
-use Rattle.std.specs.List.{All, sum_by, Contains}
-use Rattle.std.proofs.lemmas.List.Elements.{All-head, All-tail, All-nil, All-cons, All-append, All-contains}
+use Rattle.std.specs.List.{All, sum_by}
+use Rattle.std.proofs.lemmas.List.Elements.{All-head, All-tail, All-nil, All-cons, All-append}
 use Rattle.std.proofs.lemmas.Bool.{cases_Bool, cases_eq, cases_lt, cond-true, cond-false, eq-eqb, ne_eqb, eqb-true}
 use Rattle.std.proofs.lemmas.Bool.{le-ltb, or_parts, or_from, and_left, and_right, and_cases}
 use Rattle.firm_rules.specs.declared.rounds.Choice.{Choice}
 use Rattle.firm_rules.specs.declared.rounds.Choice.TheVariants.{On, Wait}
 use Rattle.firm_rules.specs.Placement.{Demand}
-use Rattle.firm_paths.specs.Network.{Arc, AreValid, Tight, IsClosedBut}
+use Rattle.firm_paths.specs.Network.{Arc, AreValid}
 use Rattle.firm_flow.specs.Flow.{IsWithinBounds, cost_of, carried}
 use Rattle.firm_rules.specs.Placement.{Case, total, runs_at, rank}
 use Rattle.firm_rules.specs.Placement.{IsLegal, placement_cost as cost, IsPlace, comes_before as before}
@@ -203,44 +203,6 @@ start laws c x price sound valid within balanced = record {
       (balanced_placed c q (low_of c []) x sound legal));
   first = λ q legal cheap. before_none (length c.slots) c.tasks q;
 }
-
--- where the way back from an arc's head to its tail is closed, no least placement that goes on from the prefix puts
--- more
--- on the arc
-pub no_more : FlowLaws → (c : Case) (p r : List Choice) (x : Key → ℕ) (price : Node → ℕ) (barred : List Key)
-    (inside : Node → Bool) (e : Arc Node Key)
-    → IsSound c → Stands c p x price
-    → Contains (network c (low_of c p) x) e → All
-    (λ a. Contains barred a.key → (placed c (p ++ r) a.key ≡ a.flow) ⊎ (a ≡ e)) (network c (low_of c p) x)
-    → IsClosedBut (network c (low_of c p) x) price (Contains barred) inside → inside e.head ≡ true
-    → inside e.tail ≡ false
-    → IsLegal c (p ++ r) → cost c (p ++ r) ≤ cost_of (network c (low_of c p) x) carried
-    → placed c (p ++ r) e.key ≤ e.flow
-no_more laws c p r x price barred inside e sound stands there only closed at_head at_tail legal cheap =
-    laws.no_more (network c (low_of c p) x) (task_nodes c) Sink price barred inside e
-    (λ (a : Arc Node Key). placed c (p ++ r) a.key)
-    stands.valid stands.balanced
-    (within_placed c (p ++ r) (low_of c p) x sound legal (low-le c p r))
-    (balanced_placed c (p ++ r) (low_of c p) x sound legal)
-    (subst (λ (z : ℕ). z ≤ cost_of (network c (low_of c p) x) carried)
-    (sym (cost_placed c (p ++ r) (low_of c p) x legal)) cheap)
-    there only closed at_head at_tail
-
--- where the arc is not tight, just so
-pub no_more_slack : FlowLaws → (c : Case) (p r : List Choice) (x : Key → ℕ) (price : Node → ℕ) (e : Arc Node Key)
-    → IsSound c → Stands c p x price → Contains (network c (low_of c p) x) e → (Tight price e → ⊥)
-    → IsLegal c (p ++ r) → cost c (p ++ r) ≤ cost_of (network c (low_of c p) x) carried
-    → placed c (p ++ r) e.key ≡ e.flow
-no_more_slack laws c p r x price e sound stands there slack legal cheap =
-    All-contains (λ (a : Arc Node Key). (Tight price a → ⊥) → placed c (p ++ r) a.key ≡ a.flow)
-    (network c (low_of c p) x) e
-    (laws.same (network c (low_of c p) x) (task_nodes c) Sink price (λ (a : Arc Node Key). placed c (p ++ r) a.key)
-    stands.valid stands.balanced
-    (within_placed c (p ++ r) (low_of c p) x sound legal (low-le c p r))
-    (balanced_placed c (p ++ r) (low_of c p) x sound legal)
-    (subst (λ (z : ℕ). z ≤ cost_of (network c (low_of c p) x) carried)
-    (sym (cost_placed c (p ++ r) (low_of c p) x legal)) cheap))
-    there slack
 
 -- sums of what is carried do not read the lower bounds
 pub carried_sum : (F : Node → Node → ℕ → ℕ → ℕ) (c : Case) (low low' x : Key → ℕ)

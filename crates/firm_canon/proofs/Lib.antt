@@ -10,6 +10,7 @@ pub mod Choose
 pub mod Take
 pub mod Cycles
 pub mod Shown
+pub mod AsCheap
 pub mod Tries
 pub mod Choices
 pub mod Spent

@@ -1,6 +1,6 @@
 -- What an attempt to send one unit more along an arc leaves, won or lost.
-use Rattle.std.proofs.Common.{◌≡◌, ◌≢◌, ℕ, zero, suc, ◌<◌, ◌≤◌, Bool, true, false, List, [], ◌∷◌, ◌++◌, length, get_or}
-use Rattle.std.proofs.Common.{Some, Option, refl, sym, ap, subst, ◌∙◌, arith, inl, inr, ⊎_elim}
+use Rattle.std.proofs.Common.{◌≡◌, ℕ, zero, suc, ◌<◌, Bool, true, false, List, [], ◌∷◌, ◌++◌, length, get_or}
+use Rattle.std.proofs.Common.{Some, Option, refl, sym, ap, subst, ◌∙◌, arith, ⊎_elim}
 use Rattle.std.specs.Prelude.{map, Contains}
 use Rattle.std.specs.List.{All}
 use Rattle.std.proofs.lemmas.Bool.{cases_Bool, both_ways}
@@ -10,29 +10,25 @@ use Rattle.std.specs.Prelude.{IsSome}
 use Rattle.firm_net.specs.Net.{Net, IsArc, row_at}
 use Rattle.firm_net.specs.declared.row.NodeId.{NodeId}
 use Rattle.firm_net.specs.declared.row.ArcId.{ArcId}
-use Rattle.firm_paths.specs.Network.{Arc, AreValid, Tight, IsClosedBut}
-use Rattle.firm_paths.specs.NetArcs.{arc_of, arcs_of}
-use Rattle.firm_paths.specs.Paths.{IsTightCut}
+use Rattle.firm_paths.specs.Network.{Arc, AreValid}
+use Rattle.firm_paths.specs.NetArcs.{arcs_of}
 use Rattle.firm_flow.specs.Flow.{IsWithinBounds, cost_of, carried}
 use Rattle.firm_flow.specs.Balance.{Balanced}
-use Rattle.firm_net.specs.Laws.{same_arc_or_not}
 use Rattle.firm_rules.specs.declared.rounds.Choice.{Choice}
 use Rattle.firm_rules.specs.Placement.{Case}
 use Rattle.firm_graph.specs.declared.network.Node.{Node}
 use Rattle.firm_graph.specs.declared.network.Node.TheVariants.{Sink}
 use Rattle.firm_graph.specs.declared.network.Key.{Key}
 use Rattle.firm_graph.specs.Network.{network, task_nodes}
-use Rattle.firm_rules.specs.Placement.{IsLegal, placement_cost as cost}
 use Rattle.firm_canon.specs.inner.Placed.{placed}
-use Rattle.firm_graph.specs.View.{View, Shows, IsSameCase, lows, flows, spot_of, named, flow_of_row}
+use Rattle.firm_graph.specs.View.{View, Shows, IsSameCase, lows, flows, spot_of, flow_of_row}
 use Rattle.firm_graph.specs.Network.{IsKeyOf}
 use Rattle.firm_graph.specs.View.{low_of_row}
 use Rattle.firm_canon.specs.inner.Turns.{IsWhole, Turned, IsBlocked}
 use Rattle.firm_canon.specs.inner.Choosing.{low_of, Keeps, Tried, best}
-use Rattle.firm_canon.proofs.Parts.{within_placed}
-use Rattle.firm_canon.proofs.First.{no_more, no_more_slack, low-le}
-use Rattle.firm_canon.proofs.Shown.{network_same, cost_shown, whole_keyed, whole_net, row_shown, closed_keyed, arc_at}
-use Rattle.firm_canon.proofs.Shown.{by_key, key_at, flow_at, listed_at}
+use Rattle.firm_canon.proofs.AsCheap.{shown_is, flow_placed, no_more_at}
+use Rattle.firm_canon.proofs.Shown.{network_same, cost_shown, whole_keyed, whole_net, row_shown, arc_at}
+use Rattle.firm_canon.proofs.Shown.{key_at, listed_at}
 
 contains_map : {A B : Type 0} (f : A → B) (xs : List A) (x : A) → Contains xs x → Contains (map f xs) (f x)
 contains_map {A} {B} f [] x c = absurd (omega (arith, c.1))
@@ -50,11 +46,6 @@ view_is old new same =
     { case = old.case; net = new.net; node = n; arc = new.arc } in v) same.node
     ∙ ap (λ (a : Key → ArcId). let v : View = record { case = old.case; net = new.net; node = old.node; arc = a } in v)
     same.arc)
-
--- the network with the lower bounds of the prefix is the one that the net shows
-pub shown_is : (v : View) (price : ℕ → ℕ) (p : List Choice) → Keeps v price p
-    → network v.case (lows v) (flows v) ≡ network v.case (low_of v.case p) (flows v)
-shown_is v price p keeps = network_same v.case (lows v) (low_of v.case p) (flows v) (flows v) keeps.lows (λ k own. refl)
 
 pub net_of : (v : View) (price : ℕ → ℕ) (p : List Choice) → Keeps v price p
     → IsWhole v.net price (map (spot_of v) (task_nodes v.case)) (spot_of v Sink)
@@ -99,69 +90,6 @@ keeps_on v net price p keeps shows low whole same =
       costs,
     )
 
--- what no attempt can do, no least placement does
-lost_at : (v : View) (price : ℕ → ℕ) (p r : List Choice) (keys : List Key) (key : Key)
-    → Keeps v price p → All (IsKeyOf v.case) keys → IsKeyOf v.case key
-    → IsBlocked v.net price (v.arc key) (map v.arc keys)
-    → IsLegal v.case (p ++ r) → cost v.case (p ++ r) ≤ best v p
-    → ((k : Key) → Contains keys k → k ≢ key → placed v.case (p ++ r) k ≡ flows v k)
-    → placed v.case (p ++ r) key ≤ flows v key
-lost_at v price p r keys key keeps all own blocked legal cheap kept =
-    let c : Case = v.case in
-    let low : Key → ℕ = low_of c p in
-    let x : Key → ℕ = flows v in
-    let e = shown_is v price p keeps in
-    let a : Arc Node Key = arc_at c low x key in
-    let there : Contains (network c low x) a = listed_at c low x key own in
-    let row = row_shown v keeps.shows keeps.laws.rows a
-    (subst (λ (z : List (Arc Node Key)). Contains z a) (sym e) there) in
-    let is_key : a.key ≡ key = key_at c low x key in
-    let id : v.arc a.key ≡ v.arc key = ap v.arc is_key in
-    let at_row : row_at v.net (v.arc key) ≡ Some row.row =
-    subst (λ (i : ArcId). row_at v.net i ≡ Some row.row) id row.there in
-    let is : named v a ≡ arc_of (v.arc key) row.row = row.is ∙ ap (λ (i : ArcId). arc_of i row.row) id in
-    let flow_is : a.flow ≡ x key = flow_at c low x key in
-    let more : placed c (p ++ r) a.key ≤ a.flow =
-    ⊎_elim
-    (λ (full : row.row.cap ≤ row.row.flow).
-    omega (
-      arith,
-      full,
-      ap (λ (b : Arc ℕ ArcId). b.cap) is,
-      ap (λ (b : Arc ℕ ArcId). b.flow) is,
-      (All-contains (λ (b : Arc Node Key). (b.low ≤ placed c (p ++ r) b.key) × (placed c (p ++ r) b.key ≤ b.cap))
-          (network c low x) a
-          (within_placed c (p ++ r) low x keeps.shows.sound legal (low-le c p r)) there).1,
-    ))
-    (λ rest. ⊎_elim
-    (λ (loose : Tight price (arc_of (v.arc key) row.row) → ⊥).
-    let same : placed c (p ++ r) a.key ≡ a.flow =
-    no_more_slack keeps.laws c p r x (λ n. price (spot_of v n)) a keeps.shows.sound keeps.stands there
-    (λ t. loose (subst (Tight price) is t)) legal cheap in
-    omega (arith, same))
-    (λ (cut : (inside : ℕ → Bool) × IsTightCut v.net price (map v.arc keys)
-    row.row.head.id.place row.row.tail.id.place inside).
-    no_more keeps.laws c p r x (λ n. price (spot_of v n)) keys (λ n. cut.0 (spot_of v n))
-    a keeps.shows.sound keeps.stands there
-    (λ k d l b.
-    let o : Arc Node Key = get_or (network c low x) k d in
-    let o_is : o ≡ arc_at c low x o.key = by_key c low x k d l in
-    ⊎_elim
-    (λ (q : v.arc o.key ≡ v.arc key).
-    inr (o_is ∙ ap (arc_at c low x) (keeps.shows.arcs_apart o.key key (All-contains (IsKeyOf c) keys o.key all b)
-    own q)))
-    (λ (ne : v.arc o.key ≡ v.arc key → ⊥).
-    inl (kept o.key b (λ q. ne (ap v.arc q)) ∙ sym (ap (λ (z : Arc Node Key). z.flow) o_is ∙ flow_at c low x o.key)))
-    (same_arc_or_not (v.arc o.key) (v.arc key)))
-    (subst (λ (z : List (Arc Node Key)). IsClosedBut z (λ n. price (spot_of v n)) (Contains keys)
-    (λ n. cut.0 (spot_of v n))) e
-    (closed_keyed v keeps.shows price keys cut.0 all cut.1.closed))
-    (ap cut.0 (ap (λ (b : Arc ℕ ArcId). b.head) is) ∙ cut.1.start)
-    (ap cut.0 (ap (λ (b : Arc ℕ ArcId). b.tail) is) ∙ cut.1.end)
-    legal cheap) rest)
-    (blocked row.row at_row) in
-    subst (λ (k : Key). placed c (p ++ r) k ≤ x key) is_key (omega (arith, more, flow_is))
-
 pub tried : (old new : View) (price : ℕ → ℕ) (p : List Choice) (keys : List Key) (key : Key) (result : Bool)
     → Keeps old price p → All (IsKeyOf old.case) keys → IsKeyOf old.case key → Shows new → IsSameCase old new
     → (result ≡ true → Turned old.net new.net price (old.arc key) (map old.arc keys))
@@ -192,7 +120,8 @@ tried old new price p keys key result keeps all own shows same won lost stays =
       same_best = refl;
       won = λ t. absurd (both_ways result f t);
       kept = λ k b ne. refl;
-      lost = λ g r legal cheap kept. lost_at old price p r keys key keeps all own (lost f) legal cheap kept;
+      lost = λ g r legal cheap kept. no_more_at old price p (placed old.case (p ++ r)) keys key keeps all own (lost f)
+          (flow_placed old.case p r (best old p) keeps.shows.sound legal cheap) kept;
       unchanged = λ g. refl;
     } in
     subst (λ (v : View). Tried old v price p keys key result) (sym (stays f)) made)

@@ -148,14 +148,22 @@ fn find_machine(
     None
 }
 
-/// How far the machines are spent after a task has come by the hub: up to its machine, unless it has passed over its own.
+/// How far the machines are spent after a task has come by the hub to this one: up to it, or up to the task's own machine,
+/// which was passed over.
 fn reach(home: Option<u32>, machine: u32, from: u32) -> u32
-    ensures { (result ≡ from) ⊎ ((home ≡ None) × (result ≡ machine)) }
+    ensures most { result ≤ machine }
+    ensures passed { (j : ℕ) → j < result → (j < from) ⊎ ((j < machine) × (runs_at home j ≡ false)) }
 {
-    match home {
-        Some(_) => from,
-        None => machine,
+    let Some(own) = home else {
+        return machine;
+    };
+    if own < from {
+        return machine;
     }
+    if machine <= own {
+        return machine;
+    }
+    own
 }
 
 /// Chooses among the next task's choices but its own machine, which it does not go to. The machines before `from` are

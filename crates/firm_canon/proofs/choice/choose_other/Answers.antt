@@ -1,4 +1,5 @@
-use Rattle.std.proofs.Common.{◌≡◌, ◌+◌, ℕ, ◌<◌, ◌≤◌, List, Option, None, length, arith, refl, sym, ap, subst, ◌∙◌, ⊎_elim}
+use Rattle.std.proofs.Common.{◌≡◌, ◌+◌, ℕ, ◌<◌, ◌≤◌, List, Option, length}
+use Rattle.std.proofs.Common.{arith, refl, sym, ap, subst, ◌∙◌, false, ⊎_elim}
 use Rattle.firm_rules.specs.Placement.{Case, runs_at}
 use Rattle.firm_rules.specs.declared.rounds.Choice.{Choice}
 use Rattle.firm_canon.proofs.Spent.{spent_on, spent_at, spent_held, beside_at}
@@ -148,10 +149,7 @@ returns-in-Some-clause-from c =
     ap (λ (k : Case). length k.slots) (find.same.case.case ∙ hub.same.case.case) in
     let mids : length mid.case.slots ≡ length old.case.slots =
     ap (λ (k : Case). length k.slots) hub.same.case.case in
-    ⊎_elim
-    (λ (e : c.reach.result ≡ c.args.from.now). omega (arith, e, slots, c.requires.from))
-    (λ (e : (c.args.home ≡ None) × (c.reach.result ≡ c.in-Some.machine)). omega (arith, e.1, slots, mids, find.some.0))
-    c.reach.ensures
+    omega (arith, c.reach.ensures.most, slots, mids, find.some.0)
 
 pub returns-in-Some-clause-spent : goal.returns-in-Some-clause-spent
 returns-in-Some-clause-spent c j l =
@@ -168,16 +166,15 @@ returns-in-Some-clause-spent c j l =
     let home : c.args.home ≡ (demand new.case n).home = home_at mid new n c.args.home find.same.case
     (home_at old mid n c.args.home hub.same.case c.requires.home) in
     ⊎_elim
-    (λ (e : c.reach.result ≡ c.args.from.now).
+    (λ (below : j < c.args.from.now).
     spent_on new.case p (On m) (best new p) j
     (spent_at mid new p j find.same.case find.best
-    (spent_at old mid p j hub.same.case hub.best (c.requires.spent j (omega (arith, l, e))))))
-    (λ (e : (c.args.home ≡ None) × (c.reach.result ≡ m)).
+    (spent_at old mid p j hub.same.case hub.best (c.requires.spent j below))))
+    (λ (passed : (j < m) × (runs_at c.args.home j ≡ false)).
     spent_held new.case p m (best new p) j next
     (ap (λ (h : Option ℕ). runs_at h m) (sym home) ∙ find.some.1)
-    (beside_at mid new p j find.same.case find.best
-    (find.spent j (omega (arith, l, e.1)) (ap (λ (h : Option ℕ). runs_at h j) e.0))))
-    c.reach.ensures
+    (beside_at mid new p j find.same.case find.best (find.spent j passed.0 passed.1)))
+    (c.reach.ensures.passed j l)
 
 pub returns-clause-from : goal.returns-clause-from
 returns-clause-from c =

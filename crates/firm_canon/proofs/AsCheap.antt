@@ -1,0 +1,205 @@
+-- Flows as cheap as the one that the net shows: those of placements, and what no attempt can do.
+use Rattle.std.proofs.Common.{◌≡◌, ◌≢◌, ℕ, ◌*◌, ◌≤◌, Bool, List, [], ◌∷◌, ◌++◌, get_or}
+use Rattle.std.proofs.Common.{Some, refl, sym, ap, subst, ◌∙◌, arith, inl, inr, ⊎_elim}
+use Rattle.std.specs.Prelude.{map, Contains}
+use Rattle.std.specs.List.{All, sum_by}
+use Rattle.std.proofs.lemmas.List.Elements.{All-contains}
+use Rattle.firm_net.specs.Net.{row_at}
+use Rattle.firm_net.specs.declared.row.ArcId.{ArcId}
+use Rattle.firm_net.specs.Laws.{same_arc_or_not}
+use Rattle.firm_paths.specs.Network.{Arc, Tight, IsClosedBut}
+use Rattle.firm_paths.specs.NetArcs.{arc_of}
+use Rattle.firm_paths.specs.Paths.{IsTightCut}
+use Rattle.firm_flow.specs.Flow.{IsWithinBounds, cost_of, carried}
+use Rattle.firm_flow.specs.Balance.{Balanced}
+use Rattle.firm_rules.specs.declared.rounds.Choice.{Choice}
+use Rattle.firm_rules.specs.Placement.{Case, IsLegal, placement_cost as cost}
+use Rattle.firm_graph.specs.declared.network.Node.{Node}
+use Rattle.firm_graph.specs.declared.network.Node.TheVariants.{Sink}
+use Rattle.firm_graph.specs.declared.network.Key.{Key}
+use Rattle.firm_graph.specs.declared.network.Key.TheVariants.{Through, Wide, Stay, Delay}
+use Rattle.firm_graph.specs.Network.{network, task_nodes, IsSound, IsKeyOf}
+use Rattle.firm_graph.specs.View.{View, lows, flows, spot_of, named}
+use Rattle.firm_canon.specs.inner.Placed.{placed}
+use Rattle.firm_canon.specs.inner.Turns.{IsBlocked}
+use Rattle.firm_canon.specs.inner.Choosing.{low_of, Keeps, best, IsAsCheap}
+use Rattle.firm_canon.proofs.Placed.{sum_network, cost_placed, balanced_placed}
+use Rattle.firm_canon.proofs.Parts.{OnParts, parts, whole, within_placed}
+use Rattle.firm_canon.proofs.First.{low-le, carried_sum}
+use Rattle.firm_canon.proofs.Take.{low_grows}
+use Rattle.firm_canon.proofs.Shown.{network_same, row_shown, closed_keyed, arc_at, by_key, key_at, flow_at, listed_at}
+
+-- the network with the lower bounds of the prefix is the one that the net shows
+pub shown_is : (v : View) (price : ℕ → ℕ) (p : List Choice) → Keeps v price p
+    → network v.case (lows v) (flows v) ≡ network v.case (low_of v.case p) (flows v)
+shown_is v price p keeps = network_same v.case (lows v) (low_of v.case p) (flows v) (flows v) keeps.lows (λ k own. refl)
+
+-- the bounds of a flow, asked of the arcs of another
+abbrev pub Between : (Key → ℕ) → Arc Node Key → Type 0
+Between g a = (a.low ≤ g a.key) × (g a.key ≤ a.cap)
+
+abbrev pub Carries : Arc Node Key → Type 0
+Carries a = (a.low ≤ a.flow) × (a.flow ≤ a.cap)
+
+own_to_other : (c : Case) (low x g : Key → ℕ) → IsWithinBounds (network c low g) carried
+    → IsWithinBounds (network c low x) (λ a. g a.key)
+own_to_other c low x g h =
+    let at : OnParts Carries c low g = parts Carries c low g h in
+    whole (Between g) c low x (record {
+      through = at.through;
+      slot = at.slot;
+      exit = at.exit;
+      wides = at.wides;
+      stays = at.stays;
+      delays = at.delays;
+    })
+
+other_to_own : (c : Case) (low x g : Key → ℕ) → IsWithinBounds (network c low x) (λ a. g a.key)
+    → IsWithinBounds (network c low g) carried
+other_to_own c low x g h =
+    let at : OnParts (Between g) c low x = parts (Between g) c low x h in
+    whole Carries c low g (record {
+      through = at.through;
+      slot = at.slot;
+      exit = at.exit;
+      wides = at.wides;
+      stays = at.stays;
+      delays = at.delays;
+    })
+
+-- a sum over what a flow carries does not ask on whose arcs
+sum_of : (F : Node → Node → ℕ → ℕ → ℕ) (c : Case) (low x g : Key → ℕ)
+    → sum_by (λ (a : Arc Node Key). F a.tail a.head a.cost (g a.key)) (network c low x)
+    ≡ sum_by (λ (a : Arc Node Key). F a.tail a.head a.cost a.flow) (network c low g)
+sum_of F c low x g =
+    sum_network (λ (a : Arc Node Key). F a.tail a.head a.cost (g a.key)) c low x
+    ∙ sym (sum_network (λ (a : Arc Node Key). F a.tail a.head a.cost a.flow) c low g)
+
+-- the flow of the net
+pub own_flow : (v : View) (price : ℕ → ℕ) (p : List Choice) → Keeps v price p → IsAsCheap v.case p (best v p) (flows v)
+own_flow v price p keeps = record {
+  within = keeps.stands.within;
+  balanced = keeps.stands.balanced;
+  cheap = omega arith;
+}
+
+-- the flow of a placement that goes on from the prefix
+pub flow_placed : (c : Case) (p r : List Choice) (most : ℕ) → IsSound c → IsLegal c (p ++ r) → cost c (p ++ r) ≤ most
+    → IsAsCheap c p most (placed c (p ++ r))
+flow_placed c p r most sound legal cheap =
+    let low : Key → ℕ = low_of c p in
+    let x : Key → ℕ = placed c (p ++ r) in
+    record {
+      within = other_to_own c low x x (within_placed c (p ++ r) low x sound legal (low-le c p r));
+      balanced = λ w. omega (
+        arith,
+        balanced_placed c (p ++ r) low x sound legal w,
+        sum_of (λ tail head cost flow. w head * flow) c low x x,
+        sum_of (λ tail head cost flow. w tail * flow) c low x x,
+      );
+      cheap = omega (
+        arith,
+        cheap,
+        cost_placed c (p ++ r) low x legal,
+        sum_of (λ tail head cost flow. cost * flow) c low x x,
+      );
+    }
+
+-- what holds the longer prefix holds the shorter one
+pub flow_before : (c : Case) (p : List Choice) (o : Choice) (most : ℕ) (x : Key → ℕ)
+    → IsAsCheap c (p ++ o ∷ []) most x → IsAsCheap c p most x
+flow_before c p o most x flow =
+    let new : Key → ℕ = low_of c (p ++ o ∷ []) in
+    let old : Key → ℕ = low_of c p in
+    let at : OnParts Carries c new x = parts Carries c new x flow.within in
+    record {
+      within = whole Carries c old x (record {
+        through = λ j l. (omega (arith, low_grows c p o (Through j), (at.through j l).0), (at.through j l).1);
+        slot = λ j k l r. (omega arith, (at.slot j k l r).1);
+        exit = λ k l. (omega arith, (at.exit k l).1);
+        wides = λ i l. (omega (arith, low_grows c p o (Wide i), (at.wides i l).0), (at.wides i l).1);
+        stays = λ i l. (omega (arith, low_grows c p o (Stay i), (at.stays i l).0), (at.stays i l).1);
+        delays = λ i l. (omega (arith, low_grows c p o (Delay i), (at.delays i l).0), (at.delays i l).1);
+      });
+      balanced = λ w. omega (
+        arith,
+        flow.balanced w,
+        carried_sum (λ tail head cost flow. w head * flow) c new old x,
+        carried_sum (λ tail head cost flow. w tail * flow) c new old x,
+      );
+      cheap = omega (arith, flow.cheap, carried_sum (λ tail head cost flow. cost * flow) c new old x);
+    }
+
+-- what no attempt can do, no flow as cheap does
+pub no_more_at : (v : View) (price : ℕ → ℕ) (p : List Choice) (g : Key → ℕ) (keys : List Key) (key : Key)
+    → Keeps v price p → All (IsKeyOf v.case) keys → IsKeyOf v.case key
+    → IsBlocked v.net price (v.arc key) (map v.arc keys)
+    → IsAsCheap v.case p (best v p) g
+    → ((k : Key) → Contains keys k → k ≢ key → g k ≡ flows v k)
+    → g key ≤ flows v key
+no_more_at v price p g keys key keeps all own blocked flow kept =
+    let c : Case = v.case in
+    let low : Key → ℕ = low_of c p in
+    let x : Key → ℕ = flows v in
+    let cost_at : Node → ℕ = λ (m : Node). price (spot_of v m) in
+    let e = shown_is v price p keeps in
+    let a : Arc Node Key = arc_at c low x key in
+    let there : Contains (network c low x) a = listed_at c low x key own in
+    let row = row_shown v keeps.shows keeps.laws.rows a
+    (subst (λ (z : List (Arc Node Key)). Contains z a) (sym e) there) in
+    let is_key : a.key ≡ key = key_at c low x key in
+    let id : v.arc a.key ≡ v.arc key = ap v.arc is_key in
+    let at_row : row_at v.net (v.arc key) ≡ Some row.row =
+    subst (λ (i : ArcId). row_at v.net i ≡ Some row.row) id row.there in
+    let is : named v a ≡ arc_of (v.arc key) row.row = row.is ∙ ap (λ (i : ArcId). arc_of i row.row) id in
+    let flow_is : a.flow ≡ x key = flow_at c low x key in
+    let within : IsWithinBounds (network c low x) (λ a. g a.key) = own_to_other c low x g flow.within in
+    let balanced : Balanced (network c low x) (task_nodes c) Sink (λ a. g a.key) =
+    λ w. omega (
+      arith,
+      flow.balanced w,
+      sum_of (λ tail head cost flow. w head * flow) c low x g,
+      sum_of (λ tail head cost flow. w tail * flow) c low x g,
+    ) in
+    let cheap : cost_of (network c low x) (λ a. g a.key) ≤ cost_of (network c low x) carried =
+    omega (arith, flow.cheap, sum_of (λ tail head cost flow. cost * flow) c low x g) in
+    let more : g a.key ≤ a.flow =
+    ⊎_elim
+    (λ (full : row.row.cap ≤ row.row.flow).
+    omega (
+      arith,
+      full,
+      ap (λ (b : Arc ℕ ArcId). b.cap) is,
+      ap (λ (b : Arc ℕ ArcId). b.flow) is,
+      (All-contains (Between g) (network c low x) a within there).1,
+    ))
+    (λ rest. ⊎_elim
+    (λ (loose : Tight price (arc_of (v.arc key) row.row) → ⊥).
+    let same : g a.key ≡ a.flow =
+    All-contains (λ (b : Arc Node Key). (Tight cost_at b → ⊥) → g b.key ≡ b.flow) (network c low x) a
+    (keeps.laws.same (network c low x) (task_nodes c) Sink cost_at (λ (b : Arc Node Key). g b.key)
+    keeps.stands.valid keeps.stands.balanced within balanced cheap)
+    there (λ t. loose (subst (Tight price) is t)) in
+    omega (arith, same))
+    (λ (cut : (inside : ℕ → Bool) × IsTightCut v.net price (map v.arc keys)
+    row.row.head.id.place row.row.tail.id.place inside).
+    keeps.laws.no_more (network c low x) (task_nodes c) Sink cost_at keys (λ n. cut.0 (spot_of v n)) a
+    (λ (b : Arc Node Key). g b.key)
+    keeps.stands.valid keeps.stands.balanced within balanced cheap there
+    (λ k d l b.
+    let o : Arc Node Key = get_or (network c low x) k d in
+    let o_is : o ≡ arc_at c low x o.key = by_key c low x k d l in
+    ⊎_elim
+    (λ (q : v.arc o.key ≡ v.arc key).
+    inr (o_is ∙ ap (arc_at c low x) (keeps.shows.arcs_apart o.key key (All-contains (IsKeyOf c) keys o.key all b)
+    own q)))
+    (λ (ne : v.arc o.key ≡ v.arc key → ⊥).
+    inl (kept o.key b (λ q. ne (ap v.arc q)) ∙ sym (ap (λ (z : Arc Node Key). z.flow) o_is ∙ flow_at c low x o.key)))
+    (same_arc_or_not (v.arc o.key) (v.arc key)))
+    (subst (λ (z : List (Arc Node Key)). IsClosedBut z cost_at (Contains keys)
+    (λ n. cut.0 (spot_of v n))) e
+    (closed_keyed v keeps.shows price keys cut.0 all cut.1.closed))
+    (ap cut.0 (ap (λ (b : Arc ℕ ArcId). b.head) is) ∙ cut.1.start)
+    (ap cut.0 (ap (λ (b : Arc ℕ ArcId). b.tail) is) ∙ cut.1.end)) rest)
+    (blocked row.row at_row) in
+    subst (λ (k : Key). g k ≤ x key) is_key (omega (arith, more, flow_is))
