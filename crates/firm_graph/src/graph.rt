@@ -58,7 +58,7 @@ impl Model for Graph {
 }
 
 impl Graph {
-    /// The graph of a tenant that has nothing yet. The error comes for want of memory alone.
+    /// The graph of a tenant that has nothing yet. The error comes for lack of memory alone.
     pub fn open(alloc: Global, limits: Limits) -> Result<Graph, AllocError>
         ensures rows { IfOk result (λ graph. graph.rows ≡ opening_rows limits) }
         ensures asked { IfOk result (λ graph. graph.asked ≡ 0) }

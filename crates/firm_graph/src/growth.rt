@@ -11,7 +11,7 @@ use firm_net::{ArcId, NodeId};
 use firm_rules::{Name, Rows, Slots, Weight};
 use std::alloc::{AllocError, Allocator};
 
-/// Adds the row of a job, with room for its parts. The error comes for want of memory alone, and leaves all as it was.
+/// Adds the row of a job, with room for its parts. The error comes for lack of memory alone, and leaves all as it was.
 pub(crate) fn grow_jobs<A: Allocator>(
     parts: &mut Vec<JobParts, A>,
     rows: &mut Rows<A>,
@@ -30,7 +30,7 @@ pub(crate) fn grow_jobs<A: Allocator>(
     rows.add_job(name, weight)
 }
 
-/// Adds the row of a task, with room for its parts and its node. The error comes for want of memory alone, and leaves all
+/// Adds the row of a task, with room for its parts and its node. The error comes for lack of memory alone, and leaves all
 /// as it was.
 pub(crate) fn grow_tasks<A: Allocator>(
     parts: &mut Vec<TaskParts, A>,

@@ -143,38 +143,3 @@ fn a_round_without_memory_counts_and_costs_nothing(rt: HostRuntime) -> Result<()
     assert!(rt; tenant.life_left() == 0);
     Ok(())
 }
-
-// Gives a command that takes memory. Where a growth is refused, the tenant shows what it showed, and the same command
-// succeeds once there is memory.
-fn expect_grown(rt: &impl Abort, tenant: &mut Tenant, alloc: Global, command: Command) -> Outcome {
-    let before = tenant.step(alloc, Command::Show).outcome;
-    let reply = tenant.step(alloc, command);
-    if reply.outcome != Outcome::Refused(Refusal::Memory) {
-        return reply.outcome;
-    }
-    assert!(rt; tenant.step(alloc, Command::Show).outcome == before);
-    tenant.step(alloc, command).outcome
-}
-
-// Run with one request for memory refused, a different one each time, this meets want of memory at each growth.
-#[test]
-fn each_growth_is_answered_or_refused_whole(rt: HostRuntime) -> Result<(), Fail> {
-    let (machine, job, task) = (machine(b"m1", 2)?, job(b"j", 10)?, task(b"j", b"a")?);
-    let where_is = Command::Find(name(b"a")?);
-    let home = Outcome::At(name(b"m1")?);
-    let alloc = rt.alloc();
-    let mut tenant = Tenant::admit(alloc, limits_of(9, 24, 100)?)?;
-    for command in [machine, job, task] {
-        let outcome = expect_grown(&rt, &mut tenant, alloc, command);
-        assert!(rt; outcome == Outcome::Plain, "{outcome:?}");
-    }
-    let round = expect_grown(&rt, &mut tenant, alloc, Command::Round);
-    assert!(rt;
-        matches!(round, Outcome::Round { cost: 0, .. }),
-        "{round:?}"
-    );
-    assert!(rt; tenant.step(alloc, where_is).outcome == home);
-    let shown = shown([1, 1, 1, 1], (5, 9), (7, 24));
-    assert!(rt; tenant.step(alloc, Command::Show).outcome == shown);
-    Ok(())
-}
