@@ -1,10 +1,10 @@
-//! Each call on a worked tenant, the refusals in their order, and want of memory at each growth.
+//! Each call on a worked tenant, the refusals in their order, and lack of memory at each growth.
 ghost use Rattle.std.specs.Prelude.{◌+◌, ◌^◌, ◌<◌, ◌≤◌};
 ghost use Rattle.firm_rules.specs.ArenaUse.{arena_nodes, arena_arcs};
 
 use crate::growth::{grow_jobs, grow_machines, grow_tasks};
 use crate::parts::{JobParts, MachineIds, TaskParts};
-use crate::{Graph, GraphRefusal};
+use crate::{Graph, GraphRefusal, TaskArcs};
 use firm_net::{ArcId, ArcRow, Net, NodeId, Way};
 use firm_paths::{Prices, Scratch};
 use firm_rules::{Choice, Limits, Name, Rows, Slots, Use, Weight, legal, use_of};
@@ -58,10 +58,10 @@ fn task(rt: &impl Abort, graph: &mut Graph, job: &[u8], bytes: &[u8]) -> Result<
     graph.add_task(job, name)
 }
 
-fn drain(rt: &impl Abort, graph: &mut Graph, bytes: &[u8]) -> u32 {
+fn drain(rt: &impl Abort, graph: &mut Graph, bytes: &[u8], evicted: u32) {
     let name = name(rt, bytes);
     assert!(rt; graph.rows().has_machine(name));
-    graph.drop_machine(name)
+    assert_eq!(rt; graph.drop_machine(name), evicted);
 }
 
 fn close(rt: &impl Abort, graph: &mut Graph, bytes: &[u8]) {
@@ -82,20 +82,38 @@ fn settle(rt: &impl Abort, graph: &mut Graph, choices: &[Choice]) {
     graph.settle(choices);
 }
 
+// One line each, so that no test has a branch for every answer.
+fn expect(rt: &impl Abort, answer: Result<(), GraphRefusal>, wanted: Result<(), GraphRefusal>) {
+    assert_eq!(rt; answer, wanted);
+}
+
+fn expect_asked(rt: &impl Abort, graph: &Graph, asked: u64) {
+    assert_eq!(rt; graph.asked(), asked);
+}
+
+// So many nodes and arcs more fit the limits.
+fn expect_room(rt: &impl Abort, graph: &Graph, nodes: u32, arcs: u32) {
+    assert_eq!(rt; graph.net().room(), (nodes, arcs));
+}
+
+fn expect_same(rt: &impl Abort, one: NodeId, other: NodeId) {
+    assert_eq!(rt; one, other);
+}
+
 // Two machines of two slots, a job of weight 10, and two tasks of it.
 fn fill(rt: &impl Abort, alloc: Global, graph: &mut Graph) {
-    assert_eq!(rt; machine(rt, alloc, graph, b"m1", 2), Ok(()));
-    assert_eq!(rt; machine(rt, alloc, graph, b"m2", 2), Ok(()));
-    assert_eq!(rt; job(rt, graph, b"j"), Ok(()));
-    assert_eq!(rt; task(rt, graph, b"j", b"a"), Ok(()));
-    assert_eq!(rt; task(rt, graph, b"j", b"b"), Ok(()));
+    expect(rt, machine(rt, alloc, graph, b"m1", 2), Ok(()));
+    expect(rt, machine(rt, alloc, graph, b"m2", 2), Ok(()));
+    expect(rt, job(rt, graph, b"j"), Ok(()));
+    expect(rt, task(rt, graph, b"j", b"a"), Ok(()));
+    expect(rt, task(rt, graph, b"j", b"b"), Ok(()));
 }
 
 fn worked(rt: &impl Abort, alloc: Global) -> Result<Graph, AllocError> {
     let mut graph = Graph::open(alloc, limits(rt, 9, 24))?;
-    assert_eq!(rt; graph.asked(), 0);
+    expect_asked(rt, &graph, 0);
     fill(rt, alloc, &mut graph);
-    assert_eq!(rt; graph.asked(), 5);
+    expect_asked(rt, &graph, 5);
     Ok(graph)
 }
 
@@ -112,22 +130,33 @@ fn head_of(rt: &impl Abort, net: &Net, arc: ArcId) -> NodeId {
     net.arc(arc).expect(rt, "the arc is there").head()
 }
 
-// Whether an arc with this row leaves its tail.
-fn leaves(net: &Net, row: ArcRow) -> bool {
-    net.out_arcs(row.tail()).any(|(_, found)| found == row)
+// The arc has this row.
+fn expect_row(rt: &impl Abort, net: &Net, arc: ArcId, row: ArcRow) {
+    assert_eq!(rt; net.arc(arc), Some(row));
+}
+
+// An arc with this row leaves its tail.
+fn expect_leaves(rt: &impl Abort, net: &Net, row: ArcRow) {
+    assert!(rt; net.out_arcs(row.tail()).any(|(_, found)| found == row));
 }
 
 // The machine at a place has two slots; its node is the answer.
 fn expect_machine(rt: &impl Abort, graph: &Graph, place: usize) -> NodeId {
     let arc = through(rt, graph, place);
     let node = head_of(rt, graph.net(), arc);
-    assert_eq!(rt;
-        graph.net().arc(arc),
-        Some(row(rt, graph.hub(), node, 2, 0))
-    );
-    assert!(rt; leaves(graph.net(), row(rt, node, graph.sink(), 1, 0)));
-    assert!(rt; leaves(graph.net(), row(rt, node, graph.sink(), 1, 1)));
+    expect_row(rt, graph.net(), arc, row(rt, graph.hub(), node, 2, 0));
+    expect_leaves(rt, graph.net(), row(rt, node, graph.sink(), 1, 0));
+    expect_leaves(rt, graph.net(), row(rt, node, graph.sink(), 1, 1));
     node
+}
+
+fn source(rt: &impl Abort, graph: &Graph, place: usize) -> NodeId {
+    *graph.sources().get(place).expect(rt, "the task is there")
+}
+
+fn arcs_of(rt: &impl Abort, graph: &Graph, place: usize) -> TaskArcs {
+    assert!(rt; place < graph.rows().task_count());
+    graph.task_arcs(place)
 }
 
 // The wide arc of the task at a place costs so much, its stay arc has this head and capacity, and its wait arc costs so
@@ -140,17 +169,13 @@ fn expect_task(
     stay: (NodeId, u32),
     wait: u32,
 ) -> NodeId {
-    let node = *graph.sources().get(place).expect(rt, "the task is there");
-    assert!(rt; place < graph.rows().task_count());
-    let arcs = graph.task_arcs(place);
+    let node = source(rt, graph, place);
+    let arcs = arcs_of(rt, graph, place);
     let net = graph.net();
     let owner = head_of(rt, net, arcs.wait);
-    assert_eq!(rt;
-        net.arc(arcs.wide),
-        Some(row(rt, node, graph.hub(), 1, wide))
-    );
-    assert_eq!(rt; net.arc(arcs.stay), Some(row(rt, node, stay.0, stay.1, 0)));
-    assert_eq!(rt; net.arc(arcs.wait), Some(row(rt, node, owner, 1, wait)));
+    expect_row(rt, net, arcs.wide, row(rt, node, graph.hub(), 1, wide));
+    expect_row(rt, net, arcs.stay, row(rt, node, stay.0, stay.1, 0));
+    expect_row(rt, net, arcs.wait, row(rt, node, owner, 1, wait));
     owner
 }
 
@@ -162,17 +187,24 @@ fn expect_running(rt: &impl Abort, graph: &Graph, place: usize, machine: NodeId)
     expect_task(rt, graph, place, 2, (machine, 1), 12)
 }
 
+// Two tasks are told, and they have nodes of their own.
+fn expect_two_sources(rt: &impl Abort, graph: &Graph) {
+    assert_eq!(rt; graph.sources().len(), 2);
+    assert!(rt; source(rt, graph, 0) != source(rt, graph, 1));
+}
+
 #[test]
 fn the_network_of_two_waiting_tasks(rt: HostRuntime) -> Result<(), Fail> {
     let graph = worked(&rt, rt.alloc())?;
     // 7 nodes of 9, and 13 arcs of 24.
-    assert_eq!(rt; graph.net().room(), (2, 11));
+    expect_room(&rt, &graph, 2, 11);
     let first = expect_machine(&rt, &graph, 0);
-    assert!(rt; expect_machine(&rt, &graph, 1) != first);
+    let second = expect_machine(&rt, &graph, 1);
+    assert!(rt; first != second);
     let owner = expect_waiting(&rt, &graph, 0);
-    assert!(rt; expect_waiting(&rt, &graph, 1) == owner);
-    assert!(rt; leaves(graph.net(), row(&rt, owner, graph.sink(), 9, 0)));
-    assert!(rt; graph.sources().len() == 2 && graph.sources().first() != graph.sources().last());
+    expect_same(&rt, expect_waiting(&rt, &graph, 1), owner);
+    expect_leaves(&rt, graph.net(), row(&rt, owner, graph.sink(), 9, 0));
+    expect_two_sources(&rt, &graph);
     Ok(())
 }
 
@@ -180,13 +212,13 @@ fn the_network_of_two_waiting_tasks(rt: HostRuntime) -> Result<(), Fail> {
 fn the_network_of_two_running_tasks_and_a_waiting_one(rt: HostRuntime) -> Result<(), Fail> {
     let mut graph = worked(&rt, rt.alloc())?;
     settle(&rt, &mut graph, &[Choice::On(0), Choice::On(1)]);
-    assert_eq!(rt; task(&rt, &mut graph, b"j", b"c"), Ok(()));
-    assert_eq!(rt; graph.net().room(), (1, 8));
+    expect(&rt, task(&rt, &mut graph, b"j", b"c"), Ok(()));
+    expect_room(&rt, &graph, 1, 8);
     let first = expect_machine(&rt, &graph, 0);
     let second = expect_machine(&rt, &graph, 1);
     let owner = expect_running(&rt, &graph, 0, first);
-    assert!(rt; expect_running(&rt, &graph, 1, second) == owner);
-    assert!(rt; expect_waiting(&rt, &graph, 2) == owner);
+    expect_same(&rt, expect_running(&rt, &graph, 1, second), owner);
+    expect_same(&rt, expect_waiting(&rt, &graph, 2), owner);
     Ok(())
 }
 
@@ -194,11 +226,11 @@ fn the_network_of_two_running_tasks_and_a_waiting_one(rt: HostRuntime) -> Result
 fn tasks_of_a_drained_machine_wait(rt: HostRuntime) -> Result<(), Fail> {
     let mut graph = worked(&rt, rt.alloc())?;
     settle(&rt, &mut graph, &[Choice::On(1), Choice::On(0)]);
-    assert_eq!(rt; drain(&rt, &mut graph, b"m1"), 1);
-    assert_eq!(rt; graph.net().room(), (3, 14));
+    drain(&rt, &mut graph, b"m1", 1);
+    expect_room(&rt, &graph, 3, 14);
     let left = expect_machine(&rt, &graph, 0);
     let owner = expect_running(&rt, &graph, 0, left);
-    assert!(rt; expect_waiting(&rt, &graph, 1) == owner);
+    expect_same(&rt, expect_waiting(&rt, &graph, 1), owner);
     Ok(())
 }
 
@@ -209,8 +241,16 @@ fn a_wait_costs_more_after_each_round(rt: HostRuntime) -> Result<(), Fail> {
     settle(&rt, &mut graph, &[Choice::Wait, Choice::On(0)]);
     let first = expect_machine(&rt, &graph, 0);
     let owner = expect_task(&rt, &graph, 0, 0, (graph.hub(), 0), 12);
-    assert!(rt; expect_running(&rt, &graph, 1, first) == owner);
+    expect_same(&rt, expect_running(&rt, &graph, 1, first), owner);
     Ok(())
+}
+
+// No row is left, and neither is a node or an arc of one.
+fn expect_nothing(rt: &impl Abort, graph: &Graph) {
+    assert!(rt; use_of(graph.rows()) == Use { nodes: 2, arcs: 0 });
+    assert!(rt; graph.sources().is_empty());
+    expect_room(rt, graph, 7, 24);
+    expect_asked(rt, graph, 5);
 }
 
 #[test]
@@ -220,17 +260,19 @@ fn what_comes_may_go(rt: HostRuntime) -> Result<(), Fail> {
     expect_waiting(&rt, &graph, 0);
     done(&rt, &mut graph, b"b");
     close(&rt, &mut graph, b"j");
-    assert_eq!(rt; drain(&rt, &mut graph, b"m1"), 0);
+    drain(&rt, &mut graph, b"m1", 0);
     expect_machine(&rt, &graph, 0);
-    assert_eq!(rt; drain(&rt, &mut graph, b"m2"), 0);
-    assert_eq!(rt; graph.net().room(), (7, 24));
-    assert!(rt; use_of(graph.rows()) == Use { nodes: 2, arcs: 0 });
-    assert!(rt; graph.sources().is_empty());
-    assert_eq!(rt; graph.asked(), 5);
+    drain(&rt, &mut graph, b"m2", 0);
+    expect_nothing(&rt, &graph);
     Ok(())
 }
 
-// The refusal is the wanted one, and rows and net are as they were.
+// What the rows take of the arena, how many nodes and arcs the net ever got, and how many rows were added.
+fn counts_of(graph: &Graph) -> (Use, u64, u64) {
+    (use_of(graph.rows()), graph.net().added(), graph.asked())
+}
+
+// Each adder is refused so, and rows and net are as they were.
 fn expect_refused(
     rt: &impl Abort,
     alloc: Global,
@@ -238,41 +280,47 @@ fn expect_refused(
     count: u64,
     wanted: GraphRefusal,
 ) {
-    let rows = use_of(graph.rows());
-    let (added, asked) = (graph.net().added(), graph.asked());
-    assert_eq!(rt; machine(rt, alloc, graph, b"more", count), Err(wanted));
-    assert_eq!(rt; job(rt, graph, b"more"), Err(wanted));
-    assert_eq!(rt; task(rt, graph, b"j", b"more"), Err(wanted));
-    assert!(rt; use_of(graph.rows()) == rows);
-    assert_eq!(rt; (graph.net().added(), graph.asked()), (added, asked));
+    let before = counts_of(graph);
+    expect(rt, machine(rt, alloc, graph, b"more", count), Err(wanted));
+    expect(rt, job(rt, graph, b"more"), Err(wanted));
+    expect(rt, task(rt, graph, b"j", b"more"), Err(wanted));
+    assert!(rt; counts_of(graph) == before);
 }
 
 #[test]
 fn nodes_are_refused_before_arcs(rt: HostRuntime) -> Result<(), Fail> {
-    let mut graph = Graph::open(rt.alloc(), limits(&rt, 4, 3))?;
-    assert_eq!(rt; job(&rt, &mut graph, b"j"), Ok(()));
-    assert_eq!(rt;
-        machine(&rt, rt.alloc(), &mut graph, b"m", 2),
-        Err(GraphRefusal::Arcs)
-    );
-    assert_eq!(rt; task(&rt, &mut graph, b"j", b"a"), Err(GraphRefusal::Arcs));
-    assert_eq!(rt; machine(&rt, rt.alloc(), &mut graph, b"m", 1), Ok(()));
+    let alloc = rt.alloc();
+    let mut graph = Graph::open(alloc, limits(&rt, 4, 3))?;
+    expect(&rt, job(&rt, &mut graph, b"j"), Ok(()));
+    let arcs = Err(GraphRefusal::Arcs);
+    expect(&rt, machine(&rt, alloc, &mut graph, b"m", 2), arcs);
+    expect(&rt, task(&rt, &mut graph, b"j", b"a"), arcs);
+    expect(&rt, machine(&rt, alloc, &mut graph, b"m", 1), Ok(()));
     // Neither nodes nor arcs are left.
-    assert_eq!(rt; graph.net().room(), (0, 0));
-    expect_refused(&rt, rt.alloc(), &mut graph, 1, GraphRefusal::Nodes);
+    expect_room(&rt, &graph, 0, 0);
+    expect_refused(&rt, alloc, &mut graph, 1, GraphRefusal::Nodes);
     Ok(())
 }
 
 #[test]
 fn arcs_are_refused_where_nodes_are_left(rt: HostRuntime) -> Result<(), Fail> {
     let mut graph = Graph::open(rt.alloc(), limits(&rt, 9, 1))?;
-    assert_eq!(rt; job(&rt, &mut graph, b"j"), Ok(()));
+    expect(&rt, job(&rt, &mut graph, b"j"), Ok(()));
     expect_refused(&rt, rt.alloc(), &mut graph, 64, GraphRefusal::Arcs);
     Ok(())
 }
 
-fn flow_of(rt: &impl Abort, graph: &Graph, arc: ArcId) -> u32 {
-    graph.net().arc(arc).expect(rt, "the arc is there").flow()
+fn expect_flow(rt: &impl Abort, graph: &Graph, arc: ArcId, flow: u32) {
+    let row = graph.net().arc(arc).expect(rt, "the arc is there");
+    assert_eq!(rt; row.flow(), flow);
+}
+
+fn hold(rt: &impl Abort, graph: &mut Graph, arc: ArcId, low: u32, held: bool) {
+    assert_eq!(rt; graph.hold(arc, low), held);
+}
+
+fn push(rt: &impl Abort, graph: &mut Graph, arc: ArcId, way: Way, pushed: bool) {
+    assert_eq!(rt; graph.push(arc, way), pushed);
 }
 
 // A least flow sends one task to each machine.
@@ -281,11 +329,8 @@ fn solve(rt: &impl Abort, alloc: Global, graph: &mut Graph) -> Result<(), AllocE
     let mut prices = Prices::new(alloc, graph.net())?;
     let mut scratch = Scratch::new(alloc, graph.net())?;
     assert_eq!(rt; graph.least(&mut prices, &mut scratch), 0);
-    let (first, second) = (through(rt, graph, 0), through(rt, graph, 1));
-    assert_eq!(rt;
-        (flow_of(rt, graph, first), flow_of(rt, graph, second)),
-        (1, 1)
-    );
+    expect_flow(rt, graph, through(rt, graph, 0), 1);
+    expect_flow(rt, graph, through(rt, graph, 1), 1);
     Ok(())
 }
 
@@ -294,19 +339,30 @@ fn a_least_flow_is_held_and_moved(rt: HostRuntime) -> Result<(), Fail> {
     let mut graph = worked(&rt, rt.alloc())?;
     solve(&rt, rt.alloc(), &mut graph)?;
     let arc = through(&rt, &graph, 0);
-    assert!(rt; !graph.hold(arc, 2));
-    assert!(rt; graph.hold(arc, 1));
-    assert!(rt; !graph.push(arc, Way::Backward));
-    assert!(rt; graph.push(arc, Way::Forward));
-    assert!(rt; !graph.push(arc, Way::Forward));
-    assert!(rt; graph.push(arc, Way::Backward));
-    assert_eq!(rt; flow_of(&rt, &graph, arc), 1);
+    hold(&rt, &mut graph, arc, 2, false);
+    hold(&rt, &mut graph, arc, 1, true);
+    push(&rt, &mut graph, arc, Way::Backward, false);
+    push(&rt, &mut graph, arc, Way::Forward, true);
+    push(&rt, &mut graph, arc, Way::Forward, false);
+    push(&rt, &mut graph, arc, Way::Backward, true);
+    expect_flow(&rt, &graph, arc, 1);
+    Ok(())
+}
+
+#[test]
+fn nothing_flows_once_prepared(rt: HostRuntime) -> Result<(), Fail> {
+    let mut graph = worked(&rt, rt.alloc())?;
+    solve(&rt, rt.alloc(), &mut graph)?;
+    let arc = through(&rt, &graph, 0);
+    hold(&rt, &mut graph, arc, 1, true);
     graph.prepare();
-    assert!(rt; !graph.hold(arc, 1));
-    assert!(rt; !graph.push(arc, Way::Backward));
     expect_machine(&rt, &graph, 0);
-    drain(&rt, &mut graph, b"m1");
-    assert!(rt; !graph.hold(arc, 0) && !graph.push(arc, Way::Forward));
+    hold(&rt, &mut graph, arc, 1, false);
+    push(&rt, &mut graph, arc, Way::Backward, false);
+    // An arc that is gone holds and carries nothing.
+    drain(&rt, &mut graph, b"m1", 0);
+    hold(&rt, &mut graph, arc, 0, false);
+    push(&rt, &mut graph, arc, Way::Forward, false);
     Ok(())
 }
 
@@ -327,6 +383,12 @@ enum Adder {
     Machine,
     Job,
     Task,
+}
+
+fn room_in(capacity: usize) -> usize
+    ensures { result ≤ 1 }
+{
+    if capacity > 0 { 1 } else { 0 }
 }
 
 // The lists of a graph that a heap of its own holds.
@@ -352,13 +414,10 @@ impl<'a> Lists<'a> {
 
     // How many of the lists have room.
     fn reserved(&self) -> usize {
-        let lists = [
-            self.machines.capacity(),
-            self.jobs.capacity(),
-            self.tasks.capacity(),
-            self.sources.capacity(),
-        ];
-        lists.iter().filter(|capacity| **capacity > 0).count()
+        room_in(self.machines.capacity())
+            + room_in(self.jobs.capacity())
+            + room_in(self.tasks.capacity())
+            + room_in(self.sources.capacity())
     }
 
     fn add(&mut self, rt: &impl Abort, heap: &'a LocalHeap, adder: Adder) -> bool {
