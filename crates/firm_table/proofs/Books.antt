@@ -201,15 +201,13 @@ answer_known roster books name command line pending after place book new is foun
     })
 
 -- one tenant more is admitted
-pub admitted_next : (roster : List Admitted) (place : ℕ) (tenant : Admitted) → slice_get roster place ≡ Some tenant
-    → map (λ (t : Admitted). opening_book t.1) (take (place + 1) roster)
-    ≡ map (λ (t : Admitted). opening_book t.1) (take place roster) ++ opening_book tenant.1 ∷ []
-admitted_next roster place tenant e =
+pub admitted_next : {X : Type 0} (f : Admitted → X) (roster : List Admitted) (place : ℕ) (tenant : Admitted) → slice_get roster place ≡ Some tenant
+    → map f (take (place + 1) roster) ≡ map f (take place roster) ++ f tenant ∷ []
+admitted_next {X} f roster place tenant e =
     let same : place + 1 ≡ suc place = omega arith in
-    ap (λ (n : ℕ). map (λ (t : Admitted). opening_book t.1) (take n roster)) same ∙ next roster place e
+    ap (λ (n : ℕ). map f (take n roster)) same ∙ next roster place e
   where
-    next : (rows : List Admitted) (n : ℕ) → slice_get rows n ≡ Some tenant
-        → map (λ (t : Admitted). opening_book t.1) (take (suc n) rows) ≡ map (λ (t : Admitted). opening_book t.1) (take n rows) ++ opening_book tenant.1 ∷ []
-    next [] n f = cc
-    next (row ∷ rest) zero f = let same : row ≡ tenant = cc in ap (λ (t : Admitted). opening_book t.1 ∷ []) same
-    next (row ∷ rest) (suc n) f = ap (λ (books : List Book). opening_book row.1 ∷ books) (next rest n f)
+    next : (rows : List Admitted) (n : ℕ) → slice_get rows n ≡ Some tenant → map f (take (suc n) rows) ≡ map f (take n rows) ++ f tenant ∷ []
+    next [] n g = cc
+    next (row ∷ rest) zero g = let same : row ≡ tenant = cc in ap (λ (t : Admitted). f t ∷ []) same
+    next (row ∷ rest) (suc n) g = ap (λ (xs : List X). f row ∷ xs) (next rest n g)

@@ -14,3 +14,7 @@ mod Stations
 mod Machine
 mod Agreeing
 mod Interleaved
+mod Waiting
+mod Happening
+mod Seating
+mod Moves

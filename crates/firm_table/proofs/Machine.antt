@@ -1,6 +1,6 @@
 -- Every list of events keeps each place in step with a tenant alone.
 use Rattle.std.proofs.Common.{◌≡◌, ℕ, zero, suc, ◌≤◌, List, [], ◌∷◌, ◌++◌, length, refl, sym, ap, subst, ◌∙◌, append-nil, arith}
-use Rattle.std.specs.Prelude.{◌==◌, ◌-◌, Bool, true, false, Option, Some, None, map, replicate, option_map, slice_get, if◌then◌else◌}
+use Rattle.std.specs.Prelude.{◌==◌, ◌-◌, Bool, true, false, Option, Some, None, map, replicate, option_map, slice_get, slice_set, if◌then◌else◌}
 use Rattle.std.proofs.lemmas.Bool.{eqb-true, true_from_ne_false}
 use Rattle.std.proofs.Math.Dec.{eqb_refl, eqb-suc-suc}
 use Rattle.firm_rules.specs.Book.{Book}
@@ -8,8 +8,8 @@ use Rattle.firm_rules.specs.declared.commands.Command.{Command}
 use Rattle.firm_rules.specs.declared.commands.Command.TheVariants.{Round}
 use Rattle.firm_tenant.specs.Laws.{RepliesTellTheirMarks}
 use Rattle.firm_text.specs.Rosters.{Admitted}
-use Rattle.firm_table.specs.Interleaving.{Station, home, queued, held, answered, Seat, TableState, MarkedEvent, opening_seat, opening_table, with_seat, taken_by, local, seat_behind, at_place, place_held, taking, take_front, may_take, answering, happens, event_answers, table_after}
-use Rattle.firm_table.specs.Histories.{History, new_history, history_here, named_place, is_at, history_with, history_behind, AreFirstReplies, is_home, EventsKeepAlone}
+use Rattle.firm_table.specs.Interleaving.{Station, is_home, home, queued, held, answered, Seat, TableState, MarkedEvent, opening_seat, opening_table, taken_by, local, seat_behind, at_place, place_held, taking, take_front, may_take, answering, happens, event_answers, table_after}
+use Rattle.firm_table.specs.Histories.{History, new_history, history_here, named_place, is_at, history_with, history_behind, AreFirstReplies, EventsKeepAlone}
 use Rattle.firm_table.specs.declared.events.Event.{Event}
 use Rattle.firm_table.specs.declared.events.Event.TheVariants.{Post, Ask, Take, Answer, Collect}
 use Rattle.firm_table.specs.declared.events.Answer.{Answer as EventAnswer}
@@ -18,25 +18,25 @@ use Rattle.firm_rules.specs.declared.tickets.Ticket.{Ticket}
 use Rattle.firm_table.proofs.Stations.{Past, Waits, HasReply, Fits, fits_local, fits_taken, fits_solved}
 
 -- two places are one or differ
-data Places : ℕ → ℕ → Type 0 where
+pub data Places : ℕ → ℕ → Type 0 where
   one : (place : ℕ) → Places place place
   two : (place other : ℕ) → (place == other) ≡ false → Places place other
 
-places : (place other : ℕ) → Places place other
+pub places : (place other : ℕ) → Places place other
 places place other = elim (place == other) as (λ b. (place == other) ≡ b → Places place other) [
   | true ↦ λ e. rw (eqb-true place other e) (one other)
   | false ↦ λ e. two place other e
 ] refl
 
-eq_itself : (place : ℕ) → (place == place) ≡ true
+pub eq_itself : (place : ℕ) → (place == place) ≡ true
 eq_itself place = true_from_ne_false (place == place) (λ f. rw f at (eqb_refl place))
 
-set_here : (seats : List Seat) (place : ℕ) (seat new : Seat) → slice_get seats place ≡ Some seat → slice_get (with_seat seats place new) place ≡ Some new
+pub set_here : (seats : List Seat) (place : ℕ) (seat new : Seat) → slice_get seats place ≡ Some seat → slice_get (slice_set seats place new) place ≡ Some new
 set_here [] place seat new e = cc
 set_here (first ∷ rest) zero seat new e = refl
 set_here (first ∷ rest) (suc place) seat new e = set_here rest place seat new e
 
-set_there : (seats : List Seat) (place other : ℕ) (new : Seat) → (place == other) ≡ false → slice_get (with_seat seats place new) other ≡ slice_get seats other
+pub set_there : (seats : List Seat) (place other : ℕ) (new : Seat) → (place == other) ≡ false → slice_get (slice_set seats place new) other ≡ slice_get seats other
 set_there [] place other new e = refl
 set_there (first ∷ rest) zero zero new e = cc
 set_there (first ∷ rest) zero (suc other) new e = refl
@@ -104,13 +104,13 @@ fits_taking : (place worker : ℕ) (history : Option History) (table : TableStat
     → FitsAt place history (taking table worker ticket rest found).1.seats
 fits_taking place worker history table ticket rest None here which fits = fits
 fits_taking place worker history table ticket rest (Some seat) here which fits =
-    elim (ticket.place == place) as (λ b. (ticket.place == place) ≡ b → FitsAt place history (with_seat table.seats ticket.place (record seat { station = taken_by worker seat.station }))) [
+    elim (ticket.place == place) as (λ b. (ticket.place == place) ≡ b → FitsAt place history (slice_set table.seats ticket.place (record seat { station = taken_by worker seat.station }))) [
       | true ↦ λ e. taken_here ticket.place which e here
       | false ↦ λ apart. subst (FitsSeat history) (sym (set_there table.seats ticket.place place (record seat { station = taken_by worker seat.station }) apart)) fits
     ] refl
   where
     taken_here : (other : ℕ) → Places other place → (other == place) ≡ true → slice_get table.seats other ≡ Some seat
-        → FitsAt place history (with_seat table.seats other (record seat { station = taken_by worker seat.station }))
+        → FitsAt place history (slice_set table.seats other (record seat { station = taken_by worker seat.station }))
     taken_here other (two _ _ apart) e found = cc
     taken_here other (one _) e found =
         let was : Fits history seat.station = rw found at fits in

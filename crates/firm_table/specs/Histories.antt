@@ -8,7 +8,7 @@ use Rattle.firm_tenant.specs.Step.{is_memory}
 use Rattle.firm_tenant.specs.Alone.{alone_marked}
 use Rattle.firm_text.specs.Rosters.{Admitted}
 use Rattle.firm_table.specs.Places.{Given}
-use Rattle.firm_table.specs.Interleaving.{Station, home, queued, held, answered, Seat, MarkedEvent, opening_table, event_answers, table_after}
+use Rattle.firm_table.specs.Interleaving.{is_home, Seat, MarkedEvent, opening_table, event_answers, table_after}
 use Rattle.firm_table.specs.declared.events.Event.{Event}
 use Rattle.firm_table.specs.declared.events.Event.TheVariants.{Post, Ask, Take, Answer, Collect}
 use Rattle.firm_table.specs.declared.events.Answer.{Answer as EventAnswer}
@@ -73,13 +73,6 @@ pub record AreFirstReplies (history : History) : Type 0 where
   pub replies : history.replies ≡ alone_marked history.limits given
   pub marks : map (λ g. g.1) given ≡ map is_memory history.replies
   pub few : length waiting ≤ 1
-
--- a tenant is home
-abbrev pub is_home : Station → Bool
-is_home (home book) = true
-is_home (queued book ticket) = false
-is_home (held book ticket worker) = false
-is_home (answered book reply) = false
 
 -- for every list of events, and at every place: the replies of the tenant there are the first of one alone, and all of them where it is home
 abbrev pub EventsKeepAlone : Type 0

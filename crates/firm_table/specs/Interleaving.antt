@@ -1,6 +1,6 @@
 -- The table of tenants as a machine: what each event is answered, and what it changes.
-use Rattle.std.specs.Prelude.{ℕ, zero, suc, ◌+◌, Bool, true, false, ◌&&◌, ◌==◌, not, nat_lt, nat_le, List, [], ◌∷◌, ◌++◌, map, Option, Some, None, option_map, slice_get, if◌then◌else◌}
-use Rattle.std.specs.List.{list_any}
+use Rattle.std.specs.Prelude.{ℕ, ◌+◌, Bool, true, false, ◌&&◌, ◌==◌, not, nat_lt, nat_le, List, [], ◌∷◌, ◌++◌, map, Option, Some, None, slice_get, slice_set, if◌then◌else◌}
+use Rattle.std.specs.List.{list_any, position}
 use Rattle.firm_rules.specs.Book.{Book, opening_book}
 use Rattle.firm_rules.specs.declared.commands.Command.{Command}
 use Rattle.firm_rules.specs.declared.commands.Command.TheVariants.{Round}
@@ -25,6 +25,13 @@ pub data Station : Type 0 where
   held : Book → Ticket → ℕ → Station
   answered : Book → Reply → Station
 
+-- whether a tenant is home
+abbrev pub is_home : Station → Bool
+is_home (home book) = true
+is_home (queued book ticket) = false
+is_home (held book ticket worker) = false
+is_home (answered book reply) = false
+
 -- a place: what stands there, and how many rounds it queued
 pub record Seat : Type 0 where
   pub station : Station
@@ -47,12 +54,6 @@ opening_seat row = record { station = home (opening_book row.1); rounds = 0 }
 -- before the first event each tenant is home, and the queue is empty
 abbrev pub opening_table : List Admitted → ℕ → TableState
 opening_table roster workers = record { workers = workers; seats = map opening_seat roster; queue = [] }
-
--- the seats with this one at the place
-abbrev pub with_seat : List Seat → ℕ → Seat → List Seat
-with_seat [] place new = []
-with_seat (seat ∷ rest) zero new = new ∷ rest
-with_seat (seat ∷ rest) (suc place) new = seat ∷ with_seat rest place new
 
 -- a command that is not a round
 abbrev pub posted : Station → Command → Bool → EventAnswer × Station
@@ -136,18 +137,17 @@ abbrev pub at_place : TableState → ℕ → Option Seat → Event → Bool → 
 at_place table place None event mark = (NotNow, table)
 at_place table place (Some seat) event mark =
     let after = local seat place event mark in
-    (after.0, record table { seats = with_seat table.seats place (seat_behind seat after); queue = table.queue ++ queue_more after.0 })
+    (after.0, record table { seats = slice_set table.seats place (seat_behind seat after); queue = table.queue ++ queue_more after.0 })
 
 -- the place that this worker holds
 abbrev pub place_held : ℕ → List Seat → Option ℕ
-place_held worker [] = None
-place_held worker (seat ∷ rest) = if is_held worker seat.station then Some zero else option_map suc (place_held worker rest)
+place_held worker seats = position (λ seat. is_held worker seat.station) seats
 
 -- the front of the queue goes to the worker
 abbrev pub taking : TableState → ℕ → Ticket → List Ticket → Option Seat → EventAnswer × TableState
 taking table worker ticket rest None = (NotNow, table)
 taking table worker ticket rest (Some seat) =
-    (Took ticket, record table { seats = with_seat table.seats ticket.place (record seat { station = taken_by worker seat.station }); queue = rest })
+    (Took ticket, record table { seats = slice_set table.seats ticket.place (record seat { station = taken_by worker seat.station }); queue = rest })
 
 abbrev pub take_front : TableState → ℕ → List Ticket → EventAnswer × TableState
 take_front table worker [] = (NotNow, table)

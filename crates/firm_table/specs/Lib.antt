@@ -5,4 +5,5 @@ pub mod Isolation
 pub mod Service
 pub mod Interleaving
 pub mod Histories
+pub mod Fitting
 pub mod inner

@@ -1,9 +1,11 @@
 -- What a service reads and writes in one call.
 use Rattle.std.specs.Prelude.{◌≡◌, ℕ, ◌≤◌, ◌<◌, ◌⊎◌, Bool, true, false, List, [], ◌++◌, Option, length, take}
+use Rattle.std.specs.List.{list_any}
 use Rattle.std.specs.Io.{IsEmptyOrEndsWith}
 use Rattle.std.specs.Io.KnownBytes.{Appends, Consumes, IsAtEnd}
 use Rattle.firm_table.specs.Places.{MarkedLine}
 use Rattle.firm_table.specs.Output.{output_of, AreLinesOf}
+use Rattle.firm_text.specs.Lines.{is_line_feed}
 use Rattle.firm_text.specs.Rosters.{Admitted}
 use Rattle.firm_table.specs.declared.faults.ServeFault.{ServeFault}
 use Rattle.firm_table.specs.declared.faults.ServeFault.TheVariants.{Read, Write, TooLong, Memory}
@@ -54,7 +56,8 @@ IsCause Memory input most read_failed write_failed = (read_failed ≡ false) × 
 abbrev pub AreWholeLines : List ℕ → List ℕ → Device → Type 0
 AreWholeLines lines rest reader = IsEmptyOrEndsWith lines 10 ⊎ ((rest ≡ []) × IsAtEnd reader.after × (reader.failed ≡ false))
 
--- whole lines and a rest were read, and what was written is a prefix of the output for those lines; the fault has its cause
+-- whole lines and a rest were read, and what was written is a prefix of the output for those lines; the fault has its cause. A read that
+-- fails finds the whole output for them written, and no line feed in the rest: before each read every answer that can be given is
 pub record Stopped (roster : List Admitted) (most : ℕ) (reader writer : Device) (fault : ServeFault) : Type 0 where
   pub answered : List ℕ
   pub rest : List ℕ
@@ -62,3 +65,4 @@ pub record Stopped (roster : List Admitted) (most : ℕ) (reader writer : Device
   pub whole : AreWholeLines answered rest reader
   pub cause : IsCause fault (answered ++ rest) most reader.failed writer.failed
   pub begins : BeginsAnswers roster answered writer.before writer.after
+  pub in_full : fault ≡ Read → (list_any is_line_feed rest ≡ false) × Answers roster answered writer.before writer.after

@@ -2,6 +2,7 @@
 use firm_rules::{Command, Reply, Ticket};
 
 /// What may come next. Places are those of the roster, and workers are numbered, each from 0.
+#[derive(Clone, Copy, Debug, PartialEq, Eq)]
 pub enum Event {
     /// A command of the tenant at this place that is not a round.
     Post(usize, Command),
@@ -16,6 +17,7 @@ pub enum Event {
 }
 
 /// What an event is answered.
+#[derive(Debug, PartialEq, Eq, Drop)]
 pub enum Answer {
     /// The tenant replied.
     Replied(Reply),

@@ -3,6 +3,7 @@
 ghost use Rattle.std.specs.Prelude.{◌≤◌, ◌^◌};
 
 mod devices;
+mod events;
 mod pieces;
 mod rounds;
 mod rows;

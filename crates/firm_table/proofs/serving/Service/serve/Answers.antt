@@ -6,8 +6,8 @@ use Rattle.std.proofs.lemmas.Result.{err_from_is_err_and, on_ok_weaker}
 use Rattle.firm_table.specs.inner.Progress.{Halted}
 use Rattle.std.proofs.KnownBytes.{Consumes-trans, Consumes-nil, Consumes-kept}
 use Rattle.firm_table.proofs.Pieces.{halts_between}
-use Rattle.firm_table.proofs.Progress.{heard_begins, heard_written, told_begins, told_partly}
-use Rattle.firm_table.proofs.Stops.{cause_writing, stopped_within, stopped_behind, served, both_ok, both_err}
+use Rattle.firm_table.proofs.Progress.{heard_begins, heard_written, told_answers, told_begins, told_partly}
+use Rattle.firm_table.proofs.Stops.{HaltedInFull, cause_writing, not_reading, stopped_within, stopped_behind, served, both_ok, both_err}
 use Rattle.firm_table.proofs.serving.Service.serve.Goals as goal
 
 pub loop-reader-init : goal.loop-reader-init
@@ -32,17 +32,21 @@ returns-in_err-write_out-clause-stopped g c =
     let halted = rw c.loop-reader.invariant.roster at here in
     rw (p.1, p.2)
     (stopped_within c.args.self.now.roster.now c.args.most _ _ _ _ _ _ i.0 _ i.2 halted
-    (cause_writing _ i.0 c.args.most _ _ c.loop-reader.invariant.reads c.in_err-write_out.ensures.cause))
+    (cause_writing _ i.0 c.args.most _ _ c.loop-reader.invariant.reads c.in_err-write_out.ensures.cause)
+    (λ reading. absurd (not_reading _ _ c.in_err-write_out.ensures.cause reading)))
 
 pub returns-in_default-clause-stopped : goal.returns-in_default-clause-stopped
 returns-in_default-clause-stopped g c =
     let i = c.loop-reader.invariant.progress in
     let h = heard_written _ i.0 _ _ i.3 _ _ c.in_ok-write_out.ensures.ok c.in_ok-write_out.ensures.empty in
-    let here : Halted c.loop-reader.self.roster.now i.0 (g.W.Sink.written c.args.writer.now) (g.W.Sink.written c.write_out.new.writer) =
-    record { answered = h.text; rest = h.rest; both = h.both; ends = h.ended.ends; begins = told_begins _ h.text _ _ h.told } in
-    let halted = rw c.loop-reader.invariant.roster at here in
-    stopped_within c.args.self.now.roster.now c.args.most _ _ _ _ _ _ i.0 _ (Consumes-kept _ _ _ i.0 i.2 c.in_default.ensures.bytes) halted
-    (search rules, c.in_ok-write_out.ensures.well)
+    let here : HaltedInFull c.loop-reader.self.roster.now i.0 (g.W.Sink.written c.args.writer.now) (g.W.Sink.written c.write_out.new.writer) = record {
+      halted = record { answered = h.text; rest = h.rest; both = h.both; ends = h.ended.ends; begins = told_begins _ h.text _ _ h.told };
+      in_line = h.stands.in_line;
+      answers = told_answers _ h.text _ _ h.told c.in_ok-write_out.ensures.empty;
+    } in
+    let now = rw c.loop-reader.invariant.roster at here in
+    stopped_within c.args.self.now.roster.now c.args.most _ _ _ _ _ _ i.0 _ (Consumes-kept _ _ _ i.0 i.2 c.in_default.ensures.bytes) now.halted
+    (search rules, c.in_ok-write_out.ensures.well) (λ reading. (now.in_line, now.answers))
 
 pub returns-then-count-eq0-clause-served : goal.returns-then-count-eq0-clause-served
 returns-then-count-eq0-clause-served g c =
@@ -82,7 +86,7 @@ returns-then-most-heard-clause-stopped g c =
     (halts_between _ i.0 h.text h.rest (take c.in-Ok.count c.read.new.buffer) _ _ h.both h.ended (told_begins _ h.text _ _ h.told)) in
     stopped_within c.args.self.now.roster.now c.args.most _ _ _ _ _ _ (i.0 ++ take c.in-Ok.count c.read.new.buffer) _
     (Consumes-trans _ _ _ _ _ i.2 c.in-Ok.ensures.bytes.0) halted
-    (longer, search rules, c.in_ok-write_out.ensures.well)
+    (longer, search rules, c.in_ok-write_out.ensures.well) (λ reading. cc)
 
 pub loop-reader-preserved : goal.loop-reader-preserved
 loop-reader-preserved g c =
@@ -113,4 +117,5 @@ returns-in_err-answer_piece-clause-stopped g c =
     rw (p.1, p.2)
     (stopped_within c.args.self.now.roster.now c.args.most _ _ _ _ _ _ (i.0 ++ take c.in-Ok.count c.read.new.buffer) _
     (Consumes-trans _ _ _ _ _ i.2 c.in-Ok.ensures.bytes.0) halted
-    (cause_writing _ _ c.args.most _ _ reads c.in_err-answer_piece.ensures.cause))
+    (cause_writing _ _ c.args.most _ _ reads c.in_err-answer_piece.ensures.cause)
+    (λ reading. absurd (not_reading _ _ c.in_err-answer_piece.ensures.cause reading)))

@@ -1,0 +1,36 @@
+-- What the table keeps, so that each event fits as defined and takes no memory of the table's own.
+use Rattle.std.specs.Prelude.{◌≡◌, ℕ, ◌+◌, ◌≤◌, ◌==◌, List, [], ◌∷◌, Option, Some, None, length, slice_get}
+use Rattle.std.specs.List.{filter}
+use Rattle.firm_rules.specs.declared.tickets.Ticket.{Ticket}
+use Rattle.firm_table.specs.Interleaving.{Station, home, queued, held, answered, Seat, TableState}
+
+-- the table of these parts
+abbrev pub table_of : ℕ → List Seat → List Ticket → TableState
+table_of workers seats queue = record { workers = workers; seats = seats; queue = queue }
+
+-- the ticket of a round that waits in the queue
+abbrev pub queued_ticket : Station → List Ticket
+queued_ticket (home book) = []
+queued_ticket (queued book ticket) = ticket ∷ []
+queued_ticket (held book ticket worker) = []
+queued_ticket (answered book reply) = []
+
+-- the ticket that waits for a place, if it is one of the table's
+abbrev pub waiting_at : Option Seat → List Ticket
+waiting_at None = []
+waiting_at (Some seat) = queued_ticket seat.station
+
+-- the tickets of a place in the queue
+abbrev pub tickets_of : ℕ → List Ticket → List Ticket
+tickets_of place queue = filter (λ ticket. ticket.place == place) queue
+
+-- how many places wait
+abbrev pub waiting : List Seat → ℕ
+waiting [] = 0
+waiting (seat ∷ rest) = length (queued_ticket seat.station) + waiting rest
+
+-- the queue holds, of each place, the ticket of its tenant where that waits, and no other; so it is as long as there are places that wait
+pub record IsSound (table : TableState) : Type 0 where
+  pub few : length table.seats ≤ 64
+  pub as_many : length table.queue ≡ waiting table.seats
+  pub holds : (place : ℕ) → tickets_of place table.queue ≡ waiting_at (slice_get table.seats place)

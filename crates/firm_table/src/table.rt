@@ -1,0 +1,160 @@
+//! The tenants of a roster as one table, on which one event happens at a time.
+
+ghost use Rattle.std.specs.Prelude.{◌≡◌, ◌≤◌, ◌↔◌, false, IfOk, map};
+ghost use Rattle.std.specs.List.{list_any};
+ghost use Rattle.firm_table.specs.Interleaving.{opening_seat, opening_table, place_held, is_held};
+ghost use Rattle.firm_table.specs.Fitting.{IsStep, fits};
+ghost use Rattle.firm_table.specs.inner.Events.{IsDone};
+
+use crate::events::{Answer, Event};
+use crate::seats::Seat;
+use firm_rules::{Command, Ticket};
+use firm_tenant::Tenant;
+use firm_text::Roster;
+use std::alloc::{AllocError, Global};
+use std::collections::VecDeque;
+use std::marker::Model;
+
+/// All tenants of a roster, each at its place, the queue of their rounds, and the workers that solve these.
+#[derive(Drop)]
+pub struct Table {
+    workers: usize,
+    seats: Vec<Seat>,
+    queue: VecDeque<Ticket>,
+}
+
+impl Model for Table {
+    ghost use Rattle.std.specs.Prelude.{◌≤◌, length};
+    ghost use Rattle.std.specs.VecDeque.{deque_capacity};
+    ghost use Rattle.firm_table.specs.Interleaving.{TableState};
+
+    ghost Value = { TableState };
+
+    ghost use Rattle.firm_table.specs.inner.Tables.{IsSound, table_of};
+
+    ghost view = { λ t. table_of t.workers t.seats.items t.queue.items };
+
+    ghost invariant = { λ t. IsSound (table_of t.workers t.seats.items t.queue.items)
+        × (length t.seats.items ≤ deque_capacity t.queue) };
+}
+
+impl Table {
+    /// The tenants of the roster, admitted in its order, all of them home, with 1 to 8 workers and an empty queue. All memory
+    /// that the table itself needs is taken here; the error comes for want of it alone.
+    pub fn open(alloc: Global, roster: &Roster, workers: usize) -> Result<Table, AllocError>
+        requires some { 1 ≤ workers }
+        requires few { workers ≤ 8 }
+        ensures { IfOk result (λ table. table ≡ opening_table roster.now workers) }
+    {
+        let queue = VecDeque::with_capacity(alloc, roster.len())?;
+        Ok(Table {
+            workers,
+            seats: seats_of(alloc, roster)?,
+            queue,
+        })
+    }
+
+    /// What happens next, and what it is answered: `NotNow` exactly where the event does not fit, which then changes nothing.
+    /// The allocator is for the list in a reply.
+    pub fn event(&mut self, alloc: Global, event: Event) -> Answer
+        ensures stepped { IsStep self.old event result self.new }
+        ensures not_now { (result ≡ Answer.NotNow) ↔ (fits self.old event ≡ false) }
+        ensures unchanged { result ≡ Answer.NotNow → self.new ≡ self.old }
+    {
+        match event {
+            Event::Post(place, command) => self.post(alloc, place, command),
+            Event::Ask(place) => self.ask(alloc, place),
+            Event::Take(worker) => self.take(worker),
+            Event::Answer(worker) => self.answer(alloc, worker),
+            Event::Collect(place) => self.collect(place),
+        }
+    }
+
+    // A command of the tenant at a place.
+    fn post(&mut self, alloc: Global, place: usize, command: Command) -> Answer
+        ensures { IsDone self.old (Event.Post place command) result self.new }
+    {
+        if self.seats.len() <= place {
+            return Answer::NotNow;
+        }
+        self.seats[place].post(alloc, command)
+    }
+
+    // A round of the tenant at a place.
+    fn ask(&mut self, alloc: Global, place: usize) -> Answer
+        ensures { IsDone self.old (Event.Ask place) result self.new }
+    {
+        if self.seats.len() <= place {
+            return Answer::NotNow;
+        }
+        let answer = self.seats[place].ask(alloc, place as u32);
+        if let Answer::Queued(ticket) = &answer {
+            self.queue.push_back_reserved(*ticket);
+        }
+        answer
+    }
+
+    // A worker takes the front of the queue.
+    fn take(&mut self, worker: usize) -> Answer
+        ensures { IsDone self.old (Event.Take worker) result self.new }
+    {
+        if self.workers <= worker {
+            return Answer::NotNow;
+        }
+        if is_holding(&self.seats, worker) {
+            return Answer::NotNow;
+        }
+        let Some(ticket) = self.queue.pop_front() else {
+            return Answer::NotNow;
+        };
+        self.seats[ticket.place as usize].give(worker);
+        Answer::Took(ticket)
+    }
+
+    // A worker solves the round that it holds.
+    fn answer(&mut self, alloc: Global, worker: usize) -> Answer
+        ensures { IsDone self.old (Event.Answer worker) result self.new }
+    {
+        let Some(place) = place_held(&self.seats, worker) else {
+            return Answer::NotNow;
+        };
+        self.seats[place].solve(alloc)
+    }
+
+    // The tenant at a place comes home.
+    fn collect(&mut self, place: usize) -> Answer
+        ensures { IsDone self.old (Event.Collect place) result self.new }
+    {
+        if self.seats.len() <= place {
+            return Answer::NotNow;
+        }
+        self.seats[place].collect()
+    }
+}
+
+// The seats of a roster's tenants, all of them home.
+fn seats_of(alloc: Global, roster: &Roster) -> Result<Vec<Seat>, AllocError>
+    ensures { IfOk result (λ seats. seats.items ≡ map opening_seat roster.now) }
+{
+    let count = roster.len();
+    let mut seats = Vec::with_capacity(alloc, count)?;
+    for place in 0..count {
+        let (_, limits) = roster.get(place).unwrap();
+        seats.push(Seat::home(Tenant::admit(alloc, limits)?))?;
+    }
+    Ok(seats)
+}
+
+// Whether this worker solves a round.
+fn is_holding(seats: &[Seat], worker: usize) -> bool
+    ensures { result ≡ list_any (λ seat. is_held worker seat.station) seats.now }
+{
+    seats.iter().any(|seat| seat.is_held_by(worker))
+}
+
+// The place of the tenant whose round this worker holds.
+fn place_held(seats: &[Seat], worker: usize) -> Option<usize>
+    ensures { result ≡ place_held worker seats.now }
+{
+    seats.iter().position(|seat| seat.is_held_by(worker))
+}
