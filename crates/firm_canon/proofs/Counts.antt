@@ -1,5 +1,6 @@
 -- Searches made one after another add up.
-use Rattle.std.proofs.Common.{◌≡◌, ℕ, ◌+◌, ◌*◌, ◌≤◌, refl, arith, subst, ◌∙◌}
+use Rattle.std.proofs.Common.{◌≡◌, ℕ, ◌+◌, ◌-◌, ◌*◌, ◌^◌, ◌<◌, ◌≤◌, refl, arith, subst, ◌∙◌, ⊎_elim}
+use Rattle.std.proofs.lemmas.Bool.{cases_lt}
 use Rattle.std.proofs.Math.Nat.{mul-add}
 use Rattle.firm_rules.specs.ArenaUse.{arena_arcs}
 use Rattle.firm_rules.specs.Book.{TenantRows}
@@ -15,7 +16,12 @@ none_made s most arcs = record {
   searched = record {
     limits = refl;
     begins = refl;
-    searches = record { exact = λ l. omega arith; kept = omega arith; no_more = omega arith };
+    searches = record {
+      exact = λ l. omega arith;
+      full = λ small past. omega (arith, small, past);
+      kept = omega arith;
+      no_more = omega arith;
+    };
     looks_kept = omega arith;
     looks = omega arith;
   };
@@ -33,6 +39,18 @@ more_made old now new first then most arcs one two fits = record {
       exact = λ l.
           let half : now.searches ≡ old.searches + one.made = one.searched.searches.exact (omega (arith, l)) in
           omega (arith, half, two.searched.searches.exact (omega (arith, l, half)));
+      full = λ small past.
+          ⊎_elim
+          (λ (below : old.searches + one.made < 2 ^ 64).
+          let half : now.searches ≡ old.searches + one.made = one.searched.searches.exact below in
+          two.searched.searches.full (omega (arith, half, below)) (omega (arith, half, past)))
+          (λ (above : 2 ^ 64 ≤ old.searches + one.made).
+          let half : now.searches ≡ 2 ^ 64 - 1 = one.searched.searches.full small above in
+          ⊎_elim
+          (λ (some : 0 < two.made). two.searched.searches.full (omega (arith, half)) (omega (arith, half, some)))
+          (λ (none : two.made ≤ 0). omega (arith, half, none, two.searched.searches.exact (omega (arith, half, none))))
+          (cases_lt 0 two.made))
+          (cases_lt (old.searches + one.made) (2 ^ 64));
       kept = omega (arith, one.searched.searches.kept, two.searched.searches.kept);
       no_more = omega (arith, one.searched.searches.no_more, two.searched.searches.no_more);
     };
