@@ -1,5 +1,5 @@
-use Rattle.std.proofs.Common.{◌≡◌, ◌+◌, ℕ, List, Option, arith, refl, sym, ap, subst, ◌∙◌, ⊎_elim}
-use Rattle.std.proofs.lemmas.Bool.{cases_eq}
+use Rattle.std.proofs.Common.{◌≡◌, ◌+◌, ℕ, List, Option, false, arith, refl, sym, ap, subst, ◌∙◌, ⊎_elim}
+use Rattle.std.proofs.lemmas.Bool.{cases_eq, both_ways}
 use Rattle.firm_paths.specs.PriceTable.{price_of}
 use Rattle.firm_rules.specs.declared.rounds.Choice.{Choice}
 use Rattle.firm_rules.specs.Placement.{runs_at}
@@ -45,6 +45,22 @@ loop-machine-preserved c =
           (λ (e : k ≡ machine). subst (λ (z : ℕ). IsSpentBeside old.case p (best old p) z) (sym e)
           (subst (λ (v : View). IsSpentBeside v.case p (best v p) machine) same (lost.spent refl)))
           (λ (ne : k ≡ machine → ⊥). c.loop-machine.invariant.spent k (omega (arith, l, ne)) other)
+          (cases_eq k machine);
+    }
+
+pub loop-machine-preserved-then-is_home : goal.loop-machine-preserved-then-is_home
+loop-machine-preserved-then-is_home c =
+    let inv = c.loop-machine.invariant in
+    let machine : ℕ = c.loop-machine.machine in
+    record {
+      still = inv.still;
+      searched = at_most c.args.scratch.now c.loop-machine.scratch machine (machine + 1) _ inv.searched (omega arith);
+      in_range = omega (arith, c.loop-machine-test.true, c.machine_count-machine-end.ensures.case);
+      spent = λ k l other. ⊎_elim
+          (λ (e : k ≡ machine). absurd (both_ways (runs_at c.args.home machine)
+          (subst (λ (z : ℕ). runs_at c.args.home z ≡ false) e other)
+          (sym c.is_home.ensures ∙ c.if-is_home.true)))
+          (λ (ne : k ≡ machine → ⊥). inv.spent k (omega (arith, l, ne)) other)
           (cases_eq k machine);
     }
 
