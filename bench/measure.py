@@ -101,6 +101,14 @@ def run_stream(program, other, stream, repeats):
     return rounds
 
 
+def tell_counts(program, stream):
+    """The searches and the looks of each round."""
+    lines = [line for part in stream.parts for line in (*part, "t round")]
+    done = subprocess.run([program], input=stream.roster + "".join(line + "\n" for line in lines),
+                          capture_output=True, text=True, check=True)
+    return [tuple(map(int, line.split())) for line in done.stdout.splitlines()]
+
+
 def build_lemon(folder):
     """The program over LEMON's solvers, or None where LEMON is not installed."""
     program = Path(folder) / "lemon"

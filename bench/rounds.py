@@ -1,7 +1,7 @@
 #!/usr/bin/env python3
 """Measures rounds of the built program, with LEMON's solvers on the same networks beside it where LEMON is installed.
 
-usage: bench/rounds.py [--program FILE] [--beside FILE] [--sizes 100x20,..] [--kinds fresh,..] [--repeats N] [--seed S]
+usage: bench/rounds.py [--program FILE] [--counts FILE] [--beside FILE] [--sizes 100x20,..] [--kinds fresh,..] [--repeats N] [--seed S]
 Prints tables in Markdown and keeps each round as a line of JSON in out/bench/rounds.jsonl. Times are processor times,
 the least of some runs. Every placement is checked to be legal and to cost what the reply says, and that cost against
 LEMON's optimum; the exit status is 1 where one is wrong. docs/PERFORMANCE.md says what the figures mean.
@@ -15,7 +15,7 @@ from itertools import product
 from pathlib import Path
 
 import kinds
-from measure import build_lemon, run_stream, solve
+from measure import build_lemon, run_stream, solve, tell_counts
 from rows import Wrong
 
 ROOT = Path(__file__).resolve().parent.parent
@@ -27,10 +27,11 @@ def measure_stream(words, lemon, kind, size):
     """One record for each round of a stream."""
     tasks, machines = map(int, size.split("x"))
     stream = kinds.make(kind, tasks, machines, words.seed)
-    records = []
+    records, counts = [], tell_counts(words.counts, stream)
     for place, found in enumerate(run_stream(words.program, words.beside, stream, words.repeats)):
         record = {"kind": kind, "size": size, "round": place, "tasks": found.tasks, "arcs": found.arcs,
-                  "cost": found.cost, "firm": found.seconds, "beside": found.beside}
+                  "cost": found.cost, "searches": counts[place][0], "looks": counts[place][1],
+                  "firm": found.seconds, "beside": found.beside}
         solved = solve(lemon, found.network, words.repeats) if lemon else {}
         for name, answer in solved.items():
             record[name] = answer.seconds
@@ -54,6 +55,7 @@ def ratio(record):
 def row(record, timed):
     part = ratio(record)
     cells = [record["kind"], record["size"], str(record["round"] + 1), str(record["tasks"]), str(record["arcs"])]
+    cells += [f"{record['searches']:,}", f"{record['looks']:,}", f"{record['looks'] / record['arcs']:.1f}"]
     cells += [milliseconds(record.get(name)) for name in timed]
     return "| " + " | ".join(cells + ["" if part is None else f"{part:.2f}"]) + " |"
 
@@ -66,8 +68,9 @@ def worst(records):
 def print_table(records, sizes, all_rounds):
     """A row for each stream's cold round and for the worst that follows."""
     timed = [name for name in ("firm", "beside", *SOLVERS) if records[0].get(name) is not None]
-    print("| kind | size | round | tasks | arcs | " + "".join(f"{name} ms | " for name in timed) + "firm / faster |")
-    print("| --- | --- |" + " ---: |" * (len(timed) + 4))
+    heads = ("kind", "size", "round", "tasks", "arcs", "searches", "looks", "looks / arc")
+    print("| " + " | ".join(heads) + " | " + "".join(f"{name} ms | " for name in timed) + "firm / faster |")
+    print("| --- | --- |" + " ---: |" * (len(timed) + len(heads) - 1))
     for size in reversed(sizes):
         for kind in dict.fromkeys(record["kind"] for record in records):
             found = [record for record in records if (record["kind"], record["size"]) == (kind, size)]
@@ -76,12 +79,12 @@ def print_table(records, sizes, all_rounds):
                 print(row(record, timed))
 
 
-def print_growth(records, sizes):
-    """The cold round's microseconds for each arc, by size, and how they grow."""
+def print_growth(records, sizes, of_each):
+    """The cold round's figure for each arc, by size, and how it grows."""
     print("| kind | " + " | ".join(sizes) + " | last / first |\n| --- |" + " ---: |" * (len(sizes) + 1))
     for kind in dict.fromkeys(record["kind"] for record in records):
         cold = [record for record in records if record["kind"] == kind and record["round"] == 0]
-        each = [record["firm"] / record["arcs"] * 1e6 for record in cold]
+        each = [of_each(record) / record["arcs"] for record in cold]
         cells = [f"{it:,.1f}" for it in each] + [f"{each[-1] / each[0]:.1f}"]
         print(f"| {kind} | " + " | ".join(cells) + " |")
 
@@ -90,7 +93,9 @@ def print_tables(records, all_rounds):
     sizes = list(dict.fromkeys(record["size"] for record in records))
     print_table(records, sizes, all_rounds)
     print("\nMicroseconds of the cold round for each arc:\n")
-    print_growth(records, sizes)
+    print_growth(records, sizes, lambda record: record["firm"] * 1e6)
+    print("\nLooks of the cold round for each arc:\n")
+    print_growth(records, sizes, lambda record: record["looks"])
 
 
 def measure_all(words, lemon, kept):
@@ -112,6 +117,8 @@ def measure_all(words, lemon, kept):
 def read_words():
     parser = argparse.ArgumentParser(description=__doc__.splitlines()[0])
     parser.add_argument("--program", default=str(ROOT / "crates" / "firm" / "out" / "firm"))
+    parser.add_argument("--counts", default=str(ROOT / "crates" / "firm_counts" / "out" / "firm_counts"),
+                        help="the built program that tells the searches and looks of each round")
     parser.add_argument("--beside", help="another built program, as of an earlier state: equal output, and its times")
     parser.add_argument("--sizes", default=SIZES)
     parser.add_argument("--kinds", default=",".join(kinds.KINDS))

@@ -1,2 +1,3 @@
 mod ProgramLemmas
-pub mod RosterOption
+pub mod Entries
+pub mod Options

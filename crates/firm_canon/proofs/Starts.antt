@@ -46,9 +46,9 @@ starts laws conserved v price shows unheld flow valid =
     let c : Case = v.case in
     let whole : IsWhole v.net price (map (spot_of v) (task_nodes c)) (spot_of v Sink) = record {
       valid = valid;
-      within = flow.legal.within_bounds;
+      within = flow.feasible.within_bounds;
       balanced = (conserved (arcs_of v.net) (map (spot_of v) (task_nodes c)) (spot_of v Sink) carried).0
-          flow.legal.conserved;
+          flow.feasible.conserved;
     } in
     let on = whole_keyed v shows price whole in
     let lows_are : (k : Key) → IsKeyOf c k → lows v k ≡ low_of c [] k = λ k own.

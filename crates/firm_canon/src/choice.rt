@@ -1,5 +1,6 @@
 //! The choice of one task's place.
-ghost use Rattle.std.specs.Prelude.{◌≡◌, ◌+◌, ◌<◌, ◌≤◌, ◌∷◌, ◌++◌, ◌⊎◌, [], ℕ, length, true, false, Some, None, IfSome, IfNone};
+ghost use Rattle.std.specs.Prelude.{◌≡◌, ◌+◌, ◌<◌, ◌≤◌, ◌∷◌, ◌++◌, ◌⊎◌, [], ℕ, length, true, false, Some, None, IfSome};
+ghost use Rattle.std.specs.Prelude.{IfNone};
 ghost use Rattle.firm_paths.specs.NetArcs.{limits_of};
 ghost use Rattle.firm_paths.specs.PriceTable.{price_of};
 ghost use Rattle.firm_rules.specs.ArenaUse.{arena_arcs};
@@ -130,7 +131,8 @@ fn find_machine(
     ensures wide { flows (view_of graph.new) (Wide (length chosen.now)) ≡ 1 }
     ensures some { IfSome result (λ j. (j < length (view_of graph.old).case.slots) × (runs_at home j ≡ false)
         × (guests (view_of graph.old).case chosen.now j < flows (view_of graph.new) (Through j))) }
-    ensures shut { IfSome result (λ j. (k : ℕ) → k < j → runs_at home k ≡ false → Shut (view_of graph.old) chosen.now k) }
+    ensures shut { IfSome result (λ j. (k : ℕ) → k < j → runs_at home k ≡ false
+        → Shut (view_of graph.old) chosen.now k) }
     ensures spent { IfSome result (λ j. (k : ℕ) → k < j → runs_at home k ≡ false
         → IsSpentBeside (view_of graph.old).case chosen.now (best (view_of graph.old) chosen.now) k) }
     ensures none { IfNone result ((j : ℕ) → j < length (view_of graph.old).case.slots → runs_at home j ≡ false
@@ -148,8 +150,8 @@ fn find_machine(
     None
 }
 
-/// How far the machines are spent after a task has come by the hub to this one: up to it, or up to the task's own machine,
-/// which was passed over.
+/// How far the machines are spent after a task has come by the hub to this one: up to it, or up to the task's own
+/// machine, which was passed over.
 fn reach(home: Option<u32>, machine: u32, from: u32) -> u32
     ensures most { result ≤ machine }
     ensures passed { (j : ℕ) → j < result → (j < from) ⊎ ((j < machine) × (runs_at home j ≡ false)) }

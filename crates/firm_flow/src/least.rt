@@ -7,8 +7,8 @@ ghost use Rattle.firm_paths.specs.NetArcs.{arcs_of, residual_of, limits_of};
 ghost use Rattle.firm_paths.specs.Paths.{IsCut, IsHighest};
 ghost use Rattle.firm_paths.specs.PriceTable.{price_of};
 ghost use Rattle.firm_paths.specs.Workspace.{HasSearched};
-ghost use Rattle.firm_flow.specs.NetFlow.{places, AreDistinctNodes, SameButFlow, IsLeastFlow};
-ghost use Rattle.firm_flow.specs.Flow.{IsCutOff, cost_of, carried};
+ghost use Rattle.firm_flow.specs.NetFlow.{places, AreDistinctNodes, SameButFlow, IsLeastFlow, dearest_path};
+ghost use Rattle.firm_flow.specs.Flow.{IsDeficientCut, cost_of, carried};
 ghost use Rattle.firm_flow.specs.inner.Push.{Moves, SentSoFar, SendsMore};
 
 use firm_net::{Net, NodeId};
@@ -85,10 +85,10 @@ pub fn solve(
     ensures least { OnOk result (IsLeastFlow net.new (places sources.now) sink.id.place) }
     ensures valid { OnOk result (AreValid (arcs_of net.new) (price_of prices.new)) }
     ensures highest { OnOk result (IsHighest net.new (price_of prices.new) sink.id.place) }
-    ensures price { OnOk result (price_of prices.new sink.id.place ≤ length sources.now * 12285000000) }
+    ensures price { OnOk result (price_of prices.new sink.id.place ≤ length sources.now * dearest_path) }
     ensures cost { IfOk result (λ cost. cost ≡ pos (cost_of (arcs_of net.new) carried)) }
     ensures no_way { OnErr result ((inside : ℕ → Bool)
-        × IsCutOff (arcs_of net.old) (places sources.now) sink.id.place inside) }
+        × IsDeficientCut (arcs_of net.old) (places sources.now) sink.id.place inside) }
     ensures no_flow { OnErr result (net.new ≡ without_flow net.old) }
     ensures no_price { OnErr result ((v : ℕ) → price_of prices.new v ≡ 0) }
 {

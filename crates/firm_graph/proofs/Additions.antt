@@ -1,5 +1,7 @@
 -- What a graph is once a row was added to it.
-use Rattle.std.proofs.Common.{◌≡◌, ℕ, zero, suc, replicate, get_or, bytes_eq, ◌+◌, ◌^◌, ◌<◌, ◌≤◌, true, Option, Some, None, IfSome, List, [], ◌∷◌, ◌++◌, map, length, arith, refl, sym, ap, ap₂, ◌∙◌, subst, length-append}
+use Rattle.std.proofs.Common.{◌≡◌, ℕ, zero, suc, replicate, get_or, bytes_eq, ◌+◌, ◌^◌, ◌<◌, ◌≤◌, true, Option, Some}
+use Rattle.std.proofs.Common.{None, IfSome, List, [], ◌∷◌, ◌++◌, map, length, arith, refl, sym, ap, ap₂, ◌∙◌, subst}
+use Rattle.std.proofs.Common.{length-append}
 use Rattle.std.specs.List.{sum_by, position, position_or_len, slice_get}
 use Rattle.std.specs.Prelude.{slice_index_or}
 use Rattle.std.proofs.lemmas.List.{map-append, length-replicate, get_or-map}
@@ -24,7 +26,8 @@ use Rattle.firm_net.specs.Edits.{Span, nodes_of, spans_of, IsEdit}
 use Rattle.firm_graph.specs.Parts.{MachineParts}
 use Rattle.firm_graph.specs.declared.parts.JobParts.{JobParts}
 use Rattle.firm_graph.specs.declared.parts.TaskParts.{TaskParts}
-use Rattle.firm_graph.specs.Graph.{Graph, Mirrors, machine_spans, slot_spans, job_spans, task_spans, Target, target_of, home_node, node_under, weight_under, machine_nodes, job_nodes}
+use Rattle.firm_graph.specs.Graph.{Graph, Mirrors, machine_spans, slot_spans, job_spans, task_spans, Target, target_of}
+use Rattle.firm_graph.specs.Graph.{home_node, node_under, weight_under, machine_nodes, job_nodes}
 use Rattle.firm_graph.proofs.Totals.{slots-count, nodes-counted, arcs-counted, flat_sum-push, nodes-total, spans-total, tasks-same, sum-one}
 use Rattle.firm_graph.proofs.Lookups.{position-is, node_under-at, weight_under-at, is_among-push, node_under-push, weight_under-push}
 

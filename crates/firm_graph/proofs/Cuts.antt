@@ -1,5 +1,7 @@
 -- No cut leaves a task without a way: its job's arc carries as many as there are tasks.
-use Rattle.std.proofs.Common.{◌≡◌, ℕ, zero, suc, ◌+◌, ◌<◌, ◌≤◌, Bool, true, false, cond, is_some, ◌||◌, inl, inr, ⊎_elim, List, [], ◌∷◌, ◌++◌, length, get_or, count_by, bytes_eq, arith, refl, sym, ap, ◌∙◌}
+use Rattle.std.proofs.Common.{◌≡◌, ℕ, zero, suc, ◌+◌, ◌<◌, ◌≤◌, Bool, true, false, cond, is_some, ◌||◌, inl, inr}
+use Rattle.std.proofs.Common.{⊎_elim, List, [], ◌∷◌, ◌++◌, length, get_or, count_by, bytes_eq, arith, refl, sym, ap}
+use Rattle.std.proofs.Common.{◌∙◌}
 use Rattle.std.specs.List.{sum_by, All, list_any}
 use Rattle.std.proofs.lemmas.Bool.{cases_Bool, cases_eq, cond-true, cond-false}
 use Rattle.std.proofs.lemmas.List.Sums.{sum_by-cons, count_by-le-length, get_or-le-sum_by}
@@ -13,7 +15,7 @@ use Rattle.firm_net.specs.declared.row.NodeId.{NodeId}
 use Rattle.firm_net.specs.declared.row.ArcId.{ArcId}
 use Rattle.firm_paths.specs.Network.{Arc}
 use Rattle.firm_paths.specs.NetArcs.{arcs_of, arc_of}
-use Rattle.firm_flow.specs.Flow.{IsCutOff, capacity_out}
+use Rattle.firm_flow.specs.Flow.{IsDeficientCut, capacity_out}
 use Rattle.firm_flow.specs.NetFlow.{places, AreDistinctNodes}
 use Rattle.firm_rules.specs.Book.{job_names}
 use Rattle.firm_rules.specs.Names.{is_among}
@@ -23,7 +25,8 @@ use Rattle.firm_rules.specs.declared.parts.Task.{Task}
 use Rattle.firm_net.specs.Edits.{Span, spans_of}
 use Rattle.firm_graph.specs.declared.parts.JobParts.{JobParts}
 use Rattle.firm_graph.specs.declared.parts.TaskParts.{TaskParts}
-use Rattle.firm_graph.specs.Graph.{Graph, Mirrors, flat_zip, job_spans, task_spans, Target, target_of, node_under, graph_spans, graph_nodes, machine_nodes, job_nodes, task_nodes}
+use Rattle.firm_graph.specs.Graph.{Graph, Mirrors, flat_zip, job_spans, task_spans, Target, target_of, node_under}
+use Rattle.firm_graph.specs.Graph.{graph_spans, graph_nodes, machine_nodes, job_nodes, task_nodes}
 use Rattle.firm_graph.proofs.Found.{ones, same_id-refl, node-there, sink-there, Contains-skip}
 use Rattle.firm_graph.proofs.Drops.{is_node, node-once}
 use Rattle.firm_graph.proofs.NetEdits.{sum-map, spans-sum}
@@ -148,7 +151,7 @@ ones-none false e = refl
 
 -- no set of nodes without the sink holds more tasks than its arcs let out
 pub no-cut : (g : Graph) (inside : ℕ → Bool) → Mirrors g → AreSound g.rows
-    → IsCutOff (arcs_of g.net) (places (task_nodes g)) g.sink.id.place inside → ⊥
+    → IsDeficientCut (arcs_of g.net) (places (task_nodes g)) g.sink.id.place inside → ⊥
 no-cut g inside is sound cut =
     let w : Span → ℕ = out_weight inside in
     let u : NodeId → ℕ = in_set inside in

@@ -1,5 +1,7 @@
 -- What a graph is once a row was removed from it, and what its net holds on the way.
-use Rattle.std.proofs.Common.{◌≡◌, ℕ, zero, suc, ◌+◌, ◌*◌, ◌<◌, ◌≤◌, true, false, cond, is_some, ◌⊎◌, inl, inr, ⊎_elim, Option, Some, None, IsSome, List, [], ◌∷◌, ◌++◌, length, get_or, drop, bytes_eq, arith, refl, sym, ap, ◌∙◌, subst, drop-cons}
+use Rattle.std.proofs.Common.{◌≡◌, ℕ, zero, suc, ◌+◌, ◌*◌, ◌<◌, ◌≤◌, true, false, cond, is_some, ◌⊎◌, inl, inr, ⊎_elim}
+use Rattle.std.proofs.Common.{Option, Some, None, IsSome, List, [], ◌∷◌, ◌++◌, length, get_or, drop, bytes_eq, arith}
+use Rattle.std.proofs.Common.{refl, sym, ap, ◌∙◌, subst, drop-cons}
 use Rattle.std.specs.List.{sum_by, All, Contains, remove}
 use Rattle.std.proofs.lemmas.Bool.{cases_Bool, cond-true, cond-false}
 use Rattle.std.proofs.lemmas.List.Sums.{sum_by-cons, sum_by-append, sum_by-remove}
@@ -25,7 +27,9 @@ use Rattle.firm_graph.specs.Steps.{Holds}
 use Rattle.firm_graph.specs.Parts.{MachineParts}
 use Rattle.firm_graph.specs.declared.parts.JobParts.{JobParts}
 use Rattle.firm_graph.specs.declared.parts.TaskParts.{TaskParts}
-use Rattle.firm_graph.specs.Graph.{Graph, Mirrors, flat_zip, machine_spans, slot_spans, job_spans, task_spans, Target, target_of, home_node, node_under, graph_nodes, graph_spans, machine_nodes, job_nodes, task_nodes}
+use Rattle.firm_graph.specs.Graph.{Graph, Mirrors, flat_zip, machine_spans, slot_spans, job_spans, task_spans, Target}
+use Rattle.firm_graph.specs.Graph.{target_of, home_node, node_under, graph_nodes, graph_spans, machine_nodes, job_nodes}
+use Rattle.firm_graph.specs.Graph.{task_nodes}
 use Rattle.firm_graph.proofs.Entries.{sum-slot}
 use Rattle.firm_arena.specs.Sums.{sum-without}
 use Rattle.firm_graph.proofs.NetEdits.{nodes-sum, spans-sum, span_weight, sum-map, arc-below}

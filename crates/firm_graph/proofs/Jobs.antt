@@ -1,5 +1,6 @@
 -- What a graph is once a job was removed from it.
-use Rattle.std.proofs.Common.{◌≡◌, ℕ, zero, suc, ◌+◌, ◌<◌, false, cond, Some, List, [], ◌∷◌, ◌++◌, map, length, get_or, bytes_eq, arith, sym, ap, ap₂, ◌∙◌, refl}
+use Rattle.std.proofs.Common.{◌≡◌, ℕ, zero, suc, ◌+◌, ◌<◌, false, cond, Some, List, [], ◌∷◌, ◌++◌, map, length, get_or}
+use Rattle.std.proofs.Common.{bytes_eq, arith, sym, ap, ap₂, ◌∙◌, refl}
 use Rattle.std.specs.List.{sum_by, All, Contains, remove, position}
 use Rattle.std.specs.Prelude.{slice_index_or}
 use Rattle.std.proofs.lemmas.Bool.{cond-false}
@@ -17,7 +18,8 @@ use Rattle.firm_rules.specs.declared.parts.Task.{Task}
 use Rattle.firm_net.specs.Edits.{Span, span_of, IsEdit}
 use Rattle.firm_graph.specs.Steps.{Holds}
 use Rattle.firm_graph.specs.declared.parts.JobParts.{JobParts}
-use Rattle.firm_graph.specs.Graph.{Graph, Mirrors, job_spans, Target, target_of, home_node, node_under, weight_under, graph_nodes, graph_spans, machine_nodes, job_nodes, task_nodes}
+use Rattle.firm_graph.specs.Graph.{Graph, Mirrors, job_spans, Target, target_of, home_node, node_under, weight_under}
+use Rattle.firm_graph.specs.Graph.{graph_nodes, graph_spans, machine_nodes, job_nodes, task_nodes}
 use Rattle.firm_graph.proofs.Found.{Contains-skip, Contains-front}
 use Rattle.firm_graph.proofs.Said.{shrunk}
 use Rattle.firm_graph.proofs.Totals.{nodes-total, spans-total, tasks-same, sum-one}

@@ -1,5 +1,6 @@
 -- Look-ups by name, where a name is added last.
-use Rattle.std.proofs.Common.{◌≡◌, ℕ, suc, not, ltb, get_or, Some, None, ◌+◌, ◌<◌, Bool, true, false, cond, ◌||◌, List, [], ◌∷◌, ◌++◌, map, length, bytes_eq, arith, refl, sym, ap, ◌∙◌, ⊎_elim}
+use Rattle.std.proofs.Common.{◌≡◌, ℕ, suc, not, ltb, get_or, Some, None, ◌+◌, ◌<◌, Bool, true, false, cond, ◌||◌, List}
+use Rattle.std.proofs.Common.{[], ◌∷◌, ◌++◌, map, length, bytes_eq, arith, refl, sym, ap, ◌∙◌, ⊎_elim}
 use Rattle.std.specs.List.{list_any, position_or_len, position}
 use Rattle.std.proofs.lemmas.Bool.{cases_Bool, cond-true, cond-false, ltb-true}
 use Rattle.firm_net.specs.declared.row.NodeId.{NodeId}

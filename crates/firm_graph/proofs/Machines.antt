@@ -1,5 +1,7 @@
 -- What a graph is once a machine was removed from it.
-use Rattle.std.proofs.Common.{◌≡◌, ℕ, zero, suc, ◌+◌, ◌<◌, Bool, true, false, true≢false, cond, ◌||◌, ⊎_elim, Option, Some, None, List, [], ◌∷◌, ◌++◌, map, length, get_or, bytes_eq, arith, refl, sym, ap, ap₂, ◌∙◌}
+use Rattle.std.proofs.Common.{◌≡◌, ℕ, zero, suc, ◌+◌, ◌<◌, Bool, true, false, true≢false, cond, ◌||◌, ⊎_elim, Option}
+use Rattle.std.proofs.Common.{Some, None, List, [], ◌∷◌, ◌++◌, map, length, get_or, bytes_eq, arith, refl, sym, ap, ap₂}
+use Rattle.std.proofs.Common.{◌∙◌}
 use Rattle.std.specs.List.{sum_by, All, AllZip, Contains, remove, position, position_or_len, list_any}
 use Rattle.std.specs.Prelude.{slice_index_or}
 use Rattle.std.proofs.lemmas.Bool.{cases_Bool, cond-false}
@@ -19,7 +21,8 @@ use Rattle.firm_rules.specs.declared.parts.Task.{Task}
 use Rattle.firm_net.specs.Edits.{Span, span_of, IsEdit}
 use Rattle.firm_graph.specs.Steps.{Holds}
 use Rattle.firm_graph.specs.Parts.{MachineParts}
-use Rattle.firm_graph.specs.Graph.{Graph, Mirrors, machine_spans, slot_spans, Target, target_of, home_node, node_under, weight_under, graph_nodes, graph_spans, machine_nodes, job_nodes, task_nodes}
+use Rattle.firm_graph.specs.Graph.{Graph, Mirrors, machine_spans, slot_spans, Target, target_of, home_node, node_under}
+use Rattle.firm_graph.specs.Graph.{weight_under, graph_nodes, graph_spans, machine_nodes, job_nodes, task_nodes}
 use Rattle.firm_graph.proofs.Found.{Contains-skip, Contains-front}
 use Rattle.firm_graph.proofs.Said.{shrunk}
 use Rattle.firm_graph.proofs.Totals.{nodes-total, spans-total, tasks-same}

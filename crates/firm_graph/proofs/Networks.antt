@@ -1,5 +1,6 @@
 -- What the rows make under the graph's ids is the network of the rows.
-use Rattle.std.proofs.Common.{◌≡◌, ℕ, suc, ◌+◌, ◌*◌, ◌<◌, cond, is_some, Option, Some, None, List, [], ◌∷◌, ◌++◌, map, length, get_or, bytes_eq, arith, refl, sym, ap, ap₂, ◌∙◌}
+use Rattle.std.proofs.Common.{◌≡◌, ℕ, suc, ◌+◌, ◌*◌, ◌<◌, cond, is_some, Option, Some, None, List, [], ◌∷◌, ◌++◌, map}
+use Rattle.std.proofs.Common.{length, get_or, bytes_eq, arith, refl, sym, ap, ap₂, ◌∙◌}
 use Rattle.std.specs.List.{AllZip, position_or_len}
 use Rattle.std.proofs.lemmas.List.{map-append, get_or-map}
 use Rattle.firm_net.specs.declared.row.NodeId.{NodeId}
@@ -13,7 +14,8 @@ use Rattle.firm_net.specs.Edits.{Span}
 use Rattle.firm_graph.specs.Parts.{MachineParts}
 use Rattle.firm_graph.specs.declared.parts.JobParts.{JobParts}
 use Rattle.firm_graph.specs.declared.parts.TaskParts.{TaskParts}
-use Rattle.firm_graph.specs.Graph.{Graph, Mirrors, flat_zip, slot_spans, machine_spans, job_spans, task_spans, Target, target_of, home_node, weight_under, graph_spans, machine_nodes, job_nodes}
+use Rattle.firm_graph.specs.Graph.{Graph, Mirrors, flat_zip, slot_spans, machine_spans, job_spans, task_spans, Target}
+use Rattle.firm_graph.specs.Graph.{target_of, home_node, weight_under, graph_spans, machine_nodes, job_nodes}
 use Rattle.firm_graph.specs.declared.network.Node.{Node}
 use Rattle.firm_graph.specs.declared.network.Node.TheVariants.{Sink, Hub, Machine as MachineAt, Owner as JobAt, Task as TaskAt}
 use Rattle.firm_graph.specs.declared.network.Key.{Key}

@@ -1,5 +1,7 @@
 -- The net of a graph shows the network of the case of its rows.
-use Rattle.std.proofs.Common.{◌≡◌, ℕ, zero, suc, ◌+◌, ◌*◌, ◌<◌, ◌≤◌, ◌==◌, Bool, true, false, not, cond, ◌||◌, inl, inr, ⊎_elim, Option, Some, None, IfSome, List, [], ◌∷◌, ◌++◌, map, length, get_or, bytes_eq, arith, refl, sym, ap, ap₂, ◌∙◌, subst, length-append}
+use Rattle.std.proofs.Common.{◌≡◌, ℕ, zero, suc, ◌+◌, ◌*◌, ◌<◌, ◌≤◌, ◌==◌, Bool, true, false, not, cond, ◌||◌, inl, inr}
+use Rattle.std.proofs.Common.{⊎_elim, Option, Some, None, IfSome, List, [], ◌∷◌, ◌++◌, map, length, get_or, bytes_eq}
+use Rattle.std.proofs.Common.{arith, refl, sym, ap, ap₂, ◌∙◌, subst, length-append}
 use Rattle.std.specs.List.{sum_by, Contains, position_or_len, list_any}
 use Rattle.std.specs.List.Sorted.{IsPermutation}
 use Rattle.std.specs.Option.{option_map}
@@ -30,14 +32,16 @@ use Rattle.firm_graph.specs.declared.network.Node.{Node}
 use Rattle.firm_graph.specs.declared.network.Node.TheVariants.{Sink, Hub, Machine as MachineAt, Owner as JobAt, Task as TaskAt}
 use Rattle.firm_graph.specs.declared.network.Key.{Key}
 use Rattle.firm_graph.specs.declared.network.Key.TheVariants.{Through, Slot, Exit, Wide, Stay, Delay}
-use Rattle.firm_graph.specs.Network.{gather, arc, slots_of, demand, runs, stay_head, machine_arcs, job_arcs, task_arcs, network, nodes, task_nodes as case_tasks, IsNodeOf, IsKeyOf, IsSound}
+use Rattle.firm_graph.specs.Network.{gather, arc, slots_of, demand, runs, stay_head, machine_arcs, job_arcs, task_arcs}
+use Rattle.firm_graph.specs.Network.{network, nodes, task_nodes as case_tasks, IsNodeOf, IsKeyOf, IsSound}
 use Rattle.firm_graph.specs.View.{View, Shows, IsAtRest, lows, flows, low_of_row, flow_of_row, named, spot_of}
 use Rattle.firm_graph.specs.Graph.{Graph, IsGraph, Mirrors, graph_nodes, machine_nodes, job_nodes, task_nodes}
 use Rattle.firm_graph.specs.Ids.{node_id, arc_id, view_of}
 use Rattle.firm_graph.specs.Steps.{no_task}
 use Rattle.firm_graph.proofs.Entries.{sum-slot}
 use Rattle.firm_graph.proofs.NetEdits.{sum-map, nodes-sum, spans-sum}
-use Rattle.firm_graph.proofs.Found.{ones, ones-true, same_id, same_id-refl, same_id-true, node-there, node-weighs, Contains-skip, Contains-front}
+use Rattle.firm_graph.proofs.Found.{ones, ones-true, same_id, same_id-refl, same_id-true, node-there, node-weighs}
+use Rattle.firm_graph.proofs.Found.{Contains-skip, Contains-front}
 use Rattle.firm_graph.proofs.Drops.{once-from}
 use Rattle.firm_graph.proofs.Cuts.{two}
 use Rattle.firm_graph.proofs.Bridge.{from, gather_from, fill, rows_network, network_is}

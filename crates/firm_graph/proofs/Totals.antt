@@ -16,7 +16,8 @@ use Rattle.firm_net.specs.Edits.{Span, span_of, nodes_of, spans_of, AsOften}
 use Rattle.firm_graph.specs.Parts.{MachineParts}
 use Rattle.firm_graph.specs.declared.parts.JobParts.{JobParts}
 use Rattle.firm_graph.specs.declared.parts.TaskParts.{TaskParts}
-use Rattle.firm_graph.specs.Graph.{Graph, Mirrors, flat_zip, machine_spans, slot_spans, job_spans, task_spans, Target, target_of, graph_nodes, graph_spans, machine_nodes, job_nodes, task_nodes}
+use Rattle.firm_graph.specs.Graph.{Graph, Mirrors, flat_zip, machine_spans, slot_spans, job_spans, task_spans, Target}
+use Rattle.firm_graph.specs.Graph.{target_of, graph_nodes, graph_spans, machine_nodes, job_nodes, task_nodes}
 use Rattle.firm_arena.specs.Laws.{length-entries_from}
 use Rattle.firm_graph.proofs.NetEdits.{sum-map}
 

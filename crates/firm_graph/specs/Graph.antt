@@ -1,5 +1,6 @@
 -- What a contract sees of a `Graph`: the rows of a tenant, and a net that holds what they make.
-use Rattle.std.specs.Prelude.{◌≡◌, ℕ, ◌+◌, ◌*◌, ◌<◌, ◌≤◌, ◌^◌, List, [], ◌∷◌, ◌++◌, map, length, Option, Some, None, is_some, if◌then◌else◌, bytes_eq}
+use Rattle.std.specs.Prelude.{◌≡◌, ℕ, ◌+◌, ◌*◌, ◌<◌, ◌≤◌, ◌^◌, List, [], ◌∷◌, ◌++◌, map, length, Option, Some, None}
+use Rattle.std.specs.Prelude.{is_some, if◌then◌else◌, bytes_eq}
 use Rattle.std.specs.List.{AllZip}
 use Rattle.firm_arena.specs.Arena.{capacity_of}
 use Rattle.firm_net.specs.Net.{Net, IsNet, added_of}

@@ -1,5 +1,6 @@
 -- The network of a case: its nodes and its arcs as lists, told by places.
-use Rattle.std.specs.Prelude.{◌≡◌, ℕ, zero, suc, ◌+◌, ◌*◌, ◌<◌, ◌≤◌, Bool, true, false, ⊤, List, [], ◌∷◌, ◌++◌, length, slice_index, slice_index_or, if◌then◌else◌, Option, Some, None}
+use Rattle.std.specs.Prelude.{◌≡◌, ℕ, zero, suc, ◌+◌, ◌*◌, ◌<◌, ◌≤◌, Bool, true, false, ⊤, List, [], ◌∷◌, ◌++◌, length}
+use Rattle.std.specs.Prelude.{slice_index, slice_index_or, if◌then◌else◌, Option, Some, None}
 use Rattle.firm_paths.specs.Network.{Arc}
 use Rattle.firm_rules.specs.Book.{TenantRows}
 use Rattle.firm_rules.specs.ArenaUse.{arena_nodes, arena_arcs}
@@ -38,8 +39,8 @@ abbrev pub stay_head : Option ℕ → Node
 stay_head None = Hub
 stay_head (Some home) = Machine home
 
--- the arcs of a machine: from the hub, with the capacity of its slots, and one to the sink for each slot, each dearer by
--- the spread than the one before
+-- the arcs of a machine: from the hub, with the capacity of its slots, and one to the sink for each slot, each dearer
+-- by the spread than the one before
 abbrev pub machine_arcs : Case → (Key → ℕ) → (Key → ℕ) → ℕ → List (Arc Node Key)
 machine_arcs c low flow j =
     arc low flow (Through j) Hub (Machine j) (slots_of c j) 0
@@ -49,7 +50,8 @@ machine_arcs c low flow j =
 abbrev pub job_arcs : Case → (Key → ℕ) → (Key → ℕ) → ℕ → List (Arc Node Key)
 job_arcs c low flow k = arc low flow (Exit k) (Owner k) Sink c.limit 0 ∷ []
 
--- the arcs of a task: to the hub, to its machine, and to its job; what takes a running task from its machine costs churn
+-- the arcs of a task: to the hub, to its machine, and to its job; what takes a running task from its machine costs
+-- churn
 abbrev pub task_arcs : Case → (Key → ℕ) → (Key → ℕ) → ℕ → List (Arc Node Key)
 task_arcs c low flow i =
     arc low flow (Wide i) (Task i) Hub 1 (if runs (demand c i).home then c.churn else 0)

@@ -1,5 +1,6 @@
 -- Rows and graphs on the way from one to the next. No public clause cites this module.
-use Rattle.std.specs.Prelude.{◌≡◌, ℕ, zero, suc, ◌+◌, ◌<◌, ◌≤◌, List, [], ◌∷◌, length, slice_index_or, Option, None, is_some}
+use Rattle.std.specs.Prelude.{◌≡◌, ℕ, zero, suc, ◌+◌, ◌<◌, ◌≤◌, List, [], ◌∷◌, length, slice_index_or, Option, None}
+use Rattle.std.specs.Prelude.{is_some}
 use Rattle.std.specs.List.{remove}
 use Rattle.firm_arena.specs.Arena.{capacity_of}
 use Rattle.firm_net.specs.Net.{Net, IsNet, added_of}
@@ -64,8 +65,8 @@ task_at rows place = slice_index_or rows.tasks place no_task
 abbrev pub moved : Graph → TenantRows → Net → Graph
 moved g rows net = record g { rows = rows; net = net }
 
--- the graph stands over this net, its rows have the jobs and limits of these, its task at a place has these parts and is of
--- the same job as theirs, and a task that runs at this home, or waits, stands so
+-- the graph stands over this net, its rows have the jobs and limits of these, its task at a place has these parts and
+-- is of the same job as theirs, and a task that runs at this home, or waits, stands so
 pub record IsPlacing (g : Graph) (net : Net) (rows : TenantRows) (parts : TaskParts) (place : ℕ) (stand : Stand)
     (home : Option (List ℕ)) : Type 0 where
   pub mirrors : Mirrors g
@@ -78,8 +79,8 @@ pub record IsPlacing (g : Graph) (net : Net) (rows : TenantRows) (parts : TaskPa
   pub node : stand.node ≡ home_node (machine_names g.rows) (machine_nodes g) g.hub home
   pub runs : stand.runs ≡ is_some home
 
--- how a task stands after a round that makes this choice for it: at the machine of the choice, by the node of its name, or
--- at the hub, once more left waiting
+-- how a task stands after a round that makes this choice for it: at the machine of the choice, by the node of its name,
+-- or at the hub, once more left waiting
 pub record Stands (rows : TenantRows) (nodes : List NodeId) (hub : NodeId) (task : Task) (choice : Choice)
     (stand : Stand) : Type 0 where
   pub node : stand.node ≡ home_node (machine_names rows) nodes hub (task_after rows task choice).machine

@@ -53,8 +53,8 @@ named v a =
       flow = a.flow;
     }
 
--- the net's nodes and arcs are those of the network and no others, each arc once, different nodes and arcs have different
--- ids, and the case is sound
+-- the net's nodes and arcs are those of the network and no others, each arc once, different nodes and arcs have
+-- different ids, and the case is sound
 pub record Shows (v : View) : Type 0 where
   pub net : IsNet v.net
   pub arcs : IsPermutation (arcs_of v.net) (map (named v) (network v.case (lows v) (flows v)))

@@ -1,8 +1,10 @@
 //! Edits of a net, each with what it takes away and brings.
-ghost use Rattle.std.specs.Prelude.{◌≡◌, ◌≢◌, ◌+◌, ◌^◌, ◌<◌, ◌≤◌, None, Some, [], ◌∷◌, ◌++◌, vec_len, vec_capacity, length};
+ghost use Rattle.std.specs.Prelude.{◌≡◌, ◌≢◌, ◌+◌, ◌^◌, ◌<◌, ◌≤◌, None, Some, [], ◌∷◌, ◌++◌, vec_len, vec_capacity};
+ghost use Rattle.std.specs.Prelude.{length};
 ghost use Rattle.firm_arena.specs.Arena.{capacity_of};
 ghost use Rattle.firm_net.specs.Row.{Row};
-ghost use Rattle.firm_net.specs.Net.{IsNet, IsNode, lists_at, row_at, out_list, in_list, added_of, node_count, arc_count};
+ghost use Rattle.firm_net.specs.Net.{IsNet, IsNode, lists_at, row_at, out_list, in_list, added_of, node_count};
+ghost use Rattle.firm_net.specs.Net.{arc_count};
 ghost use Rattle.std.specs.Prelude.{ℕ, List};
 ghost use Rattle.firm_net.specs.declared.row.NodeId.{NodeId as NodeIdRow};
 ghost use Rattle.firm_graph.specs.Graph.{slot_spans};

@@ -1,14 +1,17 @@
 //! The network of a tenant.
-ghost use Rattle.std.specs.Prelude.{◌≡◌, ◌+◌, ◌^◌, ◌<◌, ◌≤◌, ◌↔◌, false, true, [], IfOk, OnOk, OnErr, IsTrue, ℕ, length, map, pos};
+ghost use Rattle.std.specs.Prelude.{◌≡◌, ◌+◌, ◌^◌, ◌<◌, ◌≤◌, ◌↔◌, false, true, [], IfOk, OnOk, OnErr, IsTrue, ℕ};
+ghost use Rattle.std.specs.Prelude.{length, map, pos};
 ghost use Rattle.std.specs.List.{All};
-ghost use Rattle.firm_net.specs.Net.{CountsAre, arc_count, without_flow, CanPush, SameOtherRows, row_at, with_row, with_unit};
+ghost use Rattle.firm_net.specs.Net.{CountsAre, arc_count, without_flow, CanPush, SameOtherRows, row_at, with_row};
+ghost use Rattle.firm_net.specs.Net.{with_unit};
 ghost use Rattle.firm_paths.specs.Network.{AreValid};
 ghost use Rattle.firm_paths.specs.NetArcs.{arcs_of, limits_of};
 ghost use Rattle.firm_paths.specs.PriceTable.{price_of};
 ghost use Rattle.firm_paths.specs.Workspace.{HasSearched};
 ghost use Rattle.firm_flow.specs.NetFlow.{SameButFlow, IsLeastFlow};
 ghost use Rattle.firm_flow.specs.Flow.{cost_of, carried};
-ghost use Rattle.firm_rules.specs.Book.{opening_rows, machine_names, job_names, task_names, with_machine, with_job, with_task, without_machine, without_job, without_task, running_on, has_tasks};
+ghost use Rattle.firm_rules.specs.Book.{opening_rows, machine_names, job_names, task_names, with_machine, with_job};
+ghost use Rattle.firm_rules.specs.Book.{with_task, without_machine, without_job, without_task, running_on, has_tasks};
 ghost use Rattle.firm_rules.specs.Names.{is_among};
 ghost use Rattle.firm_rules.specs.ArenaUse.{arena_nodes, arena_arcs};
 ghost use Rattle.firm_rules.specs.Placement.{is_legal};

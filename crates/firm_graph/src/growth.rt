@@ -1,5 +1,5 @@
-//! All the memory that an added row takes. No net is at hand here, so that each growth comes before its first change; any
-//! allocator will do, so that a test can refuse each growth in turn.
+//! All the memory that an added row takes. No net is at hand here, so that each growth comes before its first change;
+//! any allocator will do, so that a test can refuse each growth in turn.
 ghost use Rattle.std.specs.Prelude.{◌≡◌, ◌<◌, ◌≤◌, false, true, [], IfOk, OnOk, OnErr, vec_len, vec_capacity};
 ghost use Rattle.firm_rules.specs.ArenaUse.{FitsLimits};
 ghost use Rattle.firm_rules.specs.Book.{machine_names, job_names, task_names, with_machine, with_job, with_task};
@@ -30,8 +30,8 @@ pub(crate) fn grow_jobs<A: Allocator>(
     rows.add_job(name, weight)
 }
 
-/// Adds the row of a task, with room for its parts and its node. The error comes for lack of memory alone, and leaves all
-/// as it was.
+/// Adds the row of a task, with room for its parts and its node. The error comes for lack of memory alone, and leaves
+/// all as it was.
 pub(crate) fn grow_tasks<A: Allocator>(
     parts: &mut Vec<TaskParts, A>,
     sources: &mut Vec<NodeId, A>,
@@ -55,8 +55,8 @@ pub(crate) fn grow_tasks<A: Allocator>(
     rows.add_task(job, name)
 }
 
-/// Adds the row of a machine, with room for its parts, and gives a list with room for its slots. The error comes for want
-/// of memory alone, and leaves all as it was.
+/// Adds the row of a machine, with room for its parts, and gives a list with room for its slots. The error comes for
+/// want of memory alone, and leaves all as it was.
 pub(crate) fn grow_machines<A: Allocator>(
     alloc: A,
     parts: &mut Vec<MachineIds, A>,

@@ -1,5 +1,6 @@
 //! The arcs of tasks that start, move, or are thrown out of their machine.
-ghost use Rattle.std.specs.Prelude.{◌≡◌, ◌≤◌, ◌<◌, ◌+◌, length, slice_index_or, min, List, ℕ, Option, None, Some, if◌then◌else◌, map, All};
+ghost use Rattle.std.specs.Prelude.{◌≡◌, ◌≤◌, ◌<◌, ◌+◌, length, slice_index_or, min, List, ℕ, Option, None, Some};
+ghost use Rattle.std.specs.Prelude.{if◌then◌else◌, map, All};
 ghost use Rattle.firm_rules.specs.Book.{is_on, evicted};
 ghost use Rattle.firm_rules.specs.Placement.{IsPlace};
 ghost use Rattle.firm_rules.specs.Round.{rows_after};

@@ -3,3 +3,11 @@ mod Live
 mod Opening
 mod Once
 mod Shutting
+mod Slots
+mod Seating
+mod Telling
+mod Coming
+mod Taking
+mod Giving
+mod Starting
+mod Serves

@@ -4,3 +4,5 @@ pub mod Opening
 pub mod Closed
 pub mod Gathered
 pub mod Faults
+pub mod Counts
+pub mod inner

@@ -1,5 +1,5 @@
 //! The desks of a hall: a tenant at home, and one whose round is away.
-ghost use Rattle.std.specs.Prelude.{◌≡◌, ◌≢◌, ◌+◌, ◌≤◌, [], ◌∷◌, ◌++◌, IfOk, MatchResult};
+ghost use Rattle.std.specs.Prelude.{◌≡◌, ◌≢◌, ◌+◌, ◌≤◌, ◌^◌, [], ◌∷◌, ◌++◌, ◌<◌, IfOk, MatchResult, OnOk};
 ghost use Rattle.firm_rules.specs.Book.{opening_book};
 ghost use Rattle.firm_rules.specs.declared.commands.Command.TheVariants.{Round};
 ghost use Rattle.firm_rounds.specs.Passes.{closing_is};
@@ -85,7 +85,8 @@ impl Desk {
     /// desk comes back with the reply that says so.
     pub fn ask<R: Wait>(self, rt: &R, alloc: Global, hall: &Hall) -> Result<Asked, (Desk, Reply)>
         requires { self.queue ≡ hall.now.id }
-        ensures { MatchResult result (λ asked. asked ≡ desk_is self.queue self.place (self.put + 1) self.book) (λ back. IsRefused self back.1 back.0) }
+        ensures asked { MatchResult result (λ asked. asked ≡ desk_is self.queue self.place (self.put + 1) self.book) (λ back. IsRefused self back.1 back.0) }
+        ensures left { OnOk result (self.book.given < self.book.rows.limits.life) }
     {
         let Desk {
             mut tenant,
@@ -104,6 +105,14 @@ impl Desk {
         let job = Job::new(pass.next(), tenant, answer);
         hall.put(rt, &mut pass, job);
         Ok(Asked { side, pass })
+    }
+
+    // How many rounds it asked: no more than commands were given to it, which are 2^40 at most.
+    pub(crate) fn asked(&self) -> u64
+        ensures count { result ≡ self.now.put }
+        ensures few { result ≤ 2 ^ 40 }
+    {
+        self.pass.next().number - 1
     }
 
     // Hands the pass in.

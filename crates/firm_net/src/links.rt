@@ -3,7 +3,9 @@
 ghost use Rattle.std.specs.Prelude.{◌≡◌, ◌+◌, ◌-◌, ◌<◌, ◌^◌, IsSome, IfSome, IfOk, Some, None};
 ghost use Rattle.std.specs.Option.{IsSomeAnd};
 ghost use Rattle.firm_arena.specs.Arena.{find, vacant, changed_at, changed_all};
-ghost use Rattle.firm_net.specs.Links.{neighbours_of, list_of, with_neighbours, with_next, with_previous, with_arc_list, empty_node, at_option, list_from, list_past, first_past, links_from, links_past, loose_link, arc_at, with_link_row, cleared_link};
+ghost use Rattle.firm_net.specs.Links.{neighbours_of, list_of, with_neighbours, with_next, with_previous};
+ghost use Rattle.firm_net.specs.Links.{with_arc_list, empty_node, at_option, list_from, list_past, first_past};
+ghost use Rattle.firm_net.specs.Links.{links_from, links_past, loose_link, arc_at, with_link_row, cleared_link};
 
 use crate::row::{ArcId, ArcRow, NodeId};
 use firm_arena::Arena;
@@ -224,7 +226,8 @@ pub fn link_at_front(
 )
     requires { IsSomeAnd (find nodes.old node.id) (λ owner. (list_of side owner).count + 1 < 2 ^ 32) }
     ensures nodes { IfSome (find nodes.old node.id) (λ owner.
-        nodes.new ≡ changed_at nodes.old node.id.place (with_arc_list side (list_from arc.id.place (list_of side owner)))) }
+        nodes.new ≡ changed_at nodes.old node.id.place
+        (with_arc_list side (list_from arc.id.place (list_of side owner)))) }
     ensures links { IfSome (find nodes.old node.id) (λ owner.
         links.new ≡ links_from side arc.id.place (list_of side owner).first links.old) }
 {

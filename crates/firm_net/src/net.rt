@@ -1,9 +1,14 @@
 //! The network: a bounded map of nodes and a bounded map of arcs.
-ghost use Rattle.std.specs.Prelude.{◌≡◌, ◌+◌, ◌-◌, ◌<◌, ◌≤◌, ◌^◌, ◌↔◌, ◌∷◌, length, map, IsSome, IfSome, IfNone, IfOk, IsOk, OnErr, Some, None, IsTrue};
+ghost use Rattle.std.specs.Prelude.{◌≡◌, ◌+◌, ◌-◌, ◌<◌, ◌≤◌, ◌^◌, ◌↔◌, ◌∷◌, length, map, IsSome, IfSome, IfNone, IfOk};
+ghost use Rattle.std.specs.Prelude.{IsOk, OnErr, Some, None, IsTrue};
 ghost use Rattle.std.specs.Prelude.{[], false, true, ◌⊎◌};
 ghost use Rattle.firm_arena.specs.Arena.{IsVacant, IsFull, capacity_of};
 ghost use Rattle.firm_net.specs.Row.{Row, IsRow};
-ghost use Rattle.firm_net.specs.Net.{IsNet, IsNode, IsArc, row_at, lists_at, out_list, in_list, place_of, added_of, node_count, arc_count, CountsAre, empty_net, with_node, without_node, with_arc, without_row, with_row, with_head, without_flow, with_numbers, with_unit, first_of, next_on, next_out, next_into, arcs_on, rows_of, SameOtherRows, SameOtherNodes, AreInRange, HasOtherTail, CanPush, Follows};
+ghost use Rattle.firm_net.specs.Net.{IsNet, IsNode, IsArc, row_at, lists_at, out_list, in_list, place_of, added_of};
+ghost use Rattle.firm_net.specs.Net.{node_count, arc_count, CountsAre, empty_net, with_node, without_node, with_arc};
+ghost use Rattle.firm_net.specs.Net.{without_row, with_row, with_head, without_flow, with_numbers, with_unit, first_of};
+ghost use Rattle.firm_net.specs.Net.{next_on, next_out, next_into, arcs_on, rows_of, SameOtherRows, SameOtherNodes};
+ghost use Rattle.firm_net.specs.Net.{AreInRange, HasOtherTail, CanPush, Follows};
 ghost use Rattle.firm_net.specs.Edits.{IsEdit, SameNodes, span_of};
 ghost use Rattle.firm_net.specs.declared.links.Side.TheVariants.{Out, In};
 

@@ -15,7 +15,11 @@ use Rattle.firm_net.specs.declared.row.Way.{Way}
 use Rattle.firm_net.specs.declared.row.Way.TheVariants.{Forward, Backward}
 use Rattle.firm_paths.specs.Network.{Arc}
 use Rattle.firm_paths.specs.NetArcs.{arc_of, arcs_of}
-use Rattle.firm_paths.specs.inner.Search.{state, settled, IsLowered}
+use Rattle.firm_paths.specs.inner.Going.{start_place, followed_from}
+use Rattle.firm_paths.specs.inner.Search.{state, settled}
+use Rattle.firm_paths.specs.inner.Turn.{along, steps_back, steps_from}
+use Rattle.std.proofs.Common.{map, length-append}
+use Rattle.std.proofs.lemmas.List.{length-map}
 use Rattle.firm_arena.specs.Arena.{capacity_of}
 use Rattle.firm_net.specs.declared.links.Side.TheVariants.{Out, In}
 use Rattle.firm_paths.specs.declared.search.NodeState.{NodeState}
@@ -118,11 +122,6 @@ many P xs net (a ∷ ids) once all =
     ] in
     step (row_at net a) refl
 
--- the place of the node that an arc leaves, read one way
-abbrev pub start_place : Way → Arc ℕ ArcId → ℕ
-start_place Forward a = a.tail
-start_place Backward a = a.head
-
 -- the lists of a net on the side of a way, and the end at which they list an arc
 listed_on : (way : Way) (net : Net) → IsNet net → IsListed (side_of way) net
 listed_on Forward net is = is.outgoing
@@ -147,10 +146,6 @@ degree way net node u net_is is_place =
       eq-eqb (start_place way (arc_of id row)) u
           (starts_at way id row node (subst (λ (r : Row). end_of (side_of way) r ≡ node) same at.2) ∙ is_place),
     ))
-
--- the arcs that leave settled nodes, read one way
-abbrev pub followed_from : Way → Net → List NodeState → ℕ
-followed_from way net ms = count_by (λ (a : Arc ℕ ArcId). settled ms (start_place way a)) (arcs_of net)
 
 pub followed_few : (way : Way) (net : Net) (ms : List NodeState) → followed_from way net ms ≤ length (arcs_of net)
 followed_few way net ms = count_by-le-length (λ (a : Arc ℕ ArcId). settled ms (start_place way a)) (arcs_of net)
@@ -195,28 +190,68 @@ followed_more way net old new u open_ done others =
     ))
     (cases_eq v u))
 
--- a round counts no more looks than the arcs of the node that it settles
-pub round_counted : (net : Net) (ms m2 : List NodeState) (u : ℕ) (node : NodeId) (looks : ℕ) → IsNet net
+-- a walk has no more steps than arcs leave its node one way or the other
+rows_whole : (net : Net) (ids : List ArcId)
+    → ((id : ArcId) → Contains ids id → (row : Row) × (row_at net id ≡ Some row))
+    → length (rows_of net ids) ≡ length ids
+rows_whole net [] all = refl
+rows_whole net (a ∷ ids) all =
+    let own = all a (cons_first a ids) in
+    let rest = rows_whole net ids (λ id c. all id (cons_more a ids id c)) in
+    omega (
+      arith,
+      rest,
+      ap (λ (o : Option Row). length (with_its_row net a o (rows_of net ids))) own.1,
+    )
+
+pub steps_few : (net : Net) (node : NodeId) (u : ℕ) → IsNet net → node.id.place ≡ u
+    → length (steps_from net node)
+    ≤ count_by (λ (a : Arc ℕ ArcId). eqb (start_place Forward a) u) (arcs_of net)
+    + count_by (λ (a : Arc ℕ ArcId). eqb (start_place Backward a) u) (arcs_of net)
+steps_few net node u net_is at =
+    omega (
+      arith,
+      length-append (map (along Forward) (arcs_on Out net node)) (steps_back net node),
+      length-map (arcs_on Out net node) (along Forward),
+      length-map (arcs_on In net node) (along Backward),
+      rows_whole net (arcs_on Out net node) (λ id c. let own = net_is.outgoing.arcs node id c in (own.0, own.1)),
+      rows_whole net (arcs_on In net node) (λ id c. let own = net_is.incoming.arcs node id c in (own.0, own.1)),
+      degree Forward net node u net_is at,
+      degree Backward net node u net_is at,
+    )
+
+-- a node that is settled adds no fewer arcs than its walk has steps
+pub settle_counted : (net : Net) (ms : List NodeState) (u : ℕ) (node : NodeId) (looks : ℕ) → IsNet net
     → node.id.place ≡ u → u < length ms → settled ms u ≡ false
-    → IsLowered (set ms u (record (state ms u) { settled = true })) m2
     → looks ≤ followed_from Forward net ms + followed_from Backward net ms
-    → looks + length (rows_of net (arcs_on Out net node)) + length (rows_of net (arcs_on In net node))
-    ≤ followed_from Forward net m2 + followed_from Backward net m2
-round_counted net ms m2 u node looks net_is at listed open_ low few =
+    → looks + length (steps_from net node)
+    ≤ followed_from Forward net (set ms u (record (state ms u) { settled = true }))
+    + followed_from Backward net (set ms u (record (state ms u) { settled = true }))
+settle_counted net ms u node looks net_is at listed open_ few =
     let none_ : NodeState = record { node = None; label = 0; settled = false; predecessor = None } in
     let done : NodeState = record (state ms u) { settled = true } in
+    let m2 : List NodeState = set ms u done in
     let current : settled m2 u ≡ true =
-    low.settled u ∙ ap (λ (m : NodeState). m.settled) (get_or-set_same ms u done none_ listed) in
+    ap (λ (m : NodeState). m.settled) (get_or-set_same ms u done none_ listed) in
     let others : (v : ℕ) → (v ≡ u → ⊥) → settled m2 v ≡ settled ms v =
-    λ v ne. low.settled v ∙ ap (λ (m : NodeState). m.settled) (get_or-set_other ms u v done none_ ne) in
+    λ v ne. ap (λ (m : NodeState). m.settled) (get_or-set_other ms u v done none_ ne) in
     omega (
       arith,
       few,
       followed_more Forward net ms m2 u open_ current others,
       followed_more Backward net ms m2 u open_ current others,
-      degree Forward net node u net_is at,
-      degree Backward net node u net_is at,
+      steps_few net node u net_is at,
     )
+
+-- where the same nodes are settled, as many arcs leave them
+pub followed_still : (way : Way) (net : Net) (old new : List NodeState) → ((v : ℕ) → settled new v ≡ settled old v)
+    → followed_from way net old ≤ followed_from way net new
+followed_still way net old new same =
+    let sum =
+    count_sum (λ (a : Arc ℕ ArcId). settled old (start_place way a)) (λ (a : Arc ℕ ArcId). false)
+    (λ (a : Arc ℕ ArcId). settled new (start_place way a)) (arcs_of net)
+    (λ x. omega (arith, ap (λ (b : Bool). cond {A = ℕ} b 1 0) (same (start_place way x)))) in
+    omega (arith, sum)
 
 -- there are no more arcs than places
 pub arcs_few : (net : Net) → length (arcs_of net) ≤ capacity_of net.arcs

@@ -7,7 +7,10 @@ pub mod Labels
 pub mod Looks
 pub mod Walks
 pub mod Settles
+pub mod Circles
 pub mod Rounds
+pub mod Going
+pub mod Looking
 pub mod Queues
 pub mod Degrees
 pub mod Turns

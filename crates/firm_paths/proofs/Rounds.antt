@@ -1,43 +1,26 @@
 -- The search by labels: its start, one round of it, and its two ends.
-use Rattle.std.proofs.Common.{◌≡◌, ℕ, ◌+◌, ◌*◌, ◌-◌, ◌^◌, ◌<◌, ◌≤◌, true, false, Option, Some, None, List, [], ◌∷◌}
+use Rattle.std.proofs.Common.{◌≡◌, ℕ, ◌+◌, ◌<◌, ◌≤◌, true, false, Option, Some, None, List, [], ◌∷◌}
 use Rattle.std.proofs.Common.{◌++◌, length, set, arith, refl, sym, ap, subst, ◌∙◌, inl, inr, ⊎_elim}
-use Rattle.std.specs.Prelude.{MatchOption, is_some}
+use Rattle.std.specs.Prelude.{MatchOption, Contains, is_some, slice_index}
 use Rattle.std.proofs.lemmas.List.{get_or-set_other, get_or-set_same}
 use Rattle.std.proofs.lemmas.Bool.{cases_eq, cases_Bool, both_ways}
-use Rattle.firm_net.specs.Row.{Row}
-use Rattle.firm_net.specs.Net.{Net, IsNode, row_at}
+use Rattle.firm_net.specs.Net.{Net, IsNode}
 use Rattle.firm_net.specs.declared.row.NodeId.{NodeId}
-use Rattle.firm_net.specs.declared.row.ArcId.{ArcId}
-use Rattle.firm_net.specs.declared.row.Way.{Way}
-use Rattle.firm_net.specs.declared.row.Way.TheVariants.{Forward, Backward}
-use Rattle.firm_paths.specs.Network.{AreValid, IsValidAt}
-use Rattle.firm_paths.specs.NetArcs.{arcs_of}
-use Rattle.firm_paths.specs.inner.Search.{visit, IsPredecessor, state, known, settled, label, IsNearBy, IsLabelled}
-use Rattle.firm_paths.specs.inner.Search.{IsLowered, IsAt, IsFollowed, AllFollowed, LooksBoth, AllEnough, IsReady}
+use Rattle.firm_paths.specs.inner.Search.{visit, IsPredecessor, state, known, settled, label, IsFollowed}
 use Rattle.firm_paths.specs.inner.Search.{IsNearestBelow, IsReached, IsEnd, start_of}
-use Rattle.firm_paths.specs.declared.search.Current.{Current}
+use Rattle.firm_paths.specs.inner.Queue.{IsQueued, IsLeastKey, IsWaiting}
+use Rattle.firm_paths.specs.inner.Turn.{along}
+use Rattle.firm_paths.specs.inner.Going.{left_at, IsSearching, IsGoing}
+use Rattle.firm_paths.specs.declared.turn.Turn.{Turn}
 use Rattle.firm_paths.specs.declared.search.NodeState.{NodeState}
 use Rattle.firm_paths.specs.declared.search.Visit.{Visit}
-use Rattle.firm_paths.specs.Laws.{at_row}
-use Rattle.firm_paths.proofs.Labels.{followed_kept}
-use Rattle.firm_paths.proofs.Settles.{visit_before, visit_last, length_push, known_listed, settled_label, settled_known}
-use Rattle.firm_paths.proofs.Settles.{settled_here, tree_with, settle_labelled, settle_near, settle_followed, not_full}
+use Rattle.firm_paths.proofs.Settles.{visit_before, visit_last, length_push, known_listed, tree_with, not_full}
 use Rattle.firm_paths.proofs.Settles.{none_settled}
-
--- what the loop keeps
-pub record IsSearching (net : Net) (price : ℕ → ℕ) (from goal : ℕ) (ms : List NodeState) (vs : List Visit) : Type
-    0 where
-  pub near : ℕ
-  pub near_by : IsNearBy price ms near (price from + 3000000 * length vs)
-  pub labelled : IsLabelled net from ms vs
-  pub followed : AllFollowed net ms
-  pub start_known : known ms from ≡ true
-  pub goal_open : settled ms goal ≡ false
 
 pub search_start : (net : Net) (price : ℕ → ℕ) (from goal : ℕ) (ms : List NodeState) (node : NodeId) → from < length ms
     → IsNode net node → node.id.place ≡ from
     → ((v : ℕ) → (known ms v ≡ false) × (settled ms v ≡ false))
-    → IsSearching net price from goal
+    → IsSearching net price from goal 0
     (set ms from (record { node = Some node; label = price from; settled = false; predecessor = None })) []
 search_start net price from goal ms node listed there at none =
     let first : NodeState = record { node = Some node; label = price from; settled = false; predecessor = None } in
@@ -55,7 +38,6 @@ search_start net price from goal ms node listed there at none =
     (λ (ne : v ≡ from → ⊥). ap (λ (m : NodeState). m.settled) (other v ne) ∙ (none v).1) (cases_eq v from) in
     let at_from : label ms1 from ≡ price from = ap (λ (m : NodeState). m.label) same in
     record {
-      near = 0;
       near_by = record {
         within = λ v s. absurd (both_ways (settled ms1 v) (free v) s);
         beyond = λ v k s. omega (arith, at_from, ap price (only v k), ap (label ms1) (only v k));
@@ -77,36 +59,65 @@ search_start net price from goal ms node listed there at none =
         visited = λ i l. absurd (omega arith);
         count = none_settled ms1 free;
       };
-      followed =
-          λ way id row is s o.
-          absurd (both_ways (settled ms1 (start_of way row).id.place) (free (start_of way row).id.place) s);
+      room = λ v s. absurd (both_ways (settled ms1 v) (free v) s);
       start_known = ap (λ (m : NodeState). is_some m.node) same;
       goal_open = free goal;
     }
 
 -- no more nodes are settled than there are but the goal
-pub few_visits : (net : Net) (price : ℕ → ℕ) (from goal : ℕ) (ms : List NodeState) (vs : List Visit) → goal < length ms
-    → IsSearching net price from goal ms vs → length vs < length ms
-few_visits net price from goal ms vs l s = omega (arith, not_full ms goal l s.goal_open, s.labelled.count)
+pub few_visits : (net : Net) (price : ℕ → ℕ) (from goal near : ℕ) (ms : List NodeState) (vs : List Visit)
+    → goal < length ms
+    → IsSearching net price from goal near ms vs → length vs < length ms
+few_visits net price from goal near ms vs l s = omega (arith, not_full ms goal l s.goal_open, s.labelled.count)
 
-pub search_reached : (net : Net) (price : ℕ → ℕ) (from goal : ℕ) (ms : List NodeState) (vs : List Visit) (x : Visit)
+-- a node with the least key, if it is open, is a nearest one
+pub least_nearest : (price : ℕ → ℕ) (ms : List NodeState) (keys : List ℕ) (u : ℕ) → IsQueued price ms keys
+    → IsLeastKey keys u → settled ms u ≡ false → IsNearestBelow price ms (length ms) u
+least_nearest price ms keys u q least open_ =
+    let is_known = q.shut u least.listed least.present in
+    record {
+      listed = omega (arith, least.listed, q.size);
+      is_known = is_known;
+      is_open = open_;
+      nearest = λ v l k s.
+          omega (arith, least.least v (omega (arith, l, q.size)), q.open_ u is_known open_, q.open_ v k s);
+    }
+
+pub search_reached : (net : Net) (price : ℕ → ℕ) (from goal : ℕ) (ms : List NodeState) (turns : List Turn)
+    (keys : List ℕ) (vs : List Visit) (looks : ℕ) (x : Visit)
     → length ms ≤ 4096
-    → IsSearching net price from goal ms vs → IsNearestBelow price ms (length ms) goal → x.place ≡ goal
+    → IsGoing net price from goal ms turns keys vs looks → IsLeastKey keys goal → x.place ≡ goal
     → x.predecessor ≡ (state ms goal).predecessor
     → IsReached net price from goal ms (vs ++ x ∷ []) (length vs)
-search_reached net price from goal ms vs x small s nearest at came =
-    let few : length vs < length ms = few_visits net price from goal ms vs nearest.listed s in
-    let far : price goal + s.near ≤ label ms goal = s.near_by.beyond goal nearest.is_known nearest.is_open in
+search_reached net price from goal ms turns keys vs looks x small g least at came =
+    let s = g.searching in
+    let nearest : IsNearestBelow price ms (length ms) goal =
+    least_nearest price ms keys goal g.queued least s.goal_open in
+    let few : length vs < length ms = few_visits net price from goal g.near ms vs nearest.listed s in
+    let far : price goal + g.near ≤ label ms goal = s.near_by.beyond goal nearest.is_known nearest.is_open in
     record {
       near_by = record {
         within = λ v t. let w = s.near_by.within v t in (w.0, w.1, omega (arith, w.2, far));
         beyond = λ v k t. omega (arith, far, s.near_by.beyond v k t, nearest.nearest v (known_listed ms v k) k t);
         below = λ v k. omega (arith, s.near_by.below v k, few, small);
       };
-      followed = λ way id row is _. s.followed way id row is;
+      followed = λ way id row is nearer.
+          let v : ℕ = (start_of way row).id.place in
+          ⊎_elim
+          (λ (w : IsWaiting ms keys v × Contains (left_at g.walking.lefts v) (along way id)).
+          absurd (omega (
+            arith,
+            nearer,
+            g.walking.distance v w.0,
+            g.queued.waits v w.0.1 w.0.2 w.0.0,
+            least.least v w.0.1,
+            g.queued.open_ goal nearest.is_known s.goal_open,
+          )))
+          (λ (f : IsFollowed ms way row). f)
+          (g.walking.followed way id row is);
       is_known = nearest.is_known;
       is_open = nearest.is_open;
-      tree = tree_with net price from s.near ms vs goal x s.labelled nearest.listed nearest.is_known nearest.is_open
+      tree = tree_with net price from g.near ms vs goal x s.labelled nearest.listed nearest.is_known nearest.is_open
           at came;
       visited = λ i l. ⊎_elim
           (λ (e : i ≡ length vs). inr (ap (λ (z : ℕ). (visit (vs ++ x ∷ []) z).place) e
@@ -120,111 +131,40 @@ search_reached net price from goal ms vs x small s nearest at came =
       last = (omega (arith, length_push vs x), ap (λ (y : Visit). y.place) (visit_last vs x) ∙ at);
     }
 
-pub search_ended : (net : Net) (price : ℕ → ℕ) (from goal : ℕ) (ms : List NodeState) (vs : List Visit)
-    → IsSearching net price from goal ms vs → ((v : ℕ) → v < length ms → known ms v ≡ true → settled ms v ≡ true)
+-- where no key is left, all that is known was settled and followed
+pub search_ended : (net : Net) (price : ℕ → ℕ) (from goal : ℕ) (ms : List NodeState) (turns : List Turn)
+    (keys : List ℕ) (vs : List Visit) (looks : ℕ)
+    → IsGoing net price from goal ms turns keys vs looks
+    → ((v : ℕ) → v < length keys → slice_index keys v ≡ 18446744073709551615)
     → IsEnd net from goal ms
-search_ended net price from goal ms vs s all = record {
-  followed =
-      λ way id row is k o. (s.followed way id row is
-      (all (start_of way row).id.place (known_listed ms (start_of way row).id.place k) k) o).0;
-  from_in = s.start_known;
-  goal_out =
-      ⊎_elim (λ (k : known ms goal ≡ true).
-      absurd (both_ways (settled ms goal) s.goal_open (all goal (known_listed ms goal k) k)))
-      (λ (k : known ms goal ≡ false). k) (cases_Bool (known ms goal));
-}
+search_ended net price from goal ms turns keys vs looks g none =
+    let all : (v : ℕ) → known ms v ≡ true → settled ms v ≡ true =
+    λ v k. ⊎_elim (λ (t : settled ms v ≡ true). t)
+    (λ (o : settled ms v ≡ false).
+    absurd (omega (
+      arith,
+      none v (omega (arith, known_listed ms v k, g.queued.size)),
+      g.queued.open_ v k o,
+      g.queued.below v k o,
+    )))
+    (cases_Bool (settled ms v)) in
+    record {
+      followed =
+          λ way id row is k o.
+          let v : ℕ = (start_of way row).id.place in
+          ⊎_elim
+          (λ (w : IsWaiting ms keys v × Contains (left_at g.walking.lefts v) (along way id)).
+          absurd (omega (arith, none v w.0.1, w.0.2)))
+          (λ (f : IsFollowed ms way row). (f (all v k) o).0)
+          (g.walking.followed way id row is);
+      from_in = g.searching.start_known;
+      goal_out =
+          ⊎_elim (λ (k : known ms goal ≡ true). absurd (both_ways (settled ms goal) g.searching.goal_open (all goal k)))
+          (λ (k : known ms goal ≡ false). k) (cases_Bool (known ms goal));
+    }
 
 -- a state that is known names the node at its place
 pub named_at : (net : Net) (ms : List NodeState) (v : ℕ) (node : NodeId) → Some node ≡ (state ms v).node
     → MatchOption (state ms v).node ⊥ (λ n. IsNode net n × (n.id.place ≡ v)) → IsNode net node × (node.id.place ≡ v)
 named_at net ms v node is named =
     subst (λ (o : Option NodeId). MatchOption o ⊥ (λ n. IsNode net n × (n.id.place ≡ v))) (sym is) named
-
--- a round: the nearest open node `u` is not the goal; it is settled, and all is followed from there
-module _ (net : Net) (price : ℕ → ℕ) (from goal : ℕ) (ms : List NodeState) (vs : List Visit) (u : ℕ) (x : Visit)
-    (current : Current)
-    (s : IsSearching net price from goal ms vs) (nearest : IsNearestBelow price ms (length ms) u) (at : x.place ≡ u)
-    (came : x.predecessor ≡ (state ms u).predecessor)
-    (place : current.place ≡ u) (number : current.number ≡ length vs) (valid : AreValid (arcs_of net) price) where
-  abbrev after : List NodeState
-  after = set ms u (record (state ms u) { settled = true })
-
-  label_here : label after u ≡ label ms u
-  label_here =
-      settled_label net price from s.near ms vs u x s.labelled nearest.listed nearest.is_known nearest.is_open at came u
-
-  room_after : label after current.place + 3000000 ≤ price from + 3000000 * (length vs + 1)
-  room_after = omega (arith, label_here, ap (label after) place, s.near_by.below u nearest.is_known)
-
-  pub round_ready : length vs < length ms → length ms ≤ 4096 → price from ≤ 2 ^ 60 → IsReady net current after
-  round_ready few small low = record {
-    settled_here = ap (settled after) place
-        ∙ settled_here net price from s.near ms vs u x s.labelled nearest.listed nearest.is_known nearest.is_open
-        at came;
-    room = omega (arith, room_after, few, small, low);
-    enough = λ way. elim way as (λ way. AllEnough way net current.place (label after current.place)) [
-      | Forward ↦ λ id row is out. tt
-      | Backward ↦ λ id row is into fall.
-          let v = at_row net (IsValidAt price) id row is valid in
-          omega (
-            arith,
-            v.1 fall,
-            label_here,
-            ap (label after) place,
-            s.near_by.beyond u nearest.is_known nearest.is_open,
-            ap price (into ∙ place),
-          )
-    ];
-  }
-
-  round_start : IsAt net price from (vs ++ x ∷ []) (label ms u - price u) (price from + 3000000 * (length vs + 1))
-      current after
-  round_start =
-      let far : price u + s.near ≤ label ms u = s.near_by.beyond u nearest.is_known nearest.is_open in
-      let near =
-      settle_near net price from s.near ms vs u x s.labelled nearest.listed nearest.is_known nearest.is_open at came
-      (price from + 3000000 * length vs) s.near_by
-      (λ v k t. nearest.nearest v (known_listed ms v k) k t) in
-      record {
-        near_by = record { within = near.within; beyond = near.beyond; below = λ v k. omega (arith, near.below v k) };
-        labelled =
-            settle_labelled net price from s.near ms vs u x s.labelled nearest.listed nearest.is_known nearest.is_open
-            at came;
-        number = omega (arith, number, length_push vs x);
-        place = ap (λ (z : ℕ). (visit (vs ++ x ∷ []) z).place) number
-            ∙ (ap (λ (y : Visit). y.place) (visit_last vs x) ∙ (at ∙ sym place));
-        distance = omega (arith, label_here, far, ap (label after) place, ap price place);
-        room = room_after;
-      }
-
-  pub round_done : (m2 : List NodeState) → (u ≡ goal → ⊥) → IsLowered after m2 → LooksBoth net current after m2
-      → IsSearching net price from goal m2 (vs ++ x ∷ [])
-  round_done m2 ne lowers looks =
-      let top : ℕ = price from + 3000000 * (length vs + 1) in
-      let now = looks price from (vs ++ x ∷ []) (label ms u - price u) top valid round_start in
-      record {
-        near = label ms u - price u;
-        near_by = record {
-          within = now.0.near_by.within;
-          beyond = now.0.near_by.beyond;
-          below = λ v k. omega (arith, now.0.near_by.below v k, length_push vs x);
-        };
-        labelled = now.0.labelled;
-        followed = λ way id row is. ⊎_elim
-            (λ (e : (start_of way row).id.place ≡ u). now.1 way id row is (e ∙ sym place))
-            (λ (apart : (start_of way row).id.place ≡ u → ⊥).
-            followed_kept after m2 way row lowers
-            (settle_followed net price from s.near ms vs u x s.labelled nearest.listed nearest.is_known nearest.is_open
-            at came s.followed way id row is apart))
-            (cases_eq (start_of way row).id.place u);
-        start_known = lowers.kept from
-            (settled_known net price from s.near ms vs u x s.labelled nearest.listed nearest.is_known nearest.is_open at
-            came from ∙ s.start_known);
-        goal_open = lowers.settled goal ∙ (settled_elsewhere (λ e. ne (sym e)) ∙ s.goal_open);
-      }
-    where
-      settled_elsewhere : (goal ≡ u → ⊥) → settled after goal ≡ settled ms goal
-      settled_elsewhere ne =
-          ap (λ (m : NodeState). m.settled)
-          (get_or-set_other ms u goal (record (state ms u) { settled = true })
-          (record { node = None; label = 0; settled = false; predecessor = None }) ne)

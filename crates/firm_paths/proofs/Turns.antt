@@ -1,6 +1,6 @@
 -- The arcs of the nodes that had their turn in the order of the visits, counted.
 use Rattle.std.proofs.Common.{◌≡◌, ℕ, zero, suc, ◌+◌, ◌*◌, ◌<◌, ◌≤◌, Bool, true, false, cond, eqb, List, length, arith}
-use Rattle.std.proofs.Common.{refl, sym, ap, subst, ◌∙◌, ⊎_elim}
+use Rattle.std.proofs.Common.{refl, sym, ap, ◌∙◌, ⊎_elim}
 use Rattle.std.specs.Prelude.{◌||◌}
 use Rattle.std.specs.List.{count_by}
 use Rattle.std.proofs.lemmas.Bool.{cases_eq, cond-true, cond-false, eq-eqb, ne_eqb}
@@ -13,9 +13,10 @@ use Rattle.firm_net.specs.declared.row.Way.{Way}
 use Rattle.firm_net.specs.declared.row.Way.TheVariants.{Forward, Backward}
 use Rattle.firm_paths.specs.Network.{Arc}
 use Rattle.firm_paths.specs.NetArcs.{arcs_of}
-use Rattle.firm_paths.specs.inner.Search.{visit, side_of}
+use Rattle.firm_paths.specs.inner.Search.{visit}
 use Rattle.firm_paths.specs.declared.search.Visit.{Visit}
-use Rattle.firm_paths.proofs.Degrees.{start_place, degree, count_sum}
+use Rattle.firm_paths.specs.inner.Going.{start_place}
+use Rattle.firm_paths.proofs.Degrees.{degree, count_sum}
 
 -- one of the first visits was to this place
 abbrev pub turned : List Visit → ℕ → ℕ → Bool

@@ -3,3 +3,5 @@ pub mod Search
 pub mod Spread
 pub mod Walk
 pub mod Queue
+pub mod Turn
+pub mod Going

@@ -10,6 +10,7 @@ mod shortest;
 #[cfg(test)]
 mod tests;
 mod tight;
+mod turn;
 
 pub use laws::{arcs_are_rows, searches_add_up};
 pub use prices::Prices;

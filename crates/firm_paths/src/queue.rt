@@ -62,13 +62,13 @@ impl Queue {
         self.keys.fill(ABSENT);
     }
 
-    /// The place of the least key; `None` where every place is absent.
-    pub fn least(&self) -> Option<usize>
+    /// The place of the least key, the preferred one if no other has a lower; `None` where every place is absent.
+    pub fn least(&self, preferred: usize) -> Option<usize>
         ensures { MatchOption result
             ((v : ℕ) → v < length self.now → slice_index self.now v ≡ 18446744073709551615)
             (IsLeastKey self.now) }
     {
-        least_place(&self.keys, self.places)
+        least_place(&self.keys, self.places, preferred)
     }
 }
 
@@ -93,12 +93,13 @@ fn set_key(keys: &mut [u64], places: usize, place: usize, key: u64)
     }
 }
 
-/// The place of the least key, found from the top down.
-fn least_place(keys: &[u64], places: usize) -> Option<usize>
+/// The place of the least key: the preferred one, or found from the top down.
+fn least_place(keys: &[u64], places: usize, preferred: usize) -> Option<usize>
     requires tournament { IsTournament places keys.now }
     ensures { MatchOption result
         ((v : ℕ) → v < places → slice_index keys.now (places + v) ≡ 18446744073709551615)
-        (λ u. (u < places) × ((v : ℕ) → v < places → slice_index keys.now (places + u) ≤ slice_index keys.now (places + v))
+        (λ u. (u < places)
+        × ((v : ℕ) → v < places → slice_index keys.now (places + u) ≤ slice_index keys.now (places + v))
         × (slice_index keys.now (places + u) < 18446744073709551615)) }
 {
     if places == 0 {
@@ -107,6 +108,9 @@ fn least_place(keys: &[u64], places: usize) -> Option<usize>
     let top = keys[1];
     if top == ABSENT {
         return None;
+    }
+    if preferred < places && keys[places + preferred] == top {
+        return Some(preferred);
     }
     let mut at = 1;
     while at < places {

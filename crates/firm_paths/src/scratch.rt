@@ -7,6 +7,7 @@ use crate::queue::Queue;
 use crate::search::{NodeState, Step};
 use crate::shortest::Labels;
 use crate::tight::Reach;
+use crate::turn::Turn;
 use firm_net::Net;
 use std::alloc::{AllocError, Global};
 use std::marker::Model;
@@ -33,9 +34,11 @@ impl Model for Scratch {
 
     ghost view = { λ s. record { limits = s.limits; begins = s.begins; searches = s.searches; looks = s.looks } };
 
-    ghost invariant = { λ s. (length s.labels.states.items ≡ s.limits.0) × (length s.reach.seen.items ≡ s.limits.0)
-        × IsIdle s.labels.states.items s.labels.queue × AreMarked s.reach.seen.items s.reach.visits.items 0 × (s.limits.0 ≤ vec_capacity s.labels.visits)
-        × (s.limits.0 ≤ vec_capacity s.reach.visits) × (s.limits.0 ≤ vec_capacity s.steps) };
+    ghost invariant = { λ s. (length s.labels.states.items ≡ s.limits.0)
+        × (length s.labels.turns.items ≡ s.limits.0) × (length s.reach.seen.items ≡ s.limits.0)
+        × IsIdle s.labels.states.items s.labels.queue × AreMarked s.reach.seen.items s.reach.visits.items 0
+        × (s.limits.0 ≤ vec_capacity s.labels.visits) × (s.limits.0 ≤ vec_capacity s.reach.visits)
+        × (s.limits.0 ≤ vec_capacity s.steps) };
 }
 
 impl Scratch {
@@ -48,6 +51,7 @@ impl Scratch {
         let nodes = limits.0 as usize;
         let labels = Labels {
             states: vec![in alloc; NodeState::UNKNOWN; nodes]?,
+            turns: vec![in alloc; Turn::NONE; nodes]?,
             queue: Queue::new(alloc, limits.0)?,
             visits: Vec::with_capacity(alloc, nodes)?,
             looks: 0,

@@ -7,8 +7,8 @@ use Rattle.firm_rules.specs.ArenaUse.{FitsLimits}
 
 -- names differ in each list; each task's job is there, and so is the machine of each that runs; no machine runs more
 -- tasks than it has slots; no task has waited for more than 1,000,000 rounds; the counts fit the limits; slots, weights
--- and the limits of nodes, arcs, spread and churn are in their ranges (the life, which no round reads, is in its range by
--- `Limits`)
+-- and the limits of nodes, arcs, spread and churn are in their ranges (the life, which no round reads, is in its range
+-- by `Limits`)
 pub record AreSound (rows : TenantRows) : Type 0 where
   pub machine_names_differ : IsDistinct bytes_eq (machine_names rows)
   pub job_names_differ : IsDistinct bytes_eq (job_names rows)

@@ -8,8 +8,8 @@ pub fn legality_is_judged()
     ensures { LegalityIsJudged }
 {}
 
-/// Of two legal placements one comes before the other exactly where, at the first task on which they differ, its choice ranks
-/// first.
+/// Of two legal placements one comes before the other exactly where, at the first task on which they differ, its choice
+/// ranks first.
 pub fn the_first_difference_decides()
     ensures { FirstDifferenceDecides }
 {}

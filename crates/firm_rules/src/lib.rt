@@ -1,5 +1,5 @@
-//! What a tenant of the scheduler is: names, limits, its machines, jobs and tasks, its use of the arena, and the commands
-//! and replies that it takes and gives.
+//! What a tenant of the scheduler is: names, limits, its machines, jobs and tasks, its use of the arena, and the
+//! commands and replies that it takes and gives.
 #![tactic(auto)]
 
 mod amounts;

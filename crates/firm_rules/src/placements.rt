@@ -2,7 +2,8 @@
 ghost use Rattle.std.specs.Prelude.{◌≡◌, ◌*◌, ◌^◌, ◌≤◌, true, pos, nat_le, length, slice_index, bytes_eq};
 ghost use Rattle.std.specs.List.{list_all, position_or_len};
 ghost use Rattle.firm_rules.specs.Book.{job_names};
-ghost use Rattle.firm_rules.specs.Placement.{numbers, total, goes_to, load, is_place, is_legal, leaves, load_cost, task_cost, tasks_cost, placement_cost, rank, comes_before};
+ghost use Rattle.firm_rules.specs.Placement.{numbers, total, goes_to, load, is_place, is_legal, leaves, load_cost};
+ghost use Rattle.firm_rules.specs.Placement.{task_cost, tasks_cost, placement_cost, rank, comes_before};
 ghost use Rattle.firm_rules.specs.Round.{case_of, demand_of, machine_place, weight_at};
 
 use crate::names::Name;
@@ -20,8 +21,8 @@ pub fn legal<A: Allocator>(rows: &Rows<A>, placement: &[Choice]) -> bool
         && have_room(rows, placement)
 }
 
-/// What a legal placement costs: for each machine what its load costs, for each task that waits its job's weight and the
-/// rounds that left it waiting, and churn for each running task that does not stay.
+/// What a legal placement costs: for each machine what its load costs, for each task that waits its job's weight and
+/// the rounds that left it waiting, and churn for each running task that does not stay.
 pub fn cost_of<A: Allocator>(rows: &Rows<A>, placement: &[Choice]) -> i64
     requires { is_legal (case_of rows.now) placement.now ≡ true }
     ensures { result ≡ pos (placement_cost (case_of rows.now) placement.now) }
@@ -32,8 +33,8 @@ pub fn cost_of<A: Allocator>(rows: &Rows<A>, placement: &[Choice]) -> i64
     cost as i64
 }
 
-/// Whether the first of two legal placements comes before the second: at the first task on which they differ, it has the
-/// choice that ranks first, its own machine before the others in order of addition, and waiting last.
+/// Whether the first of two legal placements comes before the second: at the first task on which they differ, it has
+/// the choice that ranks first, its own machine before the others in order of addition, and waiting last.
 pub fn ranks_before<A: Allocator>(rows: &Rows<A>, first: &[Choice], second: &[Choice]) -> bool
     requires first_legal { is_legal (case_of rows.now) first.now ≡ true }
     requires second_legal { is_legal (case_of rows.now) second.now ≡ true }
@@ -98,7 +99,8 @@ fn is_at(choice: Choice, machine: usize) -> bool
 // What the loads of all machines cost.
 fn load_costs<A: Allocator>(rows: &Rows<A>, placement: &[Choice]) -> u64
     requires { length placement.now ≤ 4096 }
-    ensures cost { result ≡ total (λ j. load_cost rows.now.limits.spread (load placement.now j)) (length rows.now.machines) }
+    ensures cost { result ≡ total (λ j. load_cost rows.now.limits.spread (load placement.now j))
+        (length rows.now.machines) }
     ensures most { result ≤ 2 ^ 45 }
 {
     let spread = rows.limits().spread();

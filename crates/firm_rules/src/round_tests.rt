@@ -7,28 +7,28 @@ use crate::{
 use Choice::{On, Wait};
 use std::alloc::Global;
 use std::process::Abort;
-use std::test::Fail;
 
-fn rows_of(alloc: Global, spread: u64, churn: u64) -> Result<Rows, &'static str> {
-    let limits = Limits::check(8, 30, 100, spread, churn).ok_or("limits")?;
-    Ok(Rows::new(alloc, limits))
+// Nothing here is answered by an error, so that no test has a branch for each of them.
+fn rows_of(rt: &impl Abort, alloc: Global, spread: u64, churn: u64) -> Rows {
+    let limits = Limits::check(8, 30, 100, spread, churn).expect(rt, "limits");
+    Rows::new(alloc, limits)
 }
 
-fn add_machine(rt: &impl Abort, rows: &mut Rows, bytes: &[u8], slots: u64) -> Result<(), Fail> {
-    let slots = Slots::check(slots).ok_or("slots")?;
-    with_machine(rt, rows, name(bytes)?, slots)?;
-    Ok(())
+fn add_machine(rt: &impl Abort, rows: &mut Rows, bytes: &[u8], slots: u64) {
+    let slots = Slots::check(slots).expect(rt, "slots");
+    let added = with_machine(rt, rows, name(rt, bytes), slots);
+    assert!(rt; added.is_ok());
 }
 
-fn add_job(rt: &impl Abort, rows: &mut Rows, bytes: &[u8], weight: u64) -> Result<(), Fail> {
-    let weight = Weight::check(weight).ok_or("weight")?;
-    with_job(rt, rows, name(bytes)?, weight)?;
-    Ok(())
+fn add_job(rt: &impl Abort, rows: &mut Rows, bytes: &[u8], weight: u64) {
+    let weight = Weight::check(weight).expect(rt, "a weight");
+    let added = with_job(rt, rows, name(rt, bytes), weight);
+    assert!(rt; added.is_ok());
 }
 
-fn add_task(rt: &impl Abort, rows: &mut Rows, job: &[u8], bytes: &[u8]) -> Result<(), Fail> {
-    with_task(rt, rows, name(job)?, name(bytes)?)?;
-    Ok(())
+fn add_task(rt: &impl Abort, rows: &mut Rows, job: &[u8], bytes: &[u8]) {
+    let added = with_task(rt, rows, name(rt, job), name(rt, bytes));
+    assert!(rt; added.is_ok());
 }
 
 fn settle(rt: &impl Abort, rows: &mut Rows, placement: &[Choice]) {
@@ -36,17 +36,44 @@ fn settle(rt: &impl Abort, rows: &mut Rows, placement: &[Choice]) {
     rows.settle(placement);
 }
 
+fn expect_cost(rt: &impl Abort, rows: &Rows, placement: &[Choice], cost: i64) {
+    assert!(rt; legal(rows, placement), "{placement:?}");
+    assert_eq!(rt; cost_of(rows, placement), cost, "{placement:?}");
+}
+
+fn expect_order(rt: &impl Abort, rows: &Rows, one: &[Choice], other: &[Choice], before: bool) {
+    assert!(rt; legal(rows, one));
+    assert!(rt; legal(rows, other));
+    assert_eq!(rt; ranks_before(rows, one, other), before, "{one:?} {other:?}");
+}
+
+// Of this one and those listed it comes before just those from this place on.
+fn expect_rank(
+    rt: &impl Abort,
+    rows: &Rows,
+    placement: &[Choice],
+    place: usize,
+    wanted: &[([Choice; 2], i64)],
+) {
+    for (other_place, (other, _)) in wanted.iter().enumerate() {
+        expect_order(rt, rows, placement, other, place < other_place);
+    }
+}
+
 // These are legal, each with its cost, and each comes before the next one.
 fn expect_placements(rt: &impl Abort, rows: &Rows, wanted: &[([Choice; 2], i64)]) {
     for (place, (placement, cost)) in wanted.iter().enumerate() {
-        assert!(rt; legal(rows, placement), "{placement:?}");
-        assert_eq!(rt; cost_of(rows, placement), *cost, "{placement:?}");
-        for (other_place, (other, _)) in wanted.iter().enumerate() {
-            assert!(rt; legal(rows, other));
-            let before = ranks_before(rows, placement, other);
-            assert_eq!(rt; before, place < other_place, "{placement:?} {other:?}");
-        }
+        expect_cost(rt, rows, placement, *cost);
+        expect_rank(rt, rows, placement, place, wanted);
     }
+}
+
+fn expect_list(rt: &impl Abort, alloc: Global, changes: &Changes, wanted: &[Change]) {
+    let Ok(list) = Vec::from_slice(alloc, wanted) else {
+        panic!(rt; "no memory")
+    };
+    let same = Changes::from(list);
+    assert!(rt; *changes == same);
 }
 
 fn expect_changes(
@@ -55,27 +82,28 @@ fn expect_changes(
     rows: &Rows,
     placement: &[Choice],
     wanted: &[Change],
-) -> Result<(), Fail> {
+) {
     assert!(rt; legal(rows, placement), "{placement:?}");
-    let changes = changes_of(alloc, rows, placement)?;
+    let Ok(changes) = changes_of(alloc, rows, placement) else {
+        panic!(rt; "no memory")
+    };
     assert_eq!(rt; changes.as_slice(), wanted);
-    assert!(rt; changes == Changes::from(Vec::from_slice(alloc, wanted)?));
-    Ok(())
+    expect_list(rt, alloc, &changes, wanted);
 }
 
 // One machine of two slots, and two tasks that cost 1 to leave waiting.
-fn shared(rt: &impl Abort, alloc: Global) -> Result<Rows, Fail> {
-    let mut rows = rows_of(alloc, 10, 20)?;
-    add_machine(rt, &mut rows, b"m1", 2)?;
-    add_job(rt, &mut rows, b"j", 1)?;
-    add_task(rt, &mut rows, b"j", b"x")?;
-    add_task(rt, &mut rows, b"j", b"y")?;
-    Ok(rows)
+fn shared(rt: &impl Abort, alloc: Global) -> Rows {
+    let mut rows = rows_of(rt, alloc, 10, 20);
+    add_machine(rt, &mut rows, b"m1", 2);
+    add_job(rt, &mut rows, b"j", 1);
+    add_task(rt, &mut rows, b"j", b"x");
+    add_task(rt, &mut rows, b"j", b"y");
+    rows
 }
 
 #[test]
-fn a_wait_grows_to_the_cost_of_a_load(rt: HostRuntime) -> Result<(), Fail> {
-    let mut rows = shared(&rt, rt.alloc())?;
+fn a_wait_grows_to_the_cost_of_a_load(rt: HostRuntime) {
+    let mut rows = shared(&rt, rt.alloc());
     let first = [
         ([On(0), On(0)], 10),
         ([On(0), Wait], 1),
@@ -93,48 +121,48 @@ fn a_wait_grows_to_the_cost_of_a_load(rt: HostRuntime) -> Result<(), Fail> {
         ([Wait, Wait], 31),
     ];
     expect_placements(&rt, &rows, &tenth);
-    let start = Change::Start(name(b"y")?, name(b"m1")?);
-    expect_changes(&rt, rt.alloc(), &rows, &[On(0), On(0)], &[start])
+    let start = Change::Start(name(&rt, b"y"), name(&rt, b"m1"));
+    expect_changes(&rt, rt.alloc(), &rows, &[On(0), On(0)], &[start]);
 }
 
 // A machine of one slot, a task that runs there, and one that costs more to leave waiting.
-fn contested(rt: &impl Abort, alloc: Global) -> Result<Rows, Fail> {
-    let mut rows = rows_of(alloc, 0, 3)?;
-    add_machine(rt, &mut rows, b"m1", 1)?;
-    add_job(rt, &mut rows, b"low", 2)?;
-    add_task(rt, &mut rows, b"low", b"l")?;
+fn contested(rt: &impl Abort, alloc: Global) -> Rows {
+    let mut rows = rows_of(rt, alloc, 0, 3);
+    add_machine(rt, &mut rows, b"m1", 1);
+    add_job(rt, &mut rows, b"low", 2);
+    add_task(rt, &mut rows, b"low", b"l");
     settle(rt, &mut rows, &[On(0)]);
-    add_job(rt, &mut rows, b"high", 20)?;
-    add_task(rt, &mut rows, b"high", b"h")?;
-    Ok(rows)
+    add_job(rt, &mut rows, b"high", 20);
+    add_task(rt, &mut rows, b"high", b"h");
+    rows
 }
 
 #[test]
-fn a_task_that_waits_for_more_preempts(rt: HostRuntime) -> Result<(), Fail> {
-    let rows = contested(&rt, rt.alloc())?;
+fn a_task_that_waits_for_more_preempts(rt: HostRuntime) {
+    let rows = contested(&rt, rt.alloc());
     let wanted = [([On(0), Wait], 20), ([Wait, On(0)], 5), ([Wait, Wait], 25)];
     expect_placements(&rt, &rows, &wanted);
     assert!(rt; !legal(&rows, &[On(0), On(0)]));
-    let (l, h, m1) = (name(b"l")?, name(b"h")?, name(b"m1")?);
+    let (l, h, m1) = (name(&rt, b"l"), name(&rt, b"h"), name(&rt, b"m1"));
     let changes = [Change::Preempt(l, m1), Change::Start(h, m1)];
-    expect_changes(&rt, rt.alloc(), &rows, &[Wait, On(0)], &changes)
+    expect_changes(&rt, rt.alloc(), &rows, &[Wait, On(0)], &changes);
 }
 
 // Two tasks run on the first of two machines.
-fn crowded(rt: &impl Abort, alloc: Global, churn: u64) -> Result<Rows, Fail> {
-    let mut rows = rows_of(alloc, 10, churn)?;
-    add_machine(rt, &mut rows, b"m1", 2)?;
-    add_job(rt, &mut rows, b"j", 50)?;
-    add_task(rt, &mut rows, b"j", b"p")?;
-    add_task(rt, &mut rows, b"j", b"q")?;
+fn crowded(rt: &impl Abort, alloc: Global, churn: u64) -> Rows {
+    let mut rows = rows_of(rt, alloc, 10, churn);
+    add_machine(rt, &mut rows, b"m1", 2);
+    add_job(rt, &mut rows, b"j", 50);
+    add_task(rt, &mut rows, b"j", b"p");
+    add_task(rt, &mut rows, b"j", b"q");
     settle(rt, &mut rows, &[On(0), On(0)]);
-    add_machine(rt, &mut rows, b"m2", 2)?;
-    Ok(rows)
+    add_machine(rt, &mut rows, b"m2", 2);
+    rows
 }
 
 #[test]
-fn one_of_two_tasks_moves(rt: HostRuntime) -> Result<(), Fail> {
-    let rows = crowded(&rt, rt.alloc(), 3)?;
+fn one_of_two_tasks_moves(rt: HostRuntime) {
+    let rows = crowded(&rt, rt.alloc(), 3);
     let wanted = [
         ([On(0), On(0)], 10),
         ([On(0), On(1)], 3),
@@ -147,13 +175,13 @@ fn one_of_two_tasks_moves(rt: HostRuntime) -> Result<(), Fail> {
         ([Wait, Wait], 106),
     ];
     expect_placements(&rt, &rows, &wanted);
-    let moved = Change::Move(name(b"q")?, name(b"m1")?, name(b"m2")?);
-    expect_changes(&rt, rt.alloc(), &rows, &[On(0), On(1)], &[moved])
+    let moved = Change::Move(name(&rt, b"q"), name(&rt, b"m1"), name(&rt, b"m2"));
+    expect_changes(&rt, rt.alloc(), &rows, &[On(0), On(1)], &[moved]);
 }
 
 #[test]
-fn without_churn_a_move_costs_nothing(rt: HostRuntime) -> Result<(), Fail> {
-    let rows = crowded(&rt, rt.alloc(), 0)?;
+fn without_churn_a_move_costs_nothing(rt: HostRuntime) {
+    let rows = crowded(&rt, rt.alloc(), 0);
     let wanted = [
         ([On(0), On(0)], 10),
         ([On(0), On(1)], 0),
@@ -161,12 +189,11 @@ fn without_churn_a_move_costs_nothing(rt: HostRuntime) -> Result<(), Fail> {
         ([On(1), On(1)], 10),
     ];
     expect_placements(&rt, &rows, &wanted);
-    Ok(())
 }
 
 #[test]
-fn the_own_machine_ranks_first(rt: HostRuntime) -> Result<(), Fail> {
-    let mut rows = crowded(&rt, rt.alloc(), 0)?;
+fn the_own_machine_ranks_first(rt: HostRuntime) {
+    let mut rows = crowded(&rt, rt.alloc(), 0);
     settle(&rt, &mut rows, &[On(1), On(0)]);
     let wanted = [
         ([On(1), On(0)], 0),
@@ -175,12 +202,11 @@ fn the_own_machine_ranks_first(rt: HostRuntime) -> Result<(), Fail> {
         ([On(0), On(1)], 0),
     ];
     expect_placements(&rt, &rows, &wanted);
-    Ok(())
 }
 
 #[test]
-fn a_list_of_another_length_or_place_is_not_legal(rt: HostRuntime) -> Result<(), Fail> {
-    let rows = crowded(&rt, rt.alloc(), 3)?;
+fn a_list_of_another_length_or_place_is_not_legal(rt: HostRuntime) {
+    let rows = crowded(&rt, rt.alloc(), 3);
     let bad: [&[Choice]; 5] = [
         &[],
         &[On(0)],
@@ -191,7 +217,6 @@ fn a_list_of_another_length_or_place_is_not_legal(rt: HostRuntime) -> Result<(),
     for placement in bad {
         assert!(rt; !legal(&rows, placement), "{placement:?}");
     }
-    Ok(())
 }
 
 #[test]

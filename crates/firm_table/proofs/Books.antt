@@ -12,8 +12,9 @@ use Rattle.firm_text.specs.Rosters.{Admitted, place_among}
 use Rattle.firm_text.specs.declared.inputs.Line.{Line}
 use Rattle.firm_text.specs.declared.inputs.Line.TheVariants.{Nothing, Long, Nameless, For}
 use Rattle.firm_table.specs.Places.{Place, Stay, place_of_row, opening_places, stay_of, with_command, commanded, after_line}
-use Rattle.firm_table.specs.Answers.{reply_answer, answer_to_command, answer_of, unknown_tenant, replied, text_of_answer}
-use Rattle.firm_table.specs.inner.Line.{book_among, books_with, command_answer, answer_with, books_after, books_behind, IsAnswer, Steps}
+use Rattle.firm_table.specs.Answers.{reply_answer, answer_to_command, answer_of, unknown_tenant, replied}
+use Rattle.firm_table.specs.inner.Adding.{TenantsAreAnswered, StrangersAreAnswered}
+use Rattle.firm_table.specs.inner.Line.{book_among, books_with, command_answer, answer_with, books_after, books_behind, IsAnswer}
 use Rattle.firm_table.specs.inner.Progress.{book_of, Shows}
 use Rattle.firm_table.proofs.Lookups.{Which, same, other, which, stay_of-commanded, stay_of-commanded-other}
 use Rattle.firm_table.proofs.Alones.{book_of-more, last_reply-more}
@@ -166,39 +167,38 @@ some_among (tenant ∷ rest) (book ∷ books) name place default new e long = el
         rw (there, ← at) (rest_is.0, ap (λ (bs : List Book). book ∷ bs) rest_is.1)
 
 -- the line names nobody of the roster
-pub answer_unknown : (roster : List Admitted) (books : List Book) (name : List ℕ) (command : Command) (line : Line) (pending after : List ℕ)
-    → line ≡ For name command → place_among roster name ≡ None → after ≡ pending ++ text_of_answer unknown_tenant
-    → IsAnswer roster books books line pending after
+pub answer_unknown : StrangersAreAnswered
 answer_unknown roster books name command line pending after is none text =
     let none_is = none_among roster books name none in
-    subst (λ (l : Line). IsAnswer roster books books l pending after) (sym is)
-    (record {
-      answer = unknown_tenant;
-      right = sym (ap (λ (b : Option Book). command_answer name b command false) none_is);
-      books_are = sym (ap (λ (b : Option Book). books_after roster books name b command false) none_is);
-      text = text;
-    })
+    subst (λ (l : Line). (answered : IsAnswer roster books books l pending after) × (answered.answer ≡ unknown_tenant)) (sym is) (
+      record {
+        answer = unknown_tenant;
+        right = sym (ap (λ (b : Option Book). command_answer name b command false) none_is);
+        books_are = sym (ap (λ (b : Option Book). books_after roster books name b command false) none_is);
+        text = text;
+      },
+      refl,
+    )
 
 -- the line is the tenant's at this place, which steps
-pub answer_known : (roster : List Admitted) (books : List Book) (name : List ℕ) (command : Command) (line : Line) (pending after : List ℕ)
-    (place : ℕ) (book new : Book) → line ≡ For name command → place_among roster name ≡ Some place → length books ≡ length roster
-    → Steps name (slice_index_or books place book) new command pending after
-    → IsAnswer roster books (slice_set books place new) line pending after
+pub answer_known : TenantsAreAnswered
 answer_known roster books name command line pending after place book new is found long steps =
     let among = some_among roster books name place book new found long in
     let mark : Bool = is_memory steps.reply in
     let here : book_among roster books name ≡ Some (slice_index_or books place book) = among.0 in
-    subst (λ (l : Line). IsAnswer roster books (slice_set books place new) l pending after) (sym is)
-    (record {
-      answer = replied name steps.reply;
-      right =
-          ap (λ (p : Reply × Book). replied name p.0) steps.stepped
-          ∙ sym (ap (λ (b : Option Book). command_answer name b command mark) here);
-      books_are =
-          sym among.1 ∙ ap (λ (p : Reply × Book). books_with roster books name p.1) steps.stepped
-          ∙ sym (ap (λ (b : Option Book). books_after roster books name b command mark) here);
-      text = steps.text;
-    })
+    subst (λ (l : Line). (answered : IsAnswer roster books (slice_set books place new) l pending after) × (answered.answer ≡ replied name steps.reply)) (sym is) (
+      record {
+        answer = replied name steps.reply;
+        right =
+            ap (λ (p : Reply × Book). replied name p.0) steps.stepped
+            ∙ sym (ap (λ (b : Option Book). command_answer name b command mark) here);
+        books_are =
+            sym among.1 ∙ ap (λ (p : Reply × Book). books_with roster books name p.1) steps.stepped
+            ∙ sym (ap (λ (b : Option Book). books_after roster books name b command mark) here);
+        text = steps.text;
+      },
+      refl,
+    )
 
 -- one tenant more is admitted
 pub admitted_next : {X : Type 0} (f : Admitted → X) (roster : List Admitted) (place : ℕ) (tenant : Admitted) → slice_get roster place ≡ Some tenant

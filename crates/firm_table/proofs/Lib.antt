@@ -9,6 +9,7 @@ mod Prefixes
 mod Books
 mod Pieces
 mod Progress
+mod Written
 mod Stops
 mod Stations
 mod Machine

@@ -9,14 +9,13 @@ use Rattle.std.proofs.lemmas.List.Splits.{slice_split-cons_yes, slice_split-cons
 use Rattle.std.proofs.lemmas.List.{take_all, drop_all, append_cancel_right}
 use Rattle.std.proofs.lemmas.List.Sums.{split_at_first, passes_at_first}
 use Rattle.std.proofs.lemmas.Bool.Decides.{nat_tests}
-use Rattle.firm_text.specs.Cutters.{StandsFor}
+use Rattle.firm_text.specs.Cutters.{Cut, StandsFor}
 use Rattle.firm_text.specs.Inputs.{input_lines, line_of}
 use Rattle.firm_text.specs.Lines.{is_filled, is_line_feed, lines, without_empty_last}
 use Rattle.firm_text.specs.Rosters.{Admitted}
 use Rattle.firm_text.specs.declared.inputs.Line.{Line}
-use Rattle.firm_table.specs.Service.{BeginsAnswers}
-use Rattle.firm_table.specs.inner.Line.{State}
-use Rattle.firm_table.specs.inner.Progress.{Told, Heard, Halted, HasEnded}
+use Rattle.firm_table.specs.Service.{BeginsAnswers, Telling}
+use Rattle.firm_table.specs.inner.Reading.{Heard, Halted, HasEnded}
 
 both_false : (b c : Bool) → (b || c) ≡ false → (b ≡ false) × (c ≡ false)
 both_false true c e = cc
@@ -140,11 +139,11 @@ halts_between roster heard text rest more written now both ended begins = record
 }
 
 -- nothing came yet
-pub heard_none : (state : State) (heard front piece : List ℕ) (written now : Option (List ℕ))
-    → piece ≡ front ++ piece → Heard state heard written now → Heard state (heard ++ front) written now
-heard_none state heard front piece written now same h =
+pub heard_none : (IsTold : Telling) (cut : Cut) (heard front piece : List ℕ) (written now : Option (List ℕ))
+    → piece ≡ front ++ piece → Heard IsTold cut heard written now → Heard IsTold cut (heard ++ front) written now
+heard_none IsTold cut heard front piece written now same h =
     let none : front ≡ [] = append_cancel_right front [] piece (sym same) in
-    subst (λ (l : List ℕ). Heard state l written now) (sym (ap (λ (l : List ℕ). heard ++ l) none ∙ append-nil heard)) h
+    subst (λ (l : List ℕ). Heard IsTold cut l written now) (sym (ap (λ (l : List ℕ). heard ++ l) none ∙ append-nil heard)) h
 
 -- what was heard of a piece, and the rest of it
 pub halted_on : (heard front rest piece : List ℕ) → piece ≡ front ++ rest → (heard ++ front) ++ rest ≡ heard ++ piece
@@ -158,15 +157,14 @@ no_cut xs used e within u =
     (take_all _ xs l, drop_all used xs (omega arith))
 
 -- bytes came in which no line ends
-pub heard_more : (state later : State) (heard bytes front : List ℕ) (written now : Option (List ℕ)) → front ≡ bytes
-    → ((text : List ℕ) → StandsFor state.cut text → StandsFor later.cut (text ++ bytes))
-    → ((text : List ℕ) → Told state text written now → Told later text written now)
-    → Heard state heard written now → Heard later (heard ++ front) written now
-heard_more state later heard bytes front written now same fed keeps h = record {
+pub heard_more : (IsTold : Telling) (cut later : Cut) (heard bytes front : List ℕ) (written now : Option (List ℕ)) → front ≡ bytes
+    → ((text : List ℕ) → StandsFor cut text → StandsFor later (text ++ bytes))
+    → Heard IsTold cut heard written now → Heard IsTold later (heard ++ front) written now
+heard_more IsTold cut later heard bytes front written now same fed h = record {
   text = h.text;
   rest = h.rest ++ bytes;
   both = ap (λ (l : List ℕ). heard ++ l) same ∙ ap (λ (l : List ℕ). l ++ bytes) h.both ∙ append_assoc h.text h.rest bytes;
   ended = h.ended;
   stands = fed h.rest h.stands;
-  told = keeps h.text h.told;
+  told = h.told;
 }

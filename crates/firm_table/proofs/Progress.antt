@@ -1,28 +1,27 @@
 -- What the service keeps from line to line.
-use Rattle.std.proofs.Common.{◌≡◌, ℕ, ◌+◌, ◌≤◌, List, [], ◌∷◌, ◌++◌, take, length, refl, sym, ap, subst, ◌∙◌, append_assoc, append-nil, arith}
-use Rattle.std.specs.Prelude.{Bool, Option, map}
+use Rattle.std.proofs.Common.{◌≡◌, ℕ, ◌≤◌, List, [], ◌∷◌, ◌++◌, take, drop, length, refl, sym, ap, subst, ◌∙◌, append_assoc, append-nil, take-append-drop}
+use Rattle.std.specs.Prelude.{Bool, Option, Result, Ok, Err, OnOk, OnErr, map}
 use Rattle.std.specs.List.{flat_map}
-use Rattle.std.specs.Io.KnownBytes.{Appends, Keeps}
-use Rattle.std.proofs.KnownBytes.{Appends-nil, Appends-trans, Appends-kept}
-use Rattle.std.proofs.lemmas.List.{take-append-le, map-append}
+use Rattle.std.specs.Io.KnownBytes.{Appends}
+use Rattle.std.proofs.KnownBytes.{Appends-nil, Appends-trans}
+use Rattle.std.proofs.lemmas.List.{map-append}
 use Rattle.std.proofs.lemmas.Grind.{flat_map-append}
-use Rattle.std.proofs.Math.Seq.{take-append-add, take-length}
-use Rattle.firm_rules.specs.Book.{Book, opening_book}
+use Rattle.std.proofs.Math.Seq.{take-append_seam, take-length}
+use Rattle.firm_rules.specs.Book.{Book}
 use Rattle.firm_tenant.specs.Laws.{UnmarkedStepsAreGranted}
-use Rattle.firm_text.specs.Cutters.{Cut}
 use Rattle.firm_text.specs.Inputs.{input_lines}
 use Rattle.firm_text.specs.Rosters.{Admitted}
 use Rattle.firm_text.specs.declared.inputs.Line.{Line}
 use Rattle.firm_table.specs.Places.{MarkedLine, Place, opening_places, after_line, after_lines}
 use Rattle.firm_table.specs.Answers.{Answer, answer_of, tells_memory, text_of_answer}
 use Rattle.firm_table.specs.Output.{answers_from, answers_of, output_of, unmarked, AreLinesOf}
-use Rattle.firm_table.specs.Service.{Answers, BeginsAnswers}
-use Rattle.firm_table.specs.inner.Line.{State, IsAnswer, IsOpening}
-use Rattle.firm_table.specs.inner.Progress.{Told, Heard, Shows}
+use Rattle.firm_table.specs.Service.{Answers, BeginsAnswers, Device, UpToDate}
+use Rattle.firm_table.specs.inner.Adding.{NothingIsTold, OneMoreIsTold, FrontIsWritten, ToldBegins, AllIsWritten, OneMoreBegins}
+use Rattle.firm_table.specs.inner.Line.{State, state_is}
+use Rattle.firm_table.specs.inner.Progress.{Told, Shows}
 use Rattle.firm_table.proofs.Stays.{after_lines-append, answers_from-append}
 use Rattle.firm_table.proofs.Unmarked.{go_unmarked}
 use Rattle.firm_table.proofs.Books.{answer_is, shows_more, shows_opening}
-use Rattle.firm_table.proofs.Pieces.{ended_none}
 
 -- the output for these lines and more
 output_of-append : (roster : List Admitted) (lines more : List MarkedLine)
@@ -51,74 +50,26 @@ lines_more roster text after lines more are each marks = record {
 }
 
 -- no line was answered yet
-pub heard_begins : (roster : List Admitted) (state : State) (written : Option (List ℕ)) → IsOpening roster state → Heard state [] written written
-heard_begins roster state written opening = record {
-  text = [];
-  rest = [];
-  both = refl;
-  ended = ended_none;
-  stands = opening.cut;
-  told = record {
+pub nothing_told : NothingIsTold
+nothing_told roster written = (
+  record {
     lines = [];
     are_lines = record { each = refl; marks = refl };
-    shows =
-        subst (λ (books : List Book). Shows state.roster books (opening_places state.roster))
-        (ap (map (λ (tenant : Admitted). opening_book tenant.1)) opening.roster_is ∙ sym opening.books) (shows_opening state.roster);
+    shows = shows_opening roster;
     sent = [];
     wrote = Appends-nil written;
-    whole = opening.pending;
-  };
-}
+    whole = refl;
+  },
+  refl,
+)
 
-module _ (state : State) (text : List ℕ) (written now : Option (List ℕ)) (p : Told state text written now) where
-  -- what was told does not rest on the line that has begun
-  pub told_same : (cut : Cut) → Told (record state { cut = cut }) text written now
-  told_same cut = record { lines = p.lines; are_lines = p.are_lines; shows = p.shows; sent = p.sent; wrote = p.wrote; whole = p.whole }
-
-  -- what was to be written was
-  pub told_written : (held : List ℕ) (later : Option (List ℕ)) → Appends now later state.pending → held ≡ []
-      → Told (record state { pending = held }) text written later
-  told_written held later wrote empty = record {
-    lines = p.lines;
-    are_lines = p.are_lines;
-    shows = p.shows;
-    sent = p.sent ++ state.pending;
-    wrote = Appends-trans written now later p.sent state.pending p.wrote wrote;
-    whole = ap (λ (l : List ℕ). (p.sent ++ state.pending) ++ l) empty ∙ append-nil (p.sent ++ state.pending) ∙ p.whole;
-  }
-
-  -- some of it was
-  pub told_partly : (later : Option (List ℕ)) (count : ℕ) → Appends now later (take count state.pending) → BeginsAnswers state.roster text written later
-  told_partly later count wrote = record {
-    lines = p.lines;
-    are_lines = p.are_lines;
-    count = length p.sent + count;
-    wrote =
-        let cut_off : take (length p.sent + count) (output_of state.roster p.lines) ≡ p.sent ++ take count state.pending =
-        ap (take (length p.sent + count)) (sym p.whole) ∙ take-append-add p.sent state.pending count in
-        subst (Appends written later) (sym cut_off) (Appends-trans written now later p.sent (take count state.pending) p.wrote wrote);
-  }
-
-  -- nothing is to be written
-  pub told_answers : state.pending ≡ [] → Answers state.roster text written now
-  told_answers empty = record {
-    lines = p.lines;
-    are_lines = p.are_lines;
-    wrote = subst (Appends written now) (sym (append-nil p.sent) ∙ ap (λ (l : List ℕ). p.sent ++ l) (sym empty) ∙ p.whole) p.wrote;
-  }
-
-  pub told_begins : BeginsAnswers state.roster text written now
-  told_begins = told_partly now 0 (Appends-nil now)
-
-  -- one line was answered
-  pub told_more : (books : List Book) (pending after : List ℕ) (line : Line) → input_lines after ≡ input_lines text ++ line ∷ []
-      → IsAnswer state.roster state.books books line state.pending pending
-      → Told (record state { books = books; pending = pending }) after written now
-  told_more books pending after line more a =
-      let mark : Bool = tells_memory a.answer in
-      let given : MarkedLine = (line, mark) in
-      let places : List Place = after_lines (opening_places state.roster) p.lines in
-      let here : answer_of places given ≡ a.answer = answer_is state.roster state.books places line mark p.shows ∙ sym a.right in
+-- one line more was answered
+pub one_more : OneMoreIsTold
+one_more state text after written now books pending line p more a =
+    let mark : Bool = tells_memory a.answer in
+    let given : MarkedLine = (line, mark) in
+    let places : List Place = after_lines (opening_places state.roster) p.lines in
+    let here : answer_of places given ≡ a.answer = answer_is state.roster state.books places line mark p.shows ∙ sym a.right in (
       record {
         lines = p.lines ++ given ∷ [];
         are_lines = lines_more state.roster text after p.lines (given ∷ []) p.are_lines more (ap (λ (x : Answer). tells_memory x ∷ []) (sym here));
@@ -133,68 +84,81 @@ module _ (state : State) (text : List ℕ) (written now : Option (List ℕ)) (p 
             ∙ ap (λ (l : List ℕ). l ++ text_of_answer a.answer) p.whole
             ∙ ap (λ (l : List ℕ). output_of state.roster p.lines ++ l) (sym (append-nil (text_of_answer a.answer)) ∙ ap (λ (x : Answer). flat_map text_of_answer (x ∷ [])) (sym here))
             ∙ sym (output_of-append state.roster p.lines (given ∷ []));
-      }
+      },
+      refl,
+      answers_from-append (opening_places state.roster) p.lines (given ∷ [])
+          ∙ ap (λ (x : Answer). answers_of state.roster p.lines ++ x ∷ []) here,
+    )
 
-  -- the answer to one line more was not made
-  pub told_short : UnmarkedStepsAreGranted → (after : List ℕ) (line : Line) (later : Option (List ℕ)) (count : ℕ) → input_lines after ≡ input_lines text ++ line ∷ []
-      → count ≤ length state.pending → Appends now later (take count state.pending) → BeginsAnswers state.roster after written later
-  told_short granted after line later count more within wrote =
-      let others : List MarkedLine = unmarked line ∷ [] in
-      let places : List Place = after_lines (opening_places state.roster) p.lines in
-      let behind = flat_map text_of_answer (answers_from places others) in
-      record {
-        lines = p.lines ++ others;
-        are_lines = lines_more state.roster text after p.lines others p.are_lines more (sym (go_unmarked granted places (line ∷ [])));
-        count = length p.sent + count;
-        wrote =
-            let whole : output_of state.roster (p.lines ++ others) ≡ p.sent ++ (state.pending ++ behind) =
-            output_of-append state.roster p.lines others ∙ ap (λ (l : List ℕ). l ++ behind) (sym p.whole) ∙ append_assoc p.sent state.pending behind in
-            let cut_off : take (length p.sent + count) (output_of state.roster (p.lines ++ others)) ≡ p.sent ++ take count state.pending =
-            ap (take (length p.sent + count)) whole ∙ take-append-add p.sent (state.pending ++ behind) count
-            ∙ ap (λ (l : List ℕ). p.sent ++ l) (take-append-le count state.pending behind within) in
-            subst (Appends written later) (sym cut_off) (Appends-trans written now later p.sent (take count state.pending) p.wrote wrote);
-      }
-
-  pub told_short_all : UnmarkedStepsAreGranted → (after : List ℕ) (line : Line) (later : Option (List ℕ)) → input_lines after ≡ input_lines text ++ line ∷ []
-      → Appends now later state.pending → BeginsAnswers state.roster after written later
-  told_short_all granted after line later more wrote =
-      told_short granted after line later (length state.pending) more (omega arith) (subst (Appends now later) (sym (take-length state.pending)) wrote)
-
--- nothing was read, and nothing written
-pub nothing_written : (roster : List Admitted) (written : Option (List ℕ)) → BeginsAnswers roster [] written written
-nothing_written roster written = record {
-  lines = [];
-  are_lines = record { each = refl; marks = refl };
-  count = 0;
-  wrote = Appends-nil written;
+-- the front of what was to be written was
+pub front_written : FrontIsWritten
+front_written state text written now later front held p parts wrote = record {
+  lines = p.lines;
+  are_lines = p.are_lines;
+  shows = p.shows;
+  sent = p.sent ++ front;
+  wrote = Appends-trans written now later p.sent front p.wrote wrote;
+  whole = append_assoc p.sent front held ∙ ap (λ (l : List ℕ). p.sent ++ l) (sym parts) ∙ p.whole;
 }
 
--- all was written, and what came then wrote nothing
-pub all_written : (roster : List Admitted) (input : List ℕ) (written now later : Option (List ℕ))
-    → Answers roster input written now → Keeps now later → BeginsAnswers roster input written later
-all_written roster input written now later a kept = record {
-  lines = a.lines;
-  are_lines = a.are_lines;
-  count = length (output_of roster a.lines);
-  wrote = subst (Appends written later) (sym (take-length (output_of roster a.lines))) (Appends-kept written now later _ a.wrote kept);
+-- what was sent begins what follows it
+begins_with : (roster : List Admitted) (text : List ℕ) (written now : Option (List ℕ)) (lines : List MarkedLine) (sent rest : List ℕ)
+    → AreLinesOf roster text lines → Appends written now sent → output_of roster lines ≡ sent ++ rest → BeginsAnswers roster text written now
+begins_with roster text written now lines sent rest are wrote whole = record {
+  lines = lines;
+  are_lines = are;
+  count = length sent;
+  wrote = subst (Appends written now) (sym (ap (take (length sent)) whole ∙ take-append_seam sent rest)) wrote;
 }
 
-pub answers_kept : (roster : List Admitted) (input : List ℕ) (written now later : Option (List ℕ))
-    → Answers roster input written now → Keeps now later → Answers roster input written later
-answers_kept roster input written now later a kept = record {
-  lines = a.lines;
-  are_lines = a.are_lines;
-  wrote = Appends-kept written now later _ a.wrote kept;
+pub told_begins : ToldBegins
+told_begins state text written now p = begins_with state.roster text written now p.lines p.sent state.pending p.are_lines p.wrote (sym p.whole)
+
+-- nothing is to be written
+pub all_is_written : AllIsWritten
+all_is_written state text written now p empty = record {
+  lines = p.lines;
+  are_lines = p.are_lines;
+  wrote = subst (Appends written now) (sym (append-nil p.sent) ∙ ap (λ (l : List ℕ). p.sent ++ l) (sym empty) ∙ p.whole) p.wrote;
 }
 
--- what was to be written was, and more may be heard
-pub heard_written : (state : State) (heard : List ℕ) (written now : Option (List ℕ)) → Heard state heard written now
-    → (held : List ℕ) (later : Option (List ℕ)) → Appends now later state.pending → held ≡ [] → Heard (record state { pending = held }) heard written later
-heard_written state heard written now h held later wrote empty = record {
-  text = h.text;
-  rest = h.rest;
-  both = h.both;
-  ended = h.ended;
-  stands = h.stands;
-  told = told_written state h.text written now h.told held later wrote empty;
+-- the answer to one line more was not made
+pub one_more_begins : UnmarkedStepsAreGranted → OneMoreBegins
+one_more_begins granted state text after written now line p more =
+    let others : List MarkedLine = unmarked line ∷ [] in
+    let places : List Place = after_lines (opening_places state.roster) p.lines in
+    let behind = flat_map text_of_answer (answers_from places others) in
+    begins_with state.roster after written now (p.lines ++ others) p.sent (state.pending ++ behind)
+    (lines_more state.roster text after p.lines others p.are_lines more (sym (go_unmarked granted places (line ∷ []))))
+    p.wrote
+    (output_of-append state.roster p.lines others ∙ ap (λ (l : List ℕ). l ++ behind) (sym p.whole) ∙ append_assoc p.sent state.pending behind)
+
+-- all that was to be written was
+pub all_written_now : (state : State) (text held : List ℕ) (written now later : Option (List ℕ)) → Told state text written now → Appends now later state.pending
+    → held ≡ [] → Told (state_is state.roster state.books held) text written later
+all_written_now state text held written now later p wrote empty =
+    front_written state text written now later state.pending held p (sym (append-nil state.pending) ∙ ap (λ (l : List ℕ). state.pending ++ l) (sym empty)) wrote
+
+-- some of it was
+pub partly_written : (state : State) (text : List ℕ) (written now later : Option (List ℕ)) (count : ℕ) → Told state text written now
+    → Appends now later (take count state.pending) → Told (state_is state.roster state.books (drop count state.pending)) text written later
+partly_written state text written now later count p wrote =
+    front_written state text written now later (take count state.pending) (drop count state.pending) p (sym (take-append-drop count state.pending)) wrote
+
+-- so much of it was, whether the call went well or not
+pub so_much_written : {T E : Type 0} (r : Result T E) (now later : Option (List ℕ)) (pending : List ℕ) → OnOk r (Appends now later pending)
+    → OnErr r ((count : ℕ) × (count ≤ length pending) × Appends now later (take count pending)) → (count : ℕ) × Appends now later (take count pending)
+so_much_written (Ok x) now later pending all part = (length pending, subst (Appends now later) (sym (take-length pending)) all)
+so_much_written (Err e) now later pending all part = (part.0, part.2)
+
+-- what was told of lines is the output for them, where nothing is to be written
+pub answers_up_to_date : (roster : List Admitted) (state : State) (reader writer : Device) → state.roster ≡ roster → state.pending ≡ []
+    → UpToDate (Told state) reader writer → UpToDate (Answers roster) reader writer
+answers_up_to_date roster state reader writer same empty u = record {
+  lines = u.lines;
+  rest = u.rest;
+  read = u.read;
+  whole = u.whole;
+  in_line = u.in_line;
+  told = subst (λ (r : List Admitted). Answers r u.lines writer.before writer.after) same (all_is_written state u.lines writer.before writer.after u.told empty);
 }

@@ -2,12 +2,11 @@
 use Rattle.std.proofs.Common.{◌≡◌, ℕ, ◌≤◌, List, [], ◌++◌, length, refl, sym, subst, append-nil, inl, inr}
 use Rattle.std.specs.Prelude.{Bool, false, Option, Result, Ok, Err, OnOk, OnErr, IfErr}
 use Rattle.std.specs.Io.KnownBytes.{Consumes, IsAtEnd}
-use Rattle.std.specs.List.{list_any}
-use Rattle.firm_text.specs.Lines.{is_line_feed}
+use Rattle.firm_text.specs.Cutters.{Cut}
 use Rattle.firm_text.specs.Rosters.{Admitted}
-use Rattle.firm_table.specs.Service.{Answers, BeginsAnswers, Served, Stopped, IsCause, device}
+use Rattle.firm_table.specs.Service.{Answers, BeginsAnswers, Served, Stopped, IsCause, Telling, device}
 use Rattle.firm_table.specs.inner.Faults.{IsWritingFault}
-use Rattle.firm_table.specs.inner.Progress.{Halted}
+use Rattle.firm_table.specs.inner.Reading.{Heard, Halted}
 use Rattle.firm_table.specs.declared.faults.ServeFault.{ServeFault}
 use Rattle.firm_table.specs.declared.faults.ServeFault.TheVariants.{Read, Write, TooLong, Memory}
 
@@ -20,6 +19,11 @@ pub both_err : {T E : Type 0} (r : Result T E) (P : Type 0) (Q S : E → Type 0)
 both_err (Ok x) P Q S p q f = tt
 both_err (Err e) P Q S p q f = f p e q
 
+-- what follows from a fault's fact
+pub err_weaker : {T E : Type 0} (r : Result T E) (P Q : E → Type 0) → ((e : E) → P e → Q e) → IfErr r P → IfErr r Q
+err_weaker (Ok x) P Q f p = tt
+err_weaker (Err e) P Q f p = f e p
+
 -- the cause of a fault where no read failed
 pub cause_writing : (fault : ServeFault) (input : List ℕ) (most : ℕ) (read_failed write_failed : Bool) → read_failed ≡ false
     → IsWritingFault fault write_failed → IsCause fault input most read_failed write_failed
@@ -28,32 +32,29 @@ cause_writing Write input most read_failed write_failed well p = (well, p)
 cause_writing TooLong input most read_failed write_failed well p = absurd p
 cause_writing Memory input most read_failed write_failed well p = (well, p)
 
--- all that can be answered was, and is written
-pub record HaltedInFull (roster : List Admitted) (heard : List ℕ) (written now : Option (List ℕ)) : Type 0 where
-  pub halted : Halted roster heard written now
-  pub in_line : list_any is_line_feed halted.rest ≡ false
-  pub answers : Answers roster halted.answered written now
-
--- the fault of a service that writes is no read's
-pub not_reading : (fault : ServeFault) (write_failed : Bool) → IsWritingFault fault write_failed → fault ≡ Read → ⊥
-not_reading Read write_failed p e = p
-not_reading Write write_failed p e = cc
-not_reading TooLong write_failed p e = p
-not_reading Memory write_failed p e = cc
+-- what is said of each text after a call holds of what was heard
+pub heard_told : (IsTold Later : Telling) (cut : Cut) (heard : List ℕ) (written now later : Option (List ℕ)) → Heard IsTold cut heard written now
+    → ((text : List ℕ) (before : Option (List ℕ)) → IsTold text before now → Later text before later) → Heard Later cut heard written later
+heard_told IsTold Later cut heard written now later h told = record {
+  text = h.text;
+  rest = h.rest;
+  both = h.both;
+  ended = h.ended;
+  stands = h.stands;
+  told = told h.text written h.told;
+}
 
 module _ (roster : List Admitted) (most : ℕ) (left left_after written now : Option (List ℕ)) (read_failed write_failed : Bool) (heard : List ℕ) where
   -- between two lines, or at a line that was cut off
   pub stopped_within : (fault : ServeFault) → Consumes left left_after heard → (h : Halted roster heard written now) → IsCause fault heard most read_failed write_failed
-      → (fault ≡ Read → (list_any is_line_feed h.rest ≡ false) × Answers roster h.answered written now)
       → Stopped roster most (device left left_after read_failed) (device written now write_failed) fault
-  stopped_within fault read h cause in_full = record {
+  stopped_within fault read h cause = record {
     answered = h.answered;
     rest = h.rest;
     read = subst (Consumes left left_after) h.both read;
     whole = inl h.ends;
     cause = subst (λ (l : List ℕ). IsCause fault l most read_failed write_failed) h.both cause;
     begins = h.begins;
-    in_full = in_full;
   }
 
   -- behind the end of the input
@@ -66,7 +67,6 @@ module _ (roster : List Admitted) (most : ℕ) (left left_after written now : Op
     whole = inr (refl, at_end, well);
     cause = cause_writing fault (heard ++ []) most read_failed write_failed well cause;
     begins = begins;
-    in_full = λ reading. absurd (not_reading fault write_failed cause reading);
   }
 
   pub served : Consumes left left_after heard → IsAtEnd left_after → length heard ≤ most → Answers roster heard written now → read_failed ≡ false

@@ -2,7 +2,7 @@
 use Rattle.std.specs.Prelude.{◌≡◌, ℕ, ◌≤◌, ◌<◌, ◌⊎◌, Bool, true, false, List, [], ◌++◌, Option, length, take}
 use Rattle.std.specs.List.{list_any}
 use Rattle.std.specs.Io.{IsEmptyOrEndsWith}
-use Rattle.std.specs.Io.KnownBytes.{Appends, Consumes, IsAtEnd}
+use Rattle.std.specs.Io.KnownBytes.{Appends, Consumes, IsAtEnd, Keeps}
 use Rattle.firm_table.specs.Places.{MarkedLine}
 use Rattle.firm_table.specs.Output.{output_of, AreLinesOf}
 use Rattle.firm_text.specs.Lines.{is_line_feed}
@@ -56,8 +56,7 @@ IsCause Memory input most read_failed write_failed = (read_failed ≡ false) × 
 abbrev pub AreWholeLines : List ℕ → List ℕ → Device → Type 0
 AreWholeLines lines rest reader = IsEmptyOrEndsWith lines 10 ⊎ ((rest ≡ []) × IsAtEnd reader.after × (reader.failed ≡ false))
 
--- whole lines and a rest were read, and what was written is a prefix of the output for those lines; the fault has its cause. A read that
--- fails finds the whole output for them written, and no line feed in the rest: before each read every answer that can be given is
+-- whole lines and a rest were read, and what was written is a prefix of the output for those lines; the fault has its cause
 pub record Stopped (roster : List Admitted) (most : ℕ) (reader writer : Device) (fault : ServeFault) : Type 0 where
   pub answered : List ℕ
   pub rest : List ℕ
@@ -65,4 +64,30 @@ pub record Stopped (roster : List Admitted) (most : ℕ) (reader writer : Device
   pub whole : AreWholeLines answered rest reader
   pub cause : IsCause fault (answered ++ rest) most reader.failed writer.failed
   pub begins : BeginsAnswers roster answered writer.before writer.after
-  pub in_full : fault ≡ Read → (list_any is_line_feed rest ≡ false) × Answers roster answered writer.before writer.after
+
+-- what is said of a text that was read, of what was written before it and of what was written after it
+abbrev pub Telling : Type 1
+Telling = List ℕ → Option (List ℕ) → Option (List ℕ) → Type 0
+
+-- this is said of lines that were read whole; no line feed was read behind them
+pub record UpToDate (IsTold : Telling) (reader writer : Device) : Type 0 where
+  pub lines : List ℕ
+  pub rest : List ℕ
+  pub read : Consumes reader.before reader.after (lines ++ rest)
+  pub whole : IsEmptyOrEndsWith lines 10
+  pub in_line : list_any is_line_feed rest ≡ false
+  pub told : IsTold lines writer.before writer.after
+
+-- this was said of a text, and the writer kept what was written until then
+pub record WasTold (IsTold : Telling) (text : List ℕ) (written now : Option (List ℕ)) : Type 0 where
+  pub until : Option (List ℕ)
+  pub told : IsTold text written until
+  pub kept : Keeps until now
+
+-- this was said of all that was read, at most so many bytes, which is all that was left
+pub record ToldToTheEnd (IsTold : Telling) (most : ℕ) (reader writer : Device) : Type 0 where
+  pub input : List ℕ
+  pub read : Consumes reader.before reader.after input
+  pub at_end : IsAtEnd reader.after
+  pub within : length input ≤ most
+  pub told : WasTold IsTold input writer.before writer.after

@@ -1,15 +1,19 @@
 //! What each tenant of the service may rely on, whatever the others are told.
 
-ghost use Rattle.firm_table.specs.Isolation.{AnswersLineByLine, RepliesAreAlone, StaysAreIsolated, StaysAreServedAlone, StaysHoldTheirLines, TenantsAreIsolated, NeedsNoMarks, MayGoUnmarked};
+ghost use Rattle.firm_table.specs.Isolation.{AnswersLineByLine, RepliesAreAlone, StaysAreIsolated};
+ghost use Rattle.firm_table.specs.Isolation.{StaysAreServedAlone, StaysHoldTheirLines, TenantsAreIsolated};
+ghost use Rattle.firm_table.specs.Isolation.{NeedsNoMarks, MayGoUnmarked};
 ghost use Rattle.firm_table.specs.Histories.{EventsKeepAlone, EventsAreIsolated};
+ghost use Rattle.firm_table.specs.inner.Adding.{NothingIsTold, OneMoreIsTold, FrontIsWritten, ToldBegins};
+ghost use Rattle.firm_table.specs.inner.Adding.{AllIsWritten, OneMoreBegins, TenantsAreAnswered, StrangersAreAnswered};
 
 use firm_tenant::{replies_tell_their_marks, unmarked_steps_are_granted};
 
-/// The laws on the service's answers: they come line by line; each tenant gets the replies of a service that holds this tenant
-/// alone and is given its commands alone, whatever else stands in the roster and in the input; and where memory is refused to
-/// no line, the output is a function of the roster and of the bytes read. For every list of the table's events, a tenant's replies
-/// are the first ones of a tenant alone to the same commands, all of them where it is home; and tenants that agree so far have
-/// got the same replies so far, whatever events of others stand between.
+/// The laws on the service's answers: they come line by line; each tenant gets the replies of a service that holds this
+/// tenant alone and is given its commands alone, whatever else stands in the roster and in the input; and where memory
+/// is refused to no line, the output is a function of the roster and of the bytes read. For every list of the table's
+/// events, a tenant's replies are the first ones of a tenant alone to the same commands, all of them where it is home;
+/// and tenants that agree so far have got the same replies so far, whatever events of others stand between.
 pub fn isolation()
     ensures line_by_line { AnswersLineByLine }
     ensures alone { RepliesAreAlone }
@@ -24,4 +28,19 @@ pub fn isolation()
 {
     unmarked_steps_are_granted();
     replies_tell_their_marks();
+}
+
+/// The laws by which a clerk's answers add up to the output: where what it told is right so far, it is right after one
+/// line more that is answered as the tenants' books say, and after a part of what it holds was written.
+pub fn answers_add_up()
+    ensures opening { NothingIsTold }
+    ensures one_more { OneMoreIsTold }
+    ensures written { FrontIsWritten }
+    ensures begins { ToldBegins }
+    ensures answers { AllIsWritten }
+    ensures short { OneMoreBegins }
+    ensures known { TenantsAreAnswered }
+    ensures unknown { StrangersAreAnswered }
+{
+    unmarked_steps_are_granted();
 }

@@ -1,19 +1,23 @@
 //! The service's tenants as one table, and what it answers.
 #![tactic(auto)]
 
+mod clerk;
 mod devices;
 mod events;
 mod faults;
 mod laws;
+mod reading;
 mod seats;
 mod serving;
 mod table;
 mod tenants;
 
+pub use clerk::Clerk;
 pub use devices::write_all;
 pub use events::{Answer, Event};
 pub use faults::ServeFault;
-pub use laws::isolation;
+pub use laws::{answers_add_up, isolation};
+pub use reading::serve_lines;
 pub use serving::serve_one;
 pub use table::Table;
 

@@ -1,5 +1,6 @@
 //! Laws of a tenant's steps, each the contract of a function that does nothing.
-ghost use Rattle.firm_tenant.specs.Laws.{UnmarkedStepsAreGranted, RepliesTellTheirMarks, OneMoreCommandAddsOneStep, StepsCountOnce};
+ghost use Rattle.firm_tenant.specs.Laws.{UnmarkedStepsAreGranted, RepliesTellTheirMarks, OneMoreCommandAddsOneStep};
+ghost use Rattle.firm_tenant.specs.Laws.{StepsCountOnce};
 
 /// A step without a mark is never refused for lack of memory.
 pub fn unmarked_steps_are_granted()

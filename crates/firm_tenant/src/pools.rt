@@ -37,11 +37,13 @@ impl Model for Pool {
 
     ghost view = { λ p. record { rows = p.graph.rows; costs = p.costs.items; asked = p.graph.asked } };
 
-    ghost invariant = { λ p. (p.costs.capacity ≡ 8) × IsMadeFor p.prices.limits p.graph.rows.limits × IsMadeFor p.scratch.limits p.graph.rows.limits };
+    ghost invariant = { λ p. (p.costs.capacity ≡ 8) × IsMadeFor p.prices.limits p.graph.rows.limits
+        × IsMadeFor p.scratch.limits p.graph.rows.limits };
 }
 
 impl Pool {
-    /// The pool of a tenant that has nothing yet, with all the memory of its net. The error comes only where memory is refused.
+    /// The pool of a tenant that has nothing yet, with all the memory of its net. The error comes only where memory is
+    /// refused.
     pub(crate) fn open(alloc: Global, limits: Limits) -> Result<Pool, AllocError>
         ensures { IfOk result (λ pool. pool ≡ record { rows = opening_rows limits; costs = []; asked = 0 }) }
     {
@@ -61,6 +63,13 @@ impl Pool {
         ensures { result.now ≡ self.now.rows }
     {
         self.graph.rows()
+    }
+
+    /// The workspace of the rounds.
+    pub(crate) fn scratch(&self) -> &Scratch
+        ensures { result.now.limits ≡ (self.now.rows.limits.nodes, self.now.rows.limits.arcs) }
+    {
+        &self.scratch
     }
 
     /// Carries out a command that was counted already, and says what came of it.

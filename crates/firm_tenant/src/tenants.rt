@@ -4,11 +4,13 @@ ghost use Rattle.firm_rules.specs.Book.{opening_book};
 ghost use Rattle.firm_tenant.specs.Step.{step, is_memory};
 
 use crate::pools::Pool;
+use firm_paths::Scratch;
 use firm_rules::{Command, Limits, Outcome, Refusal, Reply, Rows};
 use std::alloc::{AllocError, Global};
 use std::marker::Model;
 
-/// A tenant: its pool of machines with its jobs and tasks, the costs of its last rounds, and how many commands it was given.
+/// A tenant: its pool of machines with its jobs and tasks, the costs of its last rounds, and how many commands it was
+/// given.
 #[derive(Drop)]
 pub struct Tenant {
     pool: Pool,
@@ -28,7 +30,8 @@ impl Model for Tenant {
 }
 
 impl Tenant {
-    /// A tenant with these limits that has nothing yet and was given no command. The error comes only where memory is refused.
+    /// A tenant with these limits that has nothing yet and was given no command. The error comes only where memory is
+    /// refused.
     pub fn admit(alloc: Global, limits: Limits) -> Result<Tenant, AllocError>
         ensures { IfOk result (λ tenant. tenant ≡ opening_book limits) }
     {
@@ -38,8 +41,8 @@ impl Tenant {
         })
     }
 
-    /// Answers a command. A growth that is refused for lack of memory is answered as such, and only the count of commands
-    /// grows. The allocator is for the list in a reply.
+    /// Answers a command. A growth that is refused for lack of memory is answered as such, and only the count of
+    /// commands grows. The allocator is for the list in a reply.
     pub fn step(&mut self, alloc: Global, command: Command) -> Reply
         ensures { (result, self.new) ≡ step self.old command (is_memory result) }
     {
@@ -85,6 +88,14 @@ impl Tenant {
         ensures { result ≡ self.now.rows.limits }
     {
         self.pool.rows().limits()
+    }
+
+    /// The workspace of the tenant's rounds, for a net of the tenant's limits. It counts the searches and looks of the
+    /// last round.
+    pub fn scratch(&self) -> &Scratch
+        ensures { result.now.limits ≡ (self.now.rows.limits.nodes, self.now.rows.limits.arcs) }
+    {
+        self.pool.scratch()
     }
 
     /// The tenant's machines, jobs and tasks.

@@ -1,4 +1,5 @@
 mod Examples
+mod RegisterExamples
 pub mod Cuts
 pub mod Cutting
 pub mod Digits
@@ -7,3 +8,4 @@ pub mod Csv
 pub mod Fields
 pub mod Differ
 pub mod Judged
+pub mod Places

@@ -1,21 +1,22 @@
-ghost use Rattle.std.specs.Prelude.{◌≡◌};
+ghost use Rattle.std.specs.Prelude.{◌≡◌, IfSome};
 
 use super::*;
-use firm_rules::{Command, Limits, Outcome, Refusal, Reply};
+use firm_rules::{Command, Limits, Outcome, Refusal};
 use firm_tenant::Tenant;
 use std::alloc::Global;
-use std::process::Abort;
 use std::sync::Wait;
 use std::test::*;
 use std::thread;
 use std::thread::Threads;
 
-// A tenant that has nothing, and answers one command.
-fn admitted(rt: &impl Abort, alloc: Global) -> Result<Tenant, Fail> {
-    let Some(limits) = Limits::check(2, 0, 1, 0, 0) else {
-        panic!(rt; "limits within their ranges")
-    };
-    Ok(Tenant::admit(alloc, limits)?)
+// A tenant that has nothing and answers one command, and the two sides of a tray for its round. None for want of memory.
+fn opened(alloc: Global) -> Option<(Tenant, AskSide, AnswerSide)>
+    ensures { IfSome result (λ opened. opened.2.book ≡ opened.0) }
+{
+    let limits = Limits::check(2, 0, 1, 0, 0)?;
+    let tenant = Tenant::admit(alloc, limits).ok()?;
+    let (ask, answer) = Tray::open(alloc, &tenant).ok()?;
+    Some((tenant, ask, answer))
 }
 
 // Solves the round and answers its tray.
@@ -26,55 +27,73 @@ fn solve(alloc: Global, mut tenant: Tenant, side: AnswerSide) -> Spent
     side.answer(Solved { tenant, reply })
 }
 
-fn is_first_round(reply: &Reply) -> bool {
-    reply.number == 1 && reply.outcome != Outcome::Refused(Refusal::Worn)
+fn is_first_round(solved: &Solved) -> bool {
+    let worn = Outcome::Refused(Refusal::Worn);
+    solved.reply.number == 1 && solved.reply.outcome != worn && solved.tenant.life_left() == 0
+}
+
+// The side again, where its round was not answered yet.
+fn unanswered(side: AskSide) -> Option<AskSide> {
+    match side.poll() {
+        Polled::Not(same) => Some(same),
+        Polled::Back(_solved) => None,
+    }
+}
+
+fn is_back(side: AskSide) -> bool {
+    match side.poll() {
+        Polled::Not(_side) => false,
+        Polled::Back(solved) => is_first_round(&solved),
+    }
+}
+
+fn comes<R: Wait>(rt: &R, side: AskSide) -> bool {
+    is_first_round(&side.wait(rt))
+}
+
+// Whether a look finds nothing before the answer, and the round after it.
+fn is_back_once_answered(alloc: Global) -> Option<bool> {
+    let (tenant, ask, answer) = opened(alloc)?;
+    let ask = unanswered(ask)?;
+    let _spent = solve(alloc, tenant, answer);
+    Some(is_back(ask))
 }
 
 #[test]
-fn a_tenant_is_back_once_its_round_is_answered(rt: HostRuntime) -> Result<(), Fail> {
-    let tenant = admitted(&rt, rt.alloc())?;
-    let (ask, answer) = Tray::open(rt.alloc(), &tenant)?;
-    let Polled::Not(ask) = ask.poll() else {
-        panic!(rt; "nothing was answered yet")
-    };
-    let _spent = solve(rt.alloc(), tenant, answer);
-    let Polled::Back(solved) = ask.poll() else {
-        panic!(rt; "the round was answered")
-    };
-    assert!(rt; is_first_round(&solved.reply) && solved.tenant.life_left() == 0);
-    Ok(())
+fn a_tenant_is_back_once_its_round_is_answered(rt: HostRuntime) {
+    assert!(rt; is_back_once_answered(rt.alloc()) == Some(true));
 }
 
-#[test]
-fn a_tenant_that_is_not_asked_back_is_dropped_once(rt: HostRuntime) -> Result<(), Fail> {
-    let tenant = admitted(&rt, rt.alloc())?;
-    let (ask, answer) = Tray::open(rt.alloc(), &tenant)?;
+// Solves a round that nobody asks back.
+fn solve_for_nobody(alloc: Global) -> Option<Spent> {
+    let (tenant, ask, answer) = opened(alloc)?;
     drop(ask);
-    let _spent = solve(rt.alloc(), tenant, answer);
-    Ok(())
+    Some(solve(alloc, tenant, answer))
+}
+
+#[test]
+fn a_tenant_that_is_not_asked_back_is_dropped_once(rt: HostRuntime) {
+    assert!(rt; solve_for_nobody(rt.alloc()).is_some());
 }
 
 // Whether the round that another thread solves comes back.
-fn comes_back<R: Threads + Wait>(rt: &R, alloc: Global) -> Result<bool, &'static str> {
-    let limits = Limits::check(2, 0, 1, 0, 0).ok_or("limits within their ranges")?;
-    let tenant = Tenant::admit(alloc, limits).map_err(|_| "memory")?;
-    let (ask, answer) = Tray::open(alloc, &tenant).map_err(|_| "memory")?;
+fn comes_back<R: Threads + Wait>(rt: &R, alloc: Global) -> Option<bool> {
+    let (tenant, ask, answer) = opened(alloc)?;
     let worker = thread::spawn(
         rt,
         move || -> Spent
             requires { answer.book ≡ tenant }
         { solve(alloc, tenant, answer) },
     );
-    let worker = worker.map_err(|_| "a thread")?;
-    let Solved { tenant, reply } = ask.wait(rt);
+    let worker = worker.ok()?;
+    let is_back = comes(rt, ask);
     let _spent = worker.join(rt);
-    Ok(is_first_round(&reply) && tenant.life_left() == 0)
+    Some(is_back)
 }
 
 #[test]
-fn rounds_come_back_from_another_thread_a_thousand_times(rt: HostRuntime) -> Result<(), Fail> {
+fn rounds_come_back_from_another_thread_a_thousand_times(rt: HostRuntime) {
     for _ in 0..1000 {
-        assert!(rt; comes_back(&rt, rt.alloc())?);
+        assert!(rt; comes_back(&rt, rt.alloc()) == Some(true));
     }
-    Ok(())
 }

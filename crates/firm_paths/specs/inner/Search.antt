@@ -112,25 +112,11 @@ IsFollowed ms way row =
     settled ms (start_of way row).id.place ≡ true → IsOpen way row
     → (known ms (end_of way row).id.place ≡ true) × IsNotNegative way (label ms) row
 
-abbrev pub AllFollowed : Net → List NodeState → Type 0
-AllFollowed net ms = (way : Way) (id : ArcId) (row : Row) → row_at net id ≡ Some row → IsFollowed ms way row
-
--- those out of all settled nodes that lie nearer than `distance`
+-- so are those out of all settled nodes that lie nearer than `distance`
 abbrev pub NearFollowed : Net → (ℕ → ℕ) → List NodeState → ℕ → Type 0
 NearFollowed net price ms distance =
     (way : Way) (id : ArcId) (row : Row) → row_at net id ≡ Some row
     → label ms (start_of way row).id.place < price (start_of way row).id.place + distance → IsFollowed ms way row
-
--- those out of all nodes but `u`
-abbrev pub OthersFollowed : Net → List NodeState → ℕ → Type 0
-OthersFollowed net ms u =
-    (way : Way) (id : ArcId) (row : Row) → row_at net id ≡ Some row → ((start_of way row).id.place ≡ u → ⊥)
-    → IsFollowed ms way row
-
--- those out of `u`, read in one way
-abbrev pub NodeFollowed : Net → List NodeState → ℕ → Way → Type 0
-NodeFollowed net ms u way =
-    (id : ArcId) (row : Row) → row_at net id ≡ Some row → (start_of way row).id.place ≡ u → IsFollowed ms way row
 
 -- labels only fall, those of settled nodes stay, and what was reached stays so
 pub record IsLowered (old new : List NodeState) : Type 0 where
@@ -163,7 +149,7 @@ AllEnough way net u value =
 -- where the search stands, the node is settled, its label leaves room for an arc, and suffices for each step back
 pub record IsReady (net : Net) (current : Current) (ms : List NodeState) : Type 0 where
   pub settled_here : settled ms current.place ≡ true
-  pub room : label ms current.place + 3000001 < 2 ^ 64
+  pub room : label ms current.place + 3000001 < 2 ^ 63
   pub enough : (way : Way) → AllEnough way net current.place (label ms current.place)
 
 -- of the places below `n` whose nodes are known and not settled, `u` lies nearest
@@ -192,20 +178,6 @@ abbrev pub Looks : Net → Current → Way → Row → List NodeState → List N
 Looks net current way row old new =
     (price : ℕ → ℕ) (from : ℕ) (vs : List Visit) (near top : ℕ) → AreValid (arcs_of net) price
     → IsAt net price from vs near top current old → IsAt net price from vs near top current new × IsFollowed new way row
-
--- the same of all rows that leave the node in one way
-abbrev pub LooksAll : Net → Current → Way → List NodeState → List NodeState → Type 0
-LooksAll net current way old new =
-    (price : ℕ → ℕ) (from : ℕ) (vs : List Visit) (near top : ℕ) → AreValid (arcs_of net) price
-    → IsAt net price from vs near top current old
-    → IsAt net price from vs near top current new × NodeFollowed net new current.place way
-
--- the looks along all arcs that leave the node in either way
-abbrev pub LooksBoth : Net → Current → List NodeState → List NodeState → Type 0
-LooksBoth net current old new =
-    (price : ℕ → ℕ) (from : ℕ) (vs : List Visit) (near top : ℕ) → AreValid (arcs_of net) price
-    → IsAt net price from vs near top current old
-    → IsAt net price from vs near top current new × ((way : Way) → NodeFollowed net new current.place way)
 
 -- the goal is the nearest open node, it was visited last, and all that was settled was followed
 pub record IsReached (net : Net) (price : ℕ → ℕ) (from goal : ℕ) (ms : List NodeState) (vs : List Visit)

@@ -4,7 +4,6 @@ use Rattle.firm_rules.specs.Book.{Book, opening_book}
 use Rattle.firm_rules.specs.declared.commands.Command.{Command}
 use Rattle.firm_rules.specs.declared.replies.Reply.{Reply}
 use Rattle.firm_tenant.specs.Step.{step, is_memory}
-use Rattle.firm_text.specs.Cutters.{Cut, StandsFor}
 use Rattle.firm_text.specs.Rosters.{Admitted}
 use Rattle.firm_text.specs.declared.inputs.Line.{Line}
 use Rattle.firm_text.specs.declared.inputs.Line.TheVariants.{Nothing, Long, Nameless, For}
@@ -12,23 +11,23 @@ use Rattle.firm_table.specs.Answers.{Answer, silent, too_long, unknown_tenant, r
 use Rattle.firm_text.specs.Replies.{text_of_reply}
 use Rattle.firm_table.specs.declared.serving.Service.{Service}
 
--- a service in the middle of its input: the roster, the tenants' books, what is still to be written, and the line that has begun
+-- a service between two lines: the roster, the tenants' books, and what is still to be written
 pub record State : Type 0 where
   pub roster : List Admitted
   pub books : List Book
   pub pending : List ℕ
-  pub cut : Cut
+
+-- the state of these parts
+abbrev pub state_is : List Admitted → List Book → List ℕ → State
+state_is roster books pending = record { roster = roster; books = books; pending = pending }
+
+-- the books of the tenants of this roster before the first line
+abbrev pub opening_books : List Admitted → List Book
+opening_books roster = map (λ tenant. opening_book tenant.1) roster
 
 -- the state of the struct that serves
 abbrev pub state_of : Service → State
-state_of service = record { roster = service.roster.now; books = service.tenants.items; pending = service.output.items; cut = service.cutter }
-
--- the tenants of the roster have their opening books, and nothing was read
-pub record IsOpening (roster : List Admitted) (state : State) : Type 0 where
-  pub roster_is : state.roster ≡ roster
-  pub books : state.books ≡ map (λ tenant. opening_book tenant.1) roster
-  pub pending : state.pending ≡ []
-  pub cut : StandsFor state.cut []
+state_of service = state_is service.roster.now service.tenants.items service.output.items
 
 -- the book of the tenant of this name
 abbrev pub book_among : List Admitted → List Book → List ℕ → Option Book

@@ -1,47 +1,49 @@
 //! Input that comes in pieces.
+ghost use Rattle.std.specs.Prelude.{◌≡◌, false};
+
 use crate::{Cutter, Fed, Line, line};
+use std::process::Abort;
 
 const SPACES: &[u8] = &[b' '; 250];
 
 const LONG: &[u8] = &[b'x'; 600];
 
+fn expect_fed(rt: &impl Abort, cutter: &mut Cutter, piece: &[u8], used: usize, ended: bool)
+    requires { cutter.old.has_ended ≡ false }
+    ensures { cutter.new.has_ended ≡ ended }
+{
+    let fed = cutter.feed(piece);
+    assert_eq!(rt; fed.used, used);
+    assert_eq!(rt; fed.ended, ended);
+}
+
+fn expect_rest(rt: &impl Abort, cutter: &Cutter, wanted: bool) {
+    assert_eq!(rt; cutter.rest(), wanted);
+}
+
+fn expect_taken(rt: &impl Abort, cutter: &mut Cutter, wanted: Line)
+    ensures { cutter.new.has_ended ≡ false }
+{
+    assert_eq!(rt; cutter.take(), wanted);
+}
+
+/// The line of these bytes, of which a proof knows nothing.
+fn whole(bytes: &[u8]) -> Line {
+    line(bytes)
+}
+
 #[test]
 fn a_piece_is_taken_up_to_its_first_line_feed(rt: HostRuntime) {
     let mut cutter = Cutter::new();
-    assert_eq!(rt; cutter.rest(), false);
-    assert_eq!(rt;
-        cutter.feed(b"a sh"),
-        Fed {
-            used: 4,
-            ended: false
-        }
-    );
-    assert_eq!(rt; cutter.rest(), true);
-    let fed = cutter.feed(b"ow\na show\n");
-    assert_eq!(rt;
-        fed,
-        Fed {
-            used: 3,
-            ended: true
-        }
-    );
-    assert_eq!(rt; cutter.take(), line(b"a show"));
-    assert_eq!(rt; cutter.rest(), false);
-    assert_eq!(rt;
-        cutter.feed(b""),
-        Fed {
-            used: 0,
-            ended: false
-        }
-    );
-    assert_eq!(rt;
-        cutter.feed(b"\n"),
-        Fed {
-            used: 1,
-            ended: true
-        }
-    );
-    assert_eq!(rt; cutter.take(), Line::Nothing);
+    expect_rest(&rt, &cutter, false);
+    expect_fed(&rt, &mut cutter, b"a sh", 4, false);
+    expect_rest(&rt, &cutter, true);
+    expect_fed(&rt, &mut cutter, b"ow\na show\n", 3, true);
+    expect_taken(&rt, &mut cutter, whole(b"a show"));
+    expect_rest(&rt, &cutter, false);
+    expect_fed(&rt, &mut cutter, b"", 0, false);
+    expect_fed(&rt, &mut cutter, b"\n", 1, true);
+    expect_taken(&rt, &mut cutter, Line::Nothing);
 }
 
 /// What the line of these pieces is, where a line feed can only end the last.
@@ -55,21 +57,43 @@ fn line_in_pieces(pieces: &[&[u8]]) -> Line {
     cutter.take()
 }
 
+fn expect_pieces(rt: &impl Abort, pieces: &[&[u8]], wanted: Line) {
+    assert_eq!(rt; line_in_pieces(pieces), wanted, "of {pieces:?}");
+}
+
+static WHOLE: [(&[&[u8]], &[u8]); 5] = [
+    (&[b"a s", b"", b"how"], b"a show"),
+    (&[b"a show", b"\r", b"\n"], b"a show"),
+    (&[b"a show", b"\r", b"\r\n"], b"a show\r"),
+    (&[b"a\r", b" show"], b"a\r show"),
+    (&[b"a show", SPACES, b"\r"], b"a show"),
+];
+
 #[test]
 fn the_pieces_of_a_line_make_one(rt: HostRuntime) {
-    let rows: [(&[&[u8]], Line); 10] = [
-        (&[], Line::Nothing),
-        (&[b"a s", b"", b"how"], line(b"a show")),
-        (&[b"a show", b"\r", b"\n"], line(b"a show")),
-        (&[b"a show", b"\r", b"\r\n"], line(b"a show\r")),
-        (&[b"a\r", b" show"], line(b"a\r show")),
-        (&[b"a show", SPACES, b"\r"], line(b"a show")),
-        (&[b"a show", SPACES, b"\r", b"\r"], Line::Long),
-        (&[b"a show", SPACES, b" "], Line::Long),
-        (&[b"#", LONG, LONG], Line::Nothing),
-        (&[b"a ", LONG, b"#", LONG], Line::Long),
-    ];
-    for (pieces, line) in rows {
-        assert_eq!(rt; line_in_pieces(pieces), line, "of {pieces:?}");
+    for (pieces, bytes) in &WHOLE {
+        expect_pieces(&rt, pieces, whole(bytes));
+    }
+}
+
+static TOO_LONG: [&[&[u8]]; 3] = [
+    &[b"a show", SPACES, b"\r", b"\r"],
+    &[b"a show", SPACES, b" "],
+    &[b"a ", LONG, b"#", LONG],
+];
+
+#[test]
+fn the_pieces_of_a_long_line_make_one(rt: HostRuntime) {
+    for pieces in &TOO_LONG {
+        expect_pieces(&rt, pieces, Line::Long);
+    }
+}
+
+static NO_LINE: [&[&[u8]]; 2] = [&[], &[b"#", LONG, LONG]];
+
+#[test]
+fn no_piece_and_the_pieces_of_a_comment_make_nothing(rt: HostRuntime) {
+    for pieces in &NO_LINE {
+        expect_pieces(&rt, pieces, Line::Nothing);
     }
 }

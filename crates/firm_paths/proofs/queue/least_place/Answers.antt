@@ -10,6 +10,18 @@ returns-then-top c v l =
     let b = c.requires.tournament.bounded (c.args.places + v) in
     omega (arith, t, b, c.if-top.true)
 
+pub returns-then-keys-places : goal.returns-then-keys-places
+returns-then-keys-places c = (
+  c.if-preferred-places.true,
+  λ v l. omega (
+    arith,
+    c.if-keys-places.true,
+    top_below c.args.places c.args.keys.now c.requires.tournament (c.args.places + v) (omega (arith, l))
+        (omega (arith, l)),
+  ),
+  omega (arith, c.if-keys-places.true, c.if-top.false, c.requires.tournament.bounded 1),
+)
+
 pub returns : goal.returns
 returns c =
     let at : c.args.places + (c.loop-at.at - c.args.places) ≡ c.loop-at.at = omega (arith, c.loop-at-test.false) in

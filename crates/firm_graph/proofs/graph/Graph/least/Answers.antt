@@ -3,7 +3,7 @@ use Rattle.firm_net.specs.declared.row.NodeId.{NodeId}
 use Rattle.firm_net.specs.Net.{arc_count}
 use Rattle.firm_paths.specs.Workspace.{HasSearched}
 use Rattle.firm_paths.specs.NetArcs.{arcs_of}
-use Rattle.firm_flow.specs.Flow.{IsCutOff}
+use Rattle.firm_flow.specs.Flow.{IsDeficientCut}
 use Rattle.firm_flow.specs.NetFlow.{places, AreDistinctNodes}
 use Rattle.firm_graph.specs.Graph.{Graph, task_nodes}
 use Rattle.firm_graph.specs.Inside.{graph_of}
@@ -25,7 +25,7 @@ solve-requires-clause-nodes c =
 pub unreachable-requires : goal.unreachable-requires
 unreachable-requires c =
     let g : Graph = graph_of c.self.inside in
-    let P : List NodeId → Type 0 = λ (l : List NodeId). (inside : ℕ → Bool) × IsCutOff (arcs_of g.net) (places l)
+    let P : List NodeId → Type 0 = λ (l : List NodeId). (inside : ℕ → Bool) × IsDeficientCut (arcs_of g.net) (places l)
     g.sink.id.place inside in
     let cut : P (task_nodes g) = subst P (c.deref.ensures.value ∙ c.self.invariant.sources) c.in_default.ensures.no_way
     in

@@ -34,7 +34,7 @@ walk_back-requires-clause-room c =
       c.in-Some.ensures.found.few,
       c.requires.capacity.1,
       c.requires.length.1,
-      c.dijkstra.ensures.size,
+      c.dijkstra.ensures.size.0,
     )
 
 pub returns-clause-found : goal.returns-clause-found
@@ -45,7 +45,7 @@ returns-clause-found c e =
     let vs = c.dijkstra.new.self.visits.items in
     let goal = c.in-Some-Some.goal in
     let known : goal < length ms =
-    omega (arith, c.in-Some-Some.ensures'.below, c.dijkstra.ensures.size, c.requires.length.1) in
+    omega (arith, c.in-Some-Some.ensures'.below, c.dijkstra.ensures.size.0, c.requires.length.1) in
     let here : c.index.result.now ≡ state ms goal = c.index.ensures ∙ get_or_default ms goal _ _ known in
     let distance : c.index.result.now.label - c.at.result ≡ label ms goal - slice_index old goal =
     omega (arith, c.at.ensures, ap (λ (m : NodeState). m.label) here) in
@@ -54,7 +54,7 @@ returns-clause-found c e =
     (place_value c.args.from (lists_at c.args.net.now c.args.from) c.in-Some-Some.place c.in-Some-Some.ensures.value).1
     (place_value c.args.to (lists_at c.args.net.now c.args.to) goal c.in-Some-Some.ensures'.value).1
     c.in-Some-Some.ensures.net c.requires.nodes.0
-    (c.requires.length.0, c.dijkstra.ensures.size ∙ c.requires.length.1) c.in-Some-Some.ensures'.below
+    (c.requires.length.0, c.dijkstra.ensures.size.0 ∙ c.requires.length.1) c.in-Some-Some.ensures'.below
     c.in-Some.ensures.found
     (subst (λ (z : ℕ). AreRaised old ms goal z new) distance
     (subst (λ (z : List NodeState). AreRaised old z goal (c.index.result.now.label - c.at.result) new)

@@ -1,0 +1,117 @@
+-- Known answers are taken off the front, and written.
+use Rattle.std.proofs.Common.{◌≡◌, ℕ, ◌+◌, ◌<◌, ◌≤◌, List, [], ◌∷◌, ◌++◌, length, take, set, get_or, refl, sym, ap, ◌∙◌, subst, arith, append_assoc, append-nil}
+use Rattle.std.specs.Prelude.{Bool, true, false, ◌==◌, map, Option, Some, None, Result, Ok, Err, OnErr, OnOk}
+use Rattle.std.proofs.Math.Seq.{take-length}
+use Rattle.std.specs.Io.KnownBytes.{Appends}
+use Rattle.std.proofs.KnownBytes.{Appends-nil}
+use Rattle.firm_text.specs.Rosters.{Admitted}
+use Rattle.firm_table.specs.Answers.{text_of_answer}
+use Rattle.firm_table.specs.Service.{Answers, BeginsAnswers}
+use Rattle.firm_rounds.specs.Rounds.{weigh}
+use Rattle.firm_rounds.specs.Passes.{QueueId}
+use Rattle.firm_table.specs.inner.Line.{state_is}
+use Rattle.firm_hall.specs.inner.Seats.{waits_for}
+use Rattle.firm_hall.specs.inner.Serving.{answer_in, held_text, book_at, asked_at, state_with, AreSeats, ArePlaced, SeatIs, Tells, TellsParts, FirstIsKnown, FirstWaits, IsHome, IsHomeAt, AllHome, NoneWaits, IsPlaced}
+use Rattle.firm_hall.specs.declared.seats.Seat.{Seat}
+use Rattle.firm_hall.specs.declared.seats.Seat.TheVariants.{Home, Away, Gone}
+use Rattle.firm_hall.specs.declared.seats.Slot.{Slot}
+use Rattle.firm_hall.specs.declared.seats.Slot.TheVariants.{TooLong, Stranger, Replied, Waiting}
+use Rattle.firm_hall.proofs.Slots.{is_place, known_waits}
+use Rattle.firm_hall.proofs.Seating.{seat_pop}
+use Rattle.firm_hall.proofs.Telling.{tells_begins, tells_written}
+
+-- the first answer is taken
+pub popped_seats : (queue : QueueId) (count : ℕ) (slots rest : List Slot) (slot : Slot) (seats : List Seat) → slots ≡ slot ∷ rest → FirstIsKnown slots
+    → AreSeats queue count slots seats → AreSeats queue count rest seats
+popped_seats queue count slots rest slot seats is known are =
+    let known' = subst FirstIsKnown is known in
+    record {
+      long = are.long;
+      each = λ place default low. seat_pop queue place slot rest (get_or seats place default) (known_waits place slot rest known')
+          (subst (λ (xs : List Slot). SeatIs queue place xs (get_or seats place default)) is (are.each place default low));
+    }
+
+pub popped_placed : (count : ℕ) (slots rest : List Slot) (slot : Slot) → slots ≡ slot ∷ rest → ArePlaced count slots → ArePlaced count rest
+popped_placed count slots rest slot is placed = (subst (ArePlaced count) is placed).1
+
+-- and its text is still to be written
+pub popped_tells : (roster : List Admitted) (seats : List Seat) (slots rest : List Slot) (slot : Slot) (output later : List ℕ) → slots ≡ slot ∷ rest
+    → ((marks : ℕ → Bool) → later ≡ output ++ text_of_answer (answer_in marks slot)) → (text : List ℕ) (written now : Option (List ℕ))
+    → TellsParts roster seats slots output text written now → TellsParts roster seats rest later text written now
+popped_tells roster seats slots rest slot output later is added text written now told marks =
+    let pending : output ++ held_text marks slots ≡ later ++ held_text marks rest =
+    ap (λ (xs : List Slot). output ++ held_text marks xs) is
+    ∙ sym (append_assoc output (text_of_answer (answer_in marks slot)) (held_text marks rest))
+    ∙ ap (λ (l : List ℕ). l ++ held_text marks rest) (sym (added marks)) in
+    subst (λ (l : List ℕ). Tells (state_is roster (map (book_at marks) seats) l) (weigh asked_at seats) text written now) pending (told marks)
+
+-- no mark for any place
+abbrev unmarked : ℕ → Bool
+unmarked place = false
+
+-- what was written begins the output
+pub begun : (roster : List Admitted) (seats : List Seat) (slots : List Slot) (output text : List ℕ) (written now : Option (List ℕ))
+    → TellsParts roster seats slots output text written now → BeginsAnswers roster text written now
+begun roster seats slots output text written now told =
+    tells_begins (state_with unmarked roster seats slots output) (weigh asked_at seats) text written now now 0 [] (output ++ held_text unmarked slots) (told unmarked) refl (omega arith) (Appends-nil now)
+
+-- and so it does where some of what was to be written was
+pub partly : (roster : List Admitted) (seats : List Seat) (slots : List Slot) (output text : List ℕ) (written now later : Option (List ℕ)) (count : ℕ) → count ≤ length output
+    → Appends now later (take count output) → TellsParts roster seats slots output text written now → BeginsAnswers roster text written later
+partly roster seats slots output text written now later count few wrote told =
+    tells_begins (state_with unmarked roster seats slots output) (weigh asked_at seats) text written now later count output (held_text unmarked slots) (told unmarked) refl few wrote
+
+pub wholly : (roster : List Admitted) (seats : List Seat) (slots : List Slot) (output text : List ℕ) (written now later : Option (List ℕ))
+    → Appends now later output → TellsParts roster seats slots output text written now → BeginsAnswers roster text written later
+wholly roster seats slots output text written now later wrote told =
+    partly roster seats slots output text written now later (length output) (omega arith) (subst (Appends now later) (sym (take-length output)) wrote) told
+
+-- all that was to be written was
+pub written_all : (roster : List Admitted) (seats : List Seat) (slots : List Slot) (output held text : List ℕ) (written now later : Option (List ℕ)) → held ≡ []
+    → Appends now later output → TellsParts roster seats slots output text written now → TellsParts roster seats slots held text written later
+written_all roster seats slots output held text written now later none wrote told marks =
+    let same : held_text marks slots ≡ held ++ held_text marks slots = ap (λ (l : List ℕ). l ++ held_text marks slots) (sym none) in
+    subst (λ (l : List ℕ). Tells (state_is roster (map (book_at marks) seats) l) (weigh asked_at seats) text written later) same
+    (tells_written (state_with marks roster seats slots output) (weigh asked_at seats) text written now later output (held_text marks slots) (told marks) refl wrote)
+
+-- where all are at home, each answer is known
+pub all_known : (queue : QueueId) (count : ℕ) (slots : List Slot) (seats : List Seat) → AreSeats queue count slots seats → ArePlaced count slots → AllHome seats → 0 < length slots
+    → FirstIsKnown slots
+all_known queue count [] seats are placed home some = absurd (omega arith)
+all_known queue count (TooLong ∷ rest) seats are placed home some = tt
+all_known queue count (Stranger ∷ rest) seats are placed home some = tt
+all_known queue count (Replied name reply ∷ rest) seats are placed home some = tt
+all_known queue count (Waiting place name asked ∷ rest) seats are placed home some =
+    let none = waits_none (get_or seats place Gone) (home place Gone (omega (arith, are.long, placed.0))) (are.each place Gone placed.0) in
+    let here = is_place place place refl in
+    absurd (not_both here none.0)
+  where
+    waits_none : (seat : Seat) → IsHome seat → SeatIs queue place (Waiting place name asked ∷ rest) seat → NoneWaits place (Waiting place name asked ∷ rest)
+    waits_none (Home desk) at_home is = is.2
+    waits_none (Away other) at_home is = absurd at_home
+    waits_none Gone at_home is = absurd at_home
+
+    not_both : (place == place) ≡ true → (place == place) ≡ false → ⊥
+    not_both e f = let g : true ≡ false = sym e ∙ f in cc
+
+-- nothing is still to be written: what was is the output
+pub answers_all : (roster : List Admitted) (seats : List Seat) (slots : List Slot) (output text : List ℕ) (written now : Option (List ℕ)) → slots ≡ [] → output ≡ []
+    → TellsParts roster seats slots output text written now → Answers roster text written now
+answers_all roster seats slots output text written now none_held none told =
+    let t = (told unmarked).told in
+    let empty : output ++ held_text unmarked slots ≡ [] = ap (λ (l : List ℕ). l ++ held_text unmarked slots) none ∙ ap (held_text unmarked) none_held in
+    record {
+      lines = t.lines;
+      are_lines = t.are_lines;
+      wrote = subst (Appends written now) (sym (append-nil t.sent) ∙ ap (λ (l : List ℕ). t.sent ++ l) (sym empty) ∙ t.whole) t.wrote;
+    }
+
+-- what holds anyway holds where a call failed
+pub on_err_always : {T E : Type 0} (r : Result T E) {P : Type 0} → P → OnErr r P
+on_err_always (Ok x) p = tt
+on_err_always (Err e) p = p
+
+-- what holds where a call went well, together
+pub both_ok : {T E : Type 0} (r : Result T E) (P Q : Type 0) → OnOk r P → OnOk r Q → OnOk r (P × Q)
+both_ok (Ok x) P Q p q = (p, q)
+both_ok (Err e) P Q p q = tt

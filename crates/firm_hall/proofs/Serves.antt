@@ -1,0 +1,64 @@
+-- What serving comes to.
+use Rattle.std.proofs.Common.{◌≡◌, ℕ, ◌+◌, ◌≤◌, List, [], ◌++◌, length, refl, sym, ap, subst, ◌∙◌, append-nil, arith, inl}
+use Rattle.std.specs.Prelude.{Bool, false, Option}
+use Rattle.std.specs.Io.KnownBytes.{Appends}
+use Rattle.std.proofs.KnownBytes.{Appends-nil, Appends-kept, Consumes-nil}
+use Rattle.firm_text.specs.Rosters.{Admitted}
+use Rattle.firm_table.specs.Output.{answers_of, output_of}
+use Rattle.firm_table.specs.Service.{Device, device, Served, Stopped, ToldToTheEnd}
+use Rattle.firm_table.specs.declared.faults.ServeFault.TheVariants.{Memory}
+use Rattle.firm_rounds.specs.Rounds.{weigh}
+use Rattle.firm_hall.specs.Counts.{ServedWith}
+use Rattle.firm_hall.specs.inner.Serving.{asked_at, held_text, TellsParts}
+use Rattle.firm_hall.specs.declared.seats.Seat.{Seat}
+use Rattle.firm_hall.specs.declared.seats.Slot.{Slot}
+
+-- nothing was read yet
+pub unread : (roster : List Admitted) (most : ℕ) (left written : Option (List ℕ)) (read_failed write_failed : Bool) → read_failed ≡ false → write_failed ≡ false
+    → Stopped roster most (device left left read_failed) (device written written write_failed) Memory
+unread roster most left written read_failed write_failed reads writes = record {
+  answered = [];
+  rest = [];
+  read = Consumes-nil left;
+  whole = inl (λ some. absurd (omega arith));
+  cause = (reads, writes);
+  begins = record { lines = []; are_lines = record { each = refl; marks = refl }; count = 0; wrote = Appends-nil written };
+}
+
+-- all was read, and nothing is still to be written
+pub served_with : (roster : List Admitted) (seats : List Seat) (slots : List Slot) (output : List ℕ) (most : ℕ) (reader writer : Device) → slots ≡ [] → output ≡ []
+    → ToldToTheEnd (TellsParts roster seats slots output) most reader writer → Served roster most reader writer → ServedWith roster most reader writer (weigh asked_at seats)
+served_with roster seats slots output most reader writer none_held none end served =
+    let marks : ℕ → Bool = λ place. false in
+    let tells = end.told.told marks in
+    let t = tells.told in
+    let empty : output ++ held_text marks slots ≡ [] = ap (λ (l : List ℕ). l ++ held_text marks slots) none ∙ ap (held_text marks) none_held in
+    let whole : t.sent ≡ output_of roster t.lines = sym (append-nil t.sent) ∙ ap (λ (l : List ℕ). t.sent ++ l) (sym empty) ∙ t.whole in
+    let counted = tells.counted in
+    record {
+      served = record {
+        input = end.input;
+        read = end.read;
+        at_end = end.at_end;
+        within = end.within;
+        answers = record {
+          lines = t.lines;
+          are_lines = t.are_lines;
+          wrote = Appends-kept writer.before end.told.until writer.after (output_of roster t.lines) (subst (Appends writer.before end.told.until) whole t.wrote) end.told.kept;
+        };
+        reads = served.reads;
+        writes = served.writes;
+      };
+      counted = counted;
+      exact = λ all. omega (arith, counted.least, counted.most, all);
+    }
+
+-- the same, of the rosters that a body knows to be this one, and of a count that it knows
+pub served_by : (roster own now : List Admitted) (seats : List Seat) (slots : List Slot) (output : List ℕ) (most asked : ℕ) (reader writer : Device) → own ≡ roster → now ≡ own
+    → asked ≡ weigh asked_at seats → slots ≡ [] → output ≡ [] → ToldToTheEnd (TellsParts now seats slots output) most reader writer → Served own most reader writer
+    → ServedWith roster most reader writer asked
+served_by roster own now seats slots output most asked reader writer is same all none_held none end served =
+    let here : ServedWith now most reader writer (weigh asked_at seats) =
+    served_with now seats slots output most reader writer none_held none end (subst (λ (r : List Admitted). Served r most reader writer) (sym same) served) in
+    subst (λ (r : List Admitted). ServedWith r most reader writer asked) (same ∙ is)
+    (subst (λ (n : ℕ). ServedWith now most reader writer n) (sym all) here)

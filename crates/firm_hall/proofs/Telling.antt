@@ -1,0 +1,116 @@
+-- What is told, as one line more is answered, and as rounds come back.
+use Rattle.std.proofs.Common.{◌≡◌, ℕ, ◌+◌, ◌<◌, ◌≤◌, List, [], ◌∷◌, ◌++◌, length, set, get_or, take, refl, sym, ap, ◌∙◌, subst, arith, append_assoc, append-nil, length-append}
+use Rattle.std.specs.Prelude.{Bool, true, false, map, Option, Some, None, slice_set, slice_index_or, if◌then◌else◌}
+use Rattle.std.specs.List.{flat_map}
+use Rattle.std.specs.Io.KnownBytes.{Appends}
+use Rattle.std.proofs.KnownBytes.{Appends-nil, Appends-trans}
+use Rattle.std.proofs.lemmas.Grind.{flat_map-append}
+use Rattle.std.proofs.lemmas.List.{length-map, map-append, take-append-le}
+use Rattle.std.proofs.Math.Seq.{take-append-add, take-length}
+use Rattle.firm_rules.specs.Book.{Book}
+use Rattle.firm_text.specs.Inputs.{input_lines}
+use Rattle.firm_text.specs.Rosters.{Admitted}
+use Rattle.firm_text.specs.declared.inputs.Line.{Line}
+use Rattle.firm_table.specs.Places.{MarkedLine}
+use Rattle.firm_table.specs.Answers.{Answer, tells_memory, text_of_answer}
+use Rattle.firm_table.specs.Output.{answers_of, output_of}
+use Rattle.firm_table.specs.Service.{Answers, BeginsAnswers}
+use Rattle.firm_table.specs.inner.Line.{State, IsAnswer, state_is}
+use Rattle.firm_table.specs.inner.Progress.{Told}
+use Rattle.firm_table.specs.inner.Adding.{OneMoreIsTold}
+use Rattle.firm_hall.specs.Counts.{Counted, rounds_in, round_of, refusals_in}
+use Rattle.firm_hall.specs.inner.Serving.{answer_in, held_text, state_with, Tells, TellsParts}
+use Rattle.firm_hall.specs.declared.seats.Seat.{Seat}
+use Rattle.firm_hall.specs.declared.seats.Slot.{Slot}
+
+-- the counts, with one line more
+rounds_more : (lines : List MarkedLine) (answers : List Answer) (given : MarkedLine) (answer : Answer) → length lines ≡ length answers
+    → rounds_in (lines ++ given ∷ []) (answers ++ answer ∷ []) ≡ rounds_in lines answers + round_of given.0 answer
+rounds_more [] [] given answer long = omega arith
+rounds_more [] (a ∷ answers) given answer long = absurd (omega arith)
+rounds_more (l ∷ lines) [] given answer long = absurd (omega arith)
+rounds_more (l ∷ lines) (a ∷ answers) given answer long =
+    let rest : rounds_in (lines ++ given ∷ []) (answers ++ answer ∷ []) ≡ rounds_in lines answers + round_of given.0 answer =
+    rounds_more lines answers given answer (omega arith) in omega arith
+
+-- 1 for an answer that says that memory was refused
+abbrev pub refusal_in : Answer → ℕ
+refusal_in answer = if tells_memory answer then 1 else 0
+
+refusals_more : (answers : List Answer) (answer : Answer) → refusals_in (answers ++ answer ∷ []) ≡ refusals_in answers + refusal_in answer
+refusals_more [] answer = omega arith
+refusals_more (a ∷ answers) answer =
+    let rest : refusals_in (answers ++ answer ∷ []) ≡ refusals_in answers + refusal_in answer = refusals_more answers answer in omega arith
+
+-- what one line more adds to the rounds that were asked
+pub record Adds (asked later : ℕ) (line : Line) (answer : Answer) : Type 0 where
+  pub least : later ≤ asked + round_of line answer
+  pub most : asked + round_of line answer ≤ later + refusal_in answer
+
+pub tells_more : OneMoreIsTold → (state : State) (books : List Book) (pending : List ℕ) (line : Line) (asked later : ℕ) (text after : List ℕ)
+    (written now : Option (List ℕ)) → input_lines after ≡ input_lines text ++ line ∷ []
+    → (a : IsAnswer state.roster state.books books line state.pending pending) → Adds asked later line a.answer
+    → Tells state asked text written now → Tells (state_is state.roster books pending) later after written now
+tells_more one_more state books pending line asked later text after written now more a adds tells =
+    let q = one_more state text after written now books pending line tells.told more a in
+    let old = tells.told.lines in
+    let answers = answers_of state.roster old in
+    let given : MarkedLine = (line, tells_memory a.answer) in
+    let long : length old ≡ length answers =
+    sym (length-map old (λ (g : MarkedLine). g.1)) ∙ ap length tells.told.are_lines.marks ∙ length-map answers tells_memory in
+    let rounds : rounds_in q.0.lines (answers_of state.roster q.0.lines) ≡ rounds_in old answers + round_of line a.answer =
+    ap (λ (ls : List MarkedLine). rounds_in ls (answers_of state.roster q.0.lines)) q.1
+    ∙ ap (λ (xs : List Answer). rounds_in (old ++ given ∷ []) xs) q.2
+    ∙ rounds_more old answers given a.answer long in
+    let refusals : refusals_in (answers_of state.roster q.0.lines) ≡ refusals_in answers + refusal_in a.answer =
+    ap refusals_in q.2 ∙ refusals_more answers a.answer in
+    let counted = tells.counted in
+    record {
+      told = q.0;
+      counted = record {
+        least = omega (arith, counted.least, adds.least, rounds);
+        most = omega (arith, counted.most, adds.most, rounds, refusals);
+      };
+    }
+
+-- one answer more is held
+pub held_push : (marks : ℕ → Bool) (slots : List Slot) (slot : Slot) → held_text marks (slots ++ slot ∷ []) ≡ held_text marks slots ++ text_of_answer (answer_in marks slot)
+held_push marks slots slot =
+    ap (flat_map text_of_answer) (map-append (answer_in marks) slots (slot ∷ []))
+    ∙ flat_map-append text_of_answer (map (answer_in marks) slots) (answer_in marks slot ∷ [])
+    ∙ ap (λ (l : List ℕ). held_text marks slots ++ l) (append-nil (text_of_answer (answer_in marks slot)))
+
+-- some of what is still to be written was
+pub tells_begins : (state : State) (asked : ℕ) (text : List ℕ) (written now later : Option (List ℕ)) (count : ℕ) (front held : List ℕ) → Tells state asked text written now
+    → state.pending ≡ front ++ held → count ≤ length front → Appends now later (take count front) → BeginsAnswers state.roster text written later
+tells_begins state asked text written now later count front held tells both few wrote = record {
+  lines = tells.told.lines;
+  are_lines = tells.told.are_lines;
+  count = length tells.told.sent + count;
+  wrote =
+      let sent = tells.told.sent in
+      let cut_off : take (length sent + count) (output_of state.roster tells.told.lines) ≡ sent ++ take count front =
+      ap (take (length sent + count)) (sym tells.told.whole ∙ ap (λ (l : List ℕ). sent ++ l) both) ∙ take-append-add sent (front ++ held) count
+      ∙ ap (λ (l : List ℕ). sent ++ l) (take_front count front held few) in
+      subst (Appends written later) (sym cut_off) (Appends-trans written now later sent (take count front) tells.told.wrote wrote);
+}
+  where
+    take_front : (n : ℕ) (xs ys : List ℕ) → n ≤ length xs → take n (xs ++ ys) ≡ take n xs
+    take_front n xs ys low = take-append-le n xs ys low
+
+-- the front of it was
+pub tells_written : (state : State) (asked : ℕ) (text : List ℕ) (written now later : Option (List ℕ)) (front held : List ℕ) → Tells state asked text written now
+    → state.pending ≡ front ++ held → Appends now later front → Tells (state_is state.roster state.books held) asked text written later
+tells_written state asked text written now later front held tells both wrote =
+    let t = tells.told in
+    record {
+      told = record {
+        lines = t.lines;
+        are_lines = t.are_lines;
+        shows = t.shows;
+        sent = t.sent ++ front;
+        wrote = Appends-trans written now later t.sent front t.wrote wrote;
+        whole = append_assoc t.sent front held ∙ ap (λ (l : List ℕ). t.sent ++ l) (sym both) ∙ t.whole;
+      };
+      counted = tells.counted;
+    }

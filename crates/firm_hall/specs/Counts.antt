@@ -1,0 +1,63 @@
+-- How many rounds the lines of an input ask.
+use Rattle.std.specs.Prelude.{◌≡◌, ℕ, ◌+◌, ◌≤◌, Bool, true, false, not, List, [], ◌∷◌, if◌then◌else◌}
+use Rattle.firm_rules.specs.declared.commands.Command.{Command}
+use Rattle.firm_rules.specs.declared.commands.Command.TheVariants.{AddMachine, AddJob, AddTask, Drain, CloseJob, Done, Find, Show, Costs, Round, Faulty}
+use Rattle.firm_rules.specs.declared.replies.Reply.{Reply}
+use Rattle.firm_rules.specs.declared.replies.Outcome.{Outcome}
+use Rattle.firm_rules.specs.declared.replies.Outcome.TheVariants.{Plain, Evicted, At, Waits, Shown, Costs as CostsOutcome, Round as RoundOutcome, Refused}
+use Rattle.firm_rules.specs.declared.replies.Refusal.TheVariants.{Worn}
+use Rattle.firm_text.specs.declared.inputs.Line.{Line}
+use Rattle.firm_text.specs.declared.inputs.Line.TheVariants.{Nothing, Long, Nameless, For}
+use Rattle.firm_text.specs.Rosters.{Admitted}
+use Rattle.firm_table.specs.Places.{MarkedLine}
+use Rattle.firm_table.specs.Output.{answers_of}
+use Rattle.firm_table.specs.Service.{Device, Served}
+use Rattle.firm_table.specs.Answers.{Answer, silent, too_long, unknown_tenant, replied, tells_memory}
+
+-- whether a command is a round
+abbrev pub is_round : Command → Bool
+is_round Round = true
+is_round _ = false
+
+-- whether an outcome says that no life is left
+abbrev pub is_worn : Outcome → Bool
+is_worn (Refused Worn) = true
+is_worn _ = false
+
+-- 1 for the round of a tenant that had life for it, and 0 for each other command
+abbrev pub round_in : Command → Reply → ℕ
+round_in command reply = if is_round command then (if is_worn reply.outcome then 0 else 1) else 0
+
+-- the same of a line and its answer
+abbrev pub round_of : Line → Answer → ℕ
+round_of Nothing answer = 0
+round_of Long answer = 0
+round_of Nameless answer = 0
+round_of (For name command) silent = 0
+round_of (For name command) too_long = 0
+round_of (For name command) unknown_tenant = 0
+round_of (For name command) (replied tenant reply) = round_in command reply
+
+-- how many rounds these lines tell, which have these answers: those of tenants that had life for them
+abbrev pub rounds_in : List MarkedLine → List Answer → ℕ
+rounds_in [] answers = 0
+rounds_in (given ∷ rest) [] = 0
+rounds_in (given ∷ rest) (answer ∷ answers) = round_of given.0 answer + rounds_in rest answers
+
+-- how many of these answers say that memory was refused
+abbrev pub refusals_in : List Answer → ℕ
+refusals_in [] = 0
+refusals_in (answer ∷ answers) = (if tells_memory answer then 1 else 0) + refusals_in answers
+
+-- So many rounds were asked: all that the lines tell, but for some to which memory was refused.
+pub record Counted (asked : ℕ) (lines : List MarkedLine) (answers : List Answer) : Type 0 where
+  pub least : asked ≤ rounds_in lines answers
+  pub most : rounds_in lines answers ≤ asked + refusals_in answers
+
+-- What Ok says of a service: what was written is the output for all that was read; and so many rounds were asked, which are all that
+-- the lines tell where no answer says that memory was refused.
+pub record ServedWith (roster : List Admitted) (most : ℕ) (reader writer : Device) (asked : ℕ) : Type 0 where
+  pub served : Served roster most reader writer
+  pub counted : Counted asked served.answers.lines (answers_of roster served.answers.lines)
+  pub exact : refusals_in (answers_of roster served.answers.lines) ≡ 0
+      → asked ≡ rounds_in served.answers.lines (answers_of roster served.answers.lines)

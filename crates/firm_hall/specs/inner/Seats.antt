@@ -1,0 +1,91 @@
+-- What stands at the places of a hall that serves, and the answers that it holds.
+use Rattle.std.specs.Prelude.{◌≡◌, ℕ, ◌+◌, ◌<◌, ◌==◌, ◌⊎◌, Bool, true, false, List, [], ◌∷◌, Option, Some, None, length, slice_index_or, if◌then◌else◌, MatchBool}
+use Rattle.firm_rules.specs.Limits.{TenantLimits}
+use Rattle.firm_rules.specs.Book.{Book, opening_book}
+use Rattle.firm_rules.specs.declared.commands.Command.{Command}
+use Rattle.firm_rules.specs.declared.commands.Command.TheVariants.{Round}
+use Rattle.firm_rules.specs.declared.replies.Reply.{Reply}
+use Rattle.firm_rules.specs.declared.replies.Outcome.TheVariants.{Refused}
+use Rattle.firm_rules.specs.declared.replies.Refusal.TheVariants.{Worn, Memory}
+use Rattle.firm_tenant.specs.Step.{step}
+use Rattle.firm_table.specs.Answers.{Answer, too_long, unknown_tenant, replied}
+use Rattle.firm_rounds.specs.Passes.{QueueId}
+use Rattle.firm_hall.specs.Desks.{DeskIs, desk_is, IsStep}
+use Rattle.firm_hall.specs.declared.seats.Seat.{Seat}
+use Rattle.firm_hall.specs.declared.seats.Seat.TheVariants.{Home, Away, Gone}
+use Rattle.firm_hall.specs.declared.seats.Slot.{Slot}
+use Rattle.firm_hall.specs.declared.seats.Slot.TheVariants.{TooLong, Stranger, Replied, Waiting}
+
+-- something stands there
+abbrev pub IsSeated : Seat → Type 0
+IsSeated (Home desk) = Unit {0}
+IsSeated (Away asked) = Unit {0}
+IsSeated Gone = ⊥
+
+-- what stands at a place later: the same, or the desk that came back with the round's reply
+abbrev pub IsTurned : Seat → Seat → Option Reply → Type 0
+IsTurned before after None = after ≡ before
+IsTurned (Away asked) (Home desk) (Some reply) = IsStep asked Round reply desk
+IsTurned (Away asked) (Away other) (Some reply) = ⊥
+IsTurned (Away asked) Gone (Some reply) = ⊥
+IsTurned (Home desk) after (Some reply) = ⊥
+IsTurned Gone after (Some reply) = ⊥
+
+-- whether an answer is the reply to the round that is away from the place
+abbrev pub waits_for : ℕ → Slot → Bool
+waits_for place TooLong = false
+waits_for place Stranger = false
+waits_for place (Replied name reply) = false
+waits_for place (Waiting other name asked) = other == place
+
+-- the place whose round it waits for
+abbrev pub waiting_place : Slot → Option ℕ
+waiting_place TooLong = None
+waiting_place Stranger = None
+waiting_place (Replied name reply) = None
+waiting_place (Waiting place name asked) = Some place
+
+-- the reply came
+abbrev pub answered : Reply → Slot → Slot
+answered reply TooLong = TooLong
+answered reply Stranger = Stranger
+answered reply (Replied name same) = Replied name same
+answered reply (Waiting place name asked) = Replied name reply
+
+-- the first answer that waits for the place is this reply
+abbrev pub filled : ℕ → Reply → List Slot → List Slot
+filled place reply [] = []
+filled place reply (slot ∷ rest) =
+    if waits_for place slot then answered reply slot ∷ rest else slot ∷ filled place reply rest
+
+-- the same where a reply came
+abbrev pub filled_if : ℕ → Option Reply → List Slot → List Slot
+filled_if place None slots = slots
+filled_if place (Some reply) slots = filled place reply slots
+
+-- the desk answered the command; a round that it answers itself is worn, or was refused memory
+pub record Answered (before : DeskIs) (name : List ℕ) (command : Command) (after : DeskIs) (tenant : List ℕ) (reply : Reply) : Type 0 where
+  pub named : tenant ≡ name
+  pub stepped : IsStep before command reply after
+  pub why : command ≡ Round → (reply.outcome ≡ Refused Worn) ⊎ (reply.outcome ≡ Refused Memory)
+
+-- the desk asked for the round, for which it had life, and an answer waits for its reply
+pub record Went (before : DeskIs) (place : ℕ) (name : List ℕ) (command : Command) (asked : DeskIs) (at : ℕ) (tenant : List ℕ) (known : DeskIs) : Type 0 where
+  pub round : command ≡ Round
+  pub asked_is : asked ≡ desk_is before.queue before.place (before.put + 1) before.book
+  pub left : before.book.given < before.book.rows.limits.life
+  pub here : at ≡ place
+  pub named : tenant ≡ name
+  pub known_is : known ≡ asked
+
+-- what a command made of a desk of the place, and the answer to its line
+abbrev pub IsTaken : DeskIs → ℕ → List ℕ → Command → Seat → Slot → Type 0
+IsTaken before place name command (Home after) (Replied tenant reply) = Answered before name command after tenant reply
+IsTaken before place name command (Away asked) (Waiting at tenant known) = Went before place name command asked at tenant known.value
+IsTaken before place name command (Home after) TooLong = ⊥
+IsTaken before place name command (Home after) Stranger = ⊥
+IsTaken before place name command (Home after) (Waiting at tenant known) = ⊥
+IsTaken before place name command (Away asked) TooLong = ⊥
+IsTaken before place name command (Away asked) Stranger = ⊥
+IsTaken before place name command (Away asked) (Replied tenant reply) = ⊥
+IsTaken before place name command Gone slot = ⊥

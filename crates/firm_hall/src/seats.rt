@@ -1,0 +1,122 @@
+//! What stands at a tenant's place while the hall serves, and the answers that are held.
+ghost use Rattle.std.specs.Prelude.{◌≡◌};
+ghost use Rattle.firm_hall.specs.declared.seats.Seat.TheVariants.{Home};
+ghost use Rattle.firm_hall.specs.inner.Seats.{IsSeated, IsTurned, IsTaken, waits_for, waiting_place, answered};
+
+use crate::desks::{Asked, AskedPoll, Desk};
+use crate::halls::Hall;
+use firm_rules::{Command, Name, Reply};
+use std::alloc::Global;
+use std::snapshot::Snapshot;
+use std::sync::Wait;
+
+/// What stands at a place.
+#[derive(Drop)]
+pub(crate) enum Seat {
+    /// The tenant is at home.
+    Home(Desk),
+    /// The tenant's round is away.
+    Away(Asked),
+    /// Nothing, while its desk is at work.
+    Gone,
+}
+
+/// The answer to a line, which is held until those before it are written.
+#[derive(Drop)]
+pub(crate) enum Slot {
+    /// The line is too long.
+    TooLong,
+    /// The line names no tenant of the service.
+    Stranger,
+    /// The reply of the tenant of this name.
+    Replied(Name, Reply),
+    /// The reply to the round that is away from this place.
+    Waiting(usize, Name, Snapshot<Asked>),
+}
+
+impl Seat {
+    // The desk, once it is home, with the reply to the round that was away.
+    pub(crate) fn come_home<R: Wait>(self, rt: &R) -> (Desk, Option<Reply>)
+        requires { IsSeated self }
+        ensures { IsTurned self (Home result.0) result.1 }
+    {
+        match self {
+            Seat::Home(desk) => (desk, None),
+            Seat::Away(asked) => {
+                let (desk, reply) = asked.wait(rt);
+                (desk, Some(reply))
+            }
+            Seat::Gone => unreachable!(),
+        }
+    }
+
+    // What stands there after a look: a round that is answered brings its desk home. It waits for nobody.
+    pub(crate) fn look(self) -> (Seat, Option<Reply>)
+        ensures { IsTurned self result.0 result.1 }
+    {
+        match self {
+            Seat::Away(asked) => match asked.poll() {
+                AskedPoll::Back(desk, reply) => (Seat::Home(desk), Some(reply)),
+                AskedPoll::Not(same) => (Seat::Away(same), None),
+            },
+            seat => (seat, None),
+        }
+    }
+}
+
+impl Slot {
+    // Whether the answer is the reply to the round of this place.
+    pub(crate) fn waits_for(&self, place: usize) -> bool
+        ensures { result ≡ waits_for place self.now }
+    {
+        match self {
+            Slot::Waiting(waiting, _, _) => *waiting == place,
+            _ => false,
+        }
+    }
+
+    // The place whose round it waits for, if it does.
+    pub(crate) fn waiting(&self) -> Option<usize>
+        ensures { result ≡ waiting_place self.now }
+    {
+        match self {
+            Slot::Waiting(place, _, _) => Some(*place),
+            _ => None,
+        }
+    }
+
+    // The reply came.
+    pub(crate) fn answer(&mut self, reply: Reply)
+        ensures { self.new ≡ answered reply self.old }
+    {
+        if let Slot::Waiting(_, name, _) = self {
+            *self = Slot::Replied(*name, reply);
+        }
+    }
+}
+
+// What a command makes of the desk of this place, and the answer to its line.
+pub(crate) fn take<R: Wait>(
+    rt: &R,
+    alloc: Global,
+    hall: &Hall,
+    mut desk: Desk,
+    place: usize,
+    name: Name,
+    command: Command,
+) -> (Seat, Slot)
+    requires { desk.queue ≡ hall.now.id }
+    ensures { IsTaken desk place name command result.0 result.1 }
+{
+    if command != Command::Round {
+        let reply = desk.command(alloc, command);
+        return (Seat::Home(desk), Slot::Replied(name, reply));
+    }
+    match desk.ask(rt, alloc, hall) {
+        Ok(asked) => {
+            let slot = Slot::Waiting(place, name, Snapshot::of(&asked));
+            (Seat::Away(asked), slot)
+        }
+        Err((desk, reply)) => (Seat::Home(desk), Slot::Replied(name, reply)),
+    }
+}

@@ -1,0 +1,436 @@
+//! Lines are answered in order at the desks, while rounds are away.
+ghost use Rattle.std.specs.Prelude.{◌≡◌, ℕ, ◌+◌, ◌<◌, ◌≤◌, ◌++◌, ◌∷◌, All, Bool, List, Option, Some, [], IfOk, IfErr, OnOk, OnErr, false, length, map, take, vec_capacity, MatchBool};
+ghost use Rattle.std.specs.VecDeque.{deque_len, deque_capacity};
+ghost use Rattle.std.specs.Io.KnownBytes.{Appends};
+ghost use Rattle.firm_text.specs.Inputs.{input_lines};
+ghost use Rattle.firm_text.specs.Rosters.{place_among};
+ghost use Rattle.firm_text.specs.declared.inputs.Line.TheVariants.{For};
+ghost use Rattle.firm_table.specs.Answers.{text_of_answer};
+ghost use Rattle.firm_table.specs.Service.{BeginsAnswers};
+ghost use Rattle.firm_table.specs.inner.Faults.{IsWritingFault};
+ghost use Rattle.firm_rounds.specs.Rounds.{weigh};
+ghost use Rattle.firm_hall.specs.Opening.{opening_desks};
+ghost use Rattle.firm_hall.specs.declared.seats.Seat.TheVariants.{Home};
+ghost use Rattle.firm_hall.specs.inner.Seats.{filled_if};
+ghost use Rattle.firm_hall.specs.inner.Serving.{answer_in, asked_at, AreOpen, IsOpen, TellsAll, Keeps, Takes, Passes, Begins, FirstIsFor, FirstWaits, FirstIsKnown, IsHomeAt, AllHome, IsWrittenOut, IsFinished};
+
+use crate::desks::Desk;
+use crate::halls::Hall;
+use crate::seats::{Seat, Slot, take};
+use firm_rules::{Command, Name, Reply};
+use firm_table::{ServeFault, answers_add_up, write_all};
+use firm_tenant::replies_tell_their_marks;
+use firm_text::{Line, Roster, Sink, put_reply};
+use std::alloc::{AllocError, Global};
+use std::collections::VecDeque;
+use std::mem;
+use std::sync::Wait;
+
+/// How many answers are held at most.
+const HELD: usize = 1_024;
+
+/// A hall that serves: what stands at each place, the answers that are held, in the order of their lines, and those that are still to
+/// be written before them.
+#[derive(Drop)]
+pub(crate) struct Serving<'h> {
+    hall: &'h Hall,
+    roster: &'h Roster,
+    seats: Vec<Seat>,
+    slots: VecDeque<Slot>,
+    output: Vec<u8>,
+}
+
+impl<'h> Serving<'h> {
+    // Before the first line all tenants are at home. The error comes for want of memory alone.
+    pub(crate) fn open(
+        alloc: Global,
+        hall: &'h Hall,
+        roster: &'h Roster,
+        desks: Vec<Desk>,
+    ) -> Result<Serving<'h>, AllocError>
+        requires { desks.items ≡ opening_desks hall.now.id 0 roster.now }
+        ensures open { IfOk result (λ serving. IsOpen serving) }
+        ensures told { IfOk result (λ serving. (written : Option (List ℕ)) → TellsAll serving [] written written) }
+        ensures hall { IfOk result (λ serving. serving.hall.now ≡ hall.now) }
+        ensures roster { IfOk result (λ serving. serving.roster.now ≡ roster.now) }
+    {
+        // A law: before the first line nothing is told.
+        answers_add_up();
+        let seats = seats_of(alloc, desks)?;
+        let slots = VecDeque::with_capacity(alloc, HELD)?;
+        let output = Vec::new(alloc);
+        Ok(Serving {
+            hall,
+            roster,
+            seats,
+            slots,
+            output,
+        })
+    }
+
+    /// Answers one line more, and waits for a round where its tenant is away or 1,024 answers are held.
+    pub(crate) fn answer<R: Wait, W: Sink>(
+        &mut self,
+        rt: &R,
+        alloc: Global,
+        writer: &mut W,
+        line: Line,
+    ) -> Result<(), ServeFault>
+        requires writer { W.write_failed writer.old ≡ false }
+        requires open { IsOpen self.old }
+        ensures told { OnOk result ((text after : List ℕ) (written : Option (List ℕ))
+            → input_lines after ≡ input_lines text ++ line ∷ []
+            → TellsAll self.old text written (W.written writer.old)
+            → TellsAll self.new after written (W.written writer.new)) }
+        ensures begins { OnErr result ((text after : List ℕ) (written : Option (List ℕ))
+            → input_lines after ≡ input_lines text ++ line ∷ []
+            → TellsAll self.old text written (W.written writer.old)
+            → BeginsAnswers self.old.roster.now after written (W.written writer.new)) }
+        ensures cause { IfErr result (λ fault. IsWritingFault fault (W.write_failed writer.new)) }
+        ensures well { OnOk result (W.write_failed writer.new ≡ false) }
+        ensures open { IsOpen self.new }
+        ensures roster { self.new.roster ≡ self.old.roster }
+        ensures hall { self.new.hall ≡ self.old.hall }
+    {
+        self.take_line(rt, alloc, line);
+        self.make_room(rt, writer)
+    }
+
+    // Takes a line: its answer is held.
+    fn take_line<R: Wait>(&mut self, rt: &R, alloc: Global, line: Line)
+        requires { IsOpen self.old }
+        ensures takes { Takes self.old self.new line }
+        ensures open { AreOpen self.new }
+        ensures roster { self.new.roster ≡ self.old.roster }
+        ensures hall { self.new.hall ≡ self.old.hall }
+    {
+        // Laws: of one line more, and of marks that replies tell.
+        answers_add_up();
+        match line {
+            Line::Nothing => {}
+            Line::Long => self.slots.push_back_reserved(Slot::TooLong),
+            Line::Nameless => self.slots.push_back_reserved(Slot::Stranger),
+            Line::For(name, command) => match self.roster.place_of(name) {
+                None => self.slots.push_back_reserved(Slot::Stranger),
+                Some(place) => {
+                    self.come_home(rt, place);
+                    self.command(rt, alloc, place, name, command);
+                }
+            },
+        }
+    }
+
+    // The tenant of the place, which is at home, takes a command.
+    fn command<R: Wait>(
+        &mut self,
+        rt: &R,
+        alloc: Global,
+        place: usize,
+        name: Name,
+        command: Command,
+    )
+        requires open { IsOpen self.old }
+        requires place { place < length self.old.roster.now }
+        requires found { place_among self.old.roster.now name ≡ Some place }
+        requires home { IsHomeAt place self.old.seats.items }
+        ensures takes { Takes self.old self.new (For name command) }
+        ensures open { AreOpen self.new }
+        ensures roster { self.new.roster ≡ self.old.roster }
+        ensures hall { self.new.hall ≡ self.old.hall }
+    {
+        // Laws: of one line more, and of marks that replies tell.
+        answers_add_up();
+        replies_tell_their_marks();
+        let Seat::Home(desk) = mem::replace(&mut self.seats[place], Seat::Gone) else {
+            unreachable!()
+        };
+        let (seat, slot) = take(rt, alloc, self.hall, desk, place, name, command);
+        let _gone = mem::replace(&mut self.seats[place], seat);
+        self.slots.push_back_reserved(slot);
+    }
+
+    // The desk of the place comes home; the answer that waited for its round is known then.
+    fn come_home<R: Wait>(&mut self, rt: &R, place: usize)
+        requires open { AreOpen self.old }
+        requires place { place < length self.old.roster.now }
+        ensures keeps { Keeps self.old self.new }
+        ensures open { AreOpen self.new }
+        ensures home { IsHomeAt place self.new.seats.items }
+        ensures others { (other : ℕ) → IsHomeAt other self.old.seats.items → IsHomeAt other self.new.seats.items }
+        ensures first { FirstIsFor place self.old.slots.items → FirstIsKnown self.new.slots.items }
+        ensures length { deque_len self.new.slots ≡ deque_len self.old.slots }
+        ensures roster { self.new.roster ≡ self.old.roster }
+        ensures hall { self.new.hall ≡ self.old.hall }
+    {
+        let seat = mem::replace(&mut self.seats[place], Seat::Gone);
+        let (desk, reply) = seat.come_home(rt);
+        let _gone = mem::replace(&mut self.seats[place], Seat::Home(desk));
+        fill(&mut self.slots, place, reply);
+    }
+
+    // The same where the round is answered; else all stays. Tells whether it was.
+    fn look_at(&mut self, place: usize) -> bool
+        requires open { AreOpen self.old }
+        requires place { place < length self.old.roster.now }
+        requires first { FirstIsFor place self.old.slots.items }
+        ensures keeps { Keeps self.old self.new }
+        ensures open { AreOpen self.new }
+        ensures first { MatchBool result (FirstIsKnown self.new.slots.items) (FirstWaits self.new.slots.items) }
+        ensures length { deque_len self.new.slots ≡ deque_len self.old.slots }
+        ensures roster { self.new.roster ≡ self.old.roster }
+        ensures hall { self.new.hall ≡ self.old.hall }
+    {
+        let seat = mem::replace(&mut self.seats[place], Seat::Gone);
+        let (seat, reply) = seat.look();
+        let is_back = reply.is_some();
+        let _gone = mem::replace(&mut self.seats[place], seat);
+        fill(&mut self.slots, place, reply);
+        is_back
+    }
+
+    // Whether the first answer that is held is known, after a look where it waits for a round.
+    fn first_is_known(&mut self) -> bool
+        requires open { AreOpen self.old }
+        ensures keeps { Keeps self.old self.new }
+        ensures open { AreOpen self.new }
+        ensures first { MatchBool result (FirstIsKnown self.new.slots.items) (FirstWaits self.new.slots.items) }
+        ensures length { deque_len self.new.slots ≡ deque_len self.old.slots }
+        ensures roster { self.new.roster ≡ self.old.roster }
+        ensures hall { self.new.hall ≡ self.old.hall }
+    {
+        let Some(slot) = self.slots.front() else {
+            return false;
+        };
+        match slot.waiting() {
+            None => true,
+            Some(place) => self.look_at(place),
+        }
+    }
+
+    // The first answer that is held, which is known, is to be written.
+    fn put_first(&mut self) -> Result<(), AllocError>
+        requires open { AreOpen self.old }
+        requires first { FirstIsKnown self.old.slots.items }
+        ensures keeps { OnOk result (Keeps self.old self.new) }
+        ensures open { AreOpen self.new }
+        ensures seats { self.new.seats ≡ self.old.seats }
+        ensures length { deque_len self.new.slots + 1 ≡ deque_len self.old.slots }
+        ensures roster { self.new.roster ≡ self.old.roster }
+        ensures hall { self.new.hall ≡ self.old.hall }
+    {
+        let slot = self.slots.pop_front().unwrap();
+        put_answer(&mut self.output, slot)
+    }
+
+    // All known answers up to the first that waits are to be written.
+    fn put_known(&mut self) -> Result<(), AllocError>
+        requires open { AreOpen self.old }
+        ensures keeps { OnOk result (Keeps self.old self.new) }
+        ensures open { AreOpen self.new }
+        ensures first { OnOk result (FirstWaits self.new.slots.items) }
+        ensures length { deque_len self.new.slots ≤ deque_len self.old.slots }
+        ensures roster { self.new.roster ≡ self.old.roster }
+        ensures hall { self.new.hall ≡ self.old.hall }
+    {
+        while self.first_is_known() {
+            self.put_first()?;
+        }
+        Ok(())
+    }
+
+    // All answers, which are known, are to be written.
+    fn put_all(&mut self) -> Result<(), AllocError>
+        requires open { AreOpen self.old }
+        requires home { AllHome self.old.seats.items }
+        ensures keeps { OnOk result (Keeps self.old self.new) }
+        ensures open { AreOpen self.new }
+        ensures none { OnOk result (self.new.slots.items ≡ []) }
+        ensures length { deque_len self.new.slots ≤ deque_len self.old.slots }
+        ensures roster { self.new.roster ≡ self.old.roster }
+        ensures hall { self.new.hall ≡ self.old.hall }
+    {
+        while !self.slots.is_empty() {
+            self.put_first()?;
+        }
+        Ok(())
+    }
+
+    // All tenants come home.
+    fn all_come_home<R: Wait>(&mut self, rt: &R)
+        requires { AreOpen self.old }
+        ensures keeps { Keeps self.old self.new }
+        ensures open { AreOpen self.new }
+        ensures home { AllHome self.new.seats.items }
+        ensures length { deque_len self.new.slots ≡ deque_len self.old.slots }
+        ensures roster { self.new.roster ≡ self.old.roster }
+        ensures hall { self.new.hall ≡ self.old.hall }
+    {
+        for place in 0..self.seats.len() {
+            self.come_home(rt, place);
+        }
+    }
+
+    // The first answer that is held is known then.
+    fn first_comes_home<R: Wait>(&mut self, rt: &R)
+        requires open { AreOpen self.old }
+        requires some { 0 < deque_len self.old.slots }
+        ensures keeps { Keeps self.old self.new }
+        ensures open { AreOpen self.new }
+        ensures first { FirstIsKnown self.new.slots.items }
+        ensures length { deque_len self.new.slots ≡ deque_len self.old.slots }
+        ensures roster { self.new.roster ≡ self.old.roster }
+        ensures hall { self.new.hall ≡ self.old.hall }
+    {
+        let Some(slot) = self.slots.front() else {
+            return;
+        };
+        if let Some(place) = slot.waiting() {
+            self.come_home(rt, place);
+        }
+    }
+
+    // Where 1,024 answers are held, the first is waited for and all that are known then are written.
+    fn make_room<R: Wait, W: Sink>(&mut self, rt: &R, writer: &mut W) -> Result<(), ServeFault>
+        requires writer { W.write_failed writer.old ≡ false }
+        requires open { AreOpen self.old }
+        ensures told { OnOk result (Passes self.old self.new (W.written writer.old) (W.written writer.new)) }
+        ensures begins { Begins self.old (W.written writer.old) (W.written writer.new) }
+        ensures cause { IfErr result (λ fault. IsWritingFault fault (W.write_failed writer.new)) }
+        ensures well { OnOk result (W.write_failed writer.new ≡ false) }
+        ensures open { IsOpen self.new }
+        ensures roster { self.new.roster ≡ self.old.roster }
+        ensures hall { self.new.hall ≡ self.old.hall }
+    {
+        if self.slots.len() < HELD {
+            return Ok(());
+        }
+        self.first_comes_home(rt);
+        let Ok(()) = self.put_first() else {
+            return Err(ServeFault::Memory);
+        };
+        self.write_out(writer)
+    }
+
+    /// Writes the answers that are known, up to the first that waits for a round.
+    pub(crate) fn write_out<W: Sink>(&mut self, writer: &mut W) -> Result<(), ServeFault>
+        requires writer { W.write_failed writer.old ≡ false }
+        requires open { AreOpen self.old }
+        ensures told { OnOk result (Passes self.old self.new (W.written writer.old) (W.written writer.new)) }
+        ensures written_out { OnOk result (IsWrittenOut self.new) }
+        ensures begins { Begins self.old (W.written writer.old) (W.written writer.new) }
+        ensures cause { IfErr result (λ fault. IsWritingFault fault (W.write_failed writer.new)) }
+        ensures well { OnOk result (W.write_failed writer.new ≡ false) }
+        ensures open { AreOpen self.new }
+        ensures length { deque_len self.new.slots ≤ deque_len self.old.slots }
+        ensures roster { self.new.roster ≡ self.old.roster }
+        ensures hall { self.new.hall ≡ self.old.hall }
+    {
+        let Ok(()) = self.put_known() else {
+            return Err(ServeFault::Memory);
+        };
+        write_held(writer, &mut self.output)?;
+        Ok(())
+    }
+
+    /// Waits for all rounds that are away, and writes all answers.
+    pub(crate) fn finish<R: Wait, W: Sink>(
+        &mut self,
+        rt: &R,
+        writer: &mut W,
+    ) -> Result<(), ServeFault>
+        requires writer { W.write_failed writer.old ≡ false }
+        requires open { AreOpen self.old }
+        ensures told { OnOk result (Passes self.old self.new (W.written writer.old) (W.written writer.new)) }
+        ensures finished { OnOk result (IsFinished self.new) }
+        ensures begins { Begins self.old (W.written writer.old) (W.written writer.new) }
+        ensures cause { IfErr result (λ fault. IsWritingFault fault (W.write_failed writer.new)) }
+        ensures well { OnOk result (W.write_failed writer.new ≡ false) }
+        ensures open { AreOpen self.new }
+        ensures length { deque_len self.new.slots ≤ deque_len self.old.slots }
+        ensures roster { self.new.roster ≡ self.old.roster }
+        ensures hall { self.new.hall ≡ self.old.hall }
+    {
+        self.all_come_home(rt);
+        let Ok(()) = self.put_all() else {
+            return Err(ServeFault::Memory);
+        };
+        write_held(writer, &mut self.output)?;
+        Ok(())
+    }
+
+    /// The desks, in the order of their places, once each is home. They are put where this room is reserved for them.
+    pub(crate) fn into_desks<R: Wait>(self, rt: &R, room: Vec<Desk>) -> Vec<Desk>
+        requires open { AreOpen self }
+        requires room { (room.items ≡ []) × (length self.roster.now ≤ vec_capacity room) }
+        ensures of { All (λ desk. desk.queue ≡ self.entry.hall.now.id) result.items }
+        ensures count { length result.items ≡ length self.entry.roster.now }
+        ensures asked { weigh (λ desk. desk.put) result.items ≡ weigh asked_at self.entry.seats.items }
+    {
+        let mut desks = room;
+        for seat in self.seats {
+            let (desk, _) = seat.come_home(rt);
+            desks.push_reserved(desk);
+        }
+        desks
+    }
+}
+
+// Writes what is to be written.
+fn write_held<W: Sink>(writer: &mut W, output: &mut Vec<u8>) -> Result<(), ServeFault>
+    requires { W.write_failed writer.old ≡ false }
+    ensures ok { OnOk result (Appends (W.written writer.old) (W.written writer.new) output.old.items) }
+    ensures empty { OnOk result (output.new.items ≡ []) }
+    ensures err { OnErr result ((count : ℕ) × (count ≤ length output.old.items) × Appends (W.written writer.old) (W.written writer.new) (take count output.old.items)) }
+    ensures cause { IfErr result (λ fault. IsWritingFault fault (W.write_failed writer.new)) }
+    ensures well { OnOk result (W.write_failed writer.new ≡ false) }
+{
+    if write_all(writer, output).is_err() {
+        return Err(ServeFault::Write);
+    }
+    output.clear();
+    Ok(())
+}
+
+// A seat for each desk, which is home.
+fn seats_of(alloc: Global, desks: Vec<Desk>) -> Result<Vec<Seat>, AllocError>
+    ensures { IfOk result (λ seats. seats.items ≡ map Home desks.items) }
+{
+    let mut seats = Vec::with_capacity(alloc, desks.len())?;
+    for desk in desks {
+        seats.push_reserved(Seat::Home(desk));
+    }
+    Ok(seats)
+}
+
+// The reply that came, if one did, is the answer that waited for the round of the place.
+fn fill(slots: &mut VecDeque<Slot>, place: usize, reply: Option<Reply>)
+    ensures filled { slots.new.items ≡ filled_if place reply slots.old.items }
+    ensures length { deque_len slots.new ≡ deque_len slots.old }
+    ensures capacity { deque_capacity slots.new ≡ deque_capacity slots.old }
+{
+    let Some(reply) = reply else {
+        return;
+    };
+    for at in 0..slots.len() {
+        if slots[at].waits_for(place) {
+            slots[at].answer(reply);
+            return;
+        }
+    }
+}
+
+// Adds the text of an answer, which is known. Where memory runs out, a part may have been added.
+fn put_answer(output: &mut Vec<u8>, answer: Slot) -> Result<(), AllocError>
+    requires { FirstIsKnown (answer ∷ []) }
+    ensures { OnOk result ((marks : ℕ → Bool) → output.new.items ≡ output.old.items ++ text_of_answer (answer_in marks answer)) }
+{
+    match answer {
+        Slot::TooLong => output.extend_from_slice(b"! line-too-long\n"),
+        Slot::Stranger => output.extend_from_slice(b"! unknown-tenant\n"),
+        Slot::Replied(name, reply) => {
+            put_reply(output, name, &reply)?;
+            output.extend_from_slice(b"\n")
+        }
+        Slot::Waiting(_, _, _) => unreachable!(),
+    }
+}

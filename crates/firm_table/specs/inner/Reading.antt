@@ -1,0 +1,29 @@
+-- How far an input that comes in pieces was read.
+use Rattle.std.specs.Prelude.{◌≡◌, ℕ, List, ◌++◌, Option}
+use Rattle.std.specs.Io.{IsEmptyOrEndsWith}
+use Rattle.firm_text.specs.Cutters.{Cut, StandsFor}
+use Rattle.firm_text.specs.Inputs.{input_lines}
+use Rattle.firm_text.specs.Rosters.{Admitted}
+use Rattle.firm_table.specs.Service.{BeginsAnswers, Telling}
+
+-- lines that have all ended: what follows them begins a line
+pub record HasEnded (text : List ℕ) : Type 0 where
+  pub ends : IsEmptyOrEndsWith text 10
+  pub parts : (more : List ℕ) → input_lines (text ++ more) ≡ input_lines text ++ input_lines more
+
+-- this was read: lines that have ended, of which this is said, and a rest for which the cutter stands
+pub record Heard (IsTold : Telling) (cut : Cut) (heard : List ℕ) (written now : Option (List ℕ)) : Type 0 where
+  pub text : List ℕ
+  pub rest : List ℕ
+  pub both : heard ≡ text ++ rest
+  pub ended : HasEnded text
+  pub stands : StandsFor cut rest
+  pub told : IsTold text written now
+
+-- this was read: lines that have ended, and a rest; what was written is a prefix of the output for the lines
+pub record Halted (roster : List Admitted) (heard : List ℕ) (written now : Option (List ℕ)) : Type 0 where
+  pub answered : List ℕ
+  pub rest : List ℕ
+  pub both : heard ≡ answered ++ rest
+  pub ends : IsEmptyOrEndsWith answered 10
+  pub begins : BeginsAnswers roster answered written now

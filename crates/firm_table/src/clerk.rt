@@ -1,0 +1,92 @@
+//! Who answers the lines of an input.
+
+ghost use Rattle.std.specs.Prelude.{◌≡◌, ℕ, ◌++◌, ◌∷◌, List, Option, [], false, OnOk, OnErr, IfErr};
+ghost use Rattle.firm_text.specs.Inputs.{input_lines};
+ghost use Rattle.firm_text.specs.Rosters.{Admitted};
+ghost use Rattle.firm_table.specs.Service.{Answers, BeginsAnswers};
+ghost use Rattle.firm_table.specs.inner.Faults.{IsWritingFault};
+
+use crate::faults::ServeFault;
+use firm_text::{Line, Sink};
+
+/// Answers lines in the order in which it is given them. It may hold answers back, and writes them in the order of
+/// their lines. A call ends early with `Write` where a call of the writer failed, and with `Memory` where a growth of
+/// the clerk's own was refused.
+pub trait Clerk {
+    /// What no call changes.
+    ghost Kept: { Type 0 } = { Unit {0} };
+
+    /// That of this clerk.
+    ghost kept: { Self → Self.Kept };
+
+    /// The rows of the tenants for whom it answers.
+    ghost roster: { Self → List Admitted };
+
+    /// It can be given a line.
+    ghost is_open: { Self → Type 0 };
+
+    /// The lines of this text were answered: what was written between these two texts of the sink and what the clerk
+    /// still holds are, once all is known, the output for them.
+    ghost told: { Self → List ℕ → Option (List ℕ) → Option (List ℕ) → Type 0 };
+
+    /// Each answer that is known and before which none is missing was written.
+    ghost is_written_out: { Self → Type 0 };
+
+    /// Each answer was written.
+    ghost is_finished: { Self → Type 0 };
+
+    /// Answers one line more. What is written meanwhile are answers, in order.
+    fn answer<W: Sink>(&mut self, writer: &mut W, line: Line) -> Result<(), ServeFault>
+        requires writer { W.write_failed writer.old ≡ false }
+        requires open { is_open self.old }
+        ensures told { OnOk result ((text after : List ℕ) (written : Option (List ℕ))
+            → input_lines after ≡ input_lines text ++ line ∷ []
+            → told self.old text written (W.written writer.old)
+            → told self.new after written (W.written writer.new)) }
+        ensures begins { OnErr result ((text after : List ℕ) (written : Option (List ℕ))
+            → input_lines after ≡ input_lines text ++ line ∷ []
+            → told self.old text written (W.written writer.old)
+            → BeginsAnswers (roster self.old) after written (W.written writer.new)) }
+        ensures cause { IfErr result (λ fault. IsWritingFault fault (W.write_failed writer.new)) }
+        ensures well { OnOk result (W.write_failed writer.new ≡ false) }
+        ensures open { is_open self.new }
+        ensures roster { roster self.new ≡ roster self.old }
+        ensures kept { kept self.new ≡ kept self.old };
+
+    /// Writes the answers that are known, up to the first that is missing.
+    fn write_out<W: Sink>(&mut self, writer: &mut W) -> Result<(), ServeFault>
+        requires writer { W.write_failed writer.old ≡ false }
+        requires open { is_open self.old }
+        ensures told { OnOk result ((text : List ℕ) (written : Option (List ℕ))
+            → told self.old text written (W.written writer.old)
+            → told self.new text written (W.written writer.new)) }
+        ensures written_out { OnOk result (is_written_out self.new) }
+        ensures begins { (text : List ℕ) (written : Option (List ℕ))
+            → told self.old text written (W.written writer.old)
+            → BeginsAnswers (roster self.old) text written (W.written writer.new) }
+        ensures cause { IfErr result (λ fault. IsWritingFault fault (W.write_failed writer.new)) }
+        ensures well { OnOk result (W.write_failed writer.new ≡ false) }
+        ensures open { is_open self.new }
+        ensures roster { roster self.new ≡ roster self.old }
+        ensures kept { kept self.new ≡ kept self.old };
+
+    /// Writes all answers, once each is known.
+    fn finish<W: Sink>(&mut self, writer: &mut W) -> Result<(), ServeFault>
+        requires writer { W.write_failed writer.old ≡ false }
+        requires open { is_open self.old }
+        ensures told { OnOk result ((text : List ℕ) (written : Option (List ℕ))
+            → told self.old text written (W.written writer.old)
+            → told self.new text written (W.written writer.new)) }
+        ensures answers { OnOk result ((text : List ℕ) (written : Option (List ℕ))
+            → told self.old text written (W.written writer.old)
+            → Answers (roster self.old) text written (W.written writer.new)) }
+        ensures finished { OnOk result (is_finished self.new) }
+        ensures begins { OnErr result ((text : List ℕ) (written : Option (List ℕ))
+            → told self.old text written (W.written writer.old)
+            → BeginsAnswers (roster self.old) text written (W.written writer.new)) }
+        ensures cause { IfErr result (λ fault. IsWritingFault fault (W.write_failed writer.new)) }
+        ensures well { OnOk result (W.write_failed writer.new ≡ false) }
+        ensures open { is_open self.new }
+        ensures roster { roster self.new ≡ roster self.old }
+        ensures kept { kept self.new ≡ kept self.old };
+}

@@ -1,0 +1,198 @@
+//! Reading an input in pieces and cutting it into lines, which a clerk answers.
+
+ghost use Rattle.std.specs.Prelude.{◌≡◌, ℕ, ◌≤◌, ◌<◌, ◌^◌, ◌++◌, List, Option, [], false, length};
+ghost use Rattle.std.specs.Prelude.{OnOk, OnErr, IfOk, IfErr};
+ghost use Rattle.firm_table.specs.Service.{Answers, BeginsAnswers, Served, Stopped, device};
+ghost use Rattle.firm_table.specs.Service.{ToldToTheEnd, UpToDate, WasTold};
+ghost use Rattle.firm_table.specs.declared.faults.ServeFault.TheVariants.{Read};
+ghost use Rattle.firm_table.specs.inner.Faults.{IsWritingFault};
+ghost use Rattle.firm_table.specs.inner.Reading.{Heard, Halted};
+
+use crate::clerk::Clerk;
+use crate::faults::ServeFault;
+use firm_text::{Cutter, Sink, Source};
+
+/// How many bytes one read asks for.
+const PIECE: usize = 4_096;
+
+/// Has a clerk answer the lines of an input of at most `most` bytes, 2^32 at most. Before each read the clerk writes
+/// the answers that it can; at the end it writes all, and the writer is flushed.
+///
+/// On `Ok` a read has found the end of the input, and what was written is the output for all of it. After a fault it is
+/// a prefix of the output for the bytes that were read. `Read` and `Write` come where a call of the reader or the
+/// writer failed, `TooLong` where more than `most` bytes came, and `Memory` where a growth of the clerk's own was
+/// refused.
+pub fn serve_lines<R: Source, W: Sink, C: Clerk>(
+    reader: &mut R,
+    writer: &mut W,
+    clerk: &mut C,
+    most: u64,
+) -> Result<(), ServeFault>
+    requires most { most ≤ 2 ^ 32 }
+    requires reader { R.read_failed reader.old ≡ false }
+    requires writer { W.write_failed writer.old ≡ false }
+    requires open { C.is_open clerk.old }
+    requires opening { C.told clerk.old [] (W.written writer.old) (W.written writer.old) }
+    ensures served { OnOk result (Served (C.roster clerk.old) most
+        (device (R.left reader.old) (R.left reader.new) (R.read_failed reader.new))
+        (device (W.written writer.old) (W.written writer.new) (W.write_failed writer.new))) }
+    ensures stopped { IfErr result (Stopped (C.roster clerk.old) most
+        (device (R.left reader.old) (R.left reader.new) (R.read_failed reader.new))
+        (device (W.written writer.old) (W.written writer.new) (W.write_failed writer.new))) }
+    ensures told { OnOk result (ToldToTheEnd (C.told clerk.new) most
+        (device (R.left reader.old) (R.left reader.new) (R.read_failed reader.new))
+        (device (W.written writer.old) (W.written writer.new) (W.write_failed writer.new))) }
+    ensures finished { OnOk result (C.is_finished clerk.new) }
+    ensures waiting { IfErr result (λ fault. fault ≡ Read → C.is_written_out clerk.new × UpToDate (C.told clerk.new)
+        (device (R.left reader.old) (R.left reader.new) (R.read_failed reader.new))
+        (device (W.written writer.old) (W.written writer.new) (W.write_failed writer.new))) }
+    ensures open { C.is_open clerk.new }
+    ensures roster { C.roster clerk.new ≡ C.roster clerk.old }
+    ensures kept { C.kept clerk.new ≡ C.kept clerk.old }
+{
+    let mut piece = [0; PIECE];
+    let mut cutter = Cutter::new();
+    let mut heard = 0;
+    loop {
+        clerk.write_out(writer)?;
+        let Ok(count) = reader.read(&mut piece) else {
+            return Err(ServeFault::Read);
+        };
+        if count == 0 {
+            return answer_end(clerk, &mut cutter, writer);
+        }
+        heard += count as u64;
+        if most < heard {
+            return Err(ServeFault::TooLong);
+        }
+        answer_piece(clerk, &mut cutter, writer, &piece[..count])?;
+    }
+}
+
+// Has the lines that end in this piece answered; the cutter keeps what follows the last of them.
+fn answer_piece<W: Sink, C: Clerk>(
+    clerk: &mut C,
+    cutter: &mut Cutter,
+    writer: &mut W,
+    piece: &[u8],
+) -> Result<(), ServeFault>
+    requires cut { cutter.old.has_ended ≡ false }
+    requires writer { W.write_failed writer.old ≡ false }
+    requires open { C.is_open clerk.old }
+    ensures heard { OnOk result ((heard : List ℕ) (written : Option (List ℕ))
+        → Heard (C.told clerk.old) cutter.old heard written (W.written writer.old)
+        → Heard (C.told clerk.new) cutter.new (heard ++ piece.now) written (W.written writer.new)) }
+    ensures halted { OnErr result ((heard : List ℕ) (written : Option (List ℕ))
+        → Heard (C.told clerk.old) cutter.old heard written (W.written writer.old)
+        → Halted (C.roster clerk.old) (heard ++ piece.now) written (W.written writer.new)) }
+    ensures cause { IfErr result (λ fault. IsWritingFault fault (W.write_failed writer.new)) }
+    ensures well { OnOk result (W.write_failed writer.new ≡ false) }
+    ensures cut { OnOk result (cutter.new.has_ended ≡ false) }
+    ensures open { C.is_open clerk.new }
+    ensures roster { C.roster clerk.new ≡ C.roster clerk.old }
+    ensures kept { C.kept clerk.new ≡ C.kept clerk.old }
+{
+    let mut rest = piece;
+    while !rest.is_empty() {
+        rest = answer_first(clerk, cutter, writer, rest)?;
+    }
+    Ok(())
+}
+
+// Has the first line that ends in this piece answered, and gives what follows it.
+fn answer_first<'b, W: Sink, C: Clerk>(
+    clerk: &mut C,
+    cutter: &mut Cutter,
+    writer: &mut W,
+    piece: &'b [u8],
+) -> Result<&'b [u8], ServeFault>
+    requires cut { cutter.old.has_ended ≡ false }
+    requires writer { W.write_failed writer.old ≡ false }
+    requires open { C.is_open clerk.old }
+    requires some { 0 < length piece.now }
+    ensures part { IfOk result (λ behind. (front : List ℕ) × (piece.now ≡ front ++ behind.now)) }
+    ensures shorter { IfOk result (λ behind. length behind.now < length piece.now) }
+    ensures heard { IfOk result (λ behind. (heard front : List ℕ) (written : Option (List ℕ))
+        → piece.now ≡ front ++ behind.now
+        → Heard (C.told clerk.old) cutter.old heard written (W.written writer.old)
+        → Heard (C.told clerk.new) cutter.new (heard ++ front) written (W.written writer.new)) }
+    ensures halted { OnErr result ((heard : List ℕ) (written : Option (List ℕ))
+        → Heard (C.told clerk.old) cutter.old heard written (W.written writer.old)
+        → Halted (C.roster clerk.old) (heard ++ piece.now) written (W.written writer.new)) }
+    ensures cause { IfErr result (λ fault. IsWritingFault fault (W.write_failed writer.new)) }
+    ensures well { OnOk result (W.write_failed writer.new ≡ false) }
+    ensures cut { OnOk result (cutter.new.has_ended ≡ false) }
+    ensures open { C.is_open clerk.new }
+    ensures roster { C.roster clerk.new ≡ C.roster clerk.old }
+    ensures kept { C.kept clerk.new ≡ C.kept clerk.old }
+{
+    let fed = cutter.feed(piece);
+    let (_, behind) = piece.split_at(fed.used);
+    if !fed.ended {
+        return Ok(behind);
+    }
+    let line = cutter.take();
+    clerk.answer(writer, line)?;
+    Ok(behind)
+}
+
+// Has what follows the last line feed answered, and all written.
+fn answer_end<W: Sink, C: Clerk>(
+    clerk: &mut C,
+    cutter: &mut Cutter,
+    writer: &mut W,
+) -> Result<(), ServeFault>
+    requires cut { cutter.old.has_ended ≡ false }
+    requires writer { W.write_failed writer.old ≡ false }
+    requires open { C.is_open clerk.old }
+    ensures told { OnOk result ((heard : List ℕ) (written : Option (List ℕ))
+        → Heard (C.told clerk.old) cutter.old heard written (W.written writer.old)
+        → WasTold (C.told clerk.new) heard written (W.written writer.new)) }
+    ensures answers { OnOk result ((heard : List ℕ) (written : Option (List ℕ))
+        → Heard (C.told clerk.old) cutter.old heard written (W.written writer.old)
+        → Answers (C.roster clerk.old) heard written (W.written writer.new)) }
+    ensures finished { OnOk result (C.is_finished clerk.new) }
+    ensures begins { OnErr result ((heard : List ℕ) (written : Option (List ℕ))
+        → Heard (C.told clerk.old) cutter.old heard written (W.written writer.old)
+        → BeginsAnswers (C.roster clerk.old) heard written (W.written writer.new)) }
+    ensures cause { IfErr result (λ fault. IsWritingFault fault (W.write_failed writer.new)) }
+    ensures well { OnOk result (W.write_failed writer.new ≡ false) }
+    ensures open { C.is_open clerk.new }
+    ensures roster { C.roster clerk.new ≡ C.roster clerk.old }
+    ensures kept { C.kept clerk.new ≡ C.kept clerk.old }
+{
+    answer_rest(clerk, cutter, writer)?;
+    clerk.finish(writer)?;
+    match writer.flush() {
+        Ok(()) => Ok(()),
+        Err(_) => Err(ServeFault::Write),
+    }
+}
+
+// Has what follows the last line feed answered.
+fn answer_rest<W: Sink, C: Clerk>(
+    clerk: &mut C,
+    cutter: &mut Cutter,
+    writer: &mut W,
+) -> Result<(), ServeFault>
+    requires cut { cutter.old.has_ended ≡ false }
+    requires writer { W.write_failed writer.old ≡ false }
+    requires open { C.is_open clerk.old }
+    ensures told { OnOk result ((heard : List ℕ) (written : Option (List ℕ))
+        → Heard (C.told clerk.old) cutter.old heard written (W.written writer.old)
+        → C.told clerk.new heard written (W.written writer.new)) }
+    ensures begins { OnErr result ((heard : List ℕ) (written : Option (List ℕ))
+        → Heard (C.told clerk.old) cutter.old heard written (W.written writer.old)
+        → BeginsAnswers (C.roster clerk.old) heard written (W.written writer.new)) }
+    ensures cause { IfErr result (λ fault. IsWritingFault fault (W.write_failed writer.new)) }
+    ensures well { OnOk result (W.write_failed writer.new ≡ false) }
+    ensures open { C.is_open clerk.new }
+    ensures roster { C.roster clerk.new ≡ C.roster clerk.old }
+    ensures kept { C.kept clerk.new ≡ C.kept clerk.old }
+{
+    if !cutter.rest() {
+        return Ok(());
+    }
+    let line = cutter.take();
+    clerk.answer(writer, line)
+}

@@ -1,0 +1,140 @@
+//! Which tenant has which place while tenants are admitted and retired.
+ghost use Rattle.std.specs.Prelude.{◌≡◌, ◌<◌, ℕ, List, IfOk, IfSome, OnErr, position};
+ghost use Rattle.std.specs.Option.{ok_or};
+ghost use Rattle.firm_text.specs.Registers.{AreSound, IsAdmission, first_places, is_free, is_named, most_places};
+ghost use Rattle.firm_text.specs.Registers.{place_for, place_in, with_tenant, without_tenant};
+ghost use Rattle.firm_text.specs.declared.registers.Place.{Place};
+ghost use Rattle.firm_text.specs.declared.operator.OperatorRefusal.TheVariants.{NoSuchTenant};
+
+use crate::operator::OperatorRefusal;
+use crate::rosters::Roster;
+use firm_rules::Name;
+use std::marker::Model;
+
+/// A register has this many places.
+const PLACES: usize = 64;
+
+/// A place is given at most this often, a roster's row included.
+const MOST_ADMISSIONS: u32 = 32_768;
+
+/// A place, the tenant that has it, and how often it was given.
+#[derive(Clone, Copy, Debug, PartialEq, Eq)]
+pub struct Place {
+    tenant: Option<Name>,
+    admissions: u32,
+}
+
+/// The 64 places of a service: which tenant has which, and how often each was given. None of its calls takes memory.
+#[derive(Drop)]
+pub struct Register {
+    places: [Place; PLACES],
+}
+
+impl Model for Register {
+    ghost use Rattle.std.specs.Prelude.{List};
+    ghost use Rattle.firm_text.specs.declared.registers.Place.{Place};
+
+    ghost Value = { List Place };
+
+    ghost use Rattle.firm_text.specs.Registers.{AreSound};
+
+    ghost view = { λ register. register.places };
+
+    ghost invariant = { λ register. AreSound register.places };
+}
+
+impl Register {
+    /// The places of the roster's tenants, in its order, and then empty ones. A roster's row counts as an admission.
+    pub fn of(roster: &Roster) -> Register
+        ensures { result ≡ first_places roster.now }
+    {
+        let mut places = [Place::EMPTY; PLACES];
+        for at in 0..roster.len() {
+            let (name, _limits) = roster.get(at).unwrap();
+            places[at] = Place {
+                tenant: Some(name),
+                admissions: 1,
+            };
+        }
+        Register { places }
+    }
+
+    /// The place of the tenant of this name, below 64. No two places have one tenant.
+    pub fn place_of(&self, name: Name) -> Option<usize>
+        ensures place { result ≡ place_in self.now name }
+        ensures within { IfSome result (λ place. place < most_places) }
+        ensures sound { AreSound self.now }
+    {
+        self.places.iter().position(|place| place.is_of(name))
+    }
+
+    /// Gives a new tenant of this name the first empty place that has an admission left, of 32,768. The error is
+    /// `TenantExists` where a tenant of the name is there, else `Full` where no place may be given; it changes nothing.
+    pub fn admit(&mut self, name: Name) -> Result<usize, OperatorRefusal>
+        ensures place { result ≡ place_for self.old name }
+        ensures admitted { IfOk result (λ place. self.new ≡ with_tenant self.old place name) }
+        ensures unchanged { OnErr result (self.new ≡ self.old) }
+    {
+        if self.place_of(name).is_some() {
+            return Err(OperatorRefusal::TenantExists);
+        }
+        let at = self.free_place().ok_or(OperatorRefusal::Full)?;
+        self.places[at] = Place {
+            tenant: Some(name),
+            admissions: self.places[at].admissions + 1,
+        };
+        Ok(at)
+    }
+
+    /// Empties the place of the tenant of this name. The error is `NoSuchTenant` where there is none; it changes
+    /// nothing.
+    pub fn retire(&mut self, name: Name) -> Result<usize, OperatorRefusal>
+        ensures place { result ≡ ok_or (place_in self.old name) NoSuchTenant }
+        ensures retired { IfOk result (λ place. self.new ≡ without_tenant self.old place) }
+        ensures unchanged { OnErr result (self.new ≡ self.old) }
+    {
+        let at = self.place_of(name).ok_or(OperatorRefusal::NoSuchTenant)?;
+        self.places[at].tenant = None;
+        Ok(at)
+    }
+
+    /// Takes back the admission to this place, its count too. It asks that this admission was the last change.
+    pub fn undo(&mut self, place: usize)
+        requires { (before : List Place) × (name : List ℕ) × IsAdmission before name place self.old }
+        ensures { (before : List Place) (name : List ℕ) → IsAdmission before name place self.old → self.new ≡ before }
+    {
+        let places = &mut self.places;
+        places[place] = Place {
+            tenant: None,
+            admissions: places[place].admissions - 1,
+        };
+    }
+
+    fn free_place(&self) -> Option<usize>
+        ensures { result ≡ position is_free self.now }
+    {
+        self.places.iter().position(|place| place.is_free())
+    }
+}
+
+impl Place {
+    const EMPTY: Place = Place {
+        tenant: None,
+        admissions: 0,
+    };
+
+    fn is_of(&self, name: Name) -> bool
+        ensures { result ≡ is_named name self.now.tenant }
+    {
+        match self.tenant {
+            Some(tenant) => tenant == name,
+            None => false,
+        }
+    }
+
+    fn is_free(&self) -> bool
+        ensures { result ≡ is_free self.now }
+    {
+        self.tenant.is_none() && self.admissions < MOST_ADMISSIONS
+    }
+}
