@@ -47,12 +47,7 @@ fn admit(alloc: Global, heading: &[u8], row: &[u8]) -> anyhow::Result<Tenant> {
 }
 
 // Has the tenant answer the commands of a text; the counts of each round are written.
-fn answer_all(
-    rt: &impl Print,
-    alloc: Global,
-    tenant: &mut Tenant,
-    text: &[u8],
-) -> io::Result<()> {
+fn answer_all(rt: &impl Print, alloc: Global, tenant: &mut Tenant, text: &[u8]) -> io::Result<()> {
     let mut rest = text;
     while !rest.is_empty() {
         let (first, behind) = first_line(rest);
@@ -65,12 +60,7 @@ fn answer_all(
 }
 
 // Has the tenant answer a command; the counts of a round are written.
-fn answer(
-    rt: &impl Print,
-    alloc: Global,
-    tenant: &mut Tenant,
-    command: Command,
-) -> io::Result<()> {
+fn answer(rt: &impl Print, alloc: Global, tenant: &mut Tenant, command: Command) -> io::Result<()> {
     let is_round = command == Command::Round;
     tenant.step(alloc, command);
     if is_round {

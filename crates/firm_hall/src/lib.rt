@@ -16,4 +16,3 @@ pub use desks::{Asked, AskedPoll, Desk};
 pub use halls::Hall;
 pub use service::serve;
 pub use workers::{Gate, Open, Report, WorkerPass, worker};
-
