@@ -1,5 +1,6 @@
-"""Processor time of one command of the running program, and of LEMON's solvers on one network."""
+"""Processor time of the rounds of a stream, and of LEMON's solvers on one network."""
 
+import os
 import subprocess
 import sys
 import tempfile
@@ -10,7 +11,6 @@ from pathlib import Path
 from rows import ask, hear, hear_round, network, open_rows
 
 HERE = Path(__file__).resolve().parent
-CHUNK = 400  # lines that are written before their replies are read, so that no pipe fills up
 LONG = 45  # seconds after which a stream is not run again
 
 Round = namedtuple("Round", "cost arcs tasks seconds beside network")
@@ -18,71 +18,42 @@ Solved = namedtuple("Solved", "seconds setup cost")
 
 
 class Served:
-    """The program over pipes; its processor time is read from its clock, so other load counts for little."""
+    """The program with one worker, over a roster; each run reads a file and writes a file."""
 
     def __init__(self, program, roster):
         self.file = tempfile.NamedTemporaryFile("w", suffix=".csv")
         self.file.write(roster)
         self.file.flush()
-        words = [program, "--roster", self.file.name]
-        self.process = subprocess.Popen(words, stdin=subprocess.PIPE, stdout=subprocess.PIPE, text=True, bufsize=-1)
-        self.clock = (~self.process.pid << 3) | 2  # the kernel's number of that process's processor clock
-        self.state = open(f"/proc/{self.process.pid}/stat")
+        self.words = [program, "--workers", "1", "--roster", self.file.name]
 
-    def seconds(self):
-        """The processor time until the program waits for input."""
-        while True:
-            self.state.seek(0)
-            if self.state.read().rpartition(")")[2].split()[0] == "S":
-                return time.clock_gettime(self.clock)
-            time.sleep(0.0002)
-
-    def ask(self, lines):
-        """The replies to some lines."""
-        replies = []
-        for first in range(0, len(lines), CHUNK):
-            chunk = lines[first:first + CHUNK]
-            self.process.stdin.write("".join(line + "\n" for line in chunk))
-            self.process.stdin.flush()
-            replies += [self.process.stdout.readline().rstrip("\n") for _ in chunk]
-        return replies
-
-    def measured(self, line):
-        """The reply to a line, and the processor time that it took."""
-        before = self.seconds()
-        reply = self.ask([line])[0]
-        return reply, self.seconds() - before
-
-    def end(self):
-        self.process.stdin.close()
-        self.process.wait()
-        self.state.close()
-        self.file.close()
-
-
-def serve_stream(program, stream):
-    """The replies of each part, the round's last, and the processor time of each round."""
-    served, replies, seconds = Served(program, stream.roster), [], []
-    for lines in stream.parts:
-        answers = served.ask(lines)
-        reply, spent = served.measured("t round")
-        replies.append([*answers, reply])
-        seconds.append(spent)
-    served.end()
-    return replies, seconds
+    def run(self, lines):
+        """The replies to these lines, and the processor time of the whole run."""
+        with tempfile.TemporaryFile("w+") as text, tempfile.TemporaryFile("w+") as output:
+            text.writelines(line + "\n" for line in lines)
+            text.seek(0)
+            process = subprocess.Popen(self.words, stdin=text, stdout=output)
+            _, status, used = os.wait4(process.pid, 0)
+            ask(status == 0, "the program failed")
+            output.seek(0)
+            return output.read().splitlines(), used.ru_utime + used.ru_stime
 
 
 def run_repeatedly(program, stream, repeats):
-    """The replies of a stream, and the least times of its rounds in some runs, of fewer where they take long."""
-    begun = time.monotonic()
-    replies, best = serve_stream(program, stream)
-    for _ in range(repeats - 1):
-        if time.monotonic() - begun > LONG:
-            break
-        again, seconds = serve_stream(program, stream)
-        ask(again == replies, "two runs gave two outputs")
-        best = list(map(min, best, seconds))
-    return replies, best
+    """The replies of each part, the round's last, and the processor time of each round: that of a run to the round's end,
+    less that of a run to the line before it, each the least of some, of fewer where they take long."""
+    served, begun, lines, replies, seconds = Served(program, stream.roster), time.monotonic(), [], [], []
+    for part in stream.parts:
+        lines, spent = lines + list(part), ([], [])
+        for turn in range(repeats):
+            if turn and time.monotonic() - begun > LONG:
+                break
+            for text, times in zip((lines, lines + ["t round"]), spent):
+                answers, used = served.run(text)
+                times.append(used)
+        seconds.append(min(spent[1]) - min(spent[0]))
+        lines.append("t round")
+        replies.append(answers[-len(part) - 1:])
+    return replies, seconds
 
 
 def run_stream(program, other, stream, repeats):
