@@ -1,8 +1,9 @@
 //! Whether a placement is legal, what it costs, and which of two comes first. None of these calls takes memory.
-ghost use Rattle.std.specs.Prelude.{◌≡◌, ◌*◌, ◌^◌, ◌≤◌, true, pos, nat_le, length, slice_index, bytes_eq};
+ghost use Rattle.std.specs.Prelude.{ℕ, ◌≡◌, ◌<◌, ◌*◌, ◌^◌, ◌≤◌, true, pos, nat_le, length, slice_index};
+ghost use Rattle.std.specs.Prelude.{bytes_eq};
 ghost use Rattle.std.specs.List.{list_all, position_or_len};
 ghost use Rattle.firm_rules.specs.Book.{job_names};
-ghost use Rattle.firm_rules.specs.Placement.{numbers, total, goes_to, load, is_place, is_legal, leaves, load_cost};
+ghost use Rattle.firm_rules.specs.Placement.{numbers, total, load, is_place, is_legal, leaves, load_cost};
 ghost use Rattle.firm_rules.specs.Placement.{task_cost, tasks_cost, placement_cost, rank, comes_before};
 ghost use Rattle.firm_rules.specs.Round.{case_of, demand_of, machine_place, weight_at};
 
@@ -12,10 +13,15 @@ use crate::rounds::Choice;
 use crate::tables::Rows;
 use std::alloc::Allocator;
 
+/// As many machines as a tenant may have, and more: its limit of nodes is 4,096 at most.
+const MOST_MACHINES: usize = 4_096;
+
 /// Whether there is one choice for each task, each a machine or to wait, and no machine has more tasks than slots.
 pub fn legal<A: Allocator>(rows: &Rows<A>, placement: &[Choice]) -> bool
     ensures { result ≡ is_legal (case_of rows.now) placement.now }
 {
+    // The rows fit the limits, so no more choices are counted than a tenant may have tasks.
+    prove!(rows.task_count() as u64 <= rows.limits().nodes() && rows.limits().nodes() <= 4_096);
     placement.len() == rows.task_count()
         && are_places(placement, rows.machine_count())
         && have_room(rows, placement)
@@ -65,35 +71,35 @@ fn are_places(placement: &[Choice], machines: usize) -> bool
 
 // Whether no machine has more tasks than slots.
 fn have_room<A: Allocator>(rows: &Rows<A>, placement: &[Choice]) -> bool
+    requires { length placement.now ≤ 4096 }
     ensures { result ≡ list_all (λ j. nat_le (load placement.now j) (slice_index (case_of rows.now).slots j))
         (numbers (length rows.now.machines)) }
 {
+    let loads = loads_of(placement);
+    // The rows fit the limits, so each machine has a load in the table.
+    prove!(rows.machine_count() as u64 <= rows.limits().nodes() && rows.limits().nodes() <= 4_096);
     for (place, machine) in rows.machines().enumerate() {
-        if (machine.slots.get() as usize) < load_of(placement, place) {
+        if machine.slots.get() < loads[place] {
             return false;
         }
     }
     true
 }
 
-// How many tasks the placement has on the machine at this place.
-fn load_of(placement: &[Choice], place: usize) -> usize
-    ensures load { result ≡ load placement.now place }
-    ensures most { result ≤ length placement.now }
+// How many tasks the placement has on each machine, for as many machines as a tenant may have.
+fn loads_of(placement: &[Choice]) -> [u32; MOST_MACHINES]
+    requires { length placement.now ≤ 4096 }
+    ensures { (j : ℕ) → j < 4096 → slice_index result j ≡ load placement.now j }
 {
-    placement
-        .iter()
-        .filter(|choice| is_at(**choice, place))
-        .count()
-}
-
-fn is_at(choice: Choice, machine: usize) -> bool
-    ensures { result ≡ goes_to machine choice }
-{
-    match choice {
-        Choice::On(place) => place as usize == machine,
-        Choice::Wait => false,
+    let mut loads = [0; MOST_MACHINES];
+    for task in 0..placement.len() {
+        if let Choice::On(place) = placement[task] {
+            if (place as usize) < MOST_MACHINES {
+                loads[place as usize] += 1;
+            }
+        }
     }
+    loads
 }
 
 // What the loads of all machines cost.
@@ -104,9 +110,10 @@ fn load_costs<A: Allocator>(rows: &Rows<A>, placement: &[Choice]) -> u64
     ensures most { result ≤ 2 ^ 45 }
 {
     let spread = rows.limits().spread();
+    let loads = loads_of(placement);
     let mut cost = 0;
     for place in 0..rows.machine_count() {
-        cost += cost_of_load(spread, load_of(placement, place) as u64);
+        cost += cost_of_load(spread, u64::from(loads[place]));
     }
     cost
 }
