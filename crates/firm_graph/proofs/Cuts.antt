@@ -6,11 +6,13 @@ use Rattle.std.specs.List.{sum_by, All, list_any}
 use Rattle.std.proofs.lemmas.Bool.{cases_Bool, cases_eq, cond-true, cond-false}
 use Rattle.std.proofs.lemmas.List.Sums.{sum_by-cons, count_by-le-length, get_or-le-sum_by}
 use Rattle.std.proofs.lemmas.List.{length-map, get_or_default}
+use Rattle.std.specs.List.Sorted.{IsPermutation}
+use Rattle.std.proofs.lemmas.List.Sorted.{All-permutation, sum_by-IsPermutation, length_permutation}
 use Rattle.std.proofs.lemmas.List.Elements.{All-head, All-tail}
 use Rattle.firm_arena.specs.Arena.{entries}
 use Rattle.firm_arena.specs.declared.Id.{Id}
 use Rattle.firm_net.specs.Row.{Row}
-use Rattle.firm_net.specs.Net.{Net}
+use Rattle.firm_net.specs.Net.{Net, IsNode}
 use Rattle.firm_net.specs.declared.row.NodeId.{NodeId}
 use Rattle.firm_net.specs.declared.row.ArcId.{ArcId}
 use Rattle.firm_paths.specs.Network.{Arc}
@@ -150,23 +152,25 @@ ones-none true e = absurd (omega (arith, e))
 ones-none false e = refl
 
 -- no set of nodes without the sink holds more tasks than its arcs let out
-pub no-cut : (g : Graph) (inside : ℕ → Bool) → Mirrors g → AreSound g.rows
-    → IsDeficientCut (arcs_of g.net) (places (task_nodes g)) g.sink.id.place inside → ⊥
-no-cut g inside is sound cut =
+pub no-cut : (g : Graph) (order : List NodeId) (inside : ℕ → Bool) → Mirrors g → AreSound g.rows
+    → IsPermutation (task_nodes g) order → IsDeficientCut (arcs_of g.net) (places order) g.sink.id.place inside → ⊥
+no-cut g order inside is sound same cut =
     let w : Span → ℕ = out_weight inside in
     let u : NodeId → ℕ = in_set inside in
     let whole : capacity_out (arcs_of g.net) inside ≡ sum_by w (graph_spans g) = out-sum inside g.net ∙ is.spans.weighs
     w in
     let parts = spans-total w g in
-    let sources : count_by inside (places (task_nodes g)) ≡ sum_by (λ p. u p.node) g.tasks =
-    sum-map (λ (v : ℕ). ones (inside v)) (λ (n : NodeId). n.id.place) (task_nodes g) ∙ sum-map u
-    (λ (p : TaskParts). p.node) g.tasks in
-    let most : count_by inside (places (task_nodes g)) ≤ length g.tasks =
+    let sources : count_by inside (places order) ≡ sum_by (λ p. u p.node) g.tasks =
+    sum-map (λ (v : ℕ). ones (inside v)) (λ (n : NodeId). n.id.place) order
+    ∙ sum_by-IsPermutation u (task_nodes g) order same
+    ∙ sum-map u (λ (p : TaskParts). p.node) g.tasks in
+    let most : count_by inside (places order) ≤ length g.tasks =
     omega (
       arith,
-      count_by-le-length inside (places (task_nodes g)),
-      length-map (task_nodes g)
+      count_by-le-length inside (places order),
+      length-map order
           (λ (n : NodeId). n.id.place),
+      length_permutation (task_nodes g) order same,
       length-map g.tasks (λ (p : TaskParts). p.node),
     ) in
     elim (cases_eq (sum_by (λ p. u p.node) g.jobs) 0) [
@@ -217,25 +221,28 @@ two w (x ∷ xs) zero (suc j) d before below =
 two w (x ∷ xs) (suc i) (suc j) d before below =
     omega (arith, sum_by-cons w x xs, two w xs i j d (omega arith) (omega arith))
 
-pub distinct : (g : Graph) → Mirrors g → AreDistinctNodes g.net (task_nodes g) g.sink
-distinct g is =
+pub distinct : (g : Graph) (order : List NodeId) → Mirrors g → IsPermutation (task_nodes g) order
+    → AreDistinctNodes g.net order g.sink
+distinct g order is same =
     record {
-      nodes = λ k d below.
+      nodes = All-permutation (IsNode g.net) (task_nodes g) order same
+          (λ k d below.
           let n : NodeId = get_or (task_nodes g) k d in
           node-there g.net (graph_nodes g) n is.nodes
           (Contains-skip (g.hub ∷ g.sink ∷ machine_nodes g) (job_nodes g ++ task_nodes g) n
-          (Contains-skip (job_nodes g) (task_nodes g) n (k, below, get_or_default (task_nodes g) k n d below)));
+          (Contains-skip (job_nodes g) (task_nodes g) n (k, below, get_or_default (task_nodes g) k n d below))));
       sink_there = sink-there g is;
       apart = λ i j d before below e.
-          let n : NodeId = get_or (task_nodes g) i d in
+          let n : NodeId = get_or order i d in
           let w : NodeId → ℕ = is_node n in
           let own : w n ≡ ones true = ap ones (same_id-refl n.id) in
-          let other : w (get_or (task_nodes g) j d) ≡ w n = ap w (sym e) in
+          let other : w (get_or order j d) ≡ w n = ap w (sym e) in
           absurd (omega (
             arith,
             own,
             other,
-            two w (task_nodes g) i j d before below,
+            two w order i j d before below,
+            sum_by-IsPermutation w (task_nodes g) order same,
             node-once g.net (graph_nodes g) n is.nodes,
             nodes-total w g,
             sum-map w (λ (p : TaskParts). p.node) g.tasks,
@@ -243,12 +250,13 @@ distinct g is =
       others = λ k d below e.
           let w : NodeId → ℕ = is_node g.sink in
           let own : w g.sink ≡ ones true = ap ones (same_id-refl g.sink.id) in
-          let other : w (get_or (task_nodes g) k d) ≡ w g.sink = ap w e in
+          let other : w (get_or order k d) ≡ w g.sink = ap w e in
           absurd (omega (
             arith,
             own,
             other,
-            get_or-le-sum_by w (task_nodes g) k d below,
+            get_or-le-sum_by w order k d below,
+            sum_by-IsPermutation w (task_nodes g) order same,
             node-once g.net (graph_nodes g) g.sink is.nodes,
             nodes-total w g,
             sum-map w (λ (p : TaskParts). p.node) g.tasks,

@@ -1,4 +1,5 @@
 pub mod Parts
+pub mod Order
 pub mod Graph
 pub mod Network
 pub mod View

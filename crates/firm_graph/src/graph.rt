@@ -26,8 +26,9 @@ ghost use Rattle.firm_graph.specs.declared.network.Key.TheVariants.{Through, Wid
 use crate::edits::{drop_node, link, link_slots, push_reserved, put_node, unlink, unlink_slots};
 use crate::growth::{grow_jobs, grow_machines, grow_tasks};
 use crate::moves::{evict_tasks, settle_tasks};
+use crate::order::SearchOrder;
 use crate::parts::{GraphRefusal, JobParts, MachineIds, TaskArcs, TaskParts};
-use firm_flow::solve;
+use firm_flow::{in_any_order, solve};
 use firm_net::{ArcId, Net, NodeId, Way};
 use firm_paths::{Prices, Scratch};
 use firm_rules::{Choice, Limits, Name, Rows, Slots, Weight, legality_is_judged};
@@ -45,6 +46,7 @@ pub struct Graph {
     jobs: Vec<JobParts>,
     tasks: Vec<TaskParts>,
     sources: Vec<NodeId>,
+    order: SearchOrder,
     asked: u64,
 }
 
@@ -79,6 +81,7 @@ impl Graph {
             jobs: Vec::new(alloc),
             tasks: Vec::new(alloc),
             sources: Vec::new(alloc),
+            order: SearchOrder::new(alloc),
             asked: 0,
         })
     }
@@ -156,6 +159,7 @@ impl Graph {
         let Ok(()) = grow_tasks(
             &mut self.tasks,
             &mut self.sources,
+            &mut self.order,
             &mut self.rows,
             job,
             name,
@@ -245,8 +249,8 @@ impl Graph {
         self.net.clear_flow();
     }
 
-    /// Makes the net carry a flow of least cost, one unit from each task to the sink, and gives its cost. Makes
-    /// at most one search for each task. Takes no memory.
+    /// Makes the net carry a flow of least cost, one unit from each task to the sink, and gives its cost. Makes at most
+    /// one search for each task, the dearest to leave waiting first. Takes no memory.
     pub fn least(&mut self, prices: &mut Prices, scratch: &mut Scratch) -> i64
         requires made_for { (prices.old.limits ≡ limits_of self.old.net)
             × (scratch.old.limits ≡ limits_of self.old.net) }
@@ -266,7 +270,10 @@ impl Graph {
         ensures graph { IsGraph self.new }
         ensures shows { Shows (view_of self.new) }
     {
-        let Ok(cost) = solve(&mut self.net, prices, scratch, &self.sources, self.sink) else {
+        in_any_order();
+        self.order.line_up(&self.net, &self.tasks);
+        let order = self.order.nodes();
+        let Ok(cost) = solve(&mut self.net, prices, scratch, order, self.sink) else {
             unreachable!()
         };
         cost

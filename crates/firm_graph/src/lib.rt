@@ -7,6 +7,7 @@ mod growth;
 mod laws;
 mod moves;
 mod network;
+mod order;
 mod parts;
 #[cfg(test)]
 mod tests;

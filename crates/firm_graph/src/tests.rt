@@ -3,6 +3,7 @@ ghost use Rattle.std.specs.Prelude.{◌+◌, ◌^◌, ◌<◌, ◌≤◌};
 ghost use Rattle.firm_rules.specs.ArenaUse.{arena_nodes, arena_arcs};
 
 use crate::growth::{grow_jobs, grow_machines, grow_tasks};
+use crate::order::SearchOrder;
 use crate::parts::{JobParts, MachineIds, TaskParts};
 use crate::{Graph, GraphRefusal, TaskArcs};
 use firm_net::{ArcId, ArcRow, Net, NodeId, Way};
@@ -399,6 +400,7 @@ struct Lists<'a> {
     jobs: Vec<JobParts, &'a LocalHeap>,
     tasks: Vec<TaskParts, &'a LocalHeap>,
     sources: Vec<NodeId, &'a LocalHeap>,
+    order: SearchOrder<&'a LocalHeap>,
 }
 
 impl<'a> Lists<'a> {
@@ -409,6 +411,7 @@ impl<'a> Lists<'a> {
             jobs: Vec::new(heap),
             tasks: Vec::new(heap),
             sources: Vec::new(heap),
+            order: SearchOrder::new(heap),
         }
     }
 
@@ -418,6 +421,8 @@ impl<'a> Lists<'a> {
             + room_in(self.jobs.capacity())
             + room_in(self.tasks.capacity())
             + room_in(self.sources.capacity())
+            + room_in(self.order.turns.capacity())
+            + room_in(self.order.nodes.capacity())
     }
 
     fn add(&mut self, rt: &impl Abort, heap: &'a LocalHeap, adder: Adder) -> bool {
@@ -452,6 +457,7 @@ impl<'a> Lists<'a> {
         grow_tasks(
             &mut self.tasks,
             &mut self.sources,
+            &mut self.order,
             &mut self.rows,
             job,
             name,
@@ -511,6 +517,6 @@ fn each_growth_of_a_row_may_be_refused(rt: HostRuntime) -> Result<(), Fail> {
     expect_each_refused(&rt, rt.alloc(), Adder::Machine, 0, 1)?;
     expect_each_refused(&rt, rt.alloc(), Adder::Job, 0, 1)?;
     // The list of the task's job has room already.
-    expect_each_refused(&rt, rt.alloc(), Adder::Task, 1, 3)?;
+    expect_each_refused(&rt, rt.alloc(), Adder::Task, 1, 5)?;
     Ok(())
 }

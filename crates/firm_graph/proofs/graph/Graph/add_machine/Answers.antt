@@ -100,8 +100,8 @@ pub invariant_of-self-2 : goal.invariant_of-self-2
 invariant_of-self-2 c =
     record {
       graph = record { sound = c.in-Ok.ensures.sound; mirrors = kept c };
-      sources =
-          c.self.invariant.sources;
+      sources = c.self.invariant.sources;
+      room = c.self.invariant.room;
     }
 
 pub returns-clause-graph : goal.returns-clause-graph

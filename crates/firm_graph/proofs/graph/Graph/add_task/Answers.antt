@@ -136,6 +136,12 @@ invariant_of-self-2 c =
           ∙ sym (map-append node c.self.inside.tasks.items (parts ∷ []))
           ∙ sym (ap (λ (l : List TaskParts). map node l)
           (c.push_reserved-2.ensures.items ∙ ap (λ (l : List TaskParts). l ++ parts ∷ []) c.grow_tasks.ensures.parts));
+      room = omega (
+        arith,
+        c.in-Ok.ensures.order_room,
+        c.push_reserved-2.ensures.len,
+        c.push_reserved-2.new.list.ok.0,
+      );
     }
 
 pub returns-clause-graph : goal.returns-clause-graph

@@ -84,7 +84,11 @@ kept c =
 
 pub invariant_of-self : goal.invariant_of-self
 invariant_of-self c =
-    record { graph = record { sound = c.close.ensures.sound; mirrors = kept c }; sources = c.self.invariant.sources }
+    record {
+      graph = record { sound = c.close.ensures.sound; mirrors = kept c };
+      sources = c.self.invariant.sources;
+      room = c.self.invariant.room;
+    }
 
 pub returns-clause-graph : goal.returns-clause-graph
 returns-clause-graph c = record { sound = c.close.ensures.sound; mirrors = kept c }

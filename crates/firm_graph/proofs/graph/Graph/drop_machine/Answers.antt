@@ -127,8 +127,8 @@ pub invariant_of-self : goal.invariant_of-self
 invariant_of-self c =
     record {
       graph = record { sound = c.drain-evicted.ensures.sound; mirrors = kept c };
-      sources =
-          c.self.invariant.sources;
+      sources = c.self.invariant.sources;
+      room = c.self.invariant.room;
     }
 
 pub returns-clause-graph : goal.returns-clause-graph

@@ -77,6 +77,13 @@ invariant_of-self c =
           ∙ ap (λ (l : List NodeId). remove l c.in-Some.place) c.self.invariant.sources
           ∙ sym (map-remove node c.self.inside.tasks.items c.in-Some.place)
           ∙ sym (ap (λ (l : List TaskParts). map node l) c.remove-parts.ensures.items);
+      room = omega (
+        arith,
+        c.self.invariant.room,
+        c.remove-parts.ensures.len,
+        c.remove-parts.new.self.ok.0,
+        c.self.inside.tasks.ok.0,
+      );
     }
 
 pub returns-clause-graph : goal.returns-clause-graph

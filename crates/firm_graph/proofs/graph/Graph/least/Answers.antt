@@ -1,13 +1,18 @@
-use Rattle.std.proofs.Common.{◌≡◌, ℕ, Bool, List, length, arith, map, ap, subst, sym, ◌∙◌}
+use Rattle.std.proofs.Common.{◌≡◌, ℕ, List, length, arith, ap, subst, sym, ◌∙◌}
+use Rattle.std.specs.List.{All}
+use Rattle.std.specs.List.Sorted.{IsPermutation}
+use Rattle.std.proofs.lemmas.List.Sorted.{IsPermutation-map, IsPermutation-sym, length_permutation}
 use Rattle.firm_net.specs.declared.row.NodeId.{NodeId}
-use Rattle.firm_net.specs.Net.{arc_count}
+use Rattle.firm_net.specs.Net.{Net, IsArc, arc_count}
 use Rattle.firm_paths.specs.Workspace.{HasSearched}
 use Rattle.firm_paths.specs.NetArcs.{arcs_of}
-use Rattle.firm_flow.specs.Flow.{IsDeficientCut}
-use Rattle.firm_flow.specs.NetFlow.{places, AreDistinctNodes}
+use Rattle.firm_flow.specs.Flow.{carried}
+use Rattle.firm_flow.specs.NetFlow.{places}
 use Rattle.firm_graph.specs.Graph.{Graph, task_nodes}
+use Rattle.firm_graph.specs.declared.parts.TaskParts.{TaskParts}
 use Rattle.firm_graph.specs.Inside.{graph_of}
 use Rattle.firm_graph.proofs.Cuts.{no-cut, distinct}
+use Rattle.firm_graph.proofs.Lineups.{lined-up, waits-there}
 use Rattle.firm_graph.proofs.Reflows.{reflowed_graph}
 use Rattle.firm_flow.specs.NetFlow.{IsLeastFlow}
 use Rattle.firm_graph.specs.Network.{task_nodes as case_tasks}
@@ -16,20 +21,29 @@ use Rattle.firm_graph.proofs.Permutes.{map-map}
 use Rattle.firm_graph.proofs.Shown.{graph-shows, sources-named, task-count}
 use Rattle.firm_graph.proofs.graph.Graph.least.Goals as goal
 
+pub line_up-requires-clause-room : goal.line_up-requires-clause-room
+line_up-requires-clause-room c =
+    omega (arith, c.self.invariant.room, ap (λ (l : List TaskParts). length l) c.deref.ensures.value)
+
+pub line_up-requires-clause-there : goal.line_up-requires-clause-there
+line_up-requires-clause-there c =
+    let g : Graph = graph_of c.self.inside in
+    subst (λ (l : List TaskParts). All (λ parts. IsArc g.net parts.arcs.wait) l) (sym c.deref.ensures.value)
+    (waits-there g c.self.invariant.graph.mirrors)
+
 pub solve-requires-clause-nodes : goal.solve-requires-clause-nodes
 solve-requires-clause-nodes c =
-    let g : Graph = graph_of c.self.inside in
-    let P : List NodeId → Type 0 = λ (l : List NodeId). AreDistinctNodes g.net l g.sink in
-    subst P (sym (c.deref.ensures.value ∙ c.self.invariant.sources)) (distinct g c.self.invariant.graph.mirrors)
+    let same = lined-up (graph_of c.self.inside) c.deref.result.now c.line_up.new.self.nodes c.nodes-order.result.now
+    c.deref.ensures.value c.nodes-order.ensures c.line_up.ensures.order in
+    distinct (graph_of c.self.inside) c.nodes-order.result.now c.self.invariant.graph.mirrors same
 
 pub unreachable-requires : goal.unreachable-requires
 unreachable-requires c =
-    let g : Graph = graph_of c.self.inside in
-    let P : List NodeId → Type 0 = λ (l : List NodeId). (inside : ℕ → Bool) × IsDeficientCut (arcs_of g.net) (places l)
-    g.sink.id.place inside in
-    let cut : P (task_nodes g) = subst P (c.deref.ensures.value ∙ c.self.invariant.sources) c.in_default.ensures.no_way
-    in
-    no-cut g cut.0 c.self.invariant.graph.mirrors c.self.invariant.graph.sound cut.1
+    let same = lined-up (graph_of c.self.inside) c.deref.result.now c.line_up.new.self.nodes c.nodes-order.result.now
+    c.deref.ensures.value c.nodes-order.ensures c.line_up.ensures.order in
+    let cut = c.in_default.ensures.no_way in
+    no-cut (graph_of c.self.inside) c.nodes-order.result.now cut.0 c.self.invariant.graph.mirrors
+    c.self.invariant.graph.sound same cut.1
 
 pub invariant_of-self : goal.invariant_of-self
 invariant_of-self c =
@@ -37,6 +51,7 @@ invariant_of-self c =
       graph = reflowed_graph (graph_of c.self.inside) c.solve.new.net c.self.invariant.graph c.solve.ensures.net
           c.solve.ensures.same;
       sources = c.self.invariant.sources;
+      room = omega (arith, c.self.invariant.room, c.line_up.ensures.room);
     }
 
 pub returns-clause-graph : goal.returns-clause-graph
@@ -52,23 +67,41 @@ returns-clause-shows c =
 
 pub returns-clause-least : goal.returns-clause-least
 returns-clause-least c =
+    let same = lined-up (graph_of c.self.inside) c.deref.result.now c.line_up.new.self.nodes c.nodes-order.result.now
+    c.deref.ensures.value c.nodes-order.ensures c.line_up.ensures.order in
     let g : Graph = graph_of c.self.inside in
-    let P : List ℕ → Type 0 = λ (l : List ℕ). IsLeastFlow c.solve.new.net l g.sink.id.place in
-    let sources : c.deref.result.now ≡ map (node_id g) (case_tasks (view_of g).case) =
-    c.deref.ensures.value ∙ c.self.invariant.sources ∙ sym (sources-named g c.self.invariant.graph) in
-    subst P (ap places sources ∙ map-map (λ (n : NodeId). n.id.place) (node_id g) (case_tasks (view_of g).case))
-    c.in-Ok.ensures.least
+    let net : Net = c.solve.new.net in
+    let sink : ℕ = g.sink.id.place in
+    let ours : List ℕ = places c.nodes-order.result.now in
+    let theirs : List ℕ = places (task_nodes g) in
+    let there : IsPermutation theirs ours =
+    IsPermutation-map (λ (n : NodeId). n.id.place) (task_nodes g) c.nodes-order.result.now same in
+    let found : IsLeastFlow net ours sink = c.in-Ok.ensures.least in
+    let least : IsLeastFlow net theirs sink = record {
+      feasible = c.in_any_order.ensures (arcs_of net) ours theirs sink carried (IsPermutation-sym theirs ours there)
+          found.feasible;
+      least = λ other is. found.least other (c.in_any_order.ensures (arcs_of net) theirs ours sink other there is);
+    } in
+    subst (λ (l : List ℕ). IsLeastFlow net l sink)
+    (ap places (sym (sources-named g c.self.invariant.graph))
+    ∙ map-map (λ (n : NodeId). n.id.place) (node_id g) (case_tasks (view_of g).case)) least
 
 pub returns-clause-counts : goal.returns-clause-counts
 returns-clause-counts c =
+    let same = lined-up (graph_of c.self.inside) c.deref.result.now c.line_up.new.self.nodes c.nodes-order.result.now
+    c.deref.ensures.value c.nodes-order.ensures c.line_up.ensures.order in
     let g : Graph = graph_of c.self.inside in
     let made = c.solve.ensures.counts in
-    let many : length c.deref.result.now ≡ length (task_nodes g) = ap (λ (l : List NodeId). length l)
-    (c.deref.ensures.value ∙ c.self.invariant.sources) in
     let tasks : length (view_of c.args.self.now).case.tasks ≡ length (view_of g).case.tasks = ap
     (λ (h : Graph). length (view_of h).case.tasks) (sym c.self.view_is) in
     let net : arc_count g.net ≡ arc_count c.args.self.now.net = ap (λ (h : Graph). arc_count h.net) c.self.view_is in (
       made.0,
-      omega (arith, made.1, many, tasks, task-count g c.self.invariant.graph),
+      omega (
+        arith,
+        made.1,
+        length_permutation (task_nodes g) c.nodes-order.result.now same,
+        tasks,
+        task-count g c.self.invariant.graph,
+      ),
       subst (λ (n : ℕ). HasSearched c.args.scratch.now c.solve.new.scratch made.0 n) net made.2,
     )

@@ -1,4 +1,4 @@
-use Rattle.std.proofs.Common.{◌≡◌, ℕ, ap, ap₂, sym, ◌∙◌, List, map}
+use Rattle.std.proofs.Common.{◌≡◌, ℕ, ap, ap₂, arith, sym, ◌∙◌, List, map, length}
 use Rattle.firm_net.specs.Net.{empty_net}
 use Rattle.firm_graph.specs.Graph.{Mirrors}
 use Rattle.firm_graph.specs.declared.parts.TaskParts.{TaskParts}
@@ -6,7 +6,7 @@ use Rattle.firm_graph.proofs.Said.{said}
 use Rattle.firm_graph.proofs.Additions.{opened, opened_graph}
 use Rattle.firm_graph.proofs.graph.Graph.open.Goals as goal
 
-kept : (c : goal.After-new-6)
+kept : (c : goal.After-new-7)
     → Mirrors (record {
       rows = c.new-2.result;
       net = c.put_node-sink.new.net;
@@ -34,6 +34,7 @@ invariant_of-result c =
       graph = record { sound = c.new-2.ensures.sound; mirrors = kept c };
       sources = c.new-6.ensures.items ∙ ap
           (λ (l : List TaskParts). map (λ (p : TaskParts). p.node) l) (sym c.new-5.ensures.items);
+      room = omega (arith, ap (λ (l : List TaskParts). length l) c.new-5.ensures.items);
     }
 
 pub returns-clause-graph : goal.returns-clause-graph
