@@ -1,9 +1,10 @@
 -- Flows as cheap as the one that the net shows: those of placements, and what no attempt can do.
-use Rattle.std.proofs.Common.{◌≡◌, ◌≢◌, ℕ, ◌*◌, ◌≤◌, Bool, List, [], ◌∷◌, ◌++◌, get_or}
+use Rattle.std.proofs.Common.{◌≡◌, ◌≢◌, ℕ, ◌*◌, ◌≤◌, Bool, true, false, List, [], ◌∷◌, ◌++◌, get_or}
 use Rattle.std.proofs.Common.{Some, refl, sym, ap, subst, ◌∙◌, arith, inl, inr, ⊎_elim}
 use Rattle.std.specs.Prelude.{map, Contains}
 use Rattle.std.specs.List.{All, sum_by}
 use Rattle.std.proofs.lemmas.List.Elements.{All-contains}
+use Rattle.firm_net.specs.Row.{Row}
 use Rattle.firm_net.specs.Net.{row_at}
 use Rattle.firm_net.specs.declared.row.ArcId.{ArcId}
 use Rattle.firm_net.specs.Laws.{same_arc_or_not}
@@ -68,7 +69,7 @@ other_to_own c low x g h =
     })
 
 -- a sum over what a flow carries does not ask on whose arcs
-sum_of : (F : Node → Node → ℕ → ℕ → ℕ) (c : Case) (low x g : Key → ℕ)
+pub sum_of : (F : Node → Node → ℕ → ℕ → ℕ) (c : Case) (low x g : Key → ℕ)
     → sum_by (λ (a : Arc Node Key). F a.tail a.head a.cost (g a.key)) (network c low x)
     ≡ sum_by (λ (a : Arc Node Key). F a.tail a.head a.cost a.flow) (network c low g)
 sum_of F c low x g =
@@ -130,6 +131,93 @@ flow_before c p o most x flow =
       cheap = omega (arith, flow.cheap, carried_sum (λ tail head cost flow. cost * flow) c new old x);
     }
 
+-- such a flow on the arcs that the net shows
+pub record IsOther (v : View) (p : List Choice) (g : Key → ℕ) : Type 0 where
+  pub within : IsWithinBounds (network v.case (low_of v.case p) (flows v)) (λ a. g a.key)
+  pub balanced : Balanced (network v.case (low_of v.case p) (flows v)) (task_nodes v.case) Sink (λ a. g a.key)
+  pub cheap : cost_of (network v.case (low_of v.case p) (flows v)) (λ a. g a.key) ≤ best v p
+
+pub as_other : (v : View) (p : List Choice) (g : Key → ℕ) → IsAsCheap v.case p (best v p) g → IsOther v p g
+as_other v p g flow =
+    let c : Case = v.case in
+    let low : Key → ℕ = low_of c p in
+    let x : Key → ℕ = flows v in
+    record {
+      within = own_to_other c low x g flow.within;
+      balanced = λ w. omega (
+        arith,
+        flow.balanced w,
+        sum_of (λ tail head cost flow. w head * flow) c low x g,
+        sum_of (λ tail head cost flow. w tail * flow) c low x g,
+      );
+      cheap = omega (arith, flow.cheap, sum_of (λ tail head cost flow. cost * flow) c low x g);
+    }
+
+-- the row of a key
+pub record IsRowOfKey (v : View) (p : List Choice) (key : Key) : Type 0 where
+  pub row : Row
+  pub there : row_at v.net (v.arc key) ≡ Some row
+  pub is : named v (arc_at v.case (low_of v.case p) (flows v) key) ≡ arc_of (v.arc key) row
+
+pub row_of_key : (v : View) (price : ℕ → ℕ) (p : List Choice) (key : Key) → Keeps v price p → IsKeyOf v.case key
+    → IsRowOfKey v p key
+row_of_key v price p key keeps own =
+    let c : Case = v.case in
+    let low : Key → ℕ = low_of c p in
+    let x : Key → ℕ = flows v in
+    let a : Arc Node Key = arc_at c low x key in
+    let row = row_shown v keeps.shows keeps.laws.rows a
+    (subst (λ (z : List (Arc Node Key)). Contains z a) (sym (shown_is v price p keeps)) (listed_at c low x key own)) in
+    let id : v.arc a.key ≡ v.arc key = ap v.arc (key_at c low x key) in
+    record {
+      row = row.row;
+      there = subst (λ (i : ArcId). row_at v.net i ≡ Some row.row) id row.there;
+      is = row.is ∙ ap (λ (i : ArcId). arc_of i row.row) id;
+    }
+
+-- what flows where the reduced cost is not 0 flows in each flow as cheap
+pub loose_same : (v : View) (price : ℕ → ℕ) (p : List Choice) (g : Key → ℕ) (key : Key) → Keeps v price p
+    → IsKeyOf v.case key
+    → (Tight (λ n. price (spot_of v n)) (arc_at v.case (low_of v.case p) (flows v) key) → ⊥)
+    → IsAsCheap v.case p (best v p) g
+    → g key ≡ flows v key
+loose_same v price p g key keeps own loose flow =
+    let c : Case = v.case in
+    let low : Key → ℕ = low_of c p in
+    let x : Key → ℕ = flows v in
+    let cost_at : Node → ℕ = λ (m : Node). price (spot_of v m) in
+    let other : IsOther v p g = as_other v p g flow in
+    let same : g (arc_at c low x key).key ≡ (arc_at c low x key).flow =
+    All-contains (λ (b : Arc Node Key). (Tight cost_at b → ⊥) → g b.key ≡ b.flow) (network c low x) (arc_at c low x key)
+    (keeps.laws.same (network c low x) (task_nodes c) Sink cost_at (λ (b : Arc Node Key). g b.key)
+    keeps.stands.valid keeps.stands.balanced other.within other.balanced other.cheap)
+    (listed_at c low x key own) loose in
+    ap g (sym (key_at c low x key)) ∙ (same ∙ flow_at c low x key)
+
+-- a set that holds the head of the arc of the key and not its tail, and that no residual arc of reduced cost 0 leaves
+-- but barred ones
+pub record IsKeyedCut (v : View) (price : ℕ → ℕ) (p : List Choice) (keys : List Key) (key : Key) : Type 0 where
+  pub inside : Node → Bool
+  pub holds_head : inside (arc_at v.case (low_of v.case p) (flows v) key).head ≡ true
+  pub lacks_tail : inside (arc_at v.case (low_of v.case p) (flows v) key).tail ≡ false
+  pub closed : IsClosedBut (network v.case (low_of v.case p) (flows v)) (λ n. price (spot_of v n)) (Contains keys)
+      inside
+
+pub keyed_cut : (v : View) (price : ℕ → ℕ) (p : List Choice) (keys : List Key) (key : Key) (row : Row)
+    → Keeps v price p → All (IsKeyOf v.case) keys
+    → named v (arc_at v.case (low_of v.case p) (flows v) key) ≡ arc_of (v.arc key) row
+    → (inside : ℕ → Bool) × IsTightCut v.net price (map v.arc keys) row.head.id.place row.tail.id.place inside
+    → IsKeyedCut v price p keys key
+keyed_cut v price p keys key row keeps all is cut =
+    let cost_at : Node → ℕ = λ (m : Node). price (spot_of v m) in
+    record {
+      inside = λ n. cut.0 (spot_of v n);
+      holds_head = ap cut.0 (ap (λ (b : Arc ℕ ArcId). b.head) is) ∙ cut.1.start;
+      lacks_tail = ap cut.0 (ap (λ (b : Arc ℕ ArcId). b.tail) is) ∙ cut.1.end;
+      closed = subst (λ (z : List (Arc Node Key)). IsClosedBut z cost_at (Contains keys) (λ n. cut.0 (spot_of v n)))
+          (shown_is v price p keeps) (closed_keyed v keeps.shows price keys cut.0 all cut.1.closed);
+    }
+
 -- what no attempt can do, no flow as cheap does
 pub no_more_at : (v : View) (price : ℕ → ℕ) (p : List Choice) (g : Key → ℕ) (keys : List Key) (key : Key)
     → Keeps v price p → All (IsKeyOf v.case) keys → IsKeyOf v.case key
@@ -142,50 +230,33 @@ no_more_at v price p g keys key keeps all own blocked flow kept =
     let low : Key → ℕ = low_of c p in
     let x : Key → ℕ = flows v in
     let cost_at : Node → ℕ = λ (m : Node). price (spot_of v m) in
-    let e = shown_is v price p keeps in
     let a : Arc Node Key = arc_at c low x key in
     let there : Contains (network c low x) a = listed_at c low x key own in
-    let row = row_shown v keeps.shows keeps.laws.rows a
-    (subst (λ (z : List (Arc Node Key)). Contains z a) (sym e) there) in
+    let row : IsRowOfKey v p key = row_of_key v price p key keeps own in
     let is_key : a.key ≡ key = key_at c low x key in
-    let id : v.arc a.key ≡ v.arc key = ap v.arc is_key in
-    let at_row : row_at v.net (v.arc key) ≡ Some row.row =
-    subst (λ (i : ArcId). row_at v.net i ≡ Some row.row) id row.there in
-    let is : named v a ≡ arc_of (v.arc key) row.row = row.is ∙ ap (λ (i : ArcId). arc_of i row.row) id in
     let flow_is : a.flow ≡ x key = flow_at c low x key in
-    let within : IsWithinBounds (network c low x) (λ a. g a.key) = own_to_other c low x g flow.within in
-    let balanced : Balanced (network c low x) (task_nodes c) Sink (λ a. g a.key) =
-    λ w. omega (
-      arith,
-      flow.balanced w,
-      sum_of (λ tail head cost flow. w head * flow) c low x g,
-      sum_of (λ tail head cost flow. w tail * flow) c low x g,
-    ) in
-    let cheap : cost_of (network c low x) (λ a. g a.key) ≤ cost_of (network c low x) carried =
-    omega (arith, flow.cheap, sum_of (λ tail head cost flow. cost * flow) c low x g) in
-    let more : g a.key ≤ a.flow =
+    let other : IsOther v p g = as_other v p g flow in
     ⊎_elim
     (λ (full : row.row.cap ≤ row.row.flow).
     omega (
       arith,
       full,
-      ap (λ (b : Arc ℕ ArcId). b.cap) is,
-      ap (λ (b : Arc ℕ ArcId). b.flow) is,
-      (All-contains (Between g) (network c low x) a within there).1,
+      flow_is,
+      ap g is_key,
+      ap (λ (b : Arc ℕ ArcId). b.cap) row.is,
+      ap (λ (b : Arc ℕ ArcId). b.flow) row.is,
+      (All-contains (Between g) (network c low x) a other.within there).1,
     ))
     (λ rest. ⊎_elim
     (λ (loose : Tight price (arc_of (v.arc key) row.row) → ⊥).
-    let same : g a.key ≡ a.flow =
-    All-contains (λ (b : Arc Node Key). (Tight cost_at b → ⊥) → g b.key ≡ b.flow) (network c low x) a
-    (keeps.laws.same (network c low x) (task_nodes c) Sink cost_at (λ (b : Arc Node Key). g b.key)
-    keeps.stands.valid keeps.stands.balanced within balanced cheap)
-    there (λ t. loose (subst (Tight price) is t)) in
-    omega (arith, same))
+    omega (arith, loose_same v price p g key keeps own (λ t. loose (subst (Tight price) row.is t)) flow))
     (λ (cut : (inside : ℕ → Bool) × IsTightCut v.net price (map v.arc keys)
     row.row.head.id.place row.row.tail.id.place inside).
-    keeps.laws.no_more (network c low x) (task_nodes c) Sink cost_at keys (λ n. cut.0 (spot_of v n)) a
+    let keyed : IsKeyedCut v price p keys key = keyed_cut v price p keys key row.row keeps all row.is cut in
+    let more : g a.key ≤ a.flow =
+    keeps.laws.no_more (network c low x) (task_nodes c) Sink cost_at keys keyed.inside a
     (λ (b : Arc Node Key). g b.key)
-    keeps.stands.valid keeps.stands.balanced within balanced cheap there
+    keeps.stands.valid keeps.stands.balanced other.within other.balanced other.cheap there
     (λ k d l b.
     let o : Arc Node Key = get_or (network c low x) k d in
     let o_is : o ≡ arc_at c low x o.key = by_key c low x k d l in
@@ -196,10 +267,6 @@ no_more_at v price p g keys key keeps all own blocked flow kept =
     (λ (ne : v.arc o.key ≡ v.arc key → ⊥).
     inl (kept o.key b (λ q. ne (ap v.arc q)) ∙ sym (ap (λ (z : Arc Node Key). z.flow) o_is ∙ flow_at c low x o.key)))
     (same_arc_or_not (v.arc o.key) (v.arc key)))
-    (subst (λ (z : List (Arc Node Key)). IsClosedBut z cost_at (Contains keys)
-    (λ n. cut.0 (spot_of v n))) e
-    (closed_keyed v keeps.shows price keys cut.0 all cut.1.closed))
-    (ap cut.0 (ap (λ (b : Arc ℕ ArcId). b.head) is) ∙ cut.1.start)
-    (ap cut.0 (ap (λ (b : Arc ℕ ArcId). b.tail) is) ∙ cut.1.end)) rest)
-    (blocked row.row at_row) in
-    subst (λ (k : Key). g k ≤ x key) is_key (omega (arith, more, flow_is))
+    keyed.closed keyed.holds_head keyed.lacks_tail in
+    omega (arith, more, flow_is, ap g is_key)) rest)
+    (blocked row.row row.there)

@@ -1,5 +1,5 @@
 -- What attempts rule out, and what a choice rests on.
-use Rattle.std.proofs.Common.{◌≡◌, ℕ, zero, suc, ◌+◌, ◌<◌, ◌≤◌, Bool, true, false, cond, eqb, List, [], ◌∷◌}
+use Rattle.std.proofs.Common.{◌≡◌, ℕ, zero, suc, ◌+◌, ◌<◌, ◌≤◌, Bool, true, false, cond, eqb, List, [], ◌∷◌, ◌++◌}
 use Rattle.std.proofs.Common.{length, get_or, Some, None, Option, refl, sym, ap, subst, ◌∙◌, arith}
 use Rattle.std.proofs.Common.{⊎_elim}
 use Rattle.std.specs.Prelude.{Contains}
@@ -18,51 +18,50 @@ use Rattle.firm_graph.specs.declared.network.Key.TheVariants.{Through, Wide, Sta
 use Rattle.firm_graph.specs.Network.{network, demand, stay_head}
 use Rattle.firm_rules.specs.Placement.{IsPlace}
 use Rattle.firm_graph.specs.Network.{runs}
-use Rattle.firm_canon.specs.inner.Placed.{wide, stay, guests, wide_at}
+use Rattle.firm_canon.specs.inner.Placed.{wide, stay, guests, wide_at, placed}
 use Rattle.firm_graph.specs.View.{View, Shows, IsSameCase, flows, spot_of}
 use Rattle.firm_graph.specs.Network.{IsNodeOf}
 use Rattle.firm_canon.specs.inner.Turns.{IsBlocked}
-use Rattle.firm_canon.specs.inner.Choosing.{low_of, Keeps, Tried, Shut, Barred, best, IsChosen}
+use Rattle.firm_canon.specs.inner.Choosing.{low_of, Keeps, Shut, Barred, best, IsChosen}
+use Rattle.firm_canon.specs.inner.Cuts.{IsMost}
 use Rattle.firm_canon.proofs.Parts.{parts}
 use Rattle.firm_canon.proofs.Read.{task_sends}
 use Rattle.firm_canon.proofs.First.{pick_past, wide_none}
 use Rattle.firm_canon.proofs.Choose.{bar_own, bar_others, wide_one, ranks_before_on, no_guest, own_way}
 use Rattle.firm_canon.proofs.Shown.{row_shown, closed_keyed, listed_at, stay_arc}
-use Rattle.firm_canon.proofs.AsCheap.{shown_is}
+use Rattle.firm_canon.proofs.AsCheap.{shown_is, flow_placed}
 use Rattle.firm_canon.proofs.Tries.{one_key}
 
-only_key : (key k : Key) → Contains (key ∷ []) k → key ≡ k
+pub only_key : (key k : Key) → Contains (key ∷ []) k → key ≡ k
 only_key key k c = at c.0 c.1 c.2
   where
     at : (i : ℕ) → i < 1 → get_or (key ∷ []) i k ≡ k → key ≡ k
     at zero l e = e
     at (suc i) l e = absurd (omega (arith, l))
 
-pub shut_own : (old new : View) (price : ℕ → ℕ) (p : List Choice) (result : Bool)
-    → Tried old new price p (Stay (length p) ∷ []) (Stay (length p)) result → result ≡ false
-    → flows old (Stay (length p)) ≡ 0
-    → (j : ℕ) → runs_at (demand old.case (length p)).home j ≡ true → Shut old p j
-shut_own old new price p result tried is_lost none j own = record {
-  barred = bar_own old.case p (best old p) j own (λ r legal cheap.
+pub shut_own : (v : View) (price : ℕ → ℕ) (p : List Choice) → Keeps v price p → IsMost v p (Stay (length p))
+    → flows v (Stay (length p)) ≡ 0
+    → (j : ℕ) → runs_at (demand v.case (length p)).home j ≡ true → Shut v p j
+shut_own v price p keeps most none j own = record {
+  barred = bar_own v.case p (best v p) j own (λ r legal cheap.
       omega (
         arith,
         none,
-        tried.lost is_lost r legal cheap
-            (λ k c ne. absurd (ne (sym (only_key (Stay (length p)) k c)))),
+        most (placed v.case (p ++ r)) (flow_placed v.case p r (best v p) keeps.shows.sound legal
+            cheap),
       ));
 }
 
-pub shut_others : (old new : View) (price : ℕ → ℕ) (p : List Choice) (result : Bool)
-    → Tried old new price p (Wide (length p) ∷ []) (Wide (length p)) result → result ≡ false
-    → flows old (Wide (length p)) ≡ 0
-    → (j : ℕ) → runs_at (demand old.case (length p)).home j ≡ false → Shut old p j
-shut_others old new price p result tried is_lost none j other = record {
-  barred = bar_others old.case p (best old p) j other (λ r legal cheap.
+pub shut_others : (v : View) (price : ℕ → ℕ) (p : List Choice) → Keeps v price p → IsMost v p (Wide (length p))
+    → flows v (Wide (length p)) ≡ 0
+    → (j : ℕ) → runs_at (demand v.case (length p)).home j ≡ false → Shut v p j
+shut_others v price p keeps most none j other = record {
+  barred = bar_others v.case p (best v p) j other (λ r legal cheap.
       omega (
         arith,
         none,
-        tried.lost is_lost r legal cheap
-            (λ k c ne. absurd (ne (sym (only_key (Wide (length p)) k c)))),
+        most (placed v.case (p ++ r)) (flow_placed v.case p r (best v p) keeps.shows.sound legal
+            cheap),
       ));
 }
 

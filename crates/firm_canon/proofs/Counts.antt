@@ -1,66 +1,145 @@
 -- Searches made one after another add up.
-use Rattle.std.proofs.Common.{◌≡◌, ℕ, ◌+◌, ◌-◌, ◌*◌, ◌^◌, ◌<◌, ◌≤◌, refl, arith, subst, ◌∙◌, ⊎_elim}
+use Rattle.std.proofs.Common.{◌≡◌, ℕ, ◌+◌, ◌-◌, ◌*◌, ◌^◌, ◌<◌, ◌≤◌, Bool, true, false, length, get_or, refl, arith}
+use Rattle.std.proofs.Common.{subst, ◌∙◌, ⊎_elim}
 use Rattle.std.proofs.lemmas.Bool.{cases_lt}
 use Rattle.std.proofs.Math.Nat.{mul-add}
 use Rattle.firm_rules.specs.ArenaUse.{arena_arcs}
 use Rattle.firm_rules.specs.Book.{TenantRows}
-use Rattle.firm_paths.specs.Workspace.{Workspace}
+use Rattle.firm_paths.specs.Workspace.{Workspace, HasSearched}
 use Rattle.firm_canon.specs.Counts.{HasSearchedUpTo}
+use Rattle.firm_canon.specs.inner.Cuts.{HasSought, cut_count, cuts_of, one_if}
+use Rattle.firm_canon.specs.declared.cuts.Cuts.{Cuts}
+use Rattle.firm_canon.specs.declared.cuts.MachineCuts.{MachineCuts}
+use Rattle.std.proofs.lemmas.List.Sums.{sum_by-le}
 use Rattle.firm_graph.specs.Graph.{Graph}
 
 -- no search was made
+nothing_made : (s : Workspace) (arcs : ℕ) → HasSearched s s 0 arcs
+nothing_made s arcs = record {
+  limits = refl;
+  begins = refl;
+  searches = record {
+    exact = λ l. omega arith;
+    full = λ small past. omega (arith, small, past);
+    kept = omega arith;
+    no_more = omega arith;
+  };
+  looks_kept = omega arith;
+  looks = omega arith;
+}
+
 pub none_made : (s : Workspace) (most arcs : ℕ) → HasSearchedUpTo s s most arcs
-none_made s most arcs = record {
+none_made s most arcs = record { made = 0; few = omega arith; searched = nothing_made s arcs }
+
+pub none_sought : (s : Workspace) (most found arcs known : ℕ) → HasSought s s most found arcs known known
+none_sought s most found arcs known = record {
   made = 0;
   few = omega arith;
-  searched = record {
-    limits = refl;
-    begins = refl;
-    searches = record {
-      exact = λ l. omega arith;
-      full = λ small past. omega (arith, small, past);
-      kept = omega arith;
-      no_more = omega arith;
-    };
-    looks_kept = omega arith;
-    looks = omega arith;
-  };
+  new_cuts = omega arith;
+  searched = nothing_made s arcs;
 }
+
+-- searches one after another
+made_both : (old now new : Workspace) (first then arcs : ℕ) → HasSearched old now first arcs
+    → HasSearched now new then arcs → HasSearched old new (first + then) arcs
+made_both old now new first then arcs one two = record {
+  limits = two.limits ∙ one.limits;
+  begins = two.begins ∙ one.begins;
+  searches = record {
+    exact = λ l.
+        let half : now.searches ≡ old.searches + first = one.searches.exact (omega (arith, l)) in
+        omega (arith, half, two.searches.exact (omega (arith, l, half)));
+    full = λ small past.
+        ⊎_elim
+        (λ (below : old.searches + first < 2 ^ 64).
+        let half : now.searches ≡ old.searches + first = one.searches.exact below in
+        two.searches.full (omega (arith, half, below)) (omega (arith, half, past)))
+        (λ (above : 2 ^ 64 ≤ old.searches + first).
+        let half : now.searches ≡ 2 ^ 64 - 1 = one.searches.full small above in
+        ⊎_elim
+        (λ (some : 0 < then). two.searches.full (omega (arith, half)) (omega (arith, half, some)))
+        (λ (none : then ≤ 0). omega (arith, half, none, two.searches.exact (omega (arith, half, none))))
+        (cases_lt 0 then))
+        (cases_lt (old.searches + first) (2 ^ 64));
+    kept = omega (arith, one.searches.kept, two.searches.kept);
+    no_more = omega (arith, one.searches.no_more, two.searches.no_more);
+  };
+  looks_kept = omega (arith, one.looks_kept, two.looks_kept);
+  looks = omega (arith, one.looks, two.looks, add-mul first then (2 * arcs));
+}
+  where
+    add-mul : (a b c : ℕ) → (a + b) * c ≡ a * c + b * c
+    add-mul a b c = omega (arith, mul-add c a b)
 
 pub more_made : (old now new : Workspace) (first then most arcs : ℕ) → HasSearchedUpTo old now first arcs
     → HasSearchedUpTo now new then arcs → first + then ≤ most → HasSearchedUpTo old new most arcs
 more_made old now new first then most arcs one two fits = record {
   made = one.made + two.made;
   few = omega (arith, one.few, two.few, fits);
-  searched = record {
-    limits = two.searched.limits ∙ one.searched.limits;
-    begins = two.searched.begins ∙ one.searched.begins;
-    searches = record {
-      exact = λ l.
-          let half : now.searches ≡ old.searches + one.made = one.searched.searches.exact (omega (arith, l)) in
-          omega (arith, half, two.searched.searches.exact (omega (arith, l, half)));
-      full = λ small past.
-          ⊎_elim
-          (λ (below : old.searches + one.made < 2 ^ 64).
-          let half : now.searches ≡ old.searches + one.made = one.searched.searches.exact below in
-          two.searched.searches.full (omega (arith, half, below)) (omega (arith, half, past)))
-          (λ (above : 2 ^ 64 ≤ old.searches + one.made).
-          let half : now.searches ≡ 2 ^ 64 - 1 = one.searched.searches.full small above in
-          ⊎_elim
-          (λ (some : 0 < two.made). two.searched.searches.full (omega (arith, half)) (omega (arith, half, some)))
-          (λ (none : two.made ≤ 0). omega (arith, half, none, two.searched.searches.exact (omega (arith, half, none))))
-          (cases_lt 0 two.made))
-          (cases_lt (old.searches + one.made) (2 ^ 64));
-      kept = omega (arith, one.searched.searches.kept, two.searched.searches.kept);
-      no_more = omega (arith, one.searched.searches.no_more, two.searched.searches.no_more);
-    };
-    looks_kept = omega (arith, one.searched.looks_kept, two.searched.looks_kept);
-    looks = omega (arith, one.searched.looks, two.searched.looks, add-mul one.made two.made (2 * arcs));
-  };
+  searched = made_both old now new one.made two.made arcs one.searched two.searched;
 }
+
+pub sought_more : (old now new : Workspace) (first then most some others found arcs before between after : ℕ)
+    → HasSought old now first some arcs before between → HasSought now new then others arcs between after
+    → first + then ≤ most → some + others ≤ found → HasSought old new most found arcs before after
+sought_more old now new first then most some others found arcs before between after one two fits finds = record {
+  made = one.made + two.made;
+  few = omega (arith, one.few, two.few, fits);
+  new_cuts = omega (arith, one.new_cuts, two.new_cuts, finds);
+  searched = made_both old now new one.made two.made arcs one.searched two.searched;
+}
+
+-- searches that each find a way or a cut
+pub sought : (old new : Workspace) (most found arcs before after : ℕ) → HasSearchedUpTo old new most arcs
+    → most + before ≤ found + after → HasSought old new most found arcs before after
+sought old new most found arcs before after searched fits = record {
+  made = searched.made;
+  few = searched.few;
+  new_cuts = omega (arith, searched.few, fits);
+  searched = searched.searched;
+}
+
+pub sought_within : (old new : Workspace) (few most some found arcs before after : ℕ)
+    → HasSought old new few some arcs before after → few ≤ most → some ≤ found
+    → HasSought old new most found arcs before after
+sought_within old new few most some found arcs before after searched fits finds = record {
+  made = searched.made;
+  few = omega (arith, searched.few, fits);
+  new_cuts = omega (arith, searched.new_cuts, finds);
+  searched = searched.searched;
+}
+
+-- where no cut was known, there are as many searches at most as ways and cuts
+pub sought_in_all : (old new : Workspace) (most found arcs known cuts : ℕ) → HasSought old new most found arcs 0 known
+    → known ≤ cuts → HasSearchedUpTo old new (found + cuts) arcs
+sought_in_all old new most found arcs known cuts searched fits = record {
+  made = searched.made;
+  few = omega (arith, searched.new_cuts, fits);
+  searched = searched.searched;
+}
+
+pub sought_of_all : (old new : Workspace) (most found arcs before after : ℕ)
+    → HasSought old new most found arcs before after → HasSearchedUpTo old new most arcs
+sought_of_all old new most found arcs before after searched = record {
+  made = searched.made;
+  few = searched.few;
+  searched = searched.searched;
+}
+
+-- there are two cuts for each machine, and one for the hub
+pub few_cuts : (cuts : Cuts) → cut_count cuts ≤ 2 * length cuts.machines.items + 1
+few_cuts cuts = omega (
+  arith,
+  one_at_most cuts.hub,
+  sum_by-le cuts_of 2 cuts.machines.items
+      (λ k d l.
+      let each : MachineCuts = get_or cuts.machines.items k d in
+      omega (arith, one_at_most each.from_hub, one_at_most each.from_sink)),
+)
   where
-    add-mul : (a b c : ℕ) → (a + b) * c ≡ a * c + b * c
-    add-mul a b c = omega (arith, mul-add c a b)
+    one_at_most : (b : Bool) → one_if b ≤ 1
+    one_at_most true = omega arith
+    one_at_most false = omega arith
 
 -- searches in fewer than so many
 pub at_most : (old new : Workspace) (few most arcs : ℕ) → HasSearchedUpTo old new few arcs → few ≤ most
@@ -78,3 +157,12 @@ pub more_since : (one two : Graph) → two.rows ≡ one.rows → (old now new : 
 more_since one two same old now new first then most before after =
     more_made old now new first then most (arena_arcs one.rows) before
     (subst (λ (rows : TenantRows). HasSearchedUpTo now new then (arena_arcs rows)) same after)
+
+pub sought_since : (one two : Graph) → two.rows ≡ one.rows → (old now new : Workspace)
+    (first then most some others found before between after : ℕ)
+    → HasSought old now first some (arena_arcs one.rows) before between
+    → HasSought now new then others (arena_arcs two.rows) between after
+    → first + then ≤ most → some + others ≤ found → HasSought old new most found (arena_arcs one.rows) before after
+sought_since one two same old now new first then most some others found before between after left right =
+    sought_more old now new first then most some others found (arena_arcs one.rows) before between after left
+    (subst (λ (rows : TenantRows). HasSought now new then others (arena_arcs rows) between after) same right)

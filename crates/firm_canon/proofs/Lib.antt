@@ -17,3 +17,5 @@ pub mod Spent
 pub mod Prefixes
 pub mod Holdings
 pub mod Starts
+pub mod Crossings
+pub mod Sealed

@@ -129,11 +129,11 @@ waits_le_one None = omega arith
 waits_le_one (Some Wait) = omega arith
 waits_le_one (Some (On j)) = omega arith
 
-cond_le : (b : Bool) (x m : ℕ) → x ≤ m → cond b x 0 ≤ m
+pub cond_le : (b : Bool) (x m : ℕ) → x ≤ m → cond b x 0 ≤ m
 cond_le true x m h = h
 cond_le false x m h = omega arith
 
-total_le_count : (f : ℕ → ℕ) (n : ℕ) → ((i : ℕ) → i < n → f i ≤ 1) → total f n ≤ n
+pub total_le_count : (f : ℕ → ℕ) (n : ℕ) → ((i : ℕ) → i < n → f i ≤ 1) → total f n ≤ n
 total_le_count f zero h = omega arith
 total_le_count f (suc n) h = omega (arith, total_le_count f n (λ i l. h i (omega arith)), h n (omega arith))
 

@@ -132,6 +132,7 @@ kept_one v new price p o keeps l chosen shows same flow low =
     ap (λ (z : List (Arc Node Key)). cost_of z carried) e in
     let made : Keeps there price (p ++ o ∷ []) = record {
       laws = keeps.laws;
+      roomy = keeps.roomy;
       shows = subst Shows is shows;
       lows = λ k own. omega (arith, low' k own, keeps.lows k own, lows_one c p o k l);
       stands = record {

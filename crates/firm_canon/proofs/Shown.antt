@@ -238,7 +238,7 @@ arcs_counted listed counted g shows =
     ∙ (length_map (named v) arcs ∙ (counted g.rows).arcs (lows v) (flows v)))
 
 -- the arc of a key
-pub arc_at : (c : Case) (low x : Key → ℕ) → Key → Arc Node Key
+unfoldable pub arc_at : (c : Case) (low x : Key → ℕ) → Key → Arc Node Key
 arc_at c low x (Through j) = arc low x (Through j) Hub (Machine j) (slots_of c j) 0
 arc_at c low x (Slot j k) = arc low x (Slot j k) (Machine j) Sink 1 (k * c.spread)
 arc_at c low x (Exit k) = arc low x (Exit k) (Owner k) Sink c.limit 0

@@ -87,7 +87,7 @@ spent_shut v price p j keeps l other spent = record {
       );
 }
 
-of_two : (key other k : Key) → Contains (key ∷ other ∷ []) k → (key ≡ k) ⊎ (other ≡ k)
+pub of_two : (key other k : Key) → Contains (key ∷ other ∷ []) k → (key ≡ k) ⊎ (other ≡ k)
 of_two key other k c = at c.0 c.1 c.2
   where
     at : (i : ℕ) → i < 2 → get_or (key ∷ other ∷ []) i k ≡ k → (key ≡ k) ⊎ (other ≡ k)

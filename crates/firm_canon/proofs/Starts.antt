@@ -1,5 +1,5 @@
 -- The start of the choice, and its end.
-use Rattle.std.proofs.Common.{◌≡◌, ℕ, cond, eqb, List, [], length, None, refl, sym, ap, subst, ◌∙◌}
+use Rattle.std.proofs.Common.{◌≡◌, ◌<◌, ℕ, cond, eqb, List, [], length, None, refl, sym, ap, subst, ◌∙◌}
 use Rattle.std.specs.Prelude.{map}
 use Rattle.std.specs.List.{All}
 use Rattle.std.proofs.lemmas.List.Elements.{All-contains}
@@ -39,10 +39,11 @@ none_held c (Stay i) = stay_none (demand c i).home
 none_held c (Delay i) = refl
 
 pub starts : FlowLaws → ConservedWhereBalanced → (v : View) (price : ℕ → ℕ) → Shows v
+    → length v.case.tasks < v.case.limit
     → All (λ (a : Arc ℕ ArcId). a.low ≡ 0) (arcs_of v.net)
     → IsLeastFlow v.net (map (spot_of v) (task_nodes v.case)) (spot_of v Sink) → AreValid (arcs_of v.net) price
     → Keeps v price []
-starts laws conserved v price shows unheld flow valid =
+starts laws conserved v price shows roomy unheld flow valid =
     let c : Case = v.case in
     let whole : IsWhole v.net price (map (spot_of v) (task_nodes c)) (spot_of v Sink) = record {
       valid = valid;
@@ -60,6 +61,7 @@ starts laws conserved v price shows unheld flow valid =
     network_same c (lows v) (low_of c []) (flows v) (flows v) lows_are (λ k own. refl) in
     record {
       laws = laws;
+      roomy = roomy;
       shows = shows;
       lows = lows_are;
       stands = start laws c (flows v) (λ n. price (spot_of v n))

@@ -1,5 +1,5 @@
 -- What an attempt to send one unit more along an arc leaves, won or lost.
-use Rattle.std.proofs.Common.{◌≡◌, ℕ, zero, suc, ◌<◌, Bool, true, false, List, [], ◌∷◌, ◌++◌, length, get_or}
+use Rattle.std.proofs.Common.{◌≡◌, ℕ, zero, suc, ◌<◌, Bool, true, false, List, [], ◌∷◌, length, get_or}
 use Rattle.std.proofs.Common.{Some, Option, refl, sym, ap, subst, ◌∙◌, arith, ⊎_elim}
 use Rattle.std.specs.Prelude.{map, Contains}
 use Rattle.std.specs.List.{All}
@@ -20,13 +20,12 @@ use Rattle.firm_graph.specs.declared.network.Node.{Node}
 use Rattle.firm_graph.specs.declared.network.Node.TheVariants.{Sink}
 use Rattle.firm_graph.specs.declared.network.Key.{Key}
 use Rattle.firm_graph.specs.Network.{network, task_nodes}
-use Rattle.firm_canon.specs.inner.Placed.{placed}
 use Rattle.firm_graph.specs.View.{View, Shows, IsSameCase, lows, flows, spot_of, flow_of_row}
 use Rattle.firm_graph.specs.Network.{IsKeyOf}
 use Rattle.firm_graph.specs.View.{low_of_row}
-use Rattle.firm_canon.specs.inner.Turns.{IsWhole, Turned, IsBlocked}
+use Rattle.firm_canon.specs.inner.Turns.{IsWhole, Turned}
 use Rattle.firm_canon.specs.inner.Choosing.{low_of, Keeps, Tried, best}
-use Rattle.firm_canon.proofs.AsCheap.{shown_is, flow_placed, no_more_at}
+use Rattle.firm_canon.proofs.AsCheap.{shown_is}
 use Rattle.firm_canon.proofs.Shown.{network_same, cost_shown, whole_keyed, whole_net, row_shown, arc_at}
 use Rattle.firm_canon.proofs.Shown.{key_at, listed_at}
 
@@ -76,6 +75,7 @@ keeps_on v net price p keeps shows low whole same =
     (shown_is v price p keeps)))) in (
       record {
         laws = keeps.laws;
+        roomy = keeps.roomy;
         shows = shows;
         lows = lows_are;
         stands = record {
@@ -93,10 +93,9 @@ keeps_on v net price p keeps shows low whole same =
 pub tried : (old new : View) (price : ℕ → ℕ) (p : List Choice) (keys : List Key) (key : Key) (result : Bool)
     → Keeps old price p → All (IsKeyOf old.case) keys → IsKeyOf old.case key → Shows new → IsSameCase old new
     → (result ≡ true → Turned old.net new.net price (old.arc key) (map old.arc keys))
-    → (result ≡ false → IsBlocked old.net price (old.arc key) (map old.arc keys))
     → (result ≡ false → new ≡ old)
     → Tried old new price p keys key result
-tried old new price p keys key result keeps all own shows same won lost stays =
+tried old new price p keys key result keeps all own shows same won stays =
     ⊎_elim
     (λ (t : result ≡ true).
     let turn = won t in
@@ -110,7 +109,6 @@ tried old new price p keys key result keeps all own shows same won lost stays =
       won = λ e. turn.more;
       kept = λ k b ne. ap flow_of_row (turn.others (old.arc k) (contains_map old.arc keys k b)
           (λ e. ne (keeps.shows.arcs_apart k key (All-contains (IsKeyOf old.case) keys k all b) own e)));
-      lost = λ f. absurd (both_ways result f t);
       unchanged = λ f. absurd (both_ways result f t);
     } in
     subst (λ (v : View). Tried old v price p keys key result) (sym is) made)
@@ -120,8 +118,6 @@ tried old new price p keys key result keeps all own shows same won lost stays =
       same_best = refl;
       won = λ t. absurd (both_ways result f t);
       kept = λ k b ne. refl;
-      lost = λ g r legal cheap kept. no_more_at old price p (placed old.case (p ++ r)) keys key keeps all own (lost f)
-          (flow_placed old.case p r (best old p) keeps.shows.sound legal cheap) kept;
       unchanged = λ g. refl;
     } in
     subst (λ (v : View). Tried old v price p keys key result) (sym (stays f)) made)
@@ -143,15 +139,12 @@ pub tried_at : (old new : View) (price : ℕ → ℕ) (p : List Choice) (keys : 
     → id ≡ old.arc key → ids ≡ map old.arc keys
     → Keeps old price p → All (IsKeyOf old.case) keys → IsKeyOf old.case key → Shows new → IsSameCase old new
     → (result ≡ true → Turned old.net new.net price id ids)
-    → (result ≡ false → IsBlocked old.net price id ids)
     → (result ≡ false → new ≡ old)
     → Tried old new price p keys key result
-tried_at old new price p keys key id ids result is are keeps all own shows case won lost stays =
+tried_at old new price p keys key id ids result is are keeps all own shows case won stays =
     tried old new price p keys key result keeps all own shows case
     (λ t. subst (λ (z : List ArcId). Turned old.net new.net price (old.arc key) z) are
     (subst (λ (z : ArcId). Turned old.net new.net price z ids) is (won t)))
-    (λ f. subst (λ (z : List ArcId). IsBlocked old.net price (old.arc key) z) are
-    (subst (λ (z : ArcId). IsBlocked old.net price z ids) is (lost f)))
     stays
 
 pub one_key : (c : Case) (key : Key) → IsKeyOf c key → All (IsKeyOf c) (key ∷ [])

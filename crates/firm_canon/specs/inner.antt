@@ -3,3 +3,4 @@ pub mod Placed
 pub mod Laws
 pub mod Choosing
 pub mod Turns
+pub mod Cuts

@@ -9,10 +9,12 @@ ghost use Rattle.firm_canon.specs.Counts.{HasSearchedUpTo};
 ghost use Rattle.firm_graph.specs.Ids.{view_of};
 ghost use Rattle.firm_canon.specs.inner.Graphs.{IsSameGraph};
 ghost use Rattle.firm_canon.specs.inner.Choosing.{Keeps, IsSpent, best};
+ghost use Rattle.firm_canon.specs.inner.Cuts.{AreCuts, HasSought, cut_count};
 
 use crate::choice::choose;
+use crate::cuts::Cuts;
 use crate::holds::hold_choice;
-use crate::reads::{arcs_are_counted, task_count};
+use crate::reads::{arcs_are_counted, machine_count, task_count};
 use firm_flow::{balanced_flows, conserved_where_balanced};
 use firm_graph::{Graph, Key, Node};
 use firm_paths::{Prices, Scratch, arcs_are_rows};
@@ -53,6 +55,7 @@ fn choose_next(
     graph: &mut Graph,
     prices: &Prices,
     scratch: &mut Scratch,
+    cuts: &mut Cuts,
     chosen: &mut Vec<Choice>,
     from: &mut u32,
 )
@@ -63,9 +66,11 @@ fn choose_next(
     requires spent { (j : ℕ) → j < from.old → IsSpent (view_of graph.old).case chosen.old.items
         (best (view_of graph.old) chosen.old.items) j }
     requires made_for { (prices.now.limits ≡ limits_of graph.old.net) × (scratch.old.limits ≡ limits_of graph.old.net) }
+    requires cuts { AreCuts (view_of graph.old) (price_of prices.now) chosen.old.items cuts.old }
     ensures same { IsSameGraph graph.old graph.new }
-    ensures searched { HasSearchedUpTo scratch.old scratch.new (length graph.old.rows.machines + 3)
-        (arena_arcs graph.old.rows) }
+    ensures searched { HasSought scratch.old scratch.new (length graph.old.rows.machines + 3) 2
+        (arena_arcs graph.old.rows) (cut_count cuts.old) (cut_count cuts.new) }
+    ensures cuts { AreCuts (view_of graph.new) (price_of prices.now) chosen.new.items cuts.new }
     ensures keeps { Keeps (view_of graph.new) (price_of prices.now) chosen.new.items }
     ensures capacity { vec_capacity chosen.old ≤ vec_capacity chosen.new }
     ensures len { vec_len chosen.new ≡ vec_len chosen.old + 1 }
@@ -74,7 +79,7 @@ fn choose_next(
     ensures spent { (j : ℕ) → j < from.new → IsSpent (view_of graph.new).case chosen.new.items
         (best (view_of graph.new) chosen.new.items) j }
 {
-    let choice = choose(graph, prices, scratch, chosen, from);
+    let choice = choose(graph, prices, scratch, cuts, chosen, from);
     hold_choice(graph, prices, chosen, choice);
     push_reserved(chosen, choice);
 }
@@ -95,16 +100,19 @@ pub fn first_best(
     ensures prices { prices.new.limits ≡ prices.old.limits }
     ensures searched { HasSearchedUpTo scratch.old scratch.new
         (length graph.old.rows.tasks * (length graph.old.rows.machines + 4)) (arena_arcs graph.old.rows) }
+    ensures searched_few { HasSearchedUpTo scratch.old scratch.new
+        (3 * length graph.old.rows.tasks + 2 * length graph.old.rows.machines + 1) (arena_arcs graph.old.rows) }
     ensures refused { OnErr result ((graph.new ≡ graph.old) × (prices.new ≡ prices.old) × (scratch.new ≡ scratch.old)) }
 {
     the_round_is_the_first();
     let tasks = task_count(graph);
     let mut chosen = Vec::with_capacity(alloc, tasks)?;
+    let mut cuts = Cuts::new(alloc, machine_count(graph) as usize)?;
     start(graph, prices, scratch);
     let mut from = 0;
     for task in 0..tasks {
         prove!(chosen.len() == task);
-        choose_next(graph, prices, scratch, &mut chosen, &mut from);
+        choose_next(graph, prices, scratch, &mut cuts, &mut chosen, &mut from);
     }
     Ok(chosen)
 }

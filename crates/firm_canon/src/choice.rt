@@ -7,27 +7,38 @@ ghost use Rattle.firm_rules.specs.ArenaUse.{arena_arcs};
 ghost use Rattle.firm_rules.specs.Placement.{runs_at};
 ghost use Rattle.firm_graph.specs.Network.{demand};
 ghost use Rattle.firm_canon.specs.inner.Placed.{guests};
-ghost use Rattle.firm_canon.specs.Counts.{HasSearchedUpTo};
 ghost use Rattle.firm_graph.specs.View.{flows};
 ghost use Rattle.firm_graph.specs.Ids.{view_of};
 ghost use Rattle.firm_canon.specs.inner.Graphs.{IsSameGraph};
 ghost use Rattle.firm_canon.specs.inner.Choosing.{Keeps, Shut, IsChosen, IsSpent, IsSpentBeside, best};
+ghost use Rattle.firm_canon.specs.inner.Cuts.{AreCuts, HasSought, cut_count, one_if};
 ghost use Rattle.firm_graph.specs.declared.network.Key.TheVariants.{Through, Wide, Stay};
 
-use crate::attempts::{more_stay, more_through, more_wide};
+use crate::attempts::{more_stay, seek_hub, seek_machine, seek_own};
+use crate::cuts::Cuts;
 use crate::reads::{flow_on, home_of, low_on, machine_count, stay_arc, through_arc, wide_arc};
 use firm_graph::Graph;
 use firm_paths::{Prices, Scratch};
 use firm_rules::Choice;
 
 /// Tries the hub.
-#[tactic(auto, using(crate::proofs::Counts::none_made))]
-fn try_hub(graph: &mut Graph, prices: &Prices, scratch: &mut Scratch, chosen: &[Choice]) -> bool
+#[tactic(auto, using(crate::proofs::Counts::none_sought))]
+fn try_hub(
+    graph: &mut Graph,
+    prices: &Prices,
+    scratch: &mut Scratch,
+    cuts: &mut Cuts,
+    chosen: &[Choice],
+) -> bool
     requires keeps { Keeps (view_of graph.old) (price_of prices.now) chosen.now }
     requires next { length chosen.now < length (view_of graph.old).case.tasks }
     requires made_for { (prices.now.limits ≡ limits_of graph.old.net) × (scratch.old.limits ≡ limits_of graph.old.net) }
+    requires cuts { AreCuts (view_of graph.old) (price_of prices.now) chosen.now cuts.old }
+    requires stay { flows (view_of graph.old) (Stay (length chosen.now)) ≡ 0 }
     ensures same { IsSameGraph graph.old graph.new }
-    ensures searched { HasSearchedUpTo scratch.old scratch.new 1 (arena_arcs graph.old.rows) }
+    ensures searched { HasSought scratch.old scratch.new 1 (one_if result) (arena_arcs graph.old.rows)
+        (cut_count cuts.old) (cut_count cuts.new) }
+    ensures cuts { AreCuts (view_of graph.new) (price_of prices.now) chosen.now cuts.new }
     ensures keeps { Keeps (view_of graph.new) (price_of prices.now) chosen.now }
     ensures best { best (view_of graph.new) chosen.now ≡ best (view_of graph.old) chosen.now }
     ensures yes { result ≡ true → 1 ≤ flows (view_of graph.new) (Wide (length chosen.now)) }
@@ -39,17 +50,28 @@ fn try_hub(graph: &mut Graph, prices: &Prices, scratch: &mut Scratch, chosen: &[
     if flow_on(graph.net(), wide_arc(graph, chosen.len())) > 0 {
         return true;
     }
-    more_wide(graph, prices, scratch, chosen)
+    seek_hub(graph, prices, scratch, cuts, chosen)
 }
 
 /// Tries the task's own machine.
-#[tactic(auto, using(crate::proofs::Counts::none_made))]
-fn try_own(graph: &mut Graph, prices: &Prices, scratch: &mut Scratch, chosen: &[Choice]) -> bool
+#[tactic(auto, using(crate::proofs::Counts::none_sought))]
+fn try_own(
+    graph: &mut Graph,
+    prices: &Prices,
+    scratch: &mut Scratch,
+    cuts: &mut Cuts,
+    chosen: &[Choice],
+    own: u32,
+) -> bool
     requires keeps { Keeps (view_of graph.old) (price_of prices.now) chosen.now }
     requires next { length chosen.now < length (view_of graph.old).case.tasks }
     requires made_for { (prices.now.limits ≡ limits_of graph.old.net) × (scratch.old.limits ≡ limits_of graph.old.net) }
+    requires cuts { AreCuts (view_of graph.old) (price_of prices.now) chosen.now cuts.old }
+    requires home { (demand (view_of graph.old).case (length chosen.now)).home ≡ Some own }
     ensures same { IsSameGraph graph.old graph.new }
-    ensures searched { HasSearchedUpTo scratch.old scratch.new 1 (arena_arcs graph.old.rows) }
+    ensures searched { HasSought scratch.old scratch.new 1 (one_if result) (arena_arcs graph.old.rows)
+        (cut_count cuts.old) (cut_count cuts.new) }
+    ensures cuts { AreCuts (view_of graph.new) (price_of prices.now) chosen.now cuts.new }
     ensures keeps { Keeps (view_of graph.new) (price_of prices.now) chosen.now }
     ensures best { best (view_of graph.new) chosen.now ≡ best (view_of graph.old) chosen.now }
     ensures yes { result ≡ true → 1 ≤ flows (view_of graph.new) (Stay (length chosen.now)) }
@@ -61,7 +83,7 @@ fn try_own(graph: &mut Graph, prices: &Prices, scratch: &mut Scratch, chosen: &[
     if flow_on(graph.net(), stay_arc(graph, chosen.len())) > 0 {
         return true;
     }
-    more_stay(graph, prices, scratch, chosen)
+    seek_own(graph, prices, scratch, cuts, chosen, own)
 }
 
 pub(crate) fn is_home(home: Option<u32>, machine: u32) -> bool
@@ -74,11 +96,12 @@ pub(crate) fn is_home(home: Option<u32>, machine: u32) -> bool
 }
 
 /// Tries one machine that is not the task's own.
-#[tactic(auto, using(crate::proofs::Counts::none_made))]
+#[tactic(auto, using(crate::proofs::Counts::none_sought))]
 fn try_machine(
     graph: &mut Graph,
     prices: &Prices,
     scratch: &mut Scratch,
+    cuts: &mut Cuts,
     chosen: &[Choice],
     machine: u32,
 ) -> bool
@@ -88,8 +111,11 @@ fn try_machine(
     requires other { runs_at (demand (view_of graph.old).case (length chosen.now)).home machine ≡ false }
     requires wide { flows (view_of graph.old) (Wide (length chosen.now)) ≡ 1 }
     requires made_for { (prices.now.limits ≡ limits_of graph.old.net) × (scratch.old.limits ≡ limits_of graph.old.net) }
+    requires cuts { AreCuts (view_of graph.old) (price_of prices.now) chosen.now cuts.old }
     ensures same { IsSameGraph graph.old graph.new }
-    ensures searched { HasSearchedUpTo scratch.old scratch.new 1 (arena_arcs graph.old.rows) }
+    ensures searched { HasSought scratch.old scratch.new 1 (one_if result) (arena_arcs graph.old.rows)
+        (cut_count cuts.old) (cut_count cuts.new) }
+    ensures cuts { AreCuts (view_of graph.new) (price_of prices.now) chosen.now cuts.new }
     ensures keeps { Keeps (view_of graph.new) (price_of prices.now) chosen.now }
     ensures best { best (view_of graph.new) chosen.now ≡ best (view_of graph.old) chosen.now }
     ensures wide { flows (view_of graph.new) (Wide (length chosen.now)) ≡ 1 }
@@ -103,7 +129,7 @@ fn try_machine(
     if flow_on(graph.net(), arc) > low_on(graph.net(), arc) {
         return true;
     }
-    more_through(graph, prices, scratch, chosen, machine)
+    seek_machine(graph, prices, scratch, cuts, chosen, machine)
 }
 
 /// Finds the first machine, but the task's own, to which it can go by the hub. The machines before `from` are spent.
@@ -111,6 +137,7 @@ fn find_machine(
     graph: &mut Graph,
     prices: &Prices,
     scratch: &mut Scratch,
+    cuts: &mut Cuts,
     chosen: &[Choice],
     home: Option<u32>,
     from: u32,
@@ -123,9 +150,13 @@ fn find_machine(
     requires spent { (j : ℕ) → j < from → IsSpent (view_of graph.old).case chosen.now
         (best (view_of graph.old) chosen.now) j }
     requires made_for { (prices.now.limits ≡ limits_of graph.old.net) × (scratch.old.limits ≡ limits_of graph.old.net) }
+    requires cuts { AreCuts (view_of graph.old) (price_of prices.now) chosen.now cuts.old }
     ensures same { IsSameGraph graph.old graph.new }
-    ensures searched { HasSearchedUpTo scratch.old scratch.new (length graph.old.rows.machines)
-        (arena_arcs graph.old.rows) }
+    ensures searched { IfSome result (λ _. HasSought scratch.old scratch.new (length graph.old.rows.machines) 1
+        (arena_arcs graph.old.rows) (cut_count cuts.old) (cut_count cuts.new)) }
+    ensures searched_all { IfNone result (HasSought scratch.old scratch.new (length graph.old.rows.machines) 0
+        (arena_arcs graph.old.rows) (cut_count cuts.old) (cut_count cuts.new)) }
+    ensures cuts { AreCuts (view_of graph.new) (price_of prices.now) chosen.now cuts.new }
     ensures keeps { Keeps (view_of graph.new) (price_of prices.now) chosen.now }
     ensures best { best (view_of graph.new) chosen.now ≡ best (view_of graph.old) chosen.now }
     ensures wide { flows (view_of graph.new) (Wide (length chosen.now)) ≡ 1 }
@@ -143,7 +174,7 @@ fn find_machine(
         if is_home(home, machine) {
             continue;
         }
-        if try_machine(graph, prices, scratch, chosen, machine) {
+        if try_machine(graph, prices, scratch, cuts, chosen, machine) {
             return Some(machine);
         }
     }
@@ -174,6 +205,7 @@ fn choose_other(
     graph: &mut Graph,
     prices: &Prices,
     scratch: &mut Scratch,
+    cuts: &mut Cuts,
     chosen: &[Choice],
     home: Option<u32>,
     from: &mut u32,
@@ -188,19 +220,21 @@ fn choose_other(
     requires spent { (j : ℕ) → j < from.old → IsSpent (view_of graph.old).case chosen.now
         (best (view_of graph.old) chosen.now) j }
     requires made_for { (prices.now.limits ≡ limits_of graph.old.net) × (scratch.old.limits ≡ limits_of graph.old.net) }
+    requires cuts { AreCuts (view_of graph.old) (price_of prices.now) chosen.now cuts.old }
     ensures same { IsSameGraph graph.old graph.new }
-    ensures searched { HasSearchedUpTo scratch.old scratch.new (length graph.old.rows.machines + 2)
-        (arena_arcs graph.old.rows) }
+    ensures searched { HasSought scratch.old scratch.new (length graph.old.rows.machines + 2) 2
+        (arena_arcs graph.old.rows) (cut_count cuts.old) (cut_count cuts.new) }
+    ensures cuts { AreCuts (view_of graph.new) (price_of prices.now) chosen.now cuts.new }
     ensures keeps { Keeps (view_of graph.new) (price_of prices.now) chosen.now }
     ensures chosen { IsChosen (view_of graph.new) chosen.now result }
     ensures from { from.new ≤ length (view_of graph.new).case.slots }
     ensures spent { (j : ℕ) → j < from.new → IsSpent (view_of graph.new).case (chosen.now ++ result ∷ [])
         (best (view_of graph.new) chosen.now) j }
 {
-    if !try_hub(graph, prices, scratch, chosen) {
+    if !try_hub(graph, prices, scratch, cuts, chosen) {
         return Choice::Wait;
     }
-    if let Some(machine) = find_machine(graph, prices, scratch, chosen, home, *from) {
+    if let Some(machine) = find_machine(graph, prices, scratch, cuts, chosen, home, *from) {
         *from = reach(home, machine, *from);
         return Choice::On(machine);
     }
@@ -218,6 +252,7 @@ pub(crate) fn choose(
     graph: &mut Graph,
     prices: &Prices,
     scratch: &mut Scratch,
+    cuts: &mut Cuts,
     chosen: &[Choice],
     from: &mut u32,
 ) -> Choice
@@ -227,9 +262,11 @@ pub(crate) fn choose(
     requires spent { (j : ℕ) → j < from.old → IsSpent (view_of graph.old).case chosen.now
         (best (view_of graph.old) chosen.now) j }
     requires made_for { (prices.now.limits ≡ limits_of graph.old.net) × (scratch.old.limits ≡ limits_of graph.old.net) }
+    requires cuts { AreCuts (view_of graph.old) (price_of prices.now) chosen.now cuts.old }
     ensures same { IsSameGraph graph.old graph.new }
-    ensures searched { HasSearchedUpTo scratch.old scratch.new (length graph.old.rows.machines + 3)
-        (arena_arcs graph.old.rows) }
+    ensures searched { HasSought scratch.old scratch.new (length graph.old.rows.machines + 3) 2
+        (arena_arcs graph.old.rows) (cut_count cuts.old) (cut_count cuts.new) }
+    ensures cuts { AreCuts (view_of graph.new) (price_of prices.now) chosen.now cuts.new }
     ensures keeps { Keeps (view_of graph.new) (price_of prices.now) chosen.now }
     ensures chosen { IsChosen (view_of graph.new) chosen.now result }
     ensures from { from.new ≤ length (view_of graph.new).case.slots }
@@ -238,10 +275,10 @@ pub(crate) fn choose(
 {
     let home = home_of(graph, chosen.len());
     let Some(own) = home else {
-        return choose_other(graph, prices, scratch, chosen, home, from);
+        return choose_other(graph, prices, scratch, cuts, chosen, home, from);
     };
-    if try_own(graph, prices, scratch, chosen) {
+    if try_own(graph, prices, scratch, cuts, chosen, own) {
         return Choice::On(own);
     }
-    choose_other(graph, prices, scratch, chosen, home, from)
+    choose_other(graph, prices, scratch, cuts, chosen, home, from)
 }

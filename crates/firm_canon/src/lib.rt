@@ -4,6 +4,7 @@
 mod attempts;
 mod best;
 mod choice;
+mod cuts;
 mod holds;
 mod reads;
 #[cfg(test)]

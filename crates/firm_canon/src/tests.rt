@@ -378,7 +378,7 @@ fn expect_counts(
 #[test]
 fn searches_and_looks_of_a_round_are_counted(rt: HostRuntime) -> Result<(), AllocError> {
     let small = Limits::check(9, 24, 100, 1, 2);
-    expect_counts(&rt, rt.alloc(), small, 2, 2, (12, 312))?;
+    expect_counts(&rt, rt.alloc(), small, 2, 2, (11, 286))?;
     let large = Limits::check(33, 91, 100, 1, 2);
-    expect_counts(&rt, rt.alloc(), large, 10, 20, (280, 50_960))
+    expect_counts(&rt, rt.alloc(), large, 10, 20, (81, 14_742))
 }

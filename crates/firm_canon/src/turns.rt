@@ -1,7 +1,8 @@
 //! Units sent round cycles that cost nothing.
-ghost use Rattle.std.specs.Prelude.{◌≡◌, ◌≢◌, ◌+◌, ◌↔◌, true, false, Contains, Some};
+ghost use Rattle.std.specs.Prelude.{◌≡◌, ◌≢◌, ◌+◌, ◌↔◌, true, false, Contains, Some, List};
 ghost use Rattle.firm_net.specs.Row.{Row};
 ghost use Rattle.firm_net.specs.Net.{IsNode, IsNet, IsArc, row_at};
+ghost use Rattle.firm_net.specs.declared.row.ArcId.{ArcId as ArcName};
 ghost use Rattle.firm_paths.specs.NetArcs.{limits_of};
 ghost use Rattle.firm_paths.specs.PriceTable.{price_of};
 ghost use Rattle.firm_rules.specs.ArenaUse.{arena_arcs};
@@ -9,7 +10,8 @@ ghost use Rattle.firm_canon.specs.Counts.{HasSearchedUpTo};
 ghost use Rattle.firm_graph.specs.View.{Shows};
 ghost use Rattle.firm_graph.specs.Ids.{view_of};
 ghost use Rattle.firm_canon.specs.inner.Graphs.{IsSameGraph};
-ghost use Rattle.firm_canon.specs.inner.Turns.{SameLows, SameOff, CarriesOn, Turned, IsBlocked};
+ghost use Rattle.firm_canon.specs.inner.Turns.{SameLows, SameOff, CarriesOn, Turned, IsBlocked, IsCutOff, IsOpen};
+ghost use Rattle.firm_canon.specs.inner.Turns.{IsTightAt, IsLooseAt};
 
 use crate::reads::arcs_are_counted;
 use firm_flow::round_a_cycle;
@@ -47,8 +49,38 @@ fn is_tight(net: &Net, prices: &Prices, row: ArcRow) -> bool
     tail <= head && head - tail == u64::from(row.cost())
 }
 
-/// Sends one unit more along an arc, and back from its head to its tail by a way of reduced cost 0 that no barred arc
-/// is on. False, and nothing changes, where there is none.
+/// Whether the reduced cost of the arc with an id is 0.
+pub(crate) fn is_tight_arc(graph: &Graph, prices: &Prices, arc: ArcId) -> bool
+    requires made_for { prices.now.limits ≡ limits_of graph.now.net }
+    requires there { IsArc graph.now.net arc }
+    ensures tight { result ≡ true → IsTightAt graph.now.net (price_of prices.now) arc }
+    ensures loose { result ≡ false → IsLooseAt graph.now.net (price_of prices.now) arc }
+{
+    let Some(row) = graph.net().arc(arc) else {
+        unreachable!()
+    };
+    is_tight(graph.net(), prices, row)
+}
+
+/// Whether an arc has room and the reduced cost 0.
+pub(crate) fn is_open(graph: &Graph, prices: &Prices, arc: ArcId) -> bool
+    requires made_for { prices.now.limits ≡ limits_of graph.now.net }
+    requires there { IsArc graph.now.net arc }
+    ensures open { result ≡ true → IsOpen graph.now.net (price_of prices.now) arc }
+    ensures blocked { result ≡ false → (barred : List ArcName)
+        → IsBlocked graph.now.net (price_of prices.now) arc barred }
+{
+    let Some(row) = graph.net().arc(arc) else {
+        unreachable!()
+    };
+    if row.flow() >= row.cap() {
+        return false;
+    }
+    is_tight(graph.net(), prices, row)
+}
+
+/// Sends one unit more along an open arc, and back from its head to its tail by a way of reduced cost 0 that no barred
+/// arc is on. False, and nothing changes, where there is none.
 pub(crate) fn turn(
     graph: &mut Graph,
     prices: &Prices,
@@ -60,11 +92,12 @@ pub(crate) fn turn(
     requires made_for { (prices.now.limits ≡ limits_of graph.old.net) × (scratch.old.limits ≡ limits_of graph.old.net) }
     requires barred { Contains barred.now arc }
     requires there { IsArc graph.old.net arc }
+    requires open { IsOpen graph.old.net (price_of prices.now) arc }
     ensures shows { Shows (view_of graph.new) }
     ensures same { IsSameGraph graph.old graph.new }
     ensures searched { HasSearchedUpTo scratch.old scratch.new 1 (arena_arcs graph.old.rows) }
     ensures won { result ≡ true → Turned graph.old.net graph.new.net (price_of prices.now) arc barred.now }
-    ensures lost { result ≡ false → IsBlocked graph.old.net (price_of prices.now) arc barred.now }
+    ensures lost { result ≡ false → IsCutOff graph.old.net (price_of prices.now) arc barred.now }
     ensures unchanged { result ≡ false → graph.new ≡ graph.old }
 {
     arcs_are_rows();
@@ -73,12 +106,6 @@ pub(crate) fn turn(
     let Some(row) = graph.net().arc(arc) else {
         unreachable!()
     };
-    if row.flow() >= row.cap() {
-        return false;
-    }
-    if !is_tight(graph.net(), prices, row) {
-        return false;
-    }
     let Some(steps) = tight_path(scratch, graph.net(), prices, row.head(), row.tail(), barred)
     else {
         return false;

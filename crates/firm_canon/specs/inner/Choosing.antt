@@ -49,9 +49,11 @@ Barred c p best b = (r : List Choice) → IsLegal c (p ++ b ∷ r) → cost c (p
 abbrev pub best : View → List Choice → ℕ
 best v p = cost_of (network v.case (low_of v.case p) (flows v)) carried
 
--- the net shows a least flow whose lower bounds hold the chosen prefix, and the laws that the next step rests on
+-- the net shows a least flow whose lower bounds hold the chosen prefix, no job's arc can be full, and the laws that the
+-- next step rests on are at hand
 pub record Keeps (v : View) (price : ℕ → ℕ) (p : List Choice) : Type 0 where
   pub laws : FlowLaws
+  pub roomy : length v.case.tasks < v.case.limit
   pub shows : Shows v
   pub lows : (k : Key) → IsKeyOf v.case k → lows v k ≡ low_of v.case p k
   pub stands : Stands v.case p (flows v) (λ n. price (spot_of v n))
@@ -63,9 +65,6 @@ pub record Tried (old new : View) (price : ℕ → ℕ) (p : List Choice) (barre
   pub same_best : best new p ≡ best old p
   pub won : result ≡ true → flows new key ≡ flows old key + 1
   pub kept : (k : Key) → Contains barred k → k ≢ key → flows new k ≡ flows old k
-  pub lost : result ≡ false → (r : List Choice) → IsLegal old.case (p ++ r) → cost old.case (p ++ r) ≤ best old p
-      → ((k : Key) → Contains barred k → k ≢ key → placed old.case (p ++ r) k ≡ flows old k)
-      → placed old.case (p ++ r) key ≤ flows old key
   pub unchanged : result ≡ false → new ≡ old
 
 -- no least placement goes on by machine `j`

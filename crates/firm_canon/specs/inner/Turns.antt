@@ -1,5 +1,5 @@
 -- A unit sent round a cycle of residual arcs of reduced cost 0. No public clause cites this module.
-use Rattle.std.specs.Prelude.{◌≡◌, ◌≢◌, ℕ, ◌+◌, ◌≤◌, Bool, List, [], All, Contains, Some, map, ◌⊎◌}
+use Rattle.std.specs.Prelude.{◌≡◌, ◌≢◌, ℕ, ◌+◌, ◌<◌, ◌≤◌, Bool, List, [], All, Contains, Some, map, ◌⊎◌}
 use Rattle.firm_net.specs.Row.{Row}
 use Rattle.firm_net.specs.Net.{Net, row_at}
 use Rattle.firm_net.specs.declared.row.ArcId.{ArcId}
@@ -39,6 +39,25 @@ pub record Turned (old new : Net) (price : ℕ → ℕ) (arc : ArcId) (barred : 
   pub others : (b : ArcId) → Contains barred b → b ≢ arc → row_at new b ≡ row_at old b
   pub whole : (sources : List ℕ) (sink : ℕ) → IsWhole old price sources sink
       → IsWhole new price sources sink × (cost_of (arcs_of new) carried ≡ cost_of (arcs_of old) carried)
+
+-- the reduced cost of the arc is 0
+abbrev pub IsTightAt : Net → (ℕ → ℕ) → ArcId → Type 0
+IsTightAt net price arc = (row : Row) → row_at net arc ≡ Some row → Tight price (arc_of arc row)
+
+-- it is not
+abbrev pub IsLooseAt : Net → (ℕ → ℕ) → ArcId → Type 0
+IsLooseAt net price arc = (row : Row) → row_at net arc ≡ Some row → Tight price (arc_of arc row) → ⊥
+
+-- the arc has room, and its reduced cost is 0
+abbrev pub IsOpen : Net → (ℕ → ℕ) → ArcId → Type 0
+IsOpen net price arc =
+    (row : Row) → row_at net arc ≡ Some row → (row.flow < row.cap) × Tight price (arc_of arc row)
+
+-- no way leads back from the arc's head to its tail
+abbrev pub IsCutOff : Net → (ℕ → ℕ) → ArcId → List ArcId → Type 0
+IsCutOff net price arc barred =
+    (row : Row) → row_at net arc ≡ Some row
+    → (inside : ℕ → Bool) × IsTightCut net price barred row.head.id.place row.tail.id.place inside
 
 -- the arc has no room, or its reduced cost is not 0, or no way leads back from its head to its tail
 abbrev pub IsBlocked : Net → (ℕ → ℕ) → ArcId → List ArcId → Type 0

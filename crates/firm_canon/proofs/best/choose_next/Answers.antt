@@ -5,6 +5,8 @@ use Rattle.firm_paths.specs.PriceTable.{price_of}
 use Rattle.firm_rules.specs.declared.rounds.Choice.{Choice}
 use Rattle.firm_graph.specs.Ids.{view_of}
 use Rattle.firm_canon.specs.inner.Choosing.{Keeps, IsChosen, IsSpent, best}
+use Rattle.firm_canon.specs.inner.Cuts.{AreCuts}
+use Rattle.firm_canon.proofs.Crossings.{cuts_on}
 use Rattle.firm_canon.proofs.Graphs.{same_on}
 use Rattle.firm_canon.proofs.best.choose_next.Goals as goal
 
@@ -60,3 +62,21 @@ returns-clause-spent c j l =
     (subst (λ (k : Case). IsSpent k (p ++ o ∷ []) (best mid p) j) (sym c.hold_choice.ensures.same.case.case) at_mid) in
     subst (λ (q : List Choice). IsSpent new.case q (best new q) j)
     (ap (λ (q : List Choice). q ++ o ∷ []) c.deref-2.ensures.value ∙ sym c.push_reserved.ensures.items) at_new
+
+pub choose-choice-requires-clause-cuts : goal.choose-choice-requires-clause-cuts
+choose-choice-requires-clause-cuts c =
+    subst (λ (p : List Choice). AreCuts (view_of c.args.graph.now) (price_of c.args.prices.now) p c.args.cuts.now)
+    (sym c.deref.ensures.value) c.requires.cuts
+
+pub returns-clause-cuts : goal.returns-clause-cuts
+returns-clause-cuts c =
+    let mid : View = view_of c.choose-choice.new.graph in
+    let new : View = view_of c.hold_choice.new.graph in
+    let price : ℕ → ℕ = price_of c.args.prices.now in
+    let o : Choice = c.choose-choice.result in
+    let p : List Choice = c.deref-2.result.now in
+    let is : c.deref.result.now ≡ p = c.deref.ensures.value ∙ sym c.deref-2.ensures.value in
+    subst (λ (q : List Choice). AreCuts new price q c.choose-choice.new.cuts)
+    (ap (λ (q : List Choice). q ++ o ∷ []) c.deref-2.ensures.value ∙ sym c.push_reserved.ensures.items)
+    (cuts_on mid new price p o c.choose-choice.new.cuts c.hold_choice.ensures.same.case c.hold_choice.ensures.best
+    (subst (λ (q : List Choice). AreCuts mid price q c.choose-choice.new.cuts) is c.choose-choice.ensures.cuts))

@@ -2,7 +2,7 @@ use Rattle.std.proofs.Common.{◌≡◌, ◌<◌, ◌≤◌, ◌+◌, ◌*◌, �
 use Rattle.std.specs.Prelude.{vec_len, vec_capacity}
 use Rattle.firm_paths.specs.PriceTable.{price_of}
 use Rattle.firm_rules.specs.ArenaUse.{arena_arcs}
-use Rattle.firm_canon.specs.Counts.{HasSearchedUpTo}
+use Rattle.firm_canon.specs.inner.Cuts.{AreCuts, HasSought, cut_count}
 use Rattle.firm_graph.specs.Graph.{Graph}
 use Rattle.firm_canon.specs.inner.Graphs.{IsSameGraph}
 use Rattle.firm_canon.specs.inner.Choosing.{Keeps, IsSpent, best}
@@ -15,8 +15,9 @@ invariant-loop-task l =
     let now : Graph = l.graph in
     record {
       same : IsSameGraph old now;
-      searched : HasSearchedUpTo l.initial.scratch l.scratch (l.task * (length old.rows.machines + 3))
-          (arena_arcs old.rows);
+      searched : HasSought l.initial.scratch l.scratch (l.task * (length old.rows.machines + 3)) (2 * l.task)
+          (arena_arcs old.rows) 0 (cut_count l.cuts);
+      cuts : AreCuts (view_of now) (price_of l.prices) l.chosen.items l.cuts;
       keeps : Keeps (view_of now) (price_of l.prices) l.chosen.items;
       so_far : length l.chosen.items ≡ l.task;
       count : vec_len l.chosen ≡ l.task;

@@ -12,6 +12,8 @@ use Rattle.firm_canon.proofs.best.start.Goals as goal
 
 pub returns-clause-keeps : goal.returns-clause-keeps
 returns-clause-keeps c =
+    let new : Graph = c.least.new.self in
+    let tasks : length (view_of new).case.tasks ≡ length new.rows.tasks = length-map new.rows.tasks _ in
     starts (record {
       least = c.balanced_flows.ensures.least;
       same = c.balanced_flows.ensures.same;
@@ -20,7 +22,9 @@ returns-clause-keeps c =
     })
     c.conserved_where_balanced.ensures
     (view_of c.least.new.self) (price_of c.least.new.prices)
-    c.least.ensures.shows c.least.ensures.lows c.least.ensures.least c.least.ensures.valid
+    c.least.ensures.shows
+    (omega (arith, c.least.ensures.graph.sound.fits.nodes, tasks))
+    c.least.ensures.lows c.least.ensures.least c.least.ensures.valid
 
 pub returns-clause-searched : goal.returns-clause-searched
 returns-clause-searched c =

@@ -9,7 +9,7 @@ use Rattle.firm_canon.proofs.Choices.{no_stay_home, chose_own, next_at, home_at}
 use Rattle.firm_graph.specs.View.{View}
 use Rattle.firm_graph.specs.Graph.{Graph}
 use Rattle.firm_graph.specs.Ids.{view_of}
-use Rattle.firm_canon.proofs.Counts.{more_since}
+use Rattle.firm_canon.proofs.Counts.{sought_within, sought_since}
 use Rattle.firm_canon.proofs.Graphs.{same_rows, same_machines}
 use Rattle.firm_canon.proofs.choice.choose.Goals as goal
 
@@ -34,10 +34,15 @@ returns-clause-searched c =
     let old : Graph = c.args.graph.now in
     let mid : Graph = c.try_own.new.graph in
     let own = c.if-try_own.ensures in
-    more_since old mid (same_rows old mid own.same)
+    sought_since old mid (same_rows old mid own.same)
     c.args.scratch.now c.try_own.new.scratch c.choose_other-2.new.scratch
-    1 (length mid.rows.machines + 2) _ own.searched c.choose_other-2.ensures.searched
-    (omega (arith, same_machines old mid own.same))
+    1 (length mid.rows.machines + 2) _ 0 2 2 _ _ _ own.searched c.choose_other-2.ensures.searched
+    (omega (arith, same_machines old mid own.same)) (omega arith)
+
+pub returns-then-try_own-clause-searched : goal.returns-then-try_own-clause-searched
+returns-then-try_own-clause-searched c =
+    sought_within c.args.scratch.now c.try_own.new.scratch 1 _ 1 2 _ _ _ c.if-try_own.ensures.searched
+    (omega arith) (omega arith)
 
 pub returns-then-try_own-clause-from : goal.returns-then-try_own-clause-from
 returns-then-try_own-clause-from c =

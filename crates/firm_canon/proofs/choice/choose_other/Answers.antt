@@ -13,7 +13,8 @@ use Rattle.firm_rules.specs.declared.rounds.Choice.TheVariants.{On, Wait}
 use Rattle.firm_graph.specs.Graph.{Graph}
 use Rattle.firm_canon.specs.inner.Graphs.{IsSameGraph}
 use Rattle.firm_graph.specs.Ids.{view_of}
-use Rattle.firm_canon.proofs.Counts.{more_since}
+use Rattle.firm_canon.proofs.Crossings.{cuts_at}
+use Rattle.firm_canon.proofs.Counts.{sought, sought_within, sought_since}
 use Rattle.firm_canon.proofs.Graphs.{same_on, same_rows, same_machines}
 use Rattle.firm_canon.proofs.choice.choose_other.Goals as goal
 
@@ -89,15 +90,20 @@ returns-clause-chosen c =
     chose_own end (price_of c.args.prices.now) c.args.chosen.now c.in-Some-home.own stay.tried.keeps next
     (sym home ∙ c.in-Some-home.is) (omega (arith, stay.tried.won refl))
 
+pub returns-then-not-try_hub-clause-searched : goal.returns-then-not-try_hub-clause-searched
+returns-then-not-try_hub-clause-searched c =
+    sought_within c.args.scratch.now c.try_hub.new.scratch 1 _ 0 2 _ _ _ c.if-not-try_hub.ensures.searched
+    (omega arith) (omega arith)
+
 pub returns-in-Some-clause-searched : goal.returns-in-Some-clause-searched
 returns-in-Some-clause-searched c =
     let old : Graph = c.args.graph.now in
     let mid : Graph = c.try_hub.new.graph in
     let hub = c.if-not-try_hub.ensures in
-    more_since old mid (same_rows old mid hub.same)
+    sought_since old mid (same_rows old mid hub.same)
     c.args.scratch.now c.try_hub.new.scratch c.find_machine.new.scratch
-    1 (length mid.rows.machines) _ hub.searched c.find_machine.ensures.searched
-    (omega (arith, same_machines old mid hub.same))
+    1 (length mid.rows.machines) _ 1 1 2 _ _ _ hub.searched c.in-Some.ensures.searched
+    (omega (arith, same_machines old mid hub.same)) (omega arith)
 
 pub returns-clause-searched : goal.returns-clause-searched
 returns-clause-searched c =
@@ -105,16 +111,23 @@ returns-clause-searched c =
     let mid : Graph = c.try_hub.new.graph in
     let new : Graph = c.find_machine.new.graph in
     let hub = c.if-not-try_hub.ensures in
-    let to_new : IsSameGraph old new = same_on old mid new hub.same c.find_machine.ensures.same in
-    more_since old new (same_rows old new to_new)
+    let find = c.in_default.ensures in
+    let to_new : IsSameGraph old new = same_on old mid new hub.same find.same in
+    sought_since old new (same_rows old new to_new)
     c.args.scratch.now c.find_machine.new.scratch c.more_stay.new.scratch
-    (1 + length mid.rows.machines) 1 _
-    (more_since old mid (same_rows old mid hub.same)
+    (1 + length mid.rows.machines) 1 _ 1 1 2 _ _ _
+    (sought_since old mid (same_rows old mid hub.same)
     c.args.scratch.now c.try_hub.new.scratch c.find_machine.new.scratch
-    1 (length mid.rows.machines) (1 + length mid.rows.machines)
-    hub.searched c.find_machine.ensures.searched (omega arith))
-    c.more_stay.ensures.searched
-    (omega (arith, same_machines old mid hub.same))
+    1 (length mid.rows.machines) (1 + length mid.rows.machines) 1 0 1 _ _ _
+    hub.searched find.searched_all (omega arith) (omega arith))
+    (sought c.find_machine.new.scratch c.more_stay.new.scratch 1 1 _ _ _ c.more_stay.ensures.searched (omega arith))
+    (omega (arith, same_machines old mid hub.same)) (omega arith)
+
+pub returns-clause-cuts : goal.returns-clause-cuts
+returns-clause-cuts c =
+    cuts_at (view_of c.find_machine.new.graph) (view_of c.more_stay.new.graph) (price_of c.args.prices.now)
+    c.args.chosen.now c.find_machine.new.cuts c.more_stay.ensures.same.case c.more_stay.ensures.tried.same_best
+    c.find_machine.ensures.cuts
 
 pub returns-then-not-try_hub-clause-spent : goal.returns-then-not-try_hub-clause-spent
 returns-then-not-try_hub-clause-spent c j l =

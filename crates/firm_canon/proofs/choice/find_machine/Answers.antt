@@ -8,7 +8,8 @@ use Rattle.firm_canon.specs.inner.Choosing.{IsSpentBeside, Keeps, best}
 use Rattle.firm_canon.proofs.Spent.{spent_beside, spent_shut, spent_few}
 use Rattle.firm_graph.specs.Graph.{Graph}
 use Rattle.firm_graph.specs.Ids.{view_of}
-use Rattle.firm_canon.proofs.Counts.{none_made, more_since, at_most}
+use Rattle.firm_canon.specs.inner.Cuts.{AreCuts}
+use Rattle.firm_canon.proofs.Counts.{none_sought, sought_since, sought_within}
 use Rattle.firm_canon.proofs.choice.find_machine.Goals as goal
 
 pub returns-then-try_machine-clause-best : goal.returns-then-try_machine-clause-best
@@ -21,7 +22,8 @@ returns-clause-best c = ap (λ (h : Graph). best (view_of h) c.args.chosen.now) 
 pub loop-machine-init : goal.loop-machine-init
 loop-machine-init c = record {
   still = refl;
-  searched = none_made c.args.scratch.now _ _;
+  searched = none_sought c.args.scratch.now _ _ _ _;
+  cuts = c.requires.cuts;
   in_range = c.requires.from;
   spent = λ k l other. spent_beside (view_of c.args.graph.now).case c.args.chosen.now
       (best (view_of c.args.graph.now) c.args.chosen.now) k (c.requires.spent k l);
@@ -36,10 +38,12 @@ loop-machine-preserved c =
     let lost = c.if-try_machine.ensures in
     record {
       still = lost.unchanged refl ∙ c.loop-machine.invariant.still;
-      searched = more_since c.args.graph.now c.loop-machine.graph
+      searched = sought_since c.args.graph.now c.loop-machine.graph
           (ap (λ (h : Graph). h.rows) c.loop-machine.invariant.still)
-          c.args.scratch.now c.loop-machine.scratch c.try_machine.new.scratch machine 1 (machine + 1)
-          c.loop-machine.invariant.searched lost.searched (omega arith);
+          c.args.scratch.now c.loop-machine.scratch c.try_machine.new.scratch machine 1 (machine + 1) 0 0 0 _ _ _
+          c.loop-machine.invariant.searched lost.searched (omega arith) (omega arith);
+      cuts = subst (λ (v : View). AreCuts v (price_of c.args.prices.now) p c.try_machine.new.cuts)
+          (ap view_of (lost.unchanged refl) ∙ same) lost.cuts;
       in_range = omega (arith, c.loop-machine-test.true, c.machine_count-machine-end.ensures.case);
       spent = λ k l other. ⊎_elim
           (λ (e : k ≡ machine). subst (λ (z : ℕ). IsSpentBeside old.case p (best old p) z) (sym e)
@@ -54,7 +58,9 @@ loop-machine-preserved-then-is_home c =
     let machine : ℕ = c.loop-machine.machine in
     record {
       still = inv.still;
-      searched = at_most c.args.scratch.now c.loop-machine.scratch machine (machine + 1) _ inv.searched (omega arith);
+      searched = sought_within c.args.scratch.now c.loop-machine.scratch machine (machine + 1) 0 0 _ _ _ inv.searched
+          (omega arith) (omega arith);
+      cuts = inv.cuts;
       in_range = omega (arith, c.loop-machine-test.true, c.machine_count-machine-end.ensures.case);
       spent = λ k l other. ⊎_elim
           (λ (e : k ≡ machine). absurd (both_ways (runs_at c.args.home machine)
@@ -87,23 +93,35 @@ try_machine-requires-clause-keeps c =
 
 pub returns-then-try_machine-clause-searched : goal.returns-then-try_machine-clause-searched
 returns-then-try_machine-clause-searched c =
-    more_since c.args.graph.now c.loop-machine.graph
+    sought_since c.args.graph.now c.loop-machine.graph
     (ap (λ (h : Graph). h.rows) c.loop-machine.invariant.still)
-    c.args.scratch.now c.loop-machine.scratch c.try_machine.new.scratch c.loop-machine.machine 1 _
-    c.loop-machine.invariant.searched c.try_machine.ensures.searched
-    (omega (arith, c.loop-machine-test.true, c.machine_count-machine-end.ensures.rows))
+    c.args.scratch.now c.loop-machine.scratch c.try_machine.new.scratch c.loop-machine.machine 1 _ 0 1 1 _ _ _
+    c.loop-machine.invariant.searched c.if-try_machine.ensures.searched
+    (omega (arith, c.loop-machine-test.true, c.machine_count-machine-end.ensures.rows)) (omega arith)
 
 pub returns-clause-keeps : goal.returns-clause-keeps
 returns-clause-keeps c =
     subst (λ (h : Graph). Keeps (view_of h) (price_of c.args.prices.now) c.args.chosen.now)
     (sym c.loop-machine.invariant.still) c.requires.keeps
 
-pub returns-clause-searched : goal.returns-clause-searched
-returns-clause-searched c =
-    at_most c.args.scratch.now c.loop-machine.scratch c.loop-machine.machine _ _ c.loop-machine.invariant.searched
+pub try_machine-requires-clause-cuts : goal.try_machine-requires-clause-cuts
+try_machine-requires-clause-cuts c =
+    subst (λ (h : Graph). AreCuts (view_of h) (price_of c.args.prices.now) c.args.chosen.now c.loop-machine.cuts)
+    (sym c.loop-machine.invariant.still) c.loop-machine.invariant.cuts
+
+pub returns-clause-cuts : goal.returns-clause-cuts
+returns-clause-cuts c =
+    subst (λ (h : Graph). AreCuts (view_of h) (price_of c.args.prices.now) c.args.chosen.now c.loop-machine.cuts)
+    (sym c.loop-machine.invariant.still) c.loop-machine.invariant.cuts
+
+pub returns-clause-searched_all : goal.returns-clause-searched_all
+returns-clause-searched_all c =
+    sought_within c.args.scratch.now c.loop-machine.scratch c.loop-machine.machine _ 0 0 _ _ _
+    c.loop-machine.invariant.searched
     (omega (
       arith,
       c.loop-machine.invariant.in_range,
       c.machine_count-machine-end.ensures.case,
       c.machine_count-machine-end.ensures.rows,
     ))
+    (omega arith)

@@ -3,7 +3,7 @@ use Rattle.firm_net.specs.Net.{Net, IsArc}
 use Rattle.firm_paths.specs.PriceTable.{price_of}
 use Rattle.firm_graph.specs.declared.network.Key.TheVariants.{Wide}
 use Rattle.firm_canon.proofs.Tries.{there_at, flow_is}
-use Rattle.firm_canon.proofs.Choices.{shut_others}
+use Rattle.firm_canon.proofs.Choices.{shut_others, sends_one}
 use Rattle.firm_graph.specs.Ids.{view_of}
 use Rattle.firm_canon.proofs.choice.try_hub.Goals as goal
 
@@ -13,10 +13,22 @@ flow_on-requires c =
     (there_at (view_of c.args.graph.now) (price_of c.args.prices.now) c.args.chosen.now
     (Wide (length c.args.chosen.now)) c.wide_arc.result c.requires.keeps c.requires.next c.wide_arc.ensures)
 
+pub seek_hub-requires-clause-waits : goal.seek_hub-requires-clause-waits
+seek_hub-requires-clause-waits c =
+    omega (
+      arith,
+      sends_one (view_of c.args.graph.now) (price_of c.args.prices.now) c.args.chosen.now (length c.args.chosen.now)
+          c.requires.keeps c.requires.next,
+      c.requires.stay,
+      c.if-flow_on-gt0.false,
+      flow_is (view_of c.args.graph.now) c.net.result.now c.wide_arc.result
+          (Wide (length c.args.chosen.now)) c.flow_on.result c.net.ensures.value c.wide_arc.ensures c.flow_on.ensures,
+    )
+
 pub returns-clause-shut : goal.returns-clause-shut
 returns-clause-shut c e j own =
-    shut_others (view_of c.args.graph.now) (view_of c.more_wide.new.graph) (price_of c.args.prices.now)
-    c.args.chosen.now c.more_wide.result c.more_wide.ensures.tried e
+    shut_others (view_of c.args.graph.now) (price_of c.args.prices.now) c.args.chosen.now c.requires.keeps
+    (c.seek_hub.ensures.most e)
     (omega (
       arith,
       c.if-flow_on-gt0.false,

@@ -15,8 +15,8 @@ flow_on-requires c =
 
 pub returns-clause-shut : goal.returns-clause-shut
 returns-clause-shut c e j own =
-    shut_own (view_of c.args.graph.now) (view_of c.more_stay.new.graph) (price_of c.args.prices.now)
-    c.args.chosen.now c.more_stay.result c.more_stay.ensures.tried e
+    shut_own (view_of c.args.graph.now) (price_of c.args.prices.now) c.args.chosen.now c.requires.keeps
+    (c.seek_own.ensures.most e)
     (omega (
       arith,
       c.if-flow_on-gt0.false,

@@ -1,4 +1,4 @@
-use Rattle.std.proofs.Common.{◌≡◌, Some, ap, sym, subst, refl, arith, ◌∙◌}
+use Rattle.std.proofs.Common.{◌≡◌, Some, ap, sym, subst, ◌∙◌}
 use Rattle.firm_net.specs.Net.{Net, row_at}
 use Rattle.firm_net.specs.declared.row.NodeId.{NodeId}
 use Rattle.firm_paths.specs.PriceTable.{price_of}
@@ -16,17 +16,17 @@ returns-clause-won c e =
     let path : IsTightPath old.net (price_of c.args.prices.now)
     c.in-Some.row.head.id.place c.in-Some.row.tail.id.place c.in-Some-tight_path.steps.now =
     subst (λ (n : Net). IsTightPath n (price_of c.args.prices.now)
-    c.in-Some.row.head.id.place c.in-Some.row.tail.id.place c.in-Some-tight_path.steps.now) c.net-3.ensures.value
-    (subst (λ (h : NodeId). IsTightPath c.net-3.result.now (price_of c.args.prices.now)
+    c.in-Some.row.head.id.place c.in-Some.row.tail.id.place c.in-Some-tight_path.steps.now) c.net-2.ensures.value
+    (subst (λ (h : NodeId). IsTightPath c.net-2.result.now (price_of c.args.prices.now)
     h.id.place c.in-Some.row.tail.id.place c.in-Some-tight_path.steps.now) c.head.ensures.value
-    (subst (λ (t : NodeId). IsTightPath c.net-3.result.now (price_of c.args.prices.now)
+    (subst (λ (t : NodeId). IsTightPath c.net-2.result.now (price_of c.args.prices.now)
     c.head.result.id.place t.id.place c.in-Some-tight_path.steps.now) c.tail.ensures.value way.path)) in
     turned c.arcs_are_rows.ensures.changed c.round_a_cycle.ensures.sets_out c.round_a_cycle.ensures.comes_round
     old.net c.push.new.self.net c.push_along.new.graph.net
     (price_of c.args.prices.now) c.args.arc c.in-Some.row
     c.args.barred.now c.in-Some-tight_path.steps.now c.push.result
-    there (omega (arith, c.if-flow-cap.false, c.flow.ensures.value, c.cap.ensures.value))
-    (c.if-not-is_tight.ensures.0 refl) path way.unbarred c.requires.barred
+    there (c.requires.open c.in-Some.row there).0 (c.requires.open c.in-Some.row there).1 path way.unbarred
+    c.requires.barred
     c.push.ensures.allowed (λ t. ap (λ (h : Graph). h.net) (c.push.ensures.pushes t))
     (λ f. ap (λ (h : Graph). h.net) (c.push.ensures.unchanged f)) c.push.ensures.others
     c.push_along.ensures.lows c.push_along.ensures.others c.push_along.ensures.carries
