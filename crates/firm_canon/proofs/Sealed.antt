@@ -196,34 +196,6 @@ module _ (v : View) (price : ℕ → ℕ) (p : List Choice) (keeps : Keeps v pri
       (λ k b. subst (λ (z : Key). StaysInside found.inside (arc_at v.case low (flows v) z)) (only_key (Stay n) k b)
       (λ t h. absurd (both_ways (found.inside (Task n)) found.lacks_tail t), λ h t. omega (arith, none)))
 
-  pub own_sealed_from_hub : (own : ℕ) → (demand v.case n).home ≡ Some own → flows v (Stay n) ≡ 0
-      → flows v (Wide n) ≡ 1 → IsTightAt v.net price (v.arc (Wide n))
-      → IsCutOff v.net price (v.arc (Stay n)) (v.arc (Stay n) ∷ []) → IsSealed v price p (Machine own) Hub
-  unfolding arc_at
-  own_sealed_from_hub own home none one tight cut =
-      let row : IsRowOfKey v p (Stay n) = row_of_key v price p (Stay n) keeps next in
-      let found : IsKeyedCut v price p (Stay n ∷ []) (Stay n) =
-      keyed_cut v price p (Stay n ∷ []) (Stay n) row.row keeps (one_key v.case (Stay n) next) row.is
-      (cut row.row row.there) in
-      let closed : All (StaysAtNoCost cost_at found.inside) arcs = own_closed none found in
-      seals v price p (Machine own) Hub found.inside keeps
-      (ap (λ (o : Option ℕ). found.inside (stay_head o)) (sym home) ∙ found.holds_head)
-      (lacks_hub found.inside closed found.lacks_tail one tight) closed
-
-  pub own_sealed_from_sink : (own : ℕ) → (demand v.case n).home ≡ Some own → flows v (Stay n) ≡ 0
-      → flows v (Delay n) ≡ 1 → IsTightAt v.net price (v.arc (Delay n))
-      → IsCutOff v.net price (v.arc (Stay n)) (v.arc (Stay n) ∷ []) → IsSealed v price p (Machine own) Sink
-  unfolding arc_at
-  own_sealed_from_sink own home none one tight cut =
-      let row : IsRowOfKey v p (Stay n) = row_of_key v price p (Stay n) keeps next in
-      let found : IsKeyedCut v price p (Stay n ∷ []) (Stay n) =
-      keyed_cut v price p (Stay n ∷ []) (Stay n) row.row keeps (one_key v.case (Stay n) next) row.is
-      (cut row.row row.there) in
-      let closed : All (StaysAtNoCost cost_at found.inside) arcs = own_closed none found in
-      seals v price p (Machine own) Sink found.inside keeps
-      (ap (λ (o : Option ℕ). found.inside (stay_head o)) (sym home) ∙ found.holds_head)
-      (lacks_sink found.inside closed found.lacks_tail one tight) closed
-
   -- a search from another machine that failed
   pub machine_sealed : (j : ℕ) → j < length v.case.slots → flows v (Wide n) ≡ 1
       → flows v (Through j) ≤ guests v.case p j
@@ -263,19 +235,27 @@ module _ (v : View) (price : ℕ → ℕ) (p : List Choice) (keeps : Keeps v pri
   pub own_sealed : (own : ℕ) (unit stay : ArcId) (cut : Cut) → (demand v.case n).home ≡ Some own
       → flows v (Stay n) ≡ 0 → stay ≡ v.arc (Stay n) → IsOwnWay v n own unit cut → IsTightAt v.net price unit
       → IsCutOff v.net price stay (stay ∷ []) → IsSealed v price p (cut_start cut) (cut_end cut)
-  own_sealed own unit stay cut home none is way tight found =
+  unfolding arc_at
+  own_sealed own unit stay cut home none is way tight cut_off =
       let sends : flows v (Wide n) + flows v (Stay n) + flows v (Delay n) ≡ 1 = sends_one v price p n keeps next in
-      let found_there : IsCutOff v.net price (v.arc (Stay n)) (v.arc (Stay n) ∷ []) =
-      subst (λ (z : ArcId). IsCutOff v.net price z (z ∷ [])) is found in
+      let row : IsRowOfKey v p (Stay n) = row_of_key v price p (Stay n) keeps next in
+      let found : IsKeyedCut v price p (Stay n ∷ []) (Stay n) =
+      keyed_cut v price p (Stay n ∷ []) (Stay n) row.row keeps (one_key v.case (Stay n) next) row.is
+      (subst (λ (z : ArcId). IsCutOff v.net price z (z ∷ [])) is cut_off row.row row.there) in
+      let closed : All (StaysAtNoCost cost_at found.inside) arcs = own_closed none found in
+      let holds : found.inside (Machine own) ≡ true =
+      ap (λ (o : Option ℕ). found.inside (stay_head o)) (sym home) ∙ found.holds_head in
       ⊎_elim
       (λ (by_hub : (1 ≤ flows v (Wide n)) × (unit ≡ v.arc (Wide n)) × (cut ≡ MachineFromHub own)).
       subst (λ (z : Cut). IsSealed v price p (cut_start z) (cut_end z)) (sym by_hub.2)
-      (own_sealed_from_hub own home none (omega (arith, sends, by_hub.0))
-      (subst (IsTightAt v.net price) by_hub.1 tight) found_there))
+      (seals v price p (Machine own) Hub found.inside keeps holds
+      (lacks_hub found.inside closed found.lacks_tail (omega (arith, sends, by_hub.0))
+      (subst (IsTightAt v.net price) by_hub.1 tight)) closed))
       (λ (waits_now : (flows v (Wide n) ≡ 0) × (unit ≡ v.arc (Delay n)) × (cut ≡ MachineFromSink own)).
       subst (λ (z : Cut). IsSealed v price p (cut_start z) (cut_end z)) (sym waits_now.2)
-      (own_sealed_from_sink own home none (omega (arith, sends, waits_now.0, none))
-      (subst (IsTightAt v.net price) waits_now.1 tight) found_there))
+      (seals v price p (Machine own) Sink found.inside keeps holds
+      (lacks_sink found.inside closed found.lacks_tail (omega (arith, sends, waits_now.0, none))
+      (subst (IsTightAt v.net price) waits_now.1 tight)) closed))
       way
 
   module _ (y : Key → ℕ) (flow : IsAsCheap v.case p (best v p) y) where

@@ -150,6 +150,16 @@ tried_at old new price p keys key id ids result is are keeps all own shows case 
 pub one_key : (c : Case) (key : Key) → IsKeyOf c key → All (IsKeyOf c) (key ∷ [])
 one_key c key own = All-cons (IsKeyOf c) key [] own (All-nil (IsKeyOf c))
 
+-- the same, of an arc that alone is barred from the way back
+pub tried_alone : (old new : View) (price : ℕ → ℕ) (p : List Choice) (key : Key) (id : ArcId) (result : Bool)
+    → id ≡ old.arc key → Keeps old price p → IsKeyOf old.case key → Shows new → IsSameCase old new
+    → (result ≡ true → Turned old.net new.net price id (id ∷ []))
+    → (result ≡ false → new ≡ old)
+    → Tried old new price p (key ∷ []) key result
+tried_alone old new price p key id result is keeps own =
+    tried_at old new price p (key ∷ []) key id (id ∷ []) result is (ap (λ (a : ArcId). a ∷ []) is) keeps
+    (one_key old.case key own) own
+
 pub two_keys : (c : Case) (key other : Key) → IsKeyOf c key → IsKeyOf c other → All (IsKeyOf c) (key ∷ other ∷ [])
 two_keys c key other own its = All-cons (IsKeyOf c) key (other ∷ []) own (one_key c other its)
 

@@ -3,7 +3,7 @@ use Rattle.firm_net.specs.declared.row.ArcId.{ArcId}
 use Rattle.firm_paths.specs.PriceTable.{price_of}
 use Rattle.firm_graph.specs.declared.network.Key.TheVariants.{Stay}
 use Rattle.firm_canon.specs.inner.Turns.{IsBlocked}
-use Rattle.firm_canon.proofs.Tries.{there_at, tried_at, one_key}
+use Rattle.firm_canon.proofs.Tries.{there_at, tried_alone}
 use Rattle.firm_graph.specs.Ids.{view_of}
 use Rattle.firm_canon.proofs.attempts.more_stay.Goals as goal
 
@@ -27,10 +27,6 @@ turn-requires-clause-open c = c.if-not-is_open.ensures.open refl
 
 pub returns-clause-tried : goal.returns-clause-tried
 returns-clause-tried c =
-    tried_at (view_of c.args.graph.now) (view_of c.turn.new.graph) (price_of c.args.prices.now) c.args.chosen.now
-    (Stay (length c.args.chosen.now) ∷ []) (Stay (length c.args.chosen.now)) c.stay_arc-arc.result
-    (c.stay_arc-arc.result ∷ []) c.turn.result
-    c.stay_arc-arc.ensures (ap (λ (a : ArcId). a ∷ []) c.stay_arc-arc.ensures) c.requires.keeps
-    (one_key (view_of c.args.graph.now).case (Stay (length c.args.chosen.now)) c.requires.next)
-    c.requires.next c.turn.ensures.shows c.turn.ensures.same.case c.turn.ensures.won
-    (λ f. ap view_of (c.turn.ensures.unchanged f))
+    tried_alone (view_of c.args.graph.now) (view_of c.turn.new.graph) (price_of c.args.prices.now) c.args.chosen.now
+    (Stay (length c.args.chosen.now)) c.stay_arc-arc.result c.turn.result c.stay_arc-arc.ensures c.requires.keeps c.requires.next
+    c.turn.ensures.shows c.turn.ensures.same.case c.turn.ensures.won (λ f. ap view_of (c.turn.ensures.unchanged f))

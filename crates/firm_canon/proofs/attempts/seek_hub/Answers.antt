@@ -7,7 +7,7 @@ use Rattle.firm_graph.specs.View.{View}
 use Rattle.firm_graph.specs.Ids.{view_of}
 use Rattle.firm_canon.specs.inner.Turns.{IsCutOff, IsTightAt}
 use Rattle.firm_canon.specs.declared.cuts.Cut.TheVariants.{HubFromSink}
-use Rattle.firm_canon.proofs.Tries.{there_at, tried_at, one_key}
+use Rattle.firm_canon.proofs.Tries.{there_at, tried_alone}
 use Rattle.firm_canon.proofs.Sealed.{hub_loose, hub_lost, hub_sealed}
 use Rattle.firm_canon.proofs.Crossings.{cuts_after}
 use Rattle.firm_canon.proofs.attempts.seek_hub.Goals as goal
@@ -29,13 +29,9 @@ seek-requires-clause-there c =
 
 pub returns-clause-tried : goal.returns-clause-tried
 returns-clause-tried c =
-    tried_at (view_of c.args.graph.now) (view_of c.seek.new.graph) (price_of c.args.prices.now) c.args.chosen.now
-    (Wide (length c.args.chosen.now) ∷ []) (Wide (length c.args.chosen.now)) c.wide_arc-arc.result
-    (c.wide_arc-arc.result ∷ []) c.seek.result
-    c.wide_arc-arc.ensures (ap (λ (a : ArcId). a ∷ []) c.wide_arc-arc.ensures) c.requires.keeps
-    (one_key (view_of c.args.graph.now).case (Wide (length c.args.chosen.now)) c.requires.next)
-    c.requires.next c.seek.ensures.shows c.seek.ensures.same.case c.seek.ensures.won
-    (λ f. ap view_of (c.seek.ensures.unchanged f))
+    tried_alone (view_of c.args.graph.now) (view_of c.seek.new.graph) (price_of c.args.prices.now) c.args.chosen.now
+    (Wide (length c.args.chosen.now)) c.wide_arc-arc.result c.seek.result c.wide_arc-arc.ensures c.requires.keeps c.requires.next
+    c.seek.ensures.shows c.seek.ensures.same.case c.seek.ensures.won (λ f. ap view_of (c.seek.ensures.unchanged f))
 
 pub returns-clause-most : goal.returns-clause-most
 returns-clause-most c e =

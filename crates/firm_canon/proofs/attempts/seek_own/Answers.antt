@@ -8,7 +8,7 @@ use Rattle.firm_graph.specs.Ids.{view_of}
 use Rattle.firm_canon.specs.inner.Turns.{IsCutOff}
 use Rattle.firm_canon.specs.declared.cuts.Cut.{Cut}
 use Rattle.firm_canon.specs.declared.cuts.Cut.TheVariants.{MachineFromHub, MachineFromSink}
-use Rattle.firm_canon.proofs.Tries.{there_at, tried_at, one_key}
+use Rattle.firm_canon.proofs.Tries.{there_at, tried_alone}
 use Rattle.firm_canon.proofs.Sealed.{own_loose, own_lost, own_sealed, own_among}
 use Rattle.firm_canon.proofs.Crossings.{cuts_after}
 use Rattle.firm_canon.proofs.attempts.seek_own.Goals as goal
@@ -42,13 +42,9 @@ seek-requires-clause-there c =
 
 pub returns-clause-tried : goal.returns-clause-tried
 returns-clause-tried c =
-    tried_at (view_of c.args.graph.now) (view_of c.seek.new.graph) (price_of c.args.prices.now) c.args.chosen.now
-    (Stay (length c.args.chosen.now) ∷ []) (Stay (length c.args.chosen.now)) c.stay_arc-arc.result
-    (c.stay_arc-arc.result ∷ []) c.seek.result
-    c.stay_arc-arc.ensures (ap (λ (a : ArcId). a ∷ []) c.stay_arc-arc.ensures) c.requires.keeps
-    (one_key (view_of c.args.graph.now).case (Stay (length c.args.chosen.now)) c.requires.next)
-    c.requires.next c.seek.ensures.shows c.seek.ensures.same.case c.seek.ensures.won
-    (λ f. ap view_of (c.seek.ensures.unchanged f))
+    tried_alone (view_of c.args.graph.now) (view_of c.seek.new.graph) (price_of c.args.prices.now) c.args.chosen.now
+    (Stay (length c.args.chosen.now)) c.stay_arc-arc.result c.seek.result c.stay_arc-arc.ensures c.requires.keeps c.requires.next
+    c.seek.ensures.shows c.seek.ensures.same.case c.seek.ensures.won (λ f. ap view_of (c.seek.ensures.unchanged f))
 
 pub returns-clause-most : goal.returns-clause-most
 returns-clause-most c e =
