@@ -1,14 +1,14 @@
 -- Tenants that agree so far have replied alike so far.
-use Rattle.std.proofs.Common.{◌≡◌, ℕ, zero, suc, List, [], ◌∷◌, ◌++◌, refl, sym, ap, ◌∙◌, take}
+use Rattle.std.proofs.Common.{◌≡◌, ℕ, zero, suc, List, [], ◌∷◌, ◌++◌, sym, ap, ◌∙◌, take}
 use Rattle.std.specs.Prelude.{Bool, Some, map, slice_get}
 use Rattle.firm_rules.specs.Book.{Book, opening_book}
 use Rattle.firm_rules.specs.declared.commands.Command.{Command}
 use Rattle.firm_rules.specs.declared.replies.Reply.{Reply}
 use Rattle.firm_tenant.specs.Laws.{RepliesTellTheirMarks}
-use Rattle.firm_tenant.specs.Step.{step, is_memory}
+use Rattle.firm_tenant.specs.Step.{step}
 use Rattle.firm_tenant.specs.Alone.{replies_from}
 use Rattle.firm_table.specs.Places.{Given}
-use Rattle.firm_table.specs.Histories.{History, AreFirstReplies, EventsAreIsolated}
+use Rattle.firm_table.specs.Histories.{AreFirstReplies, EventsAreIsolated}
 use Rattle.firm_table.proofs.Machine.{events_keep_alone}
 
 same_reply : (book : Book) (given other : List Given) (waiting later : List Command) (k : ℕ) (reply other_reply : Reply)
@@ -34,9 +34,9 @@ same_reply book (g ∷ given) (h ∷ other) waiting later (suc k) reply other_re
     (sym (ap (λ (b : Book). slice_get (replies_from b other) k) after) ∙ f)
 
 pub events_are_isolated : RepliesTellTheirMarks → EventsAreIsolated
-events_are_isolated told roster other_roster workers other_workers place other_place events other_events history other is other_is limits k reply other_reply commands marks e f =
-    let first : AreFirstReplies history = (events_keep_alone told roster workers place events history is).0 in
-    let second : AreFirstReplies other = (events_keep_alone told other_roster other_workers other_place other_events other other_is).0 in
+events_are_isolated told roster other_roster workers other_workers place other_place stay other_stay events other_events history other is other_is limits k reply other_reply commands marks e f =
+    let first : AreFirstReplies history = (events_keep_alone told roster workers place stay events history is).0 in
+    let second : AreFirstReplies other = (events_keep_alone told other_roster other_workers other_place other_stay other_events other other_is).0 in
     same_reply (opening_book history.limits) first.given second.given first.waiting second.waiting k reply other_reply
     (ap (take (suc k)) (sym first.commands) ∙ commands ∙ ap (take (suc k)) second.commands)
     (ap (take (suc k)) first.marks ∙ marks ∙ ap (take (suc k)) (sym second.marks))

@@ -1,24 +1,26 @@
 -- Each event is answered `NotNow` exactly where it does not fit, and the table stays sound.
 use Rattle.std.proofs.Common.{◌≡◌, ℕ, zero, suc, ◌+◌, ◌≤◌, List, [], ◌∷◌, ◌++◌, length, refl, sym, ap, subst, ◌∙◌, append-nil, get_or, cond, arith}
-use Rattle.std.specs.Prelude.{◌==◌, ◌&&◌, ◌||◌, not, nat_lt, nat_le, Bool, true, false, Option, Some, None, slice_get, slice_set, if◌then◌else◌, ◌↔◌}
+use Rattle.std.specs.Prelude.{◌&&◌, not, nat_lt, nat_le, Bool, true, false, Option, Some, None, slice_get, slice_set, if◌then◌else◌, ◌↔◌}
 use Rattle.std.specs.List.{list_any, position, position_or_len}
 use Rattle.std.proofs.lemmas.Bool.Decides.{nat_tests}
 use Rattle.std.proofs.lemmas.List.Folds.{list_any_at}
 use Rattle.std.proofs.lemmas.List.Quantifiers.{position-Some}
 use Rattle.std.proofs.lemmas.Option.{slice_get-get_or}
-use Rattle.firm_rules.specs.Book.{Book}
+use Rattle.firm_rules.specs.Book.{opening_book}
+use Rattle.firm_rules.specs.Limits.{TenantLimits}
 use Rattle.firm_rules.specs.declared.commands.Command.{Command}
 use Rattle.firm_rules.specs.declared.commands.Command.TheVariants.{Round}
 use Rattle.firm_rules.specs.declared.tickets.Ticket.{Ticket}
 use Rattle.firm_tenant.specs.Step.{step}
-use Rattle.firm_table.specs.Interleaving.{is_round, Station, home, queued, held, answered, is_home, Seat, TableState, posted, asked, taken_by, is_held, solved, collected, next_ticket, local, seat_behind, at_place, place_held, taking, take_front, may_take, answering, happens, queue_more, rounds_more}
-use Rattle.firm_table.specs.Fitting.{is_answered, stands, has_waiting, fits, asks, IsStep}
+use Rattle.firm_text.specs.Registers.{most_admissions}
+use Rattle.firm_table.specs.Interleaving.{is_round, Station, empty, home, queued, held, answered, is_home, Seat, TableState, posted, asked, taken_by, is_held, solved, collected, admitted, retired, next_ticket, local, seat_behind, at_place, place_held, taking, take_front, may_take, answering, happens, queue_more}
+use Rattle.firm_table.specs.Fitting.{is_answered, is_empty, stands, is_free, has_waiting, fits, asks}
 use Rattle.firm_table.specs.inner.Tables.{IsSound}
 use Rattle.firm_table.specs.inner.Events.{IsDone}
 use Rattle.firm_table.specs.declared.events.Event.{Event}
-use Rattle.firm_table.specs.declared.events.Event.TheVariants.{Post, Ask, Take, Answer, Collect}
+use Rattle.firm_table.specs.declared.events.Event.TheVariants.{Post, Ask, Take, Answer, Collect, Admit, Retire}
 use Rattle.firm_table.specs.declared.events.Answer.{Answer as EventAnswer}
-use Rattle.firm_table.specs.declared.events.Answer.TheVariants.{Replied, Queued, Took, Solved, NotNow}
+use Rattle.firm_table.specs.declared.events.Answer.TheVariants.{Replied, Queued, Took, Solved, Admitted, NoMemory, Retired, NotNow}
 use Rattle.firm_table.proofs.Waiting.{adds_local, sound_at, IsFront, front, sound_taken}
 
 -- whether an event was refused
@@ -27,6 +29,9 @@ is_not_now (Replied reply) = false
 is_not_now (Queued ticket) = false
 is_not_now (Took ticket) = false
 is_not_now (Solved ticket) = false
+is_not_now Admitted = false
+is_not_now NoMemory = false
+is_not_now Retired = false
 is_not_now NotNow = true
 
 -- the first that passes a test
@@ -72,6 +77,7 @@ right_either fit true station x y p q = p
 right_either fit false station x y p q = q
 
 right_posted : (station : Station) (command : Command) (mark : Bool) → IsRight (is_home station && not (is_round command)) station (posted station command mark)
+right_posted empty command mark = right_not_now empty
 right_posted (home book) command mark = at (is_round command)
   where
     at : (b : Bool) → IsRight (true && not b) (home book) (if b then (NotNow, home book) else (Replied (step book command mark).0, home (step book command mark).1))
@@ -82,6 +88,7 @@ right_posted (held book ticket worker) command mark = right_not_now (held book t
 right_posted (answered book reply) command mark = right_not_now (answered book reply)
 
 right_asked : (station : Station) (ticket : Ticket) (mark : Bool) → IsRight (is_home station) station (asked station ticket mark)
+right_asked empty ticket mark = right_not_now empty
 right_asked (home book) ticket mark =
     let now : EventAnswer × Station = (Replied (step book Round mark).0, home (step book Round mark).1) in
     let later : EventAnswer × Station = (Queued ticket, queued book ticket) in
@@ -94,6 +101,7 @@ right_asked (held book other worker) ticket mark = right_not_now (held book othe
 right_asked (answered book reply) ticket mark = right_not_now (answered book reply)
 
 right_collected : (station : Station) → IsRight (is_answered station) station (collected station)
+right_collected empty = right_not_now empty
 right_collected (home book) = right_not_now (home book)
 right_collected (queued book ticket) = right_not_now (queued book ticket)
 right_collected (held book ticket worker) = right_not_now (held book ticket worker)
@@ -101,10 +109,36 @@ right_collected (answered book reply) = record { refused = refl; kept = λ e. cc
 
 -- a worker that holds the tenant solves its round
 right_solved : (worker : ℕ) (station : Station) (mark : Bool) → is_held worker station ≡ true → IsRight true station (solved station mark)
+right_solved worker empty mark e = cc
 right_solved worker (home book) mark e = cc
 right_solved worker (queued book ticket) mark e = cc
 right_solved worker (held book ticket holder) mark e = record { refused = refl; kept = λ e. cc }
 right_solved worker (answered book reply) mark e = cc
+
+right_admitted : (station : Station) (admissions : ℕ) (limits : TenantLimits) (mark : Bool)
+    → IsRight (is_empty station && nat_lt admissions most_admissions) station (admitted station admissions limits mark)
+right_admitted empty admissions limits mark = at (nat_lt admissions most_admissions)
+  where
+    nobody : EventAnswer × Station
+    nobody = (NoMemory, empty)
+
+    comes : EventAnswer × Station
+    comes = (Admitted, home (opening_book limits))
+
+    at : (b : Bool) → IsRight (true && b) empty (if not b then (NotNow, empty) else if mark then nobody else comes)
+    at true = right_either true mark empty nobody comes (record { refused = refl; kept = λ e. cc }) (record { refused = refl; kept = λ e. cc })
+    at false = right_not_now empty
+right_admitted (home book) admissions limits mark = right_not_now (home book)
+right_admitted (queued book ticket) admissions limits mark = right_not_now (queued book ticket)
+right_admitted (held book ticket worker) admissions limits mark = right_not_now (held book ticket worker)
+right_admitted (answered book reply) admissions limits mark = right_not_now (answered book reply)
+
+right_retired : (station : Station) → IsRight (is_home station) station (retired station)
+right_retired empty = right_not_now empty
+right_retired (home book) = record { refused = refl; kept = λ e. cc }
+right_retired (queued book ticket) = right_not_now (queued book ticket)
+right_retired (held book ticket worker) = right_not_now (held book ticket worker)
+right_retired (answered book reply) = right_not_now (answered book reply)
 
 -- a table is as it was where the event does not fit, and sound
 pub record Goes (table : TableState) (fit : Bool) (outcome : EventAnswer × TableState) : Type 0 where
@@ -123,7 +157,8 @@ same_seat (first ∷ rest) (suc place) seat e = ap (λ (seats : List Seat). firs
 none_added : (seat : Seat) (answer : EventAnswer) (station : Station) → answer ≡ NotNow → station ≡ seat.station → seat_behind seat (answer, station) ≡ seat
 none_added seat answer station e f =
     ap (λ (p : EventAnswer × Station). seat_behind seat p) (let same : (answer, station) ≡ (NotNow, seat.station) = cc in same)
-    ∙ ap (λ (n : ℕ). let same : Seat = record seat { rounds = n } in same) (let n : seat.rounds + 0 ≡ seat.rounds = omega arith in n)
+    ∙ ap (λ (n : ℕ). let same : Seat = record seat { rounds = n; admissions = seat.admissions + 0 } in same) (let n : seat.rounds + 0 ≡ seat.rounds = omega arith in n)
+    ∙ ap (λ (n : ℕ). let same : Seat = record seat { admissions = n } in same) (let n : seat.admissions + 0 ≡ seat.admissions = omega arith in n)
 
 goes_at : (table : TableState) (place : ℕ) (seat : Seat) (event : Event) (mark fit : Bool) → IsSound table → slice_get table.seats place ≡ Some seat
     → IsRight fit seat.station (local seat place event mark) → Goes table fit (at_place table place (Some seat) event mark)
@@ -158,6 +193,18 @@ goes_collected : (table : TableState) (place : ℕ) (mark : Bool) (found : Optio
 goes_collected table place mark None sound here = goes_nowhere table sound
 goes_collected table place mark (Some seat) sound here =
     goes_at table place seat (Collect place) mark (is_answered seat.station) sound here (right_collected seat.station)
+
+goes_admitted : (table : TableState) (place : ℕ) (limits : TenantLimits) (mark : Bool) (found : Option Seat) → IsSound table → slice_get table.seats place ≡ found
+    → Goes table (is_free found) (at_place table place found (Admit place limits) mark)
+goes_admitted table place limits mark None sound here = goes_nowhere table sound
+goes_admitted table place limits mark (Some seat) sound here =
+    goes_at table place seat (Admit place limits) mark (is_free (Some seat)) sound here (right_admitted seat.station seat.admissions limits mark)
+
+goes_retired : (table : TableState) (place : ℕ) (mark : Bool) (found : Option Seat) → IsSound table → slice_get table.seats place ≡ found
+    → Goes table (stands is_home found) (at_place table place found (Retire place) mark)
+goes_retired table place mark None sound here = goes_nowhere table sound
+goes_retired table place mark (Some seat) sound here =
+    goes_at table place seat (Retire place) mark (is_home seat.station) sound here (right_retired seat.station)
 
 goes_solved : (table : TableState) (worker place : ℕ) (mark : Bool) (found : Option Seat) → IsSound table → slice_get table.seats place ≡ found
     → IsAt (λ (seat : Seat). is_held worker seat.station) table.seats place
@@ -202,12 +249,17 @@ goes table (Ask place) mark sound = goes_asked table place mark (slice_get table
 goes table (Take worker) mark sound = goes_take table worker (may_take table worker) sound
 goes table (Answer worker) mark sound = goes_answering table worker mark (place_held worker table.seats) sound refl
 goes table (Collect place) mark sound = goes_collected table place mark (slice_get table.seats place) sound refl
+goes table (Admit place limits) mark sound = goes_admitted table place limits mark (slice_get table.seats place) sound refl
+goes table (Retire place) mark sound = goes_retired table place mark (slice_get table.seats place) sound refl
 
 told_not_now : (answer : EventAnswer) → is_not_now answer ≡ true → answer ≡ NotNow
 told_not_now (Replied reply) e = cc
 told_not_now (Queued ticket) e = cc
 told_not_now (Took ticket) e = cc
 told_not_now (Solved ticket) e = cc
+told_not_now Admitted e = cc
+told_not_now NoMemory e = cc
+told_not_now Retired e = cc
 told_not_now NotNow e = refl
 
 not_fit : (answer : EventAnswer) (fit : Bool) → is_not_now answer ≡ not fit → (answer ≡ NotNow) ↔ (fit ≡ false)

@@ -1,21 +1,22 @@
 -- Every list of events keeps each place in step with a tenant alone.
-use Rattle.std.proofs.Common.{◌≡◌, ℕ, zero, suc, ◌≤◌, List, [], ◌∷◌, ◌++◌, length, refl, sym, ap, subst, ◌∙◌, append-nil, arith}
-use Rattle.std.specs.Prelude.{◌==◌, ◌-◌, Bool, true, false, Option, Some, None, map, replicate, option_map, slice_get, slice_set, if◌then◌else◌}
+use Rattle.std.proofs.Common.{◌≡◌, ℕ, zero, suc, ◌<◌, List, [], ◌∷◌, ◌++◌, length, refl, sym, ap, subst, ◌∙◌, append-nil, arith}
+use Rattle.std.specs.Prelude.{◌==◌, ◌-◌, Bool, true, false, Option, Some, None, map, replicate, option_to_list, slice_get, slice_set, if◌then◌else◌}
 use Rattle.std.proofs.lemmas.Bool.{eqb-true, true_from_ne_false}
 use Rattle.std.proofs.Math.Dec.{eqb_refl, eqb-suc-suc}
 use Rattle.firm_rules.specs.Book.{Book}
 use Rattle.firm_rules.specs.declared.commands.Command.{Command}
 use Rattle.firm_rules.specs.declared.commands.Command.TheVariants.{Round}
 use Rattle.firm_tenant.specs.Laws.{RepliesTellTheirMarks}
-use Rattle.firm_text.specs.Rosters.{Admitted}
-use Rattle.firm_table.specs.Interleaving.{Station, is_home, home, queued, held, answered, Seat, TableState, MarkedEvent, opening_seat, opening_table, taken_by, local, seat_behind, at_place, place_held, taking, take_front, may_take, answering, happens, event_answers, table_after}
-use Rattle.firm_table.specs.Histories.{History, new_history, history_here, named_place, is_at, history_with, history_behind, AreFirstReplies, EventsKeepAlone}
+use Rattle.firm_text.specs.Registers.{most_places}
+use Rattle.firm_text.specs.Rosters.{Admitted as Row}
+use Rattle.firm_table.specs.Interleaving.{Station, empty, is_home, home, queued, held, answered, Seat, TableState, MarkedEvent, opening_seat, unused_seat, opening_table, taken_by, retired, local, seat_behind, at_place, place_held, taking, take_front, may_take, answering, happens, event_answers, table_after}
+use Rattle.firm_table.specs.Histories.{History, history_here, ended_here, named_place, is_at, history_with, history_behind, ended_with, ended_behind, opening_history, history_at, ended_at, AreFirstReplies, EventsKeepAlone}
 use Rattle.firm_table.specs.declared.events.Event.{Event}
-use Rattle.firm_table.specs.declared.events.Event.TheVariants.{Post, Ask, Take, Answer, Collect}
+use Rattle.firm_table.specs.declared.events.Event.TheVariants.{Post, Ask, Take, Answer, Collect, Admit, Retire}
 use Rattle.firm_table.specs.declared.events.Answer.{Answer as EventAnswer}
 use Rattle.firm_table.specs.declared.events.Answer.TheVariants.{NotNow}
 use Rattle.firm_rules.specs.declared.tickets.Ticket.{Ticket}
-use Rattle.firm_table.proofs.Stations.{Past, Waits, HasReply, Fits, fits_local, fits_taken, fits_solved}
+use Rattle.firm_table.proofs.Stations.{Waits, Fits, nothing_past, fits_local, fits_taken, fits_solved}
 
 -- two places are one or differ
 pub data Places : ℕ → ℕ → Type 0 where
@@ -56,10 +57,12 @@ here_not_now : (history : Option History) (event : Event) → history_here histo
 here_not_now history (Post place command) = refl
 here_not_now history (Ask place) = refl
 here_not_now history (Collect place) = refl
+here_not_now history (Admit place limits) = refl
+here_not_now history (Retire place) = refl
 here_not_now history (Take worker) = refl
 here_not_now history (Answer worker) = refl
 
-if_same : (b : Bool) (x y : Option History) → x ≡ y → (if b then x else y) ≡ y
+if_same : {X : Type 0} (b : Bool) (x y : X) → x ≡ y → (if b then x else y) ≡ y
 if_same true x y e = e
 if_same false x y e = refl
 
@@ -138,6 +141,10 @@ fits_happens told place history table (Ask other, mark) fits =
     fits_event told place other history table (slice_get table.seats other) (Ask other) mark refl refl (places other place) fits
 fits_happens told place history table (Collect other, mark) fits =
     fits_event told place other history table (slice_get table.seats other) (Collect other) mark refl refl (places other place) fits
+fits_happens told place history table (Admit other limits, mark) fits =
+    fits_event told place other history table (slice_get table.seats other) (Admit other limits) mark refl refl (places other place) fits
+fits_happens told place history table (Retire other, mark) fits =
+    fits_event told place other history table (slice_get table.seats other) (Retire other) mark refl refl (places other place) fits
 
 fits_behind : RepliesTellTheirMarks → (place : ℕ) (history : Option History) (table : TableState) (events : List MarkedEvent) → FitsAt place history table.seats
     → FitsAt place (history_behind place history events (event_answers table events)) (table_after table events).seats
@@ -146,11 +153,15 @@ fits_behind told place history table (given ∷ rest) fits =
     fits_behind told place (history_with place history given.0 (happens table given).0) (happens table given).1 rest (fits_happens told place history table given fits)
 
 -- before the first event
-fits_opening : (roster : List Admitted) (place : ℕ)
-    → FitsSeat (option_map (λ row. new_history row.1) (slice_get roster place)) (slice_get (map opening_seat roster) place)
-fits_opening [] place = refl
-fits_opening (row ∷ rest) zero = record { given = []; commands_are = refl; replies_are = refl; marks = refl; book_is = refl }
-fits_opening (row ∷ rest) (suc place) = fits_opening rest place
+fits_unused : (n place : ℕ) → FitsSeat None (slice_get (replicate n unused_seat) place)
+fits_unused zero place = refl
+fits_unused (suc n) zero = tt
+fits_unused (suc n) (suc place) = fits_unused n place
+
+fits_opening : (roster : List Row) (n place : ℕ) → FitsSeat (opening_history roster place) (slice_get (map opening_seat roster ++ replicate n unused_seat) place)
+fits_opening [] n place = fits_unused n place
+fits_opening (row ∷ rest) n zero = nothing_past row.1
+fits_opening (row ∷ rest) n (suc place) = fits_opening rest n place
 
 -- what the history of a place is
 abbrev Said : History → Station → Type 0
@@ -170,6 +181,7 @@ waiting_one history book station away waits = (
 )
 
 said_of : (history : History) (station : Station) → Fits (Some history) station → Said history station
+said_of history empty fits = absurd fits
 said_of history (home book) fits = (
   record {
     given = fits.given;
@@ -192,10 +204,116 @@ said_at history (Some there) fits =
     let said = said_of history there.station fits in
     (said.0, λ seat e home_is. said.1 (let same : there ≡ seat = cc in ap (λ (s : Seat). is_home s.station) same ∙ home_is))
 
+-- a stay got all of its replies
+abbrev HasAll : History → Type 0
+HasAll history = (first : AreFirstReplies history) × (first.waiting ≡ [])
+
+abbrev HaveAll : List History → Type 0
+HaveAll histories = (stay : ℕ) (history : History) → slice_get histories stay ≡ Some history → HasAll history
+
+have_none : HaveAll []
+have_none stay history e = cc
+
+have_all_append : (first then_these : List History) → HaveAll first → HaveAll then_these → HaveAll (first ++ then_these)
+have_all_append [] then_these all more stay found e = more stay found e
+have_all_append (history ∷ first) then_these all more zero found e = all zero found e
+have_all_append (history ∷ first) then_these all more (suc stay) found e =
+    have_all_append first then_these (λ n. all (suc n)) more stay found e
+
+-- a tenant that leaves was home
+ends_retired : (history : Option History) (station : Station) (place : ℕ) → Fits history station → HaveAll (ended_here history (Retire place) (retired station).0)
+ends_retired history empty place fits = have_none
+ends_retired history (queued book ticket) place fits = have_none
+ends_retired history (held book ticket worker) place fits = have_none
+ends_retired history (answered book reply) place fits = have_none
+ends_retired None (home book) place fits = absurd fits
+ends_retired (Some past) (home book) place fits = left
+  where
+    said : Said past (home book)
+    said = said_of past (home book) fits
+
+    left : HaveAll (past ∷ [])
+    left zero found e = subst HasAll (let same : past ≡ found = cc in same) (said.0, said.1 refl)
+    left (suc stay) found e = cc
+
+ends_local : (history : Option History) (seat : Seat) (place : ℕ) (event : Event) (mark : Bool) → Fits history seat.station
+    → HaveAll (ended_here history event (local seat place event mark).0)
+ends_local history seat place (Post at command) mark fits = have_none
+ends_local history seat place (Ask at) mark fits = have_none
+ends_local history seat place (Collect at) mark fits = have_none
+ends_local history seat place (Admit at limits) mark fits = have_none
+ends_local history seat place (Retire at) mark fits = ends_retired history seat.station at fits
+ends_local history seat place (Take worker) mark fits = have_none
+ends_local history seat place (Answer worker) mark fits = have_none
+
+ended_not_now : (place : ℕ) (history : Option History) (event : Event) → ended_with place history event NotNow ≡ []
+ended_not_now place history event = if_same (is_at place (named_place event)) (ended_here history event NotNow) [] (none event)
+  where
+    none : (event : Event) → ended_here history event NotNow ≡ []
+    none (Post at command) = refl
+    none (Ask at) = refl
+    none (Collect at) = refl
+    none (Admit at limits) = refl
+    none (Retire at) = refl
+    none (Take worker) = refl
+    none (Answer worker) = refl
+
+ends_event : (place other : ℕ) (history : Option History) (table : TableState) (found : Option Seat) (event : Event) (mark : Bool) → slice_get table.seats other ≡ found
+    → named_place event ≡ Some other → Places other place → FitsAt place history table.seats
+    → HaveAll (ended_with place history event (at_place table other found event mark).0)
+ends_event place other history table None event mark here named which fits = subst HaveAll (sym (ended_not_now place history event)) have_none
+ends_event place other history table (Some seat) event mark here named (one _) fits =
+    let was : Fits history seat.station = rw here at fits in
+    rw (named, eq_itself place) (ends_local history seat place event mark was)
+ends_event place other history table (Some seat) event mark here named (two _ _ apart) fits = rw (named, apart) have_none
+
+ends_happens : (place : ℕ) (history : Option History) (table : TableState) (given : MarkedEvent) → FitsAt place history table.seats
+    → HaveAll (ended_with place history given.0 (happens table given).0)
+ends_happens place history table (Take worker, mark) fits = have_none
+ends_happens place history table (Answer worker, mark) fits = have_none
+ends_happens place history table (Post other command, mark) fits =
+    ends_event place other history table (slice_get table.seats other) (Post other command) mark refl refl (places other place) fits
+ends_happens place history table (Ask other, mark) fits =
+    ends_event place other history table (slice_get table.seats other) (Ask other) mark refl refl (places other place) fits
+ends_happens place history table (Collect other, mark) fits =
+    ends_event place other history table (slice_get table.seats other) (Collect other) mark refl refl (places other place) fits
+ends_happens place history table (Admit other limits, mark) fits =
+    ends_event place other history table (slice_get table.seats other) (Admit other limits) mark refl refl (places other place) fits
+ends_happens place history table (Retire other, mark) fits =
+    ends_event place other history table (slice_get table.seats other) (Retire other) mark refl refl (places other place) fits
+
+-- each stay that these events end got all of its replies
+ends_behind : RepliesTellTheirMarks → (place : ℕ) (history : Option History) (table : TableState) (events : List MarkedEvent) → FitsAt place history table.seats
+    → HaveAll (ended_behind place history events (event_answers table events))
+ends_behind told place history table [] fits = have_none
+ends_behind told place history table (given ∷ rest) fits =
+    let after : Option History = history_with place history given.0 (happens table given).0 in
+    have_all_append (ended_with place history given.0 (happens table given).0)
+    (ended_behind place after rest (event_answers (happens table given).1 rest)) (ends_happens place history table given fits)
+    (ends_behind told place after (happens table given).1 rest (fits_happens told place history table given fits))
+
+-- a stay that has ended, or the one that stands
+keeps_alone : (ended : List History) (here : Option History) (found : Option Seat) (stay : ℕ) (history : History) → HaveAll ended → FitsSeat here found
+    → slice_get (ended ++ option_to_list here) stay ≡ Some history
+    → (first : AreFirstReplies history) × (stay < length ended → first.waiting ≡ [])
+    × ((seat : Seat) → found ≡ Some seat → is_home seat.station ≡ true → first.waiting ≡ [])
+keeps_alone [] None found stay history all fits e = cc
+keeps_alone [] (Some here) found zero history all fits e =
+    let same : here ≡ history = cc in
+    let said = said_at history found (subst (λ (h : History). FitsSeat (Some h) found) same fits) in
+    (said.0, λ none. absurd (omega (arith, none)), said.1)
+keeps_alone [] (Some here) found (suc stay) history all fits e = cc
+keeps_alone (first ∷ ended) here found zero history all fits e =
+    let whole = all zero history e in
+    (whole.0, λ over. whole.1, λ seat there is_home. whole.1)
+keeps_alone (first ∷ ended) here found (suc stay) history all fits e =
+    let behind = keeps_alone ended here found stay history (λ n. all (suc n)) fits e in
+    (behind.0, λ over. behind.1 (let fewer : suc stay < suc (length ended) = over in omega (arith, fewer)), behind.2)
+
 pub events_keep_alone : RepliesTellTheirMarks → EventsKeepAlone
-events_keep_alone told roster workers place events history is =
-    let fits = fits_behind told place (option_map (λ row. new_history row.1) (slice_get roster place)) (opening_table roster workers) events
-    (fits_opening roster place) in
-    let now : FitsAt place (Some history) (table_after (opening_table roster workers) events).seats =
-    subst (λ (h : Option History). FitsAt place h (table_after (opening_table roster workers) events).seats) is fits in
-    said_at history (slice_get (table_after (opening_table roster workers) events).seats place) now
+events_keep_alone told roster workers place stay events history is =
+    let table : TableState = opening_table roster workers in
+    let opening : FitsAt place (opening_history roster place) table.seats = fits_opening roster (most_places - length roster) place in
+    keeps_alone (ended_at roster workers place events) (history_at roster workers place events) (slice_get (table_after table events).seats place) stay history
+    (ends_behind told place (opening_history roster place) table events opening)
+    (fits_behind told place (opening_history roster place) table events opening) is

@@ -1,27 +1,29 @@
 -- What each arm of the table's call does to its parts.
-use Rattle.std.proofs.Common.{◌≡◌, ℕ, zero, suc, ◌+◌, ◌<◌, ◌≤◌, List, [], ◌∷◌, ◌++◌, length, refl, sym, ap, subst, ◌∙◌, append-nil, length-append, arith}
-use Rattle.std.specs.Prelude.{nat_lt, nat_le, ◌&&◌, not, Bool, true, false, Option, Some, None, slice_get, slice_set, slice_index_or, map, if◌then◌else◌}
+use Rattle.std.proofs.Common.{◌≡◌, ℕ, zero, suc, ◌+◌, ◌<◌, ◌≤◌, List, [], ◌∷◌, ◌++◌, length, refl, sym, ap, ◌∙◌, append-nil, length-append, take, arith}
+use Rattle.std.specs.Prelude.{nat_lt, nat_le, ◌&&◌, ◌-◌, not, Bool, true, false, Option, Some, None, slice_get, slice_set, slice_index_or, map, replicate, if◌then◌else◌}
 use Rattle.std.specs.List.{list_any}
 use Rattle.std.proofs.lemmas.Bool.Decides.{nat_tests}
-use Rattle.std.proofs.lemmas.List.{length-set, length-map}
+use Rattle.std.proofs.lemmas.List.{length-set, length-map, length-replicate, take_all}
 use Rattle.std.proofs.lemmas.Option.{slice_get-get_or, slice_get_within}
-use Rattle.firm_rules.specs.Book.{Book}
+use Rattle.firm_rules.specs.Book.{opening_book}
+use Rattle.firm_rules.specs.Limits.{TenantLimits}
 use Rattle.firm_rules.specs.declared.commands.Command.{Command}
 use Rattle.firm_rules.specs.declared.commands.Command.TheVariants.{Round}
 use Rattle.firm_rules.specs.declared.tickets.Ticket.{Ticket}
 use Rattle.firm_tenant.specs.Step.{step}
-use Rattle.firm_table.specs.Interleaving.{is_round, Station, home, queued, held, answered, Seat, TableState, opening_seat, posted, asked, taken_by, is_held, solved, collected, next_ticket, local, seat_behind, at_place, place_held, take_front, may_take, answering, happens, queue_more}
-use Rattle.firm_text.specs.Rosters.{Admitted}
+use Rattle.firm_text.specs.Registers.{most_places, most_admissions}
+use Rattle.firm_text.specs.Rosters.{Admitted as Row}
+use Rattle.firm_table.specs.Interleaving.{is_round, Station, empty, home, queued, held, answered, Seat, TableState, opening_seat, unused_seat, opening_seats, posted, asked, taken_by, is_held, solved, collected, admitted, retired, next_ticket, local, seat_behind, at_place, place_held, take_front, may_take, answering, happens, queue_more}
 use Rattle.firm_table.specs.Fitting.{asks}
 use Rattle.firm_table.specs.inner.Seats.{Becomes}
-use Rattle.firm_table.specs.inner.Tables.{table_of, queued_ticket, waiting, waiting_at, IsSound}
+use Rattle.firm_table.specs.inner.Tables.{table_of, first_seat, queued_ticket, waiting, waiting_at, IsSound}
 use Rattle.firm_table.specs.inner.Events.{IsDone}
 use Rattle.firm_table.specs.declared.events.Event.{Event}
-use Rattle.firm_table.specs.declared.events.Event.TheVariants.{Post, Ask, Take, Answer, Collect}
+use Rattle.firm_table.specs.declared.events.Event.TheVariants.{Post, Ask, Take, Answer, Collect, Admit, Retire}
 use Rattle.firm_table.specs.declared.events.Answer.{Answer as EventAnswer}
-use Rattle.firm_table.specs.declared.events.Answer.TheVariants.{Replied, Queued, Took, Solved, NotNow}
-use Rattle.firm_table.proofs.Waiting.{IsFront, front, waiting_set}
-use Rattle.firm_table.proofs.Happening.{IsAt, at_position, taken_is, done, still_sound}
+use Rattle.firm_table.specs.declared.events.Answer.TheVariants.{Replied, Queued, Took, Solved, Admitted, NoMemory, Retired, NotNow}
+use Rattle.firm_table.proofs.Waiting.{front, waiting_set}
+use Rattle.firm_table.proofs.Happening.{taken_is, done, still_sound}
 
 -- an event was done, and left the table sound
 pub record Keeps (table : TableState) (event : Event) (answer : EventAnswer) (after : TableState) : Type 0 where
@@ -40,6 +42,7 @@ queues_none_if true x y p q = p
 queues_none_if false x y p q = q
 
 posted_none : (station : Station) (command : Command) (mark : Bool) → queue_more (posted station command mark).0 ≡ []
+posted_none empty command mark = refl
 posted_none (home book) command mark =
     queues_none_if (is_round command) (NotNow, home book) (Replied (step book command mark).0, home (step book command mark).1) refl refl
 posted_none (queued book ticket) command mark = refl
@@ -47,16 +50,35 @@ posted_none (held book ticket worker) command mark = refl
 posted_none (answered book reply) command mark = refl
 
 solved_none : (station : Station) (mark : Bool) → queue_more (solved station mark).0 ≡ []
+solved_none empty mark = refl
 solved_none (home book) mark = refl
 solved_none (queued book ticket) mark = refl
 solved_none (held book ticket worker) mark = refl
 solved_none (answered book reply) mark = refl
 
 collected_none : (station : Station) → queue_more (collected station).0 ≡ []
+collected_none empty = refl
 collected_none (home book) = refl
 collected_none (queued book ticket) = refl
 collected_none (held book ticket worker) = refl
 collected_none (answered book reply) = refl
+
+admitted_none : (station : Station) (admissions : ℕ) (limits : TenantLimits) (mark : Bool) → queue_more (admitted station admissions limits mark).0 ≡ []
+admitted_none empty admissions limits mark =
+    let nobody : EventAnswer × Station = (NoMemory, empty) in
+    let comes : EventAnswer × Station = (Admitted, home (opening_book limits)) in
+    queues_none_if (not (nat_lt admissions most_admissions)) (NotNow, empty) (if mark then nobody else comes) refl (queues_none_if mark nobody comes refl refl)
+admitted_none (home book) admissions limits mark = refl
+admitted_none (queued book ticket) admissions limits mark = refl
+admitted_none (held book ticket worker) admissions limits mark = refl
+admitted_none (answered book reply) admissions limits mark = refl
+
+retired_none : (station : Station) → queue_more (retired station).0 ≡ []
+retired_none empty = refl
+retired_none (home book) = refl
+retired_none (queued book ticket) = refl
+retired_none (held book ticket worker) = refl
+retired_none (answered book reply) = refl
 
 -- an answer that tells of no ticket adds none
 pub other_none : (answer : EventAnswer) → ((ticket : Ticket) → answer ≡ Queued ticket → ⊥) → queue_more answer ≡ []
@@ -64,6 +86,9 @@ other_none (Replied reply) other = refl
 other_none (Queued ticket) other = absurd (other ticket refl)
 other_none (Took ticket) other = refl
 other_none (Solved ticket) other = refl
+other_none Admitted other = refl
+other_none NoMemory other = refl
+other_none Retired other = refl
 other_none NotNow other = refl
 
 -- the seat that an index gave
@@ -110,6 +135,22 @@ collects workers seats queue place seat new answer sound here becomes =
     (happened workers seats queue queue place seat new (Collect place) false answer here becomes
     (nothing_more queue (queue_more answer) (ap queue_more becomes.answers ∙ collected_none seat.station)))
 
+pub admits : (workers : ℕ) (seats : List Seat) (queue : List Ticket) (place : ℕ) (seat new : Seat) (limits : TenantLimits) (mark : Bool) (answer : EventAnswer)
+    → IsSound (table_of workers seats queue) → slice_get seats place ≡ Some seat → Becomes seat (admitted seat.station seat.admissions limits mark) answer new
+    → Keeps (table_of workers seats queue) (Admit place limits) answer (table_of workers (slice_set seats place new) queue)
+admits workers seats queue place seat new limits mark answer sound here becomes =
+    keeps (table_of workers seats queue) (Admit place limits) mark answer (table_of workers (slice_set seats place new) queue) sound (λ e. cc)
+    (happened workers seats queue queue place seat new (Admit place limits) mark answer here becomes
+    (nothing_more queue (queue_more answer) (ap queue_more becomes.answers ∙ admitted_none seat.station seat.admissions limits mark)))
+
+pub retires : (workers : ℕ) (seats : List Seat) (queue : List Ticket) (place : ℕ) (seat new : Seat) (answer : EventAnswer)
+    → IsSound (table_of workers seats queue) → slice_get seats place ≡ Some seat → Becomes seat (retired seat.station) answer new
+    → Keeps (table_of workers seats queue) (Retire place) answer (table_of workers (slice_set seats place new) queue)
+retires workers seats queue place seat new answer sound here becomes =
+    keeps (table_of workers seats queue) (Retire place) false answer (table_of workers (slice_set seats place new) queue) sound (λ e. cc)
+    (happened workers seats queue queue place seat new (Retire place) false answer here becomes
+    (nothing_more queue (queue_more answer) (ap queue_more becomes.answers ∙ retired_none seat.station)))
+
 pub solves : (workers worker : ℕ) (seats : List Seat) (queue : List Ticket) (place : ℕ) (seat new : Seat) (mark : Bool) (answer : EventAnswer)
     → IsSound (table_of workers seats queue) → place_held worker seats ≡ Some place → slice_get seats place ≡ Some seat → Becomes seat (solved seat.station mark) answer new
     → Keeps (table_of workers seats queue) (Answer worker) answer (table_of workers (slice_set seats place new) queue)
@@ -135,6 +176,7 @@ at_most (seat ∷ rest) =
     omega (arith, one, others)
   where
     once : (station : Station) → length (queued_ticket station) ≤ 1
+    once empty = omega arith
     once (home book) = omega arith
     once (queued book ticket) = omega arith
     once (held book ticket worker) = omega arith
@@ -160,6 +202,7 @@ has_room workers seats queue place seat new ticket sound here becomes =
     omega (arith, more, most, long, was, now, sound.as_many)
   where
     was_none : (station : Station) → Queued ticket ≡ (asked station (next_ticket place seat) false).0 → length (queued_ticket station) ≡ 0
+    was_none empty e = refl
     was_none (home book) e = refl
     was_none (queued book own) e = cc
     was_none (held book own worker) e = cc
@@ -167,6 +210,7 @@ has_room workers seats queue place seat new ticket sound here becomes =
 
     now_one : (station : Station) → Queued ticket ≡ (asked station (next_ticket place seat) false).0
         → length (queued_ticket (asked station (next_ticket place seat) false).1) ≡ 1
+    now_one empty e = cc
     now_one (home book) e = one_if ticket (nat_le book.rows.limits.life book.given) (Replied (step book Round false).0, home (step book Round false).1)
         (Queued (next_ticket place seat), queued book (next_ticket place seat)) (λ f. cc) (λ f. refl) e
     now_one (queued book own) e = cc
@@ -234,18 +278,63 @@ takes workers worker seats queue rest ticket seat new sound may queue_is here ne
     ∙ sym (ap (λ (b : Bool). if b then take_front table worker queue else (NotNow, table)) may))
 
 -- before the first event
-pub sound_opening : (workers : ℕ) (roster : List Admitted) → length roster ≤ 64 → IsSound (table_of workers (map opening_seat roster) [])
+pub opening_length : (roster : List Row) → length roster ≤ most_places → length (opening_seats roster) ≡ most_places
+opening_length roster few =
+    let unused : List Seat = replicate (most_places - length roster) unused_seat in
+    let whole = length-append (map opening_seat roster) unused in
+    let rows = length-map roster opening_seat in
+    let others = length-replicate (most_places - length roster) unused_seat in
+    omega (arith, whole, rows, others, few)
+
+pub sound_opening : (workers : ℕ) (roster : List Row) → length (opening_seats roster) ≤ most_places → IsSound (table_of workers (opening_seats roster) [])
 sound_opening workers roster few = record {
-  few = subst (λ (n : ℕ). n ≤ 64) (sym (length-map roster opening_seat)) few;
+  few = few;
   as_many = none_waits roster;
   holds = λ place. none_at roster place;
 }
   where
-    none_waits : (rows : List Admitted) → 0 ≡ waiting (map opening_seat rows)
-    none_waits [] = refl
-    none_waits (row ∷ rest) = let behind = none_waits rest in omega (arith, behind)
+    none_unused : (n : ℕ) → 0 ≡ waiting (replicate n unused_seat)
+    none_unused zero = refl
+    none_unused (suc n) = let behind = none_unused n in omega (arith, behind)
 
-    none_at : (rows : List Admitted) (place : ℕ) → [] ≡ waiting_at (slice_get (map opening_seat rows) place)
-    none_at [] place = refl
-    none_at (row ∷ rest) zero = refl
-    none_at (row ∷ rest) (suc place) = none_at rest place
+    none_waits_with : (rows : List Row) (n : ℕ) → 0 ≡ waiting (map opening_seat rows ++ replicate n unused_seat)
+    none_waits_with [] n = none_unused n
+    none_waits_with (row ∷ rest) n = let behind = none_waits_with rest n in omega (arith, behind)
+
+    none_waits : (rows : List Row) → 0 ≡ waiting (opening_seats rows)
+    none_waits rows = none_waits_with rows (most_places - length rows)
+
+    none_at_unused : (n place : ℕ) → [] ≡ waiting_at (slice_get (replicate n unused_seat) place)
+    none_at_unused zero place = refl
+    none_at_unused (suc n) zero = refl
+    none_at_unused (suc n) (suc place) = none_at_unused n place
+
+    none_at_with : (rows : List Row) (n place : ℕ) → [] ≡ waiting_at (slice_get (map opening_seat rows ++ replicate n unused_seat) place)
+    none_at_with [] n place = none_at_unused n place
+    none_at_with (row ∷ rest) n zero = refl
+    none_at_with (row ∷ rest) n (suc place) = none_at_with rest n place
+
+    none_at : (rows : List Row) (place : ℕ) → [] ≡ waiting_at (slice_get (opening_seats rows) place)
+    none_at rows place = none_at_with rows (most_places - length rows) place
+
+-- one place more is opened
+opened_next : (rows : List Row) (n place : ℕ) → place < length rows + n
+    → take (suc place) (map opening_seat rows ++ replicate n unused_seat)
+    ≡ take place (map opening_seat rows ++ replicate n unused_seat) ++ first_seat (slice_get rows place) ∷ []
+opened_next [] zero place within = absurd (let none : place < 0 = within in omega (arith, none))
+opened_next [] (suc n) zero within = refl
+opened_next [] (suc n) (suc place) within =
+    ap (λ (seats : List Seat). unused_seat ∷ seats) (opened_next [] n place (let less : suc place < 0 + suc n = within in omega (arith, less)))
+opened_next (row ∷ rest) n zero within = refl
+opened_next (row ∷ rest) n (suc place) within =
+    ap (λ (seats : List Seat). opening_seat row ∷ seats) (opened_next rest n place (let less : suc place < suc (length rest) + n = within in omega (arith, less)))
+
+pub opens_next : (roster : List Row) (place : ℕ) → length roster ≤ most_places → place < most_places
+    → take (place + 1) (opening_seats roster) ≡ take place (opening_seats roster) ++ first_seat (slice_get roster place) ∷ []
+opens_next roster place few within =
+    let same : place + 1 ≡ suc place = omega arith in
+    ap (λ (n : ℕ). take n (opening_seats roster)) same
+    ∙ opened_next roster (most_places - length roster) place (omega (arith, few, within))
+
+pub opens_all : (roster : List Row) → length roster ≤ most_places → take most_places (opening_seats roster) ≡ opening_seats roster
+opens_all roster few = take_all most_places (opening_seats roster) (let all = opening_length roster few in omega (arith, all))

@@ -1,19 +1,21 @@
 -- The queue, and the places that wait in it.
 use Rattle.std.proofs.Common.{◌≡◌, ℕ, zero, suc, ◌+◌, ◌≤◌, List, [], ◌∷◌, ◌++◌, length, refl, sym, ap, subst, ◌∙◌, append-nil, length-append, arith}
-use Rattle.std.specs.Prelude.{◌==◌, nat_le, Bool, true, false, Option, Some, None, slice_get, slice_set, if◌then◌else◌}
+use Rattle.std.specs.Prelude.{◌==◌, not, nat_lt, nat_le, Bool, true, false, Option, Some, None, slice_get, slice_set, if◌then◌else◌}
 use Rattle.std.proofs.lemmas.List.{length-set}
 use Rattle.std.proofs.lemmas.List.Elements.{filter-append}
-use Rattle.firm_rules.specs.Book.{Book}
+use Rattle.firm_rules.specs.Book.{Book, opening_book}
+use Rattle.firm_rules.specs.Limits.{TenantLimits}
 use Rattle.firm_rules.specs.declared.commands.Command.{Command}
 use Rattle.firm_rules.specs.declared.tickets.Ticket.{Ticket}
 use Rattle.firm_rules.specs.declared.commands.Command.TheVariants.{Round}
 use Rattle.firm_tenant.specs.Step.{step}
-use Rattle.firm_table.specs.Interleaving.{is_round, Station, home, queued, held, answered, Seat, TableState, posted, asked, taken_by, solved, collected, next_ticket, local, seat_behind, queue_more}
+use Rattle.firm_text.specs.Registers.{most_places, most_admissions}
+use Rattle.firm_table.specs.Interleaving.{is_round, Station, empty, home, queued, held, answered, Seat, TableState, posted, asked, taken_by, solved, collected, admitted, retired, local, seat_behind, queue_more}
 use Rattle.firm_table.specs.inner.Tables.{queued_ticket, waiting_at, tickets_of, waiting, IsSound}
 use Rattle.firm_table.specs.declared.events.Event.{Event}
-use Rattle.firm_table.specs.declared.events.Event.TheVariants.{Post, Ask, Take, Answer, Collect}
+use Rattle.firm_table.specs.declared.events.Event.TheVariants.{Post, Ask, Take, Answer, Collect, Admit, Retire}
 use Rattle.firm_table.specs.declared.events.Answer.{Answer as EventAnswer}
-use Rattle.firm_table.specs.declared.events.Answer.TheVariants.{Replied, Queued, Solved, NotNow}
+use Rattle.firm_table.specs.declared.events.Answer.TheVariants.{Replied, Queued, Solved, Admitted, NoMemory, Retired, NotNow}
 use Rattle.firm_table.proofs.Machine.{Places, one, two, places, eq_itself, set_here, set_there}
 
 -- what an event at a place adds to the queue is the ticket that then waits there
@@ -37,6 +39,7 @@ adds_either place station true x y p q = p
 adds_either place station false x y p q = q
 
 adds_posted : (place : ℕ) (station : Station) (command : Command) (mark : Bool) → Adds place station (posted station command mark)
+adds_posted place empty command mark = adds_none place empty empty NotNow refl refl
 adds_posted place (home book) command mark =
     adds_either place (home book) (is_round command) (NotNow, home book) (Replied (step book command mark).0, home (step book command mark).1)
     (adds_none place (home book) (home book) NotNow refl refl)
@@ -54,6 +57,7 @@ adds_ticket place number book = record {
 }
 
 adds_asked : (place number : ℕ) (station : Station) (mark : Bool) → Adds place station (asked station (record { place = place; number = number }) mark)
+adds_asked place number empty mark = adds_none place empty empty NotNow refl refl
 adds_asked place number (home book) mark =
     let ticket : Ticket = record { place = place; number = number } in
     let now : EventAnswer × Station = (Replied (step book Round mark).0, home (step book Round mark).1) in
@@ -66,6 +70,7 @@ adds_asked place number (held book ticket worker) mark = adds_none place (held b
 adds_asked place number (answered book reply) mark = adds_none place (answered book reply) (answered book reply) NotNow refl refl
 
 adds_solved : (place : ℕ) (station : Station) (mark : Bool) → Adds place station (solved station mark)
+adds_solved place empty mark = adds_none place empty empty NotNow refl refl
 adds_solved place (home book) mark = adds_none place (home book) (home book) NotNow refl refl
 adds_solved place (queued book ticket) mark = adds_none place (queued book ticket) (queued book ticket) NotNow refl refl
 adds_solved place (held book ticket worker) mark =
@@ -73,15 +78,36 @@ adds_solved place (held book ticket worker) mark =
 adds_solved place (answered book reply) mark = adds_none place (answered book reply) (answered book reply) NotNow refl refl
 
 adds_collected : (place : ℕ) (station : Station) → Adds place station (collected station)
+adds_collected place empty = adds_none place empty empty NotNow refl refl
 adds_collected place (home book) = adds_none place (home book) (home book) NotNow refl refl
 adds_collected place (queued book ticket) = adds_none place (queued book ticket) (queued book ticket) NotNow refl refl
 adds_collected place (held book ticket worker) = adds_none place (held book ticket worker) (held book ticket worker) NotNow refl refl
 adds_collected place (answered book reply) = adds_none place (answered book reply) (home book) (Replied reply) refl refl
 
+adds_admitted : (place : ℕ) (station : Station) (admissions : ℕ) (limits : TenantLimits) (mark : Bool) → Adds place station (admitted station admissions limits mark)
+adds_admitted place empty admissions limits mark =
+    let nobody : EventAnswer × Station = (NoMemory, empty) in
+    let comes : EventAnswer × Station = (Admitted, home (opening_book limits)) in
+    adds_either place empty (not (nat_lt admissions most_admissions)) (NotNow, empty) (if mark then nobody else comes) (adds_none place empty empty NotNow refl refl)
+    (adds_either place empty mark nobody comes (adds_none place empty empty NoMemory refl refl) (adds_none place empty (home (opening_book limits)) Admitted refl refl))
+adds_admitted place (home book) admissions limits mark = adds_none place (home book) (home book) NotNow refl refl
+adds_admitted place (queued book ticket) admissions limits mark = adds_none place (queued book ticket) (queued book ticket) NotNow refl refl
+adds_admitted place (held book ticket worker) admissions limits mark = adds_none place (held book ticket worker) (held book ticket worker) NotNow refl refl
+adds_admitted place (answered book reply) admissions limits mark = adds_none place (answered book reply) (answered book reply) NotNow refl refl
+
+adds_retired : (place : ℕ) (station : Station) → Adds place station (retired station)
+adds_retired place empty = adds_none place empty empty NotNow refl refl
+adds_retired place (home book) = adds_none place (home book) empty Retired refl refl
+adds_retired place (queued book ticket) = adds_none place (queued book ticket) (queued book ticket) NotNow refl refl
+adds_retired place (held book ticket worker) = adds_none place (held book ticket worker) (held book ticket worker) NotNow refl refl
+adds_retired place (answered book reply) = adds_none place (answered book reply) (answered book reply) NotNow refl refl
+
 pub adds_local : (seat : Seat) (place : ℕ) (event : Event) (mark : Bool) → Adds place seat.station (local seat place event mark)
 adds_local seat place (Post at command) mark = adds_posted place seat.station command mark
 adds_local seat place (Ask at) mark = adds_asked place (seat.rounds + 1) seat.station mark
 adds_local seat place (Collect at) mark = adds_collected place seat.station
+adds_local seat place (Admit at limits) mark = adds_admitted place seat.station seat.admissions limits mark
+adds_local seat place (Retire at) mark = adds_retired place seat.station
 adds_local seat place (Take worker) mark = adds_none place seat.station seat.station NotNow refl refl
 adds_local seat place (Answer worker) mark = adds_solved place seat.station mark
 
@@ -98,7 +124,7 @@ pub sound_at : (table : TableState) (place : ℕ) (seat : Seat) (outcome : Event
     → Adds place seat.station outcome
     → IsSound (record table { seats = slice_set table.seats place (seat_behind seat outcome); queue = table.queue ++ queue_more outcome.0 })
 sound_at table place seat outcome sound found adds = record {
-  few = subst (λ (n : ℕ). n ≤ 64) (sym (length-set table.seats place new)) sound.few;
+  few = subst (λ (n : ℕ). n ≤ most_places) (sym (length-set table.seats place new)) sound.few;
   as_many =
       let more = waiting_set table.seats place seat new found in
       let queue_is = length-append table.queue (queue_more outcome.0) in
@@ -136,6 +162,7 @@ pub record WaitsBy (ticket : Ticket) (more : List Ticket) (station : Station) : 
   pub last : more ≡ []
 
 waits_by : (ticket : Ticket) (more : List Ticket) (station : Station) → ticket ∷ more ≡ queued_ticket station → WaitsBy ticket more station
+waits_by ticket more empty e = cc
 waits_by ticket more (home book) e = cc
 waits_by ticket more (queued book own) e = record { book = book; waits = cc; last = cc }
 waits_by ticket more (held book own worker) e = cc
@@ -157,7 +184,7 @@ front table ticket rest sound queue_is =
 pub sound_taken : (table : TableState) (ticket : Ticket) (rest : List Ticket) (worker : ℕ) (is_front : IsFront table ticket rest) → IsSound table → table.queue ≡ ticket ∷ rest
     → IsSound (record table { seats = slice_set table.seats ticket.place (record is_front.seat { station = taken_by worker is_front.seat.station }); queue = rest })
 sound_taken table ticket rest worker is_front sound queue_is = record {
-  few = subst (λ (n : ℕ). n ≤ 64) (sym (length-set table.seats ticket.place new)) sound.few;
+  few = subst (λ (n : ℕ). n ≤ most_places) (sym (length-set table.seats ticket.place new)) sound.few;
   as_many =
       let fewer = waiting_set table.seats ticket.place is_front.seat new is_front.here in
       let was = ap (λ (s : Station). length (queued_ticket s)) is_front.waits in

@@ -1,20 +1,20 @@
--- What a tenant of the table was given and replied, and what it may rely on.
-use Rattle.std.specs.Prelude.{◌≡◌, ℕ, suc, ◌≤◌, ◌==◌, Bool, true, false, List, [], ◌∷◌, ◌++◌, map, length, Option, Some, None, option_map, slice_get, take, if◌then◌else◌}
+-- What the tenants of a place were given and replied, one stay after the other, and what each may rely on.
+use Rattle.std.specs.Prelude.{◌≡◌, ℕ, suc, ◌≤◌, ◌<◌, ◌==◌, Bool, true, false, List, [], ◌∷◌, ◌++◌, map, length, Option, Some, None, option_map, option_to_list, slice_get, take, if◌then◌else◌}
 use Rattle.firm_rules.specs.Limits.{TenantLimits}
 use Rattle.firm_rules.specs.declared.commands.Command.{Command}
 use Rattle.firm_rules.specs.declared.commands.Command.TheVariants.{Round}
 use Rattle.firm_rules.specs.declared.replies.Reply.{Reply}
 use Rattle.firm_tenant.specs.Step.{is_memory}
 use Rattle.firm_tenant.specs.Alone.{alone_marked}
-use Rattle.firm_text.specs.Rosters.{Admitted}
+use Rattle.firm_text.specs.Rosters.{Admitted as Row}
 use Rattle.firm_table.specs.Places.{Given}
 use Rattle.firm_table.specs.Interleaving.{is_home, Seat, MarkedEvent, opening_table, event_answers, table_after}
 use Rattle.firm_table.specs.declared.events.Event.{Event}
-use Rattle.firm_table.specs.declared.events.Event.TheVariants.{Post, Ask, Take, Answer, Collect}
+use Rattle.firm_table.specs.declared.events.Event.TheVariants.{Post, Ask, Take, Answer, Collect, Admit, Retire}
 use Rattle.firm_table.specs.declared.events.Answer.{Answer as EventAnswer}
-use Rattle.firm_table.specs.declared.events.Answer.TheVariants.{Replied, Queued, NotNow}
+use Rattle.firm_table.specs.declared.events.Answer.TheVariants.{Replied, Queued, Admitted, Retired}
 
--- what a tenant was given since its admission, and what it replied
+-- a stay of a tenant at a place: the limits that it was admitted with, what it was given since, and what it replied
 pub record History : Type 0 where
   pub limits : TenantLimits
   pub commands : List Command
@@ -29,19 +29,29 @@ commanded_once command history = record history { commands = history.commands ++
 abbrev pub replied_once : Reply → History → History
 replied_once reply history = record history { replies = history.replies ++ reply ∷ [] }
 
--- what an event at its place adds to the history of the tenant there: a command that fitted, a reply
+-- what an event at its place makes of the history of the tenant there: a command that fitted and a reply are added, an admission begins a new
+-- one, and a retirement leaves none
 abbrev pub history_here : Option History → Event → EventAnswer → Option History
 history_here history (Post _ command) (Replied reply) = option_map (λ h. replied_once reply (commanded_once command h)) history
 history_here history (Ask _) (Replied reply) = option_map (λ h. replied_once reply (commanded_once Round h)) history
 history_here history (Ask _) (Queued ticket) = option_map (commanded_once Round) history
 history_here history (Collect _) (Replied reply) = option_map (replied_once reply) history
+history_here history (Admit _ limits) Admitted = Some (new_history limits)
+history_here history (Retire _) Retired = None
 history_here history event answer = history
+
+-- the stay that an event at its place ends
+abbrev pub ended_here : Option History → Event → EventAnswer → List History
+ended_here history (Retire _) Retired = option_to_list history
+ended_here history event answer = []
 
 -- the place that an event names
 abbrev pub named_place : Event → Option ℕ
 named_place (Post place command) = Some place
 named_place (Ask place) = Some place
 named_place (Collect place) = Some place
+named_place (Admit place limits) = Some place
+named_place (Retire place) = Some place
 named_place (Take worker) = None
 named_place (Answer worker) = None
 
@@ -59,10 +69,34 @@ history_behind place history [] answers = history
 history_behind place history (given ∷ rest) [] = history
 history_behind place history (given ∷ rest) (answer ∷ answers) = history_behind place (history_with place history given.0 answer) rest answers
 
--- the history at a place of a table that was opened for this roster
-abbrev pub history_at : List Admitted → ℕ → ℕ → List MarkedEvent → Option History
+-- the stay that an event ends at a place
+abbrev pub ended_with : ℕ → Option History → Event → EventAnswer → List History
+ended_with place history event answer = if is_at place (named_place event) then ended_here history event answer else []
+
+-- and those that these events end there, in order
+abbrev pub ended_behind : ℕ → Option History → List MarkedEvent → List EventAnswer → List History
+ended_behind place history [] answers = []
+ended_behind place history (given ∷ rest) [] = []
+ended_behind place history (given ∷ rest) (answer ∷ answers) =
+    ended_with place history given.0 answer ++ ended_behind place (history_with place history given.0 answer) rest answers
+
+-- the history that a roster opens at a place: a row is its tenant's admission
+abbrev pub opening_history : List Row → ℕ → Option History
+opening_history roster place = option_map (λ row. new_history row.1) (slice_get roster place)
+
+-- the stay that stands at a place of a table that was opened for this roster, behind these events
+abbrev pub history_at : List Row → ℕ → ℕ → List MarkedEvent → Option History
 history_at roster workers place events =
-    history_behind place (option_map (λ row. new_history row.1) (slice_get roster place)) events (event_answers (opening_table roster workers) events)
+    history_behind place (opening_history roster place) events (event_answers (opening_table roster workers) events)
+
+-- the stays that have ended there
+abbrev pub ended_at : List Row → ℕ → ℕ → List MarkedEvent → List History
+ended_at roster workers place events =
+    ended_behind place (opening_history roster place) events (event_answers (opening_table roster workers) events)
+
+-- all stays at the place, one after the other. Where no event admits or retires a tenant, there is one at the place of each row, and no other
+abbrev pub stays_at : List Row → ℕ → ℕ → List MarkedEvent → List History
+stays_at roster workers place events = ended_at roster workers place events ++ option_to_list (history_at roster workers place events)
 
 -- the replies are the first ones of a tenant alone to the commands, with marks on just those that are refused for want of memory; one more
 -- command may wait for its reply
@@ -74,18 +108,21 @@ pub record AreFirstReplies (history : History) : Type 0 where
   pub marks : map (λ g. g.1) given ≡ map is_memory history.replies
   pub few : length waiting ≤ 1
 
--- for every list of events, and at every place: the replies of the tenant there are the first of one alone, and all of them where it is home
+-- for every list of events, and for each stay at every place: the replies are the first of a tenant alone that is admitted with the same
+-- limits, and all of them once the stay has ended, and where the tenant is home
 abbrev pub EventsKeepAlone : Type 0
-EventsKeepAlone = (roster : List Admitted) (workers place : ℕ) (events : List MarkedEvent) (history : History)
-    → history_at roster workers place events ≡ Some history
+EventsKeepAlone = (roster : List Row) (workers place stay : ℕ) (events : List MarkedEvent) (history : History)
+    → slice_get (stays_at roster workers place events) stay ≡ Some history
     → (first : AreFirstReplies history)
+    × (stay < length (ended_at roster workers place events) → first.waiting ≡ [])
     × ((seat : Seat) → slice_get (table_after (opening_table roster workers) events).seats place ≡ Some seat → is_home seat.station ≡ true → first.waiting ≡ [])
 
--- two tenants with the same limits, in any two tables and behind any events, that agree on the commands up to one, and on which of these are
--- refused for want of memory, give it the same reply as far as both have come
+-- two stays that began with the same limits, at any places of any two tables and behind any events, whoever was there before, that agree on the
+-- commands up to one, and on which of these are refused for want of memory, give it the same reply as far as both have come
 abbrev pub EventsAreIsolated : Type 0
-EventsAreIsolated = (roster other_roster : List Admitted) (workers other_workers place other_place : ℕ) (events other_events : List MarkedEvent) (history other : History)
-    → history_at roster workers place events ≡ Some history → history_at other_roster other_workers other_place other_events ≡ Some other
+EventsAreIsolated = (roster other_roster : List Row) (workers other_workers place other_place stay other_stay : ℕ) (events other_events : List MarkedEvent) (history other : History)
+    → slice_get (stays_at roster workers place events) stay ≡ Some history
+    → slice_get (stays_at other_roster other_workers other_place other_events) other_stay ≡ Some other
     → history.limits ≡ other.limits → (k : ℕ) (reply other_reply : Reply)
     → take (suc k) history.commands ≡ take (suc k) other.commands → take (suc k) (map is_memory history.replies) ≡ take (suc k) (map is_memory other.replies)
     → slice_get history.replies k ≡ Some reply → slice_get other.replies k ≡ Some other_reply → reply ≡ other_reply

@@ -1,25 +1,29 @@
 -- The table of tenants as a machine: what each event is answered, and what it changes.
-use Rattle.std.specs.Prelude.{ℕ, ◌+◌, Bool, true, false, ◌&&◌, ◌==◌, not, nat_lt, nat_le, List, [], ◌∷◌, ◌++◌, map, Option, Some, None, slice_get, slice_set, if◌then◌else◌}
+use Rattle.std.specs.Prelude.{ℕ, ◌+◌, ◌-◌, Bool, true, false, ◌&&◌, ◌==◌, not, nat_lt, nat_le, List, [], ◌∷◌, ◌++◌, map, length, replicate, Option, Some, None, slice_get, slice_set, if◌then◌else◌}
 use Rattle.std.specs.List.{list_any, position}
 use Rattle.firm_rules.specs.Book.{Book, opening_book}
+use Rattle.firm_rules.specs.Limits.{TenantLimits}
 use Rattle.firm_rules.specs.declared.commands.Command.{Command}
 use Rattle.firm_rules.specs.declared.commands.Command.TheVariants.{Round}
 use Rattle.firm_rules.specs.declared.replies.Reply.{Reply}
 use Rattle.firm_rules.specs.declared.tickets.Ticket.{Ticket}
 use Rattle.firm_tenant.specs.Step.{step}
-use Rattle.firm_text.specs.Rosters.{Admitted}
+use Rattle.firm_text.specs.Registers.{most_places, most_admissions}
+use Rattle.firm_text.specs.Rosters.{Admitted as Row}
 use Rattle.firm_table.specs.declared.events.Event.{Event}
-use Rattle.firm_table.specs.declared.events.Event.TheVariants.{Post, Ask, Take, Answer, Collect}
+use Rattle.firm_table.specs.declared.events.Event.TheVariants.{Post, Ask, Take, Answer, Collect, Admit, Retire}
 use Rattle.firm_table.specs.declared.events.Answer.{Answer as EventAnswer}
-use Rattle.firm_table.specs.declared.events.Answer.TheVariants.{Replied, Queued, Took, Solved, NotNow}
+use Rattle.firm_table.specs.declared.events.Answer.TheVariants.{Replied, Queued, Took, Solved, Admitted, NoMemory, Retired, NotNow}
 
 -- whether a command is the round
 abbrev pub is_round : Command → Bool
 is_round Round = true
 is_round _ = false
 
--- what stands at a place: a tenant at home with its book; its round queued; held by a worker; or answered, with the book behind the reply
+-- what stands at a place: nobody; a tenant at home with its book; its round queued; held by a worker; or answered, with the book behind the
+-- reply
 pub data Station : Type 0 where
+  empty : Station
   home : Book → Station
   queued : Book → Ticket → Station
   held : Book → Ticket → ℕ → Station
@@ -27,15 +31,17 @@ pub data Station : Type 0 where
 
 -- whether a tenant is home
 abbrev pub is_home : Station → Bool
+is_home empty = false
 is_home (home book) = true
 is_home (queued book ticket) = false
 is_home (held book ticket worker) = false
 is_home (answered book reply) = false
 
--- a place: what stands there, and how many rounds it queued
+-- a place: what stands there, and how many rounds it queued and how many tenants it was given, whoever these were
 pub record Seat : Type 0 where
   pub station : Station
   pub rounds : ℕ
+  pub admissions : ℕ
 
 -- the table: how many workers there are, the places, and the queue, front first
 pub record TableState : Type 0 where
@@ -47,16 +53,25 @@ pub record TableState : Type 0 where
 abbrev pub MarkedEvent : Type 0
 MarkedEvent = Event × Bool
 
--- the seat of a row of the roster
-abbrev pub opening_seat : Admitted → Seat
-opening_seat row = record { station = home (opening_book row.1); rounds = 0 }
+-- the seat of a row of the roster, which is its place's first admission
+abbrev pub opening_seat : Row → Seat
+opening_seat row = record { station = home (opening_book row.1); rounds = 0; admissions = 1 }
 
--- before the first event each tenant is home, and the queue is empty
-abbrev pub opening_table : List Admitted → ℕ → TableState
-opening_table roster workers = record { workers = workers; seats = map opening_seat roster; queue = [] }
+-- a place that nobody had
+abbrev pub unused_seat : Seat
+unused_seat = record { station = empty; rounds = 0; admissions = 0 }
+
+-- the places of a roster's tenants, in its order, and then empty ones, so that there are as many as a service has
+abbrev pub opening_seats : List Row → List Seat
+opening_seats roster = map opening_seat roster ++ replicate (most_places - length roster) unused_seat
+
+-- before the first event each tenant is home, the other places are empty, and so is the queue
+abbrev pub opening_table : List Row → ℕ → TableState
+opening_table roster workers = record { workers = workers; seats = opening_seats roster; queue = [] }
 
 -- a command that is not a round
 abbrev pub posted : Station → Command → Bool → EventAnswer × Station
+posted empty command mark = (NotNow, empty)
 posted (home book) command mark =
     if is_round command then (NotNow, home book) else (Replied (step book command mark).0, home (step book command mark).1)
 posted (queued book ticket) command mark = (NotNow, queued book ticket)
@@ -65,6 +80,7 @@ posted (answered book reply) command mark = (NotNow, answered book reply)
 
 -- a round: a tenant without life left replies at once, and so does one to whose round memory is refused
 abbrev pub asked : Station → Ticket → Bool → EventAnswer × Station
+asked empty ticket mark = (NotNow, empty)
 asked (home book) ticket mark =
     if nat_le book.rows.limits.life book.given then (Replied (step book Round mark).0, home (step book Round mark).1)
     else if mark then (Replied (step book Round mark).0, home (step book Round mark).1)
@@ -75,6 +91,7 @@ asked (answered book reply) ticket mark = (NotNow, answered book reply)
 
 -- the tenant whose ticket was at the front
 abbrev pub taken_by : ℕ → Station → Station
+taken_by worker empty = empty
 taken_by worker (home book) = home book
 taken_by worker (queued book ticket) = held book ticket worker
 taken_by worker (held book ticket other) = held book ticket other
@@ -82,6 +99,7 @@ taken_by worker (answered book reply) = answered book reply
 
 -- whether this worker holds the tenant
 abbrev pub is_held : ℕ → Station → Bool
+is_held worker empty = false
 is_held worker (home book) = false
 is_held worker (queued book ticket) = false
 is_held worker (held book ticket holder) = holder == worker
@@ -89,6 +107,7 @@ is_held worker (answered book reply) = false
 
 -- the round is solved
 abbrev pub solved : Station → Bool → EventAnswer × Station
+solved empty mark = (NotNow, empty)
 solved (home book) mark = (NotNow, home book)
 solved (queued book ticket) mark = (NotNow, queued book ticket)
 solved (held book ticket worker) mark = (Solved ticket, answered (step book Round mark).1 (step book Round mark).0)
@@ -96,27 +115,64 @@ solved (answered book reply) mark = (NotNow, answered book reply)
 
 -- the tenant comes home
 abbrev pub collected : Station → EventAnswer × Station
+collected empty = (NotNow, empty)
 collected (home book) = (NotNow, home book)
 collected (queued book ticket) = (NotNow, queued book ticket)
 collected (held book ticket worker) = (NotNow, held book ticket worker)
 collected (answered book reply) = (Replied reply, home book)
 
--- what an answer adds to the count of a seat's rounds, and to the queue
+-- a tenant comes with its opening book to a place where nobody is and which may be given once more; where memory is refused to it, nobody
+-- comes
+abbrev pub admitted : Station → ℕ → TenantLimits → Bool → EventAnswer × Station
+admitted empty admissions limits mark =
+    if not (nat_lt admissions most_admissions) then (NotNow, empty)
+    else if mark then (NoMemory, empty)
+    else (Admitted, home (opening_book limits))
+admitted (home book) admissions limits mark = (NotNow, home book)
+admitted (queued book ticket) admissions limits mark = (NotNow, queued book ticket)
+admitted (held book ticket worker) admissions limits mark = (NotNow, held book ticket worker)
+admitted (answered book reply) admissions limits mark = (NotNow, answered book reply)
+
+-- a tenant that is home leaves, and its book with it
+abbrev pub retired : Station → EventAnswer × Station
+retired empty = (NotNow, empty)
+retired (home book) = (Retired, empty)
+retired (queued book ticket) = (NotNow, queued book ticket)
+retired (held book ticket worker) = (NotNow, held book ticket worker)
+retired (answered book reply) = (NotNow, answered book reply)
+
+-- what an answer adds to the counts of a seat's rounds and tenants, and to the queue
 abbrev pub rounds_more : EventAnswer → ℕ
 rounds_more (Replied reply) = 0
 rounds_more (Queued ticket) = 1
 rounds_more (Took ticket) = 0
 rounds_more (Solved ticket) = 0
+rounds_more Admitted = 0
+rounds_more NoMemory = 0
+rounds_more Retired = 0
 rounds_more NotNow = 0
+
+abbrev pub admissions_more : EventAnswer → ℕ
+admissions_more (Replied reply) = 0
+admissions_more (Queued ticket) = 0
+admissions_more (Took ticket) = 0
+admissions_more (Solved ticket) = 0
+admissions_more Admitted = 1
+admissions_more NoMemory = 0
+admissions_more Retired = 0
+admissions_more NotNow = 0
 
 abbrev pub queue_more : EventAnswer → List Ticket
 queue_more (Replied reply) = []
 queue_more (Queued ticket) = ticket ∷ []
 queue_more (Took ticket) = []
 queue_more (Solved ticket) = []
+queue_more Admitted = []
+queue_more NoMemory = []
+queue_more Retired = []
 queue_more NotNow = []
 
--- the next ticket of a place
+-- the next ticket of a place, whoever has it
 abbrev pub next_ticket : ℕ → Seat → Ticket
 next_ticket place seat = record { place = place; number = seat.rounds + 1 }
 
@@ -125,12 +181,18 @@ abbrev pub local : Seat → ℕ → Event → Bool → EventAnswer × Station
 local seat place (Post _ command) mark = posted seat.station command mark
 local seat place (Ask _) mark = asked seat.station (next_ticket place seat) mark
 local seat place (Collect _) mark = collected seat.station
+local seat place (Admit _ limits) mark = admitted seat.station seat.admissions limits mark
+local seat place (Retire _) mark = retired seat.station
 local seat place (Take _) mark = (NotNow, seat.station)
 local seat place (Answer _) mark = solved seat.station mark
 
 -- the seat behind an answer
 abbrev pub seat_behind : Seat → EventAnswer × Station → Seat
-seat_behind seat after = record { station = after.1; rounds = seat.rounds + rounds_more after.0 }
+seat_behind seat after = record {
+  station = after.1;
+  rounds = seat.rounds + rounds_more after.0;
+  admissions = seat.admissions + admissions_more after.0;
+}
 
 -- an event at a place of the table
 abbrev pub at_place : TableState → ℕ → Option Seat → Event → Bool → EventAnswer × TableState
@@ -169,6 +231,8 @@ happens table (Answer worker, mark) = answering table worker (place_held worker 
 happens table (Post place command, mark) = at_place table place (slice_get table.seats place) (Post place command) mark
 happens table (Ask place, mark) = at_place table place (slice_get table.seats place) (Ask place) mark
 happens table (Collect place, mark) = at_place table place (slice_get table.seats place) (Collect place) mark
+happens table (Admit place limits, mark) = at_place table place (slice_get table.seats place) (Admit place limits) mark
+happens table (Retire place, mark) = at_place table place (slice_get table.seats place) (Retire place) mark
 
 -- the answers to a list of events, and the table after them
 abbrev pub event_answers : TableState → List MarkedEvent → List EventAnswer

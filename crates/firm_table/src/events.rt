@@ -1,7 +1,8 @@
 //! The events of the table, and its answers.
-use firm_rules::{Command, Reply, Ticket};
+use firm_rules::{Command, Limits, Reply, Ticket};
 
-/// What may come next. Places are those of the roster, and workers are numbered, each from 0.
+/// What may come next. Places and workers are numbered, each from 0; the first places are those of the roster, in its
+/// order.
 #[derive(Clone, Copy, Debug, PartialEq, Eq)]
 pub enum Event {
     /// A command of the tenant at this place that is not a round.
@@ -14,6 +15,10 @@ pub enum Event {
     Answer(usize),
     /// The tenant at this place comes home with the reply to its round.
     Collect(usize),
+    /// A tenant with these limits comes to this place, where nobody is.
+    Admit(usize, Limits),
+    /// The tenant at this place, which is home, leaves it.
+    Retire(usize),
 }
 
 /// What an event is answered.
@@ -27,6 +32,12 @@ pub enum Answer {
     Took(Ticket),
     /// The round was solved.
     Solved(Ticket),
+    /// The tenant is home, with nothing yet.
+    Admitted,
+    /// Memory was refused to a tenant that was to come: nobody came, and its place was not given once more.
+    NoMemory,
+    /// The tenant has left, and its place is empty.
+    Retired,
     /// The event does not fit now, and changes nothing.
     NotNow,
 }

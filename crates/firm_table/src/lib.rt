@@ -6,6 +6,7 @@ mod devices;
 mod events;
 mod faults;
 mod laws;
+mod occupants;
 mod reading;
 mod seats;
 mod serving;

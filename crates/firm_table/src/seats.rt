@@ -1,35 +1,25 @@
-//! A place of the table: its tenant, and how far its round has come.
+//! A place of the table: who is there, and how often it was used.
 
-ghost use Rattle.std.specs.Prelude.{◌≡◌, ℕ, Bool, false};
-ghost use Rattle.firm_table.specs.Interleaving.{home, posted, asked, is_held, taken_by, solved, collected, next_ticket};
+ghost use Rattle.std.specs.Prelude.{◌≡◌, ℕ, Bool, false, IfOk};
+ghost use Rattle.firm_rules.specs.Book.{opening_book};
+ghost use Rattle.firm_table.specs.Interleaving.{home, posted, asked, is_held, taken_by, solved, collected, admitted, retired};
+ghost use Rattle.firm_table.specs.Interleaving.{next_ticket, unused_seat};
 ghost use Rattle.firm_table.specs.inner.Seats.{Becomes};
 
 use crate::events::Answer;
-use firm_rules::{Command, Reply, Ticket};
-use firm_tenant::{Tenant, steps_count_once};
-use std::alloc::Global;
+use crate::occupants::Occupant;
+use firm_rules::{Command, Limits, Ticket};
+use firm_tenant::steps_count_once;
+use firm_text::MOST_ADMISSIONS;
+use std::alloc::{AllocError, Global};
 use std::marker::Model;
-use std::mem;
 
-// How far the round of a tenant has come.
-#[derive(Drop)]
-pub(crate) enum Part {
-    // No round is on its way.
-    Home,
-    // It waits in the queue.
-    Queued(Ticket),
-    // This worker solves it.
-    Held(Ticket, usize),
-    // It is solved, and the reply waits for the tenant's return.
-    Answered(Reply),
-}
-
-// A tenant, how far its round has come, and how many rounds its place has queued.
+// Who is at a place, and how many rounds it has queued and how often it was given, whoever was there.
 #[derive(Drop)]
 pub(crate) struct Seat {
-    tenant: Tenant,
-    part: Part,
+    occupant: Option<Occupant>,
     rounds: u64,
+    admissions: u32,
 }
 
 impl Model for Seat {
@@ -37,32 +27,43 @@ impl Model for Seat {
 
     ghost Value = { SeatState };
 
-    ghost use Rattle.firm_table.specs.inner.Seats.{station_of, CountsFit};
+    ghost use Rattle.firm_table.specs.inner.Seats.{seat_of, CountsFit};
 
-    ghost view = { λ s. record { station = station_of s.tenant s.part; rounds = s.rounds } };
+    ghost view = { λ s. seat_of s.occupant s.rounds s.admissions };
 
-    ghost invariant = { λ s. CountsFit s.tenant s.part s.rounds };
+    ghost invariant = { λ s. CountsFit (seat_of s.occupant s.rounds s.admissions) };
 }
 
 impl Seat {
-    // A tenant that is home, at a place that has queued no round.
-    pub(crate) fn home(tenant: Tenant) -> Seat
-        ensures { result ≡ record { station = home tenant; rounds = 0 } }
+    // A place that nobody had.
+    pub(crate) fn unused() -> Seat
+        ensures { result ≡ unused_seat }
     {
         Seat {
-            tenant,
-            part: Part::Home,
+            occupant: None,
             rounds: 0,
+            admissions: 0,
         }
+    }
+
+    // A place that is given for the first time, to a tenant with these limits, which is home.
+    pub(crate) fn given(alloc: Global, limits: Limits) -> Result<Seat, AllocError>
+        ensures { IfOk result (λ seat. seat ≡ record { station = home (opening_book limits); rounds = 0; admissions = 1 }) }
+    {
+        Ok(Seat {
+            occupant: Some(Occupant::admit(alloc, limits)?),
+            rounds: 0,
+            admissions: 1,
+        })
     }
 
     // Whether this worker solves the tenant's round.
     pub(crate) fn is_held_by(&self, worker: usize) -> bool
         ensures { result ≡ is_held worker self.now.station }
     {
-        match self.part {
-            Part::Held(_, holder) => holder == worker,
-            Part::Home | Part::Queued(_) | Part::Answered(_) => false,
+        match &self.occupant {
+            Some(occupant) => occupant.is_held_by(worker),
+            None => false,
         }
     }
 
@@ -70,44 +71,37 @@ impl Seat {
     pub(crate) fn post(&mut self, alloc: Global, command: Command) -> Answer
         ensures { (mark : Bool) × Becomes self.old (posted self.old.station command mark) result self.new }
     {
-        let Part::Home = self.part else {
-            return Answer::NotNow;
-        };
-        if let Command::Round = command {
-            return Answer::NotNow;
-        }
         // A law: the count of commands doesn't fall.
         steps_count_once();
-        Answer::Replied(self.tenant.step(alloc, command))
+        let Some(occupant) = &mut self.occupant else {
+            return Answer::NotNow;
+        };
+        occupant.post(alloc, command)
     }
 
     // Has a round queued, where life is left for it.
     pub(crate) fn ask(&mut self, alloc: Global, place: u32) -> Answer
         ensures { Becomes self.old (asked self.old.station (next_ticket place self.old) false) result self.new }
     {
-        let Part::Home = self.part else {
+        // A law: a tenant without life left stays as it is.
+        steps_count_once();
+        let Some(occupant) = &mut self.occupant else {
             return Answer::NotNow;
         };
-        if self.tenant.life_left() == 0 {
-            return Answer::Replied(self.tenant.step(alloc, Command::Round));
+        let number = self.rounds + 1;
+        let answer = occupant.ask(alloc, Ticket { place, number });
+        if let Answer::Queued(_) = &answer {
+            self.rounds = number;
         }
-        // Each round that was queued counts as a command of a life that is not over.
-        prove!(self.rounds < self.tenant.limits().life());
-        self.rounds += 1;
-        let ticket = Ticket {
-            place,
-            number: self.rounds,
-        };
-        self.part = Part::Queued(ticket);
-        Answer::Queued(ticket)
+        answer
     }
 
     // The round, which waits, goes to this worker.
     pub(crate) fn give(&mut self, worker: usize)
         ensures { self.new ≡ record self.old { station = taken_by worker self.old.station } }
     {
-        if let Part::Queued(ticket) = self.part {
-            self.part = Part::Held(ticket, worker);
+        if let Some(occupant) = &mut self.occupant {
+            occupant.give(worker);
         }
     }
 
@@ -115,26 +109,50 @@ impl Seat {
     pub(crate) fn solve(&mut self, alloc: Global) -> Answer
         ensures { (mark : Bool) × Becomes self.old (solved self.old.station mark) result self.new }
     {
-        let Part::Held(ticket, _) = self.part else {
-            return Answer::NotNow;
-        };
         // A law: life is left for the round, so the count of commands grows with it.
         steps_count_once();
-        let reply = self.tenant.step(alloc, Command::Round);
-        self.part = Part::Answered(reply);
-        Answer::Solved(ticket)
+        let Some(occupant) = &mut self.occupant else {
+            return Answer::NotNow;
+        };
+        occupant.solve(alloc)
     }
 
     // Brings the tenant home with the reply to its round.
     pub(crate) fn collect(&mut self) -> Answer
         ensures { Becomes self.old (collected self.old.station) result self.new }
     {
-        match mem::replace(&mut self.part, Part::Home) {
-            Part::Answered(reply) => Answer::Replied(reply),
-            part => {
-                self.part = part;
-                Answer::NotNow
-            }
+        let Some(occupant) = &mut self.occupant else {
+            return Answer::NotNow;
+        };
+        occupant.collect()
+    }
+
+    // Gives the place to a new tenant, where nobody is there and it may be given once more.
+    pub(crate) fn admit(&mut self, alloc: Global, limits: Limits) -> Answer
+        ensures { (mark : Bool) × Becomes self.old (admitted self.old.station self.old.admissions limits mark) result self.new }
+    {
+        if self.occupant.is_some() || MOST_ADMISSIONS <= self.admissions {
+            return Answer::NotNow;
         }
+        let Ok(occupant) = Occupant::admit(alloc, limits) else {
+            return Answer::NoMemory;
+        };
+        self.occupant = Some(occupant);
+        self.admissions += 1;
+        Answer::Admitted
+    }
+
+    // The tenant, which is home, leaves the place.
+    pub(crate) fn retire(&mut self) -> Answer
+        ensures { Becomes self.old (retired self.old.station) result self.new }
+    {
+        let Some(occupant) = &self.occupant else {
+            return Answer::NotNow;
+        };
+        if !occupant.is_home() {
+            return Answer::NotNow;
+        }
+        self.occupant = None;
+        Answer::Retired
     }
 }

@@ -1,21 +1,22 @@
 //! The tenants of a roster as one table, on which one event happens at a time.
 
-ghost use Rattle.std.specs.Prelude.{◌≡◌, ◌≤◌, ◌↔◌, false, IfOk, map};
+ghost use Rattle.std.specs.Prelude.{◌≡◌, ◌≤◌, ◌↔◌, false, IfOk, length, slice_get};
 ghost use Rattle.std.specs.List.{list_any};
-ghost use Rattle.firm_table.specs.Interleaving.{opening_seat, opening_table, place_held, is_held};
+ghost use Rattle.firm_table.specs.Interleaving.{opening_seats, opening_table, place_held, is_held};
 ghost use Rattle.firm_table.specs.Fitting.{IsStep, fits};
 ghost use Rattle.firm_table.specs.inner.Events.{IsDone};
+ghost use Rattle.firm_table.specs.inner.Tables.{first_seat};
 
 use crate::events::{Answer, Event};
 use crate::seats::Seat;
-use firm_rules::{Command, Ticket};
-use firm_tenant::Tenant;
-use firm_text::Roster;
+use firm_rules::{Command, Limits, Ticket};
+use firm_text::{PLACES, Roster};
 use std::alloc::{AllocError, Global};
 use std::collections::VecDeque;
 use std::marker::Model;
 
-/// All tenants of a roster, each at its place, the queue of their rounds, and the workers that solve these.
+/// The 64 places of a service, each empty or with a tenant, the queue of the tenants' rounds, and the workers that solve
+/// these.
 #[derive(Drop)]
 pub struct Table {
     workers: usize,
@@ -39,14 +40,14 @@ impl Model for Table {
 }
 
 impl Table {
-    /// The tenants of the roster, admitted in its order, all of them home, with 1 to 8 workers and an empty queue. All memory
-    /// that the table itself needs is taken here; the error comes for want of it alone.
+    /// The tenants of the roster, admitted in its order, all of them home, with 1 to 8 workers and an empty queue; the
+    /// other places are empty. All memory that the table itself needs is taken here; the error comes for want of it alone.
     pub fn open(alloc: Global, roster: &Roster, workers: usize) -> Result<Table, AllocError>
         requires some { 1 ≤ workers }
         requires few { workers ≤ 8 }
         ensures { IfOk result (λ table. table ≡ opening_table roster.now workers) }
     {
-        let queue = VecDeque::with_capacity(alloc, roster.len())?;
+        let queue = VecDeque::with_capacity(alloc, PLACES)?;
         Ok(Table {
             workers,
             seats: seats_of(alloc, roster)?,
@@ -55,7 +56,8 @@ impl Table {
     }
 
     /// What happens next, and what it is answered: `NotNow` exactly where the event does not fit, which then changes nothing.
-    /// The allocator is for the list in a reply.
+    /// The allocator is for the list in a reply, and for a tenant that is admitted: it may be admitted 32,768 times to one
+    /// place, a row of the roster counting as once.
     pub fn event(&mut self, alloc: Global, event: Event) -> Answer
         ensures stepped { IsStep self.old event result self.new }
         ensures not_now { (result ≡ Answer.NotNow) ↔ (fits self.old event ≡ false) }
@@ -67,6 +69,8 @@ impl Table {
             Event::Take(worker) => self.take(worker),
             Event::Answer(worker) => self.answer(alloc, worker),
             Event::Collect(place) => self.collect(place),
+            Event::Admit(place, limits) => self.admit(alloc, place, limits),
+            Event::Retire(place) => self.retire(place),
         }
     }
 
@@ -130,19 +134,50 @@ impl Table {
         }
         self.seats[place].collect()
     }
+
+    // A tenant comes to a place.
+    fn admit(&mut self, alloc: Global, place: usize, limits: Limits) -> Answer
+        ensures { IsDone self.old (Event.Admit place limits) result self.new }
+    {
+        if self.seats.len() <= place {
+            return Answer::NotNow;
+        }
+        self.seats[place].admit(alloc, limits)
+    }
+
+    // The tenant at a place leaves.
+    fn retire(&mut self, place: usize) -> Answer
+        ensures { IsDone self.old (Event.Retire place) result self.new }
+    {
+        if self.seats.len() <= place {
+            return Answer::NotNow;
+        }
+        self.seats[place].retire()
+    }
 }
 
-// The seats of a roster's tenants, all of them home.
+// The seats of a roster's tenants, all of them home, and then empty ones.
 fn seats_of(alloc: Global, roster: &Roster) -> Result<Vec<Seat>, AllocError>
-    ensures { IfOk result (λ seats. seats.items ≡ map opening_seat roster.now) }
+    ensures opening { IfOk result (λ seats. seats.items ≡ opening_seats roster.now) }
+    ensures few { IfOk result (λ seats. length seats.items ≤ PLACES) }
 {
-    let count = roster.len();
-    let mut seats = Vec::with_capacity(alloc, count)?;
-    for place in 0..count {
-        let (_, limits) = roster.get(place).unwrap();
-        seats.push(Seat::home(Tenant::admit(alloc, limits)?))?;
+    // A roster has no more tenants than a service has places.
+    prove!(roster.len() <= PLACES);
+    let mut seats = Vec::with_capacity(alloc, PLACES)?;
+    for place in 0..PLACES {
+        seats.push(first_seat(alloc, roster, place)?)?;
     }
     Ok(seats)
+}
+
+// The seat of the roster's tenant at a place, or one that nobody had where there is none.
+fn first_seat(alloc: Global, roster: &Roster, place: usize) -> Result<Seat, AllocError>
+    ensures { IfOk result (λ seat. seat ≡ first_seat (slice_get roster.now place)) }
+{
+    match roster.get(place) {
+        Some((_, limits)) => Seat::given(alloc, limits),
+        None => Ok(Seat::unused()),
+    }
 }
 
 // Whether this worker solves a round.

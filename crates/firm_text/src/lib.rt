@@ -27,7 +27,7 @@ pub use inputs::Line;
 pub use laws::{admits_records, refuses_first_fault};
 pub use operator::OperatorRefusal;
 pub use reading::line;
-pub use registers::Register;
+pub use registers::{MOST_ADMISSIONS, PLACES, Register};
 pub use replies::{put_reply, reply_text};
 pub use rosters::Roster;
 

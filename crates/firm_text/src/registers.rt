@@ -11,11 +11,11 @@ use crate::rosters::Roster;
 use firm_rules::Name;
 use std::marker::Model;
 
-/// A register has this many places.
-const PLACES: usize = 64;
+/// A service has this many places.
+pub const PLACES: usize = 64;
 
 /// A place is given at most this often, a roster's row included.
-const MOST_ADMISSIONS: u32 = 32_768;
+pub const MOST_ADMISSIONS: u32 = 32_768;
 
 /// A place, the tenant that has it, and how often it was given.
 #[derive(Clone, Copy, Debug, PartialEq, Eq)]

@@ -2,14 +2,22 @@
 use Rattle.std.specs.Prelude.{◌≡◌, ℕ, ◌+◌, ◌≤◌, ◌==◌, List, [], ◌∷◌, Option, Some, None, length, slice_get}
 use Rattle.std.specs.List.{filter}
 use Rattle.firm_rules.specs.declared.tickets.Ticket.{Ticket}
-use Rattle.firm_table.specs.Interleaving.{Station, home, queued, held, answered, Seat, TableState}
+use Rattle.firm_text.specs.Registers.{most_places}
+use Rattle.firm_text.specs.Rosters.{Admitted as Row}
+use Rattle.firm_table.specs.Interleaving.{Station, empty, home, queued, held, answered, Seat, TableState, opening_seat, unused_seat}
 
 -- the table of these parts
 abbrev pub table_of : ℕ → List Seat → List Ticket → TableState
 table_of workers seats queue = record { workers = workers; seats = seats; queue = queue }
 
+-- the seat of a place before the first event, where the roster may have a row for it
+abbrev pub first_seat : Option Row → Seat
+first_seat None = unused_seat
+first_seat (Some row) = opening_seat row
+
 -- the ticket of a round that waits in the queue
 abbrev pub queued_ticket : Station → List Ticket
+queued_ticket empty = []
 queued_ticket (home book) = []
 queued_ticket (queued book ticket) = ticket ∷ []
 queued_ticket (held book ticket worker) = []
@@ -31,6 +39,6 @@ waiting (seat ∷ rest) = length (queued_ticket seat.station) + waiting rest
 
 -- the queue holds, of each place, the ticket of its tenant where that waits, and no other; so it is as long as there are places that wait
 pub record IsSound (table : TableState) : Type 0 where
-  pub few : length table.seats ≤ 64
+  pub few : length table.seats ≤ most_places
   pub as_many : length table.queue ≡ waiting table.seats
   pub holds : (place : ℕ) → tickets_of place table.queue ≡ waiting_at (slice_get table.seats place)

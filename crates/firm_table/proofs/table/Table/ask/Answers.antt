@@ -1,6 +1,5 @@
-use Rattle.std.proofs.Common.{◌≡◌, false, ◌∙◌, ◌+◌, ◌<◌, ◌++◌, ◌∷◌, [], ℕ, List, length, ap, sym, subst, rules, arith}
+use Rattle.std.proofs.Common.{false, ◌∙◌, ◌<◌, ◌++◌, length, ap, sym, subst, arith}
 use Rattle.std.proofs.lemmas.List.{length-set}
-use Rattle.firm_rules.specs.declared.tickets.Ticket.{Ticket}
 use Rattle.firm_table.specs.Interleaving.{queue_more, asked, next_ticket}
 use Rattle.firm_table.specs.inner.Seats.{Becomes}
 use Rattle.firm_table.specs.declared.events.Answer.{Answer as EventAnswer}

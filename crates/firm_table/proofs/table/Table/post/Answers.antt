@@ -1,9 +1,5 @@
-use Rattle.std.proofs.Common.{◌≡◌, ◌<◌, ℕ, length, sym, ap, subst, rules, arith}
-use Rattle.std.specs.Prelude.{Some, slice_get, slice_set}
+use Rattle.std.proofs.Common.{◌<◌, length, arith}
 use Rattle.std.proofs.lemmas.List.{length-set}
-use Rattle.firm_table.specs.Interleaving.{TableState}
-use Rattle.firm_table.specs.inner.Events.{IsDone}
-use Rattle.firm_table.specs.declared.events.Event.TheVariants.{Post}
 use Rattle.firm_table.proofs.Moves.{seat_at, posts}
 use Rattle.firm_table.proofs.table.Table.post.Goals as goal
 
