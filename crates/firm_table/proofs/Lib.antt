@@ -12,7 +12,9 @@ mod Progress
 mod Written
 mod Stops
 mod Stations
+mod Kept
 mod Machine
+mod Rows
 mod Agreeing
 mod Interleaved
 mod Waiting

@@ -121,7 +121,7 @@ fits_taken (Some history) (queued book ticket) worker fits = fits
 fits_taken history (held book ticket other) worker fits = fits
 fits_taken history (answered book reply) worker fits = fits
 
-pub fits_solved : RepliesTellTheirMarks → (history : Option History) (station : Station) (mark : Bool) → Fits history station → Fits history (solved station mark).1
+fits_solved : RepliesTellTheirMarks → (history : Option History) (station : Station) (mark : Bool) → Fits history station → Fits history (solved station mark).1
 fits_solved told history empty mark fits = fits
 fits_solved told history (home book) mark fits = fits
 fits_solved told history (queued book ticket) mark fits = fits

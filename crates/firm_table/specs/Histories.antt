@@ -1,5 +1,7 @@
 -- What the tenants of a place were given and replied, one stay after the other, and what each may rely on.
 use Rattle.std.specs.Prelude.{◌≡◌, ℕ, suc, ◌≤◌, ◌<◌, ◌==◌, Bool, true, false, List, [], ◌∷◌, ◌++◌, map, length, Option, Some, None, option_map, option_to_list, slice_get, take, if◌then◌else◌}
+use Rattle.std.specs.List.{list_any}
+use Rattle.std.specs.Option.{is_none}
 use Rattle.firm_rules.specs.Limits.{TenantLimits}
 use Rattle.firm_rules.specs.declared.commands.Command.{Command}
 use Rattle.firm_rules.specs.declared.commands.Command.TheVariants.{Round}
@@ -7,6 +9,7 @@ use Rattle.firm_rules.specs.declared.replies.Reply.{Reply}
 use Rattle.firm_tenant.specs.Step.{is_memory}
 use Rattle.firm_tenant.specs.Alone.{alone_marked}
 use Rattle.firm_text.specs.Rosters.{Admitted as Row}
+use Rattle.firm_table.specs.Fitting.{is_empty}
 use Rattle.firm_table.specs.Places.{Given}
 use Rattle.firm_table.specs.Interleaving.{is_home, Seat, MarkedEvent, opening_table, event_answers, table_after}
 use Rattle.firm_table.specs.declared.events.Event.{Event}
@@ -94,9 +97,32 @@ abbrev pub ended_at : List Row → ℕ → ℕ → List MarkedEvent → List His
 ended_at roster workers place events =
     ended_behind place (opening_history roster place) events (event_answers (opening_table roster workers) events)
 
--- all stays at the place, one after the other. Where no event admits or retires a tenant, there is one at the place of each row, and no other
+-- all stays at the place, one after the other
 abbrev pub stays_at : List Row → ℕ → ℕ → List MarkedEvent → List History
 stays_at roster workers place events = ended_at roster workers place events ++ option_to_list (history_at roster workers place events)
+
+-- whether an event is a tenant's coming or going
+abbrev pub comes_or_goes : Event → Bool
+comes_or_goes (Post place command) = false
+comes_or_goes (Ask place) = false
+comes_or_goes (Take worker) = false
+comes_or_goes (Answer worker) = false
+comes_or_goes (Collect place) = false
+comes_or_goes (Admit place limits) = true
+comes_or_goes (Retire place) = true
+
+-- where no tenant comes or goes, none has ended its stay, and those that stand are those of the roster's rows, each at its place
+abbrev pub RowsStay : Type 0
+RowsStay = (roster : List Row) (workers place : ℕ) (events : List MarkedEvent) → list_any (λ given. comes_or_goes given.0) events ≡ false
+    → (ended_at roster workers place events ≡ [])
+    × (option_map (λ stay. stay.limits) (history_at roster workers place events) ≡ option_map (λ row. row.1) (slice_get roster place))
+
+-- no stay is left out: a place has had as many as it was given tenants, and one stands there unless nobody does
+abbrev pub StaysAreCounted : Type 0
+StaysAreCounted = (roster : List Row) (workers place : ℕ) (events : List MarkedEvent) (seat : Seat)
+    → slice_get (table_after (opening_table roster workers) events).seats place ≡ Some seat
+    → (length (stays_at roster workers place events) ≡ seat.admissions)
+    × (is_none (history_at roster workers place events) ≡ is_empty seat.station)
 
 -- the replies are the first ones of a tenant alone to the commands, with marks on just those that are refused for want of memory; one more
 -- command may wait for its reply

@@ -3,7 +3,8 @@
 ghost use Rattle.firm_table.specs.Isolation.{AnswersLineByLine, RepliesAreAlone, StaysAreIsolated};
 ghost use Rattle.firm_table.specs.Isolation.{StaysAreServedAlone, StaysHoldTheirLines, TenantsAreIsolated};
 ghost use Rattle.firm_table.specs.Isolation.{NeedsNoMarks, MayGoUnmarked};
-ghost use Rattle.firm_table.specs.Histories.{EventsKeepAlone, EventsAreIsolated};
+ghost use Rattle.firm_table.specs.Histories.{EventsKeepAlone, RowsStay, StaysAreCounted};
+ghost use Rattle.firm_table.specs.Histories.{EventsAreIsolated};
 ghost use Rattle.firm_table.specs.inner.Adding.{NothingIsTold, OneMoreIsTold, FrontIsWritten, ToldBegins};
 ghost use Rattle.firm_table.specs.inner.Adding.{AllIsWritten, OneMoreBegins, TenantsAreAnswered, StrangersAreAnswered};
 
@@ -12,8 +13,11 @@ use firm_tenant::{replies_tell_their_marks, unmarked_steps_are_granted};
 /// The laws on the service's answers: they come line by line; each tenant gets the replies of a service that holds this
 /// tenant alone and is given its commands alone, whatever else stands in the roster and in the input; and where memory
 /// is refused to no line, the output is a function of the roster and of the bytes read. For every list of the table's
-/// events, a tenant's replies are the first ones of a tenant alone to the same commands, all of them where it is home;
-/// and tenants that agree so far have got the same replies so far, whatever events of others stand between.
+/// events, and for each stay of a tenant at a place, one after the other, the replies are the first ones of a tenant
+/// alone with the same limits to the same commands, all of them once the stay has ended or where the tenant is home. No
+/// stay is left out, and where nobody comes or goes they are those of the roster's rows. And stays that began with the
+/// same limits and agree so far have got the same replies so far, whatever events of others stand between and whoever
+/// was there before.
 pub fn isolation()
     ensures line_by_line { AnswersLineByLine }
     ensures alone { RepliesAreAlone }
@@ -24,6 +28,8 @@ pub fn isolation()
     ensures no_marks { NeedsNoMarks }
     ensures unmarked { MayGoUnmarked }
     ensures events { EventsKeepAlone }
+    ensures rows { RowsStay }
+    ensures counted { StaysAreCounted }
     ensures agreeing { EventsAreIsolated }
 {
     unmarked_steps_are_granted();

@@ -2,8 +2,8 @@
 
 ghost use Rattle.std.specs.Prelude.{◌≡◌, ℕ, Bool, false, IfOk};
 ghost use Rattle.firm_rules.specs.Book.{opening_book};
-ghost use Rattle.firm_table.specs.Interleaving.{home, posted, asked, is_held, taken_by, solved, collected, admitted, retired};
-ghost use Rattle.firm_table.specs.Interleaving.{next_ticket, unused_seat};
+ghost use Rattle.firm_table.specs.Interleaving.{home, next_ticket, unused_seat, is_held, taken_by};
+ghost use Rattle.firm_table.specs.Interleaving.{posted, asked, solved, collected, admitted, retired};
 ghost use Rattle.firm_table.specs.inner.Seats.{Becomes};
 
 use crate::events::Answer;
@@ -48,7 +48,8 @@ impl Seat {
 
     // A place that is given for the first time, to a tenant with these limits, which is home.
     pub(crate) fn given(alloc: Global, limits: Limits) -> Result<Seat, AllocError>
-        ensures { IfOk result (λ seat. seat ≡ record { station = home (opening_book limits); rounds = 0; admissions = 1 }) }
+        ensures { IfOk result (λ seat. seat
+            ≡ record { station = home (opening_book limits); rounds = 0; admissions = 1 }) }
     {
         Ok(Seat {
             occupant: Some(Occupant::admit(alloc, limits)?),
@@ -129,7 +130,8 @@ impl Seat {
 
     // Gives the place to a new tenant, where nobody is there and it may be given once more.
     pub(crate) fn admit(&mut self, alloc: Global, limits: Limits) -> Answer
-        ensures { (mark : Bool) × Becomes self.old (admitted self.old.station self.old.admissions limits mark) result self.new }
+        ensures { (mark : Bool)
+            × Becomes self.old (admitted self.old.station self.old.admissions limits mark) result self.new }
     {
         if self.occupant.is_some() || MOST_ADMISSIONS <= self.admissions {
             return Answer::NotNow;

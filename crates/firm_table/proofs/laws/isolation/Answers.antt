@@ -2,7 +2,8 @@ use Rattle.firm_table.proofs.Stays.{line_by_line, replies_are_alone, stays_are_i
 use Rattle.firm_table.proofs.Lines.{stays_hold_their_lines, needs_no_marks}
 use Rattle.firm_table.proofs.SameRow.{tenants_are_isolated}
 use Rattle.firm_table.proofs.Unmarked.{may_go_unmarked}
-use Rattle.firm_table.proofs.Machine.{events_keep_alone}
+use Rattle.firm_table.proofs.Machine.{events_keep_alone, stays_are_counted}
+use Rattle.firm_table.proofs.Rows.{rows_stay}
 use Rattle.firm_table.proofs.Agreeing.{events_are_isolated}
 use Rattle.firm_table.proofs.laws.isolation.Goals as goal
 
@@ -32,6 +33,12 @@ returns-clause-unmarked c = may_go_unmarked c.unmarked_steps_are_granted.ensures
 
 pub returns-clause-events : goal.returns-clause-events
 returns-clause-events c = events_keep_alone c.replies_tell_their_marks.ensures
+
+pub returns-clause-rows : goal.returns-clause-rows
+returns-clause-rows c = rows_stay
+
+pub returns-clause-counted : goal.returns-clause-counted
+returns-clause-counted c = stays_are_counted c.replies_tell_their_marks.ensures
 
 pub returns-clause-agreeing : goal.returns-clause-agreeing
 returns-clause-agreeing c = events_are_isolated c.replies_tell_their_marks.ensures
