@@ -13,7 +13,7 @@ use Rattle.firm_rules.specs.declared.commands.Command.TheVariants.{Round}
 use Rattle.firm_rules.specs.declared.tickets.Ticket.{Ticket}
 use Rattle.firm_tenant.specs.Step.{step}
 use Rattle.firm_text.specs.Registers.{most_admissions}
-use Rattle.firm_table.specs.Interleaving.{is_round, Station, empty, home, queued, held, answered, is_home, Seat, TableState, posted, asked, taken_by, is_held, solved, collected, admitted, retired, next_ticket, local, seat_behind, at_place, place_held, taking, take_front, may_take, answering, happens, queue_more}
+use Rattle.firm_table.specs.Interleaving.{is_round, Station, empty, home, queued, held, answered, is_home, Seat, TableState, posted, asked, taken_by, is_held, solved, collected, admitted, retired, next_ticket, local, seat_behind, at_place, place_held, taking, take_front, may_take, answering, happens, queue_more, rounds_more, admissions_more}
 use Rattle.firm_table.specs.Fitting.{is_answered, is_empty, stands, is_free, has_waiting, fits, asks}
 use Rattle.firm_table.specs.inner.Tables.{IsSound}
 use Rattle.firm_table.specs.inner.Events.{IsDone}
@@ -33,6 +33,28 @@ is_not_now Admitted = false
 is_not_now NoMemory = false
 is_not_now Retired = false
 is_not_now NotNow = true
+
+-- whether an answer tells of a change
+abbrev tells_change : EventAnswer → Bool
+tells_change (Replied reply) = true
+tells_change (Queued ticket) = true
+tells_change (Took ticket) = true
+tells_change (Solved ticket) = true
+tells_change Admitted = true
+tells_change NoMemory = false
+tells_change Retired = true
+tells_change NotNow = false
+
+-- one that does not adds nothing
+record AddsNothing (answer : EventAnswer) : Type 0 where
+  pub rounds : rounds_more answer ≡ 0
+  pub admissions : admissions_more answer ≡ 0
+  pub queue : queue_more answer ≡ []
+
+adds_nothing : (answer : EventAnswer) → tells_change answer ≡ false → AddsNothing answer
+adds_nothing NoMemory e = record { rounds = refl; admissions = refl; queue = refl }
+adds_nothing NotNow e = record { rounds = refl; admissions = refl; queue = refl }
+adds_nothing _ e = cc
 
 -- the first that passes a test
 pub record IsAt {X : Type 0} (p : X → Bool) (xs : List X) (place : ℕ) : Type 0 where
@@ -63,10 +85,10 @@ past_all at length_is e = elim (nat_lt at length_is) as (λ b. nat_lt at length_
 no_position : {X : Type 0} (p : X → Bool) (xs : List X) → position p xs ≡ None → list_any p xs ≡ false
 no_position p xs e = none_below p xs (past_all (position_or_len p xs) (length xs) e)
 
--- what stands at a place is as it was where the event does not fit
+-- what stands at a place is as it was where the answer tells of no change
 record IsRight (fit : Bool) (station : Station) (outcome : EventAnswer × Station) : Type 0 where
   pub refused : is_not_now outcome.0 ≡ not fit
-  pub kept : outcome.0 ≡ NotNow → outcome.1 ≡ station
+  pub kept : tells_change outcome.0 ≡ false → outcome.1 ≡ station
 
 -- and an event that is refused
 right_not_now : (station : Station) → IsRight false station (NotNow, station)
@@ -126,7 +148,7 @@ right_admitted empty admissions limits mark = at (nat_lt admissions most_admissi
     comes = (Admitted, home (opening_book limits))
 
     at : (b : Bool) → IsRight (true && b) empty (if not b then (NotNow, empty) else if mark then nobody else comes)
-    at true = right_either true mark empty nobody comes (record { refused = refl; kept = λ e. cc }) (record { refused = refl; kept = λ e. cc })
+    at true = right_either true mark empty nobody comes (record { refused = refl; kept = λ e. refl }) (record { refused = refl; kept = λ e. cc })
     at false = right_not_now empty
 right_admitted (home book) admissions limits mark = right_not_now (home book)
 right_admitted (queued book ticket) admissions limits mark = right_not_now (queued book ticket)
@@ -140,10 +162,10 @@ right_retired (queued book ticket) = right_not_now (queued book ticket)
 right_retired (held book ticket worker) = right_not_now (held book ticket worker)
 right_retired (answered book reply) = right_not_now (answered book reply)
 
--- a table is as it was where the event does not fit, and sound
+-- a table is as it was where the answer tells of no change, and sound
 pub record Goes (table : TableState) (fit : Bool) (outcome : EventAnswer × TableState) : Type 0 where
   pub refused : is_not_now outcome.0 ≡ not fit
-  pub kept : outcome.0 ≡ NotNow → outcome.1 ≡ table
+  pub kept : tells_change outcome.0 ≡ false → outcome.1 ≡ table
   pub sound : IsSound outcome.1
 
 goes_nowhere : (table : TableState) → IsSound table → Goes table false (NotNow, table)
@@ -154,11 +176,13 @@ same_seat [] place seat e = cc
 same_seat (first ∷ rest) zero seat e = cc
 same_seat (first ∷ rest) (suc place) seat e = ap (λ (seats : List Seat). first ∷ seats) (same_seat rest place seat e)
 
-none_added : (seat : Seat) (answer : EventAnswer) (station : Station) → answer ≡ NotNow → station ≡ seat.station → seat_behind seat (answer, station) ≡ seat
-none_added seat answer station e f =
-    ap (λ (p : EventAnswer × Station). seat_behind seat p) (let same : (answer, station) ≡ (NotNow, seat.station) = cc in same)
-    ∙ ap (λ (n : ℕ). let same : Seat = record seat { rounds = n; admissions = seat.admissions + 0 } in same) (let n : seat.rounds + 0 ≡ seat.rounds = omega arith in n)
-    ∙ ap (λ (n : ℕ). let same : Seat = record seat { admissions = n } in same) (let n : seat.admissions + 0 ≡ seat.admissions = omega arith in n)
+none_added : (seat : Seat) (answer : EventAnswer) (station : Station) → AddsNothing answer → station ≡ seat.station → seat_behind seat (answer, station) ≡ seat
+none_added seat answer station adds same =
+    let rounds : seat.rounds + rounds_more answer ≡ seat.rounds = omega (arith, adds.rounds) in
+    let admissions : seat.admissions + admissions_more answer ≡ seat.admissions = omega (arith, adds.admissions) in
+    ap (λ (there : Station). seat_behind seat (answer, there)) same
+    ∙ ap (λ (n : ℕ). let so : Seat = record seat { rounds = n; admissions = seat.admissions + admissions_more answer } in so) rounds
+    ∙ ap (λ (n : ℕ). let so : Seat = record seat { admissions = n } in so) admissions
 
 goes_at : (table : TableState) (place : ℕ) (seat : Seat) (event : Event) (mark fit : Bool) → IsSound table → slice_get table.seats place ≡ Some seat
     → IsRight fit seat.station (local seat place event mark) → Goes table fit (at_place table place (Some seat) event mark)
@@ -167,10 +191,11 @@ goes_at table place seat event mark fit sound here right =
     record {
       refused = right.refused;
       kept = λ e.
+          let adds : AddsNothing outcome.0 = adds_nothing outcome.0 e in
           let seats_are : slice_set table.seats place (seat_behind seat outcome) ≡ table.seats =
-          ap (slice_set table.seats place) (none_added seat outcome.0 outcome.1 e (right.kept e)) ∙ same_seat table.seats place seat here in
+          ap (slice_set table.seats place) (none_added seat outcome.0 outcome.1 adds (right.kept e)) ∙ same_seat table.seats place seat here in
           let queue_is : table.queue ++ queue_more outcome.0 ≡ table.queue =
-          ap (λ (a : EventAnswer). table.queue ++ queue_more a) e ∙ append-nil table.queue in
+          ap (λ (more : List Ticket). table.queue ++ more) adds.queue ∙ append-nil table.queue in
           ap (λ (seats : List Seat). let t : TableState = record table { seats = seats; queue = table.queue ++ queue_more outcome.0 } in t) seats_are
           ∙ ap (λ (queue : List Ticket). let t : TableState = record table { queue = queue } in t) queue_is;
       sound = sound_at table place seat outcome sound here (adds_local seat place event mark);
@@ -276,7 +301,8 @@ done table event mark answer after sound asked_so is =
     record {
       stepped = record { mark = mark; asked = asked_so; happened = is };
       not_now = not_fit answer (fits table event) (ap is_not_now answer_is ∙ way.refused);
-      unchanged = λ e. after_is ∙ way.kept (sym answer_is ∙ e);
+      unchanged = λ e. after_is ∙ way.kept (ap tells_change (sym answer_is ∙ e));
+      no_memory = λ e. after_is ∙ way.kept (ap tells_change (sym answer_is ∙ e));
     }
 
 pub still_sound : (table : TableState) (event : Event) (mark : Bool) (answer : EventAnswer) (after : TableState) → IsSound table

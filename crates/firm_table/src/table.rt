@@ -55,13 +55,15 @@ impl Table {
         })
     }
 
-    /// What happens next, and what it is answered: `NotNow` exactly where the event does not fit, which then changes nothing.
-    /// The allocator is for the list in a reply, and for a tenant that is admitted: it may be admitted 32,768 times to one
-    /// place, a row of the roster counting as once.
+    /// What happens next, and what it is answered: `NotNow` exactly where the event does not fit, which then changes
+    /// nothing; nor does an admission that is answered `NoMemory`, since memory was refused to it. A place is given at
+    /// most 32,768 times, a row of the roster counting as once. The allocator is for the list in a reply, and for a tenant
+    /// that is admitted.
     pub fn event(&mut self, alloc: Global, event: Event) -> Answer
         ensures stepped { IsStep self.old event result self.new }
         ensures not_now { (result ≡ Answer.NotNow) ↔ (fits self.old event ≡ false) }
         ensures unchanged { result ≡ Answer.NotNow → self.new ≡ self.old }
+        ensures no_memory { result ≡ Answer.NoMemory → self.new ≡ self.old }
     {
         match event {
             Event::Post(place, command) => self.post(alloc, place, command),

@@ -32,14 +32,14 @@ seat_of occupant rounds admissions = record { station = station_at occupant; rou
 abbrev pub rounds_of : ℕ → ℕ
 rounds_of tenants = tenants * 2 ^ 40
 
--- a tenant was given no more commands than its life has; beside the rounds of those before it, its place has queued no more rounds than it was
--- given commands, and this many
+-- a tenant was given no more commands than its life has, so many rounds that are on their way among them; and its place has queued no more
+-- rounds than that, beside those that the tenants before it may have queued
 pub record IsWithin (book : Book) (more rounds admissions : ℕ) : Type 0 where
   pub life : book.rows.limits.life ≤ 2 ^ 40
   pub given : book.given + more ≤ book.rows.limits.life
   pub queued : rounds + rounds_of 1 ≤ rounds_of admissions + book.given + more
 
--- one command more is a round that is not solved yet
+-- what stands at a place: a round that is queued or held is on its way
 abbrev pub StayFits : Station → ℕ → ℕ → Type 0
 StayFits empty rounds admissions = Unit {0}
 StayFits (home book) rounds admissions = IsWithin book 0 rounds admissions
