@@ -10,6 +10,7 @@ ghost use Rattle.firm_net.specs.Links.{links_from, links_past, loose_link, arc_a
 use crate::row::{ArcId, ArcRow, NodeId};
 use firm_arena::Arena;
 use std::alloc::{AllocError, Global};
+use std::marker::Model;
 
 /// Which of the two lists of a node: the arcs out of it, or the arcs into it.
 #[derive(Clone, Copy)]
@@ -18,11 +19,62 @@ pub enum Side {
     In,
 }
 
+/// The place of an arc, or none. It takes four bytes, where an `Option<u32>` takes eight.
+#[derive(Clone, Copy)]
+pub struct Place {
+    number: u32,
+}
+
+// The number that stands for none. No net has room for so many arcs.
+const NOWHERE: u32 = u32::MAX;
+
+impl Model for Place {
+    ghost use Rattle.std.specs.Prelude.{ℕ, Option};
+
+    ghost Value = { Option ℕ };
+
+    ghost use Rattle.firm_net.specs.Place.{named, number_of, number_kept};
+
+    ghost view = { named };
+
+    ghost inverse = { number_of };
+
+    ghost inverse_ok = { λ p h. number_kept p };
+}
+
+impl Place {
+    /// No place.
+    pub fn none() -> Place
+        ensures { result ≡ None }
+    {
+        Place { number: NOWHERE }
+    }
+
+    /// The place of this number.
+    pub fn at(place: u32) -> Place
+        requires { place + 1 < 2 ^ 32 }
+        ensures { result ≡ Some place }
+    {
+        Place { number: place }
+    }
+
+    /// The number of the place, if there is one.
+    pub fn get(self) -> Option<u32>
+        ensures { result ≡ self }
+    {
+        if self.number == NOWHERE {
+            None
+        } else {
+            Some(self.number)
+        }
+    }
+}
+
 /// The entry of an arc in an incidence list: the places of the arcs before and after it there.
 #[derive(Clone, Copy)]
 pub struct Neighbours {
-    pub next: Option<u32>,
-    pub previous: Option<u32>,
+    pub next: Place,
+    pub previous: Place,
 }
 
 /// An arc: its row, its entry in the list of its tail, and its entry in the list of its head.
@@ -36,7 +88,7 @@ pub struct Link {
 /// One incidence list of a node: the place of its first arc, and how many arcs it has.
 #[derive(Clone, Copy)]
 pub struct ArcList {
-    pub first: Option<u32>,
+    pub first: Place,
     pub count: u32,
 }
 
@@ -47,13 +99,25 @@ pub struct Node {
     pub incoming: ArcList,
 }
 
+impl Neighbours {
+    /// The entry of an arc that stands in no list.
+    fn none() -> Neighbours
+        ensures { result ≡ record { next = None; previous = None } }
+    {
+        Neighbours {
+            next: Place::none(),
+            previous: Place::none(),
+        }
+    }
+}
+
 impl ArcList {
     /// A list without arcs.
     pub fn new() -> ArcList
         ensures { result ≡ record { first = None; count = 0 } }
     {
         ArcList {
-            first: None,
+            first: Place::none(),
             count: 0,
         }
     }
@@ -64,14 +128,10 @@ impl Link {
     pub fn new(row: ArcRow) -> Link
         ensures { result ≡ loose_link row }
     {
-        let none = Neighbours {
-            next: None,
-            previous: None,
-        };
         Link {
             row,
-            outgoing: none,
-            incoming: none,
+            outgoing: Neighbours::none(),
+            incoming: Neighbours::none(),
         }
     }
 
@@ -93,7 +153,7 @@ impl Link {
         }
     }
 
-    fn set_next(&mut self, side: Side, next: Option<u32>)
+    fn set_next(&mut self, side: Side, next: Place)
         ensures { self.new ≡ with_next side next self.old }
     {
         match side {
@@ -102,7 +162,7 @@ impl Link {
         }
     }
 
-    fn set_previous(&mut self, side: Side, previous: Option<u32>)
+    fn set_previous(&mut self, side: Side, previous: Place)
         ensures { self.new ≡ with_previous side previous self.old }
     {
         match side {
@@ -117,10 +177,9 @@ impl Node {
     pub fn new() -> Node
         ensures { result ≡ empty_node }
     {
-        let none = ArcList::new();
         Node {
-            outgoing: none,
-            incoming: none,
+            outgoing: ArcList::new(),
+            incoming: ArcList::new(),
         }
     }
 
@@ -158,10 +217,10 @@ pub fn two_arenas<N: Drop, L: Drop>(
 }
 
 /// Names other neighbours of the arc at a place, where a place is named.
-fn set_neighbours(links: &mut Arena<Link>, side: Side, place: Option<u32>, neighbours: Neighbours)
+fn set_neighbours(links: &mut Arena<Link>, side: Side, place: Place, neighbours: Neighbours)
     ensures { links.new ≡ at_option links.old place (with_neighbours side neighbours) }
 {
-    let Some(place) = place else {
+    let Some(place) = place.get() else {
         return;
     };
     let Some(id) = links.id_at(place) else {
@@ -174,10 +233,10 @@ fn set_neighbours(links: &mut Arena<Link>, side: Side, place: Option<u32>, neigh
 }
 
 /// Names another arc behind the one at a place, where a place is named.
-fn set_next(links: &mut Arena<Link>, side: Side, place: Option<u32>, next: Option<u32>)
+fn set_next(links: &mut Arena<Link>, side: Side, place: Place, next: Place)
     ensures { links.new ≡ at_option links.old place (with_next side next) }
 {
-    let Some(place) = place else {
+    let Some(place) = place.get() else {
         return;
     };
     let Some(id) = links.id_at(place) else {
@@ -190,10 +249,10 @@ fn set_next(links: &mut Arena<Link>, side: Side, place: Option<u32>, next: Optio
 }
 
 /// Names another arc before the one at a place, where a place is named.
-fn set_previous(links: &mut Arena<Link>, side: Side, place: Option<u32>, previous: Option<u32>)
+fn set_previous(links: &mut Arena<Link>, side: Side, place: Place, previous: Place)
     ensures { links.new ≡ at_option links.old place (with_previous side previous) }
 {
-    let Some(place) = place else {
+    let Some(place) = place.get() else {
         return;
     };
     let Some(id) = links.id_at(place) else {
@@ -224,7 +283,8 @@ pub fn link_at_front(
     node: NodeId,
     arc: ArcId,
 )
-    requires { IsSomeAnd (find nodes.old node.id) (λ owner. (list_of side owner).count + 1 < 2 ^ 32) }
+    requires list { IsSomeAnd (find nodes.old node.id) (λ owner. (list_of side owner).count + 1 < 2 ^ 32) }
+    requires place { arc.id.place + 1 < 2 ^ 32 }
     ensures nodes { IfSome (find nodes.old node.id) (λ owner.
         nodes.new ≡ changed_at nodes.old node.id.place
         (with_arc_list side (list_from arc.id.place (list_of side owner)))) }
@@ -235,10 +295,10 @@ pub fn link_at_front(
         unreachable!()
     };
     let list = owner.list(side);
-    let place = Some(arc.id.place);
+    let place = Place::at(arc.id.place);
     let neighbours = Neighbours {
         next: list.first,
-        previous: None,
+        previous: Place::none(),
     };
     set_neighbours(links, side, place, neighbours);
     set_previous(links, side, list.first, place);
@@ -277,20 +337,20 @@ pub fn unlink(
 }
 
 /// The first arc of a list, once the arc with these neighbours left it.
-fn first_past(around: Neighbours, first: Option<u32>) -> Option<u32>
+fn first_past(around: Neighbours, first: Place) -> Place
     ensures { result ≡ first_past around.previous around.next first }
 {
-    match around.previous {
+    match around.previous.get() {
         None => around.next,
         Some(_) => first,
     }
 }
 
 /// The arc at a place, where one is named and there.
-pub fn arc_at(links: &Arena<Link>, place: Option<u32>) -> Option<ArcId>
+pub fn arc_at(links: &Arena<Link>, place: Place) -> Option<ArcId>
     ensures { result ≡ arc_at links.now place }
 {
-    let id = links.id_at(place?)?;
+    let id = links.id_at(place.get()?)?;
     Some(ArcId { id })
 }
 

@@ -3,7 +3,7 @@ ghost use Rattle.std.specs.Prelude.{◌≡◌};
 ghost use Rattle.std.specs.Iterator.{YieldsFirst, item_count};
 ghost use Rattle.firm_net.specs.Links.{walk_rows};
 
-use crate::links::{ArcList, Link, Side};
+use crate::links::{ArcList, Link, Place, Side};
 use crate::row::{ArcId, ArcRow};
 use firm_arena::Arena;
 use std::marker::Model;
@@ -13,7 +13,7 @@ use std::marker::Model;
 pub struct Arcs<'a> {
     links: &'a Arena<Link>,
     side: Side,
-    next: Option<u32>,
+    next: Place,
     left: u32,
 }
 
@@ -53,7 +53,7 @@ impl<'a> Iterator for Arcs<'a> {
         if self.left == 0 {
             return None;
         }
-        let id = self.links.id_at(self.next?)?;
+        let id = self.links.id_at(self.next.get()?)?;
         let link = self.links.get(id)?;
         self.left -= 1;
         self.next = link.neighbours(self.side).next;

@@ -28,13 +28,13 @@ adds c =
     c.link_at_front.ensures.nodes c.link_at_front.ensures.links c.link_at_front-2.ensures.nodes
     c.link_at_front-2.ensures.links
 
-pub link_at_front-requires : goal.link_at_front-requires
-link_at_front-requires c =
+pub link_at_front-requires-clause-list : goal.link_at_front-requires-clause-list
+link_at_front-requires-clause-list c =
     first-fits Out c.self.inside.links c.self.inside.nodes c.tail-tail.result c.self.invariant.net
     c.self.invariant.shows (ap (λ (o : Option Node). is_some o) (sym c.get.ensures.value ∙ sym c.in-Some.ensures))
 
-pub link_at_front-requires-2 : goal.link_at_front-requires-2
-link_at_front-requires-2 c =
+pub link_at_front-requires-2-clause-list : goal.link_at_front-requires-2-clause-list
+link_at_front-requires-2-clause-list c =
     next-fits c.self.inside.links c.self.inside.nodes c.link_at_front.new.nodes c.tail-tail.result.id.place
     (list_from c.in-Ok.id.place (list_of Out c.in-Some._from)) Out c.head-head.result c.self.invariant.net
     c.self.invariant.shows

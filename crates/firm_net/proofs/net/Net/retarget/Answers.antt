@@ -18,8 +18,8 @@ unlink-requires c =
     c.self.invariant.net
     c.self.invariant.shows (sym c.get.ensures.value ∙ sym c.in-Some.ensures) c.head-old.ensures.value
 
-pub link_at_front-requires : goal.link_at_front-requires
-link_at_front-requires c =
+pub link_at_front-requires-clause-list : goal.link_at_front-requires-clause-list
+link_at_front-requires-clause-list c =
     past-fits c.self.inside.links c.self.inside.nodes c.unlink.new.nodes c.args.arc c.in-Some.link c.head-old.result
     c.args.head
     c.self.invariant.net c.self.invariant.shows (sym c.get.ensures.value ∙ sym c.in-Some.ensures)
