@@ -1,10 +1,12 @@
 -- How many rounds the lines of an input ask.
 use Rattle.std.specs.Prelude.{◌≡◌, ℕ, ◌+◌, ◌≤◌, Bool, true, false, not, List, [], ◌∷◌, if◌then◌else◌}
 use Rattle.firm_rules.specs.declared.commands.Command.{Command}
-use Rattle.firm_rules.specs.declared.commands.Command.TheVariants.{AddMachine, AddJob, AddTask, Drain, CloseJob, Done, Find, Show, Costs, Round, Faulty}
+use Rattle.firm_rules.specs.declared.commands.Command.TheVariants.{AddMachine, AddJob, AddTask, Drain, CloseJob, Done}
+use Rattle.firm_rules.specs.declared.commands.Command.TheVariants.{Find, Show, Costs, Round, Faulty}
 use Rattle.firm_rules.specs.declared.replies.Reply.{Reply}
 use Rattle.firm_rules.specs.declared.replies.Outcome.{Outcome}
-use Rattle.firm_rules.specs.declared.replies.Outcome.TheVariants.{Plain, Evicted, At, Waits, Shown, Costs as CostsOutcome, Round as RoundOutcome, Refused}
+use Rattle.firm_rules.specs.declared.replies.Outcome.TheVariants.{Plain, Evicted, At, Waits, Shown, Refused}
+use Rattle.firm_rules.specs.declared.replies.Outcome.TheVariants.{Costs as CostsOutcome, Round as RoundOutcome}
 use Rattle.firm_rules.specs.declared.replies.Refusal.TheVariants.{Worn}
 use Rattle.firm_text.specs.declared.inputs.Line.{Line}
 use Rattle.firm_text.specs.declared.inputs.Line.TheVariants.{Nothing, Long, Nameless, For}
@@ -54,8 +56,8 @@ pub record Counted (asked : ℕ) (lines : List MarkedLine) (answers : List Answe
   pub least : asked ≤ rounds_in lines answers
   pub most : rounds_in lines answers ≤ asked + refusals_in answers
 
--- What Ok says of a service: what was written is the output for all that was read; and so many rounds were asked, which are all that
--- the lines tell where no answer says that memory was refused.
+-- What Ok says of a service: what was written is the output for all that was read; and so many rounds were asked, which
+-- are all that the lines tell where no answer says that memory was refused.
 pub record ServedWith (roster : List Admitted) (most : ℕ) (reader writer : Device) (asked : ℕ) : Type 0 where
   pub served : Served roster most reader writer
   pub counted : Counted asked served.answers.lines (answers_of roster served.answers.lines)

@@ -31,8 +31,8 @@ pub enum CloseFault {
 }
 
 impl Hall {
-    /// Closes the hall, with its desks and the reports of its workers. Ok says that the reports' tickets are those that the desks asked,
-    /// each exactly once, and how many they are. It takes no memory.
+    /// Closes the hall, with its desks and the reports of its workers. Ok says that the reports' tickets are those that
+    /// the desks asked, each exactly once, and how many they are. It takes no memory.
     pub fn close<R: Wait>(
         self,
         rt: &R,
@@ -41,7 +41,9 @@ impl Hall {
     ) -> Result<Totals, CloseFault>
         requires desks { All (λ d. d.queue ≡ self.id) desks.items }
         requires reports { All (λ r. r.queue ≡ self.id) reports.items }
-        ensures { MatchResult result (λ totals. IsClosed desks.items reports.items [] × (totals.rounds ≡ taken_count reports.items)) (IsCloseFault self desks.items reports.items) }
+        ensures { MatchResult result
+            (λ totals. IsClosed desks.items reports.items [] × (totals.rounds ≡ taken_count reports.items))
+            (IsCloseFault self desks.items reports.items) }
     {
         let (desk_count, worker_count) = self.counts();
         if desks.len() < desk_count || reports.len() < worker_count {
@@ -84,7 +86,8 @@ fn gather(queue: Queue, desks: &mut [Desk], reports: &mut [Report]) -> Closing
 fn give_desks(closing: &mut Closing, desks: &mut [Desk])
     requires { All (λ d. d.queue ≡ closing.old.id) desks.old }
     ensures id { closing.new.id ≡ closing.old.id }
-    ensures shares { (f : Share → ℕ) → weigh f closing.new.shares ≡ weigh f closing.old.shares + weigh (λ d. f (share d.place d.put [])) desks.old }
+    ensures shares { (f : Share → ℕ)
+        → weigh f closing.new.shares ≡ weigh f closing.old.shares + weigh (λ d. f (share d.place d.put [])) desks.old }
     ensures desks { desks.new ≡ map spent_desk desks.old }
 {
     for i in 0..desks.len() {

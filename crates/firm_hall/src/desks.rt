@@ -16,7 +16,8 @@ use std::alloc::{AllocError, Global};
 use std::marker::Model;
 use std::sync::Wait;
 
-/// A tenant at home: whoever holds the desk owns it. Contracts see its hall, its place, how many rounds it asked and its book.
+/// A tenant at home: whoever holds the desk owns it. Contracts see its hall, its place, how many rounds it asked and
+/// its book.
 #[derive(Drop)]
 pub struct Desk {
     tenant: Tenant,
@@ -33,7 +34,8 @@ impl Model for Desk {
     ghost invariant = { λ d. IsLive d.pass.put d.tenant };
 }
 
-/// The token for a tenant whose round is away. Contracts see it as the desk that asked, with the book that was handed over.
+/// The token for a tenant whose round is away. Contracts see it as the desk that asked, with the book that was handed
+/// over.
 #[derive(Drop)]
 pub struct Asked {
     side: AskSide,
@@ -81,11 +83,13 @@ impl Desk {
         self.tenant.step(alloc, command)
     }
 
-    /// Asks for the tenant's round, which goes to a worker of the hall. Where no life is left, or no memory for the way back, the
-    /// desk comes back with the reply that says so.
+    /// Asks for the tenant's round, which goes to a worker of the hall. Where no life is left, or no memory for the way
+    /// back, the desk comes back with the reply that says so.
     pub fn ask<R: Wait>(self, rt: &R, alloc: Global, hall: &Hall) -> Result<Asked, (Desk, Reply)>
         requires { self.queue ≡ hall.now.id }
-        ensures asked { MatchResult result (λ asked. asked ≡ desk_is self.queue self.place (self.put + 1) self.book) (λ back. IsRefused self back.1 back.0) }
+        ensures asked { MatchResult result
+            (λ asked. asked ≡ desk_is self.queue self.place (self.put + 1) self.book)
+            (λ back. IsRefused self back.1 back.0) }
         ensures left { OnOk result (self.book.given < self.book.rows.limits.life) }
     {
         let Desk {
@@ -118,7 +122,8 @@ impl Desk {
     // Hands the pass in.
     pub(crate) fn give(&mut self, closing: &mut Closing)
         requires { self.old.queue ≡ closing.old.id }
-        ensures closing { closing.new ≡ closing_is closing.old.id (closing.old.shares ++ share self.old.place self.old.put [] ∷ []) }
+        ensures closing { closing.new
+            ≡ closing_is closing.old.id (closing.old.shares ++ share self.old.place self.old.put [] ∷ []) }
         ensures desk { self.new ≡ spent_desk self.old }
     {
         closing.put_pass(&mut self.pass);
@@ -126,7 +131,8 @@ impl Desk {
 }
 
 impl Asked {
-    /// The desk with the round's reply, if the round is answered; else the same token. It waits for nobody and takes no memory.
+    /// The desk with the round's reply, if the round is answered; else the same token. It waits for nobody and takes no
+    /// memory.
     pub fn poll(self) -> AskedPoll
         ensures { IsPolled self result }
     {

@@ -36,8 +36,8 @@ impl Model for Hall {
 }
 
 impl Hall {
-    /// A hall for the tenants of the roster, which are admitted, and for 1 to 8 workers: a desk for each row, in order, and a pass for
-    /// each worker. All its memory is taken here; the error comes for want of it alone.
+    /// A hall for the tenants of the roster, which are admitted, and for 1 to 8 workers: a desk for each row, in order,
+    /// and a pass for each worker. All its memory is taken here; the error comes for want of it alone.
     pub fn open(
         alloc: Global,
         roster: &Roster,
@@ -47,7 +47,8 @@ impl Hall {
         ensures counts { IfOk result (λ r. (r.0.puts ≡ length roster.now) × (r.0.pops ≡ workers)) }
         ensures desks { IfOk result (λ r. r.1.items ≡ opening_desks r.0.id 0 roster.now) }
         ensures passes { IfOk result (λ r. r.2.items ≡ new_pops r.0.id workers) }
-        ensures of_this { IfOk result (λ r. All (λ d. d.queue ≡ r.0.id) r.1.items × All (λ p. p.queue ≡ r.0.id) r.2.items) }
+        ensures of_this { IfOk result
+            (λ r. All (λ d. d.queue ≡ r.0.id) r.1.items × All (λ p. p.queue ≡ r.0.id) r.2.items) }
     {
         let (queue, puts, pops) = Queue::open(alloc, roster.len(), workers)?;
         let desks = open_desks(alloc, roster, puts)?;
@@ -90,7 +91,8 @@ impl Hall {
 
     pub(crate) fn pop<R: Wait>(&self, rt: &R, pass: &mut PopPass) -> Option<Job>
         requires { pass.old.queue ≡ self.now.id }
-        ensures { MatchOption result (pass.new ≡ pass.old) (λ job. pass.new ≡ pop_is pass.old.queue (pass.old.got ++ job.ticket ∷ [])) }
+        ensures { MatchOption result (pass.new ≡ pass.old)
+            (λ job. pass.new ≡ pop_is pass.old.queue (pass.old.got ++ job.ticket ∷ [])) }
     {
         self.queue.pop(rt, pass)
     }
@@ -114,7 +116,9 @@ impl Hall {
 fn open_desks(alloc: Global, roster: &Roster, passes: Vec<PutPass>) -> Result<Vec<Desk>, AllocError>
     requires count { length passes.items ≡ length roster.now }
     requires unused { All (λ p. p.put ≡ 0) passes.items }
-    ensures { IfOk result (λ desks. (id : _) → passes.items ≡ new_puts id (length roster.now) → desks.items ≡ opening_desks id 0 roster.now) }
+    ensures { IfOk result (λ desks. (id : _)
+        → passes.items ≡ new_puts id (length roster.now)
+        → desks.items ≡ opening_desks id 0 roster.now) }
 {
     let mut desks = Vec::with_capacity(alloc, roster.len())?;
     for pass in passes {

@@ -1,5 +1,6 @@
 //! The service: a hall, its desks and one to eight workers, from the first byte to the last.
-ghost use Rattle.std.specs.Prelude.{◌≡◌, ℕ, ◌+◌, ◌<◌, ◌≤◌, ◌^◌, [], All, IfOk, IfErr, false, length, map, vec_len, vec_capacity};
+ghost use Rattle.std.specs.Prelude.{◌≡◌, ℕ, ◌+◌, ◌<◌, ◌≤◌, ◌^◌, [], All, IfOk, IfErr, false, length, map};
+ghost use Rattle.std.specs.Prelude.{vec_len, vec_capacity};
 ghost use Rattle.std.specs.Thread.{IsSync};
 ghost use Rattle.firm_table.specs.Service.{Stopped, device};
 ghost use Rattle.firm_rounds.specs.Rounds.{weigh};
@@ -21,14 +22,15 @@ use std::sync::Wait;
 use std::thread;
 use std::thread::{Scope, Threads};
 
-/// Answers the lines of an input of at most `most` bytes, 2^32 at most, for the tenants of the roster, which are admitted first. 1 to 8
-/// workers solve their rounds, each on a thread of its own and after it passed the gate. Answers are written in the order of their
-/// lines. It waits for a round only where the next line is for its tenant, where 1,024 answers are held, or at the end of the input.
+/// Answers the lines of an input of at most `most` bytes, 2^32 at most, for the tenants of the roster, which are
+/// admitted first. 1 to 8 workers solve their rounds, each on a thread of its own and after it passed the gate. Answers
+/// are written in the order of their lines. It waits for a round only where the next line is for its tenant, where
+/// 1,024 answers are held, or at the end of the input.
 ///
-/// On `Ok` a read has found the end of the input, and what was written is the output for all of it. After a fault it is a prefix
-/// of the output for the bytes that were read. `Read` and `Write` come where a call of the reader or the writer failed, `TooLong`
-/// where more than `most` bytes came, and `Memory` where a growth of the service's own was refused or a worker could not be started.
-/// All workers are joined first.
+/// On `Ok` a read has found the end of the input, and what was written is the output for all of it. After a fault it is
+/// a prefix of the output for the bytes that were read. `Read` and `Write` come where a call of the reader or the
+/// writer failed, `TooLong` where more than `most` bytes came, and `Memory` where a growth of the service's own was
+/// refused or a worker could not be started. All workers are joined first.
 pub fn serve<S: Source, W: Sink, R: Threads + Wait + Sync, G: Gate + Sync>(
     rt: &R,
     alloc: Global,
@@ -92,11 +94,13 @@ fn serve_with<S: Source, W: Sink, R: Threads + Wait + Sync, G: Gate + Sync>(
     requires passes { All (λ p. p.queue ≡ hall.now.id) passes.items }
     ensures served { IfOk result (λ r. ServedWith roster.now most
         (device (S.left reader.old) (S.left reader.new) (S.read_failed reader.new))
-        (device (W.written writer.old) (W.written writer.new) (W.write_failed writer.new)) (weigh (λ desk. desk.put) r.0.items)) }
+        (device (W.written writer.old) (W.written writer.new) (W.write_failed writer.new))
+        (weigh (λ desk. desk.put) r.0.items)) }
     ensures stopped { IfErr result (Stopped roster.now most
         (device (S.left reader.old) (S.left reader.new) (S.read_failed reader.new))
         (device (W.written writer.old) (W.written writer.new) (W.write_failed writer.new))) }
-    ensures desks { IfOk result (λ r. All (λ desk. desk.queue ≡ hall.now.id) r.0.items × (length r.0.items ≡ length roster.now)) }
+    ensures desks { IfOk result (λ r. All (λ desk. desk.queue ≡ hall.now.id) r.0.items
+        × (length r.0.items ≡ length roster.now)) }
     ensures reports { IfOk result (λ r. All (λ report. report.queue ≡ hall.now.id) r.1.items) }
 {
     let (served, back, out) = thread::scope(
@@ -113,11 +117,13 @@ fn serve_with<S: Source, W: Sink, R: Threads + Wait + Sync, G: Gate + Sync>(
             ensures writes { result.2.ghost_name ≡ writer.entry.ghost_name }
             ensures served { IfOk result.0 (λ r. ServedWith roster.entry.now most
                 (device (S.left reader.entry.now) (S.left result.1.now) (S.read_failed result.1.now))
-                (device (W.written writer.entry.now) (W.written result.2.now) (W.write_failed result.2.now)) (weigh (λ desk. desk.put) r.0.items)) }
+                (device (W.written writer.entry.now) (W.written result.2.now) (W.write_failed result.2.now))
+                (weigh (λ desk. desk.put) r.0.items)) }
             ensures stopped { IfErr result.0 (Stopped roster.entry.now most
                 (device (S.left reader.entry.now) (S.left result.1.now) (S.read_failed result.1.now))
                 (device (W.written writer.entry.now) (W.written result.2.now) (W.write_failed result.2.now))) }
-            ensures desks { IfOk result.0 (λ r. All (λ desk. desk.queue ≡ hall.entry.now.id) r.0.items × (length r.0.items ≡ length roster.entry.now)) }
+            ensures desks { IfOk result.0 (λ r. All (λ desk. desk.queue ≡ hall.entry.now.id) r.0.items
+                × (length r.0.items ≡ length roster.entry.now)) }
             ensures reports { IfOk result.0 (λ r. All (λ report. report.queue ≡ hall.entry.now.id) r.1.items) }
         {
             let served = serve_in(
@@ -152,11 +158,13 @@ fn serve_in<'s, E: 's, S: Source, W: Sink, R: Threads + Wait + Sync, G: Gate + S
     requires passes { All (λ p. p.queue ≡ hall.now.id) passes.items }
     ensures served { IfOk result (λ r. ServedWith roster.now most
         (device (S.left reader.old) (S.left reader.new) (S.read_failed reader.new))
-        (device (W.written writer.old) (W.written writer.new) (W.write_failed writer.new)) (weigh (λ desk. desk.put) r.0.items)) }
+        (device (W.written writer.old) (W.written writer.new) (W.write_failed writer.new))
+        (weigh (λ desk. desk.put) r.0.items)) }
     ensures stopped { IfErr result (Stopped roster.now most
         (device (S.left reader.old) (S.left reader.new) (S.read_failed reader.new))
         (device (W.written writer.old) (W.written writer.new) (W.write_failed writer.new))) }
-    ensures desks { IfOk result (λ r. All (λ desk. desk.queue ≡ hall.now.id) r.0.items × (length r.0.items ≡ length roster.now)) }
+    ensures desks { IfOk result (λ r. All (λ desk. desk.queue ≡ hall.now.id) r.0.items
+        × (length r.0.items ≡ length roster.now)) }
     ensures reports { IfOk result (λ r. All (λ report. report.queue ≡ hall.now.id) r.1.items) }
 {
     let count = passes.len();
@@ -194,11 +202,13 @@ fn serve_desks<S: Source, W: Sink, R: Wait>(
     requires desks { desks.items ≡ opening_desks hall.now.id 0 roster.now }
     ensures served { IfOk result (λ desks. ServedWith roster.now most
         (device (S.left reader.old) (S.left reader.new) (S.read_failed reader.new))
-        (device (W.written writer.old) (W.written writer.new) (W.write_failed writer.new)) (weigh (λ desk. desk.put) desks.items)) }
+        (device (W.written writer.old) (W.written writer.new) (W.write_failed writer.new))
+        (weigh (λ desk. desk.put) desks.items)) }
     ensures stopped { IfErr result (Stopped roster.now most
         (device (S.left reader.old) (S.left reader.new) (S.read_failed reader.new))
         (device (W.written writer.old) (W.written writer.new) (W.write_failed writer.new))) }
-    ensures desks { IfOk result (λ desks. All (λ desk. desk.queue ≡ hall.now.id) desks.items × (length desks.items ≡ length roster.now)) }
+    ensures desks { IfOk result (λ desks. All (λ desk. desk.queue ≡ hall.now.id) desks.items
+        × (length desks.items ≡ length roster.now)) }
 {
     if !are_running {
         return Err(ServeFault::Memory);

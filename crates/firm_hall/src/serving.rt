@@ -1,5 +1,6 @@
 //! Lines are answered in order at the desks, while rounds are away.
-ghost use Rattle.std.specs.Prelude.{◌≡◌, ℕ, ◌+◌, ◌<◌, ◌≤◌, ◌++◌, ◌∷◌, All, Bool, List, Option, Some, [], IfOk, IfErr, OnOk, OnErr, false, length, map, take, vec_capacity, MatchBool};
+ghost use Rattle.std.specs.Prelude.{◌≡◌, ℕ, ◌+◌, ◌<◌, ◌≤◌, ◌++◌, ◌∷◌, All, Bool, List, Option, Some, [], false};
+ghost use Rattle.std.specs.Prelude.{IfOk, IfErr, OnOk, OnErr, MatchBool, length, map, take, vec_capacity};
 ghost use Rattle.std.specs.VecDeque.{deque_len, deque_capacity};
 ghost use Rattle.std.specs.Io.KnownBytes.{Appends};
 ghost use Rattle.firm_text.specs.Inputs.{input_lines};
@@ -12,7 +13,9 @@ ghost use Rattle.firm_rounds.specs.Rounds.{weigh};
 ghost use Rattle.firm_hall.specs.Opening.{opening_desks};
 ghost use Rattle.firm_hall.specs.declared.seats.Seat.TheVariants.{Home};
 ghost use Rattle.firm_hall.specs.inner.Seats.{filled_if};
-ghost use Rattle.firm_hall.specs.inner.Serving.{answer_in, asked_at, AreOpen, IsOpen, TellsAll, Keeps, Takes, Passes, Begins, FirstIsFor, FirstWaits, FirstIsKnown, IsHomeAt, AllHome, IsWrittenOut, IsFinished};
+ghost use Rattle.firm_hall.specs.inner.Serving.{answer_in, asked_at, AreOpen, IsOpen, TellsAll, Keeps, Takes, Passes};
+ghost use Rattle.firm_hall.specs.inner.Serving.{Begins, FirstIsFor, FirstWaits, FirstIsKnown, IsHomeAt, AllHome};
+ghost use Rattle.firm_hall.specs.inner.Serving.{IsWrittenOut, IsFinished};
 
 use crate::desks::Desk;
 use crate::halls::Hall;
@@ -29,8 +32,8 @@ use std::sync::Wait;
 /// How many answers are held at most.
 const HELD: usize = 1_024;
 
-/// A hall that serves: what stands at each place, the answers that are held, in the order of their lines, and those that are still to
-/// be written before them.
+/// A hall that serves: what stands at each place, the answers that are held, in the order of their lines, and those
+/// that are still to be written before them.
 #[derive(Drop)]
 pub(crate) struct Serving<'h> {
     hall: &'h Hall,
@@ -380,7 +383,8 @@ fn write_held<W: Sink>(writer: &mut W, output: &mut Vec<u8>) -> Result<(), Serve
     requires { W.write_failed writer.old ≡ false }
     ensures ok { OnOk result (Appends (W.written writer.old) (W.written writer.new) output.old.items) }
     ensures empty { OnOk result (output.new.items ≡ []) }
-    ensures err { OnErr result ((count : ℕ) × (count ≤ length output.old.items) × Appends (W.written writer.old) (W.written writer.new) (take count output.old.items)) }
+    ensures err { OnErr result ((count : ℕ) × (count ≤ length output.old.items)
+        × Appends (W.written writer.old) (W.written writer.new) (take count output.old.items)) }
     ensures cause { IfErr result (λ fault. IsWritingFault fault (W.write_failed writer.new)) }
     ensures well { OnOk result (W.write_failed writer.new ≡ false) }
 {
@@ -422,7 +426,8 @@ fn fill(slots: &mut VecDeque<Slot>, place: usize, reply: Option<Reply>)
 // Adds the text of an answer, which is known. Where memory runs out, a part may have been added.
 fn put_answer(output: &mut Vec<u8>, answer: Slot) -> Result<(), AllocError>
     requires { FirstIsKnown (answer ∷ []) }
-    ensures { OnOk result ((marks : ℕ → Bool) → output.new.items ≡ output.old.items ++ text_of_answer (answer_in marks answer)) }
+    ensures { OnOk result ((marks : ℕ → Bool)
+        → output.new.items ≡ output.old.items ++ text_of_answer (answer_in marks answer)) }
 {
     match answer {
         Slot::TooLong => output.extend_from_slice(b"! line-too-long\n"),

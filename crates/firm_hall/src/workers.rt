@@ -46,7 +46,8 @@ impl WorkerPass {
     }
 }
 
-/// What a worker did. Contracts see its hall and the tickets that it took, in order; at run time it keeps their number alone.
+/// What a worker did. Contracts see its hall and the tickets that it took, in order; at run time it keeps their number
+/// alone.
 #[derive(Drop)]
 pub struct Report {
     taken: PopPass,
@@ -71,7 +72,8 @@ impl Report {
     // Hands the pass in.
     pub(crate) fn give(&mut self, closing: &mut Closing)
         requires { self.old.queue ≡ closing.old.id }
-        ensures closing { (p : ℕ) × (closing.new ≡ closing_is closing.old.id (closing.old.shares ++ share p 0 self.old.got ∷ [])) }
+        ensures closing { (p : ℕ)
+            × (closing.new ≡ closing_is closing.old.id (closing.old.shares ++ share p 0 self.old.got ∷ [])) }
         ensures report { self.new ≡ spent_pop self.old }
     {
         closing.pop_pass(&mut self.taken);
@@ -87,9 +89,9 @@ impl Report {
     }
 }
 
-/// Solves the rounds that it gets from the queue, each after it passed the gate. It ends once it has read the stop word as set and then
-/// found the queue empty. Where it finds nothing otherwise it yields, and after 10,000 tries in vain it also sleeps for a
-/// millisecond at most before the next. The allocator is for the lists in replies.
+/// Solves the rounds that it gets from the queue, each after it passed the gate. It ends once it has read the stop word
+/// as set and then found the queue empty. Where it finds nothing otherwise it yields, and after 10,000 tries in vain it
+/// also sleeps for a millisecond at most before the next. The allocator is for the lists in replies.
 pub fn worker<R: Wait, G: Gate>(
     rt: &R,
     alloc: Global,

@@ -1,5 +1,6 @@
 -- What stands at the places of a hall that serves, and the answers that it holds.
-use Rattle.std.specs.Prelude.{◌≡◌, ℕ, ◌+◌, ◌<◌, ◌==◌, ◌⊎◌, Bool, true, false, List, [], ◌∷◌, Option, Some, None, length, slice_index_or, if◌then◌else◌, MatchBool}
+use Rattle.std.specs.Prelude.{◌≡◌, ℕ, ◌+◌, ◌<◌, ◌==◌, ◌⊎◌, Bool, true, false, List, [], ◌∷◌, Option, Some, None, length}
+use Rattle.std.specs.Prelude.{slice_index_or, if◌then◌else◌, MatchBool}
 use Rattle.firm_rules.specs.Limits.{TenantLimits}
 use Rattle.firm_rules.specs.Book.{Book, opening_book}
 use Rattle.firm_rules.specs.declared.commands.Command.{Command}
@@ -64,13 +65,15 @@ filled_if place None slots = slots
 filled_if place (Some reply) slots = filled place reply slots
 
 -- the desk answered the command; a round that it answers itself is worn, or was refused memory
-pub record Answered (before : DeskIs) (name : List ℕ) (command : Command) (after : DeskIs) (tenant : List ℕ) (reply : Reply) : Type 0 where
+pub record Answered (before : DeskIs) (name : List ℕ) (command : Command) (after : DeskIs) (tenant : List ℕ)
+    (reply : Reply) : Type 0 where
   pub named : tenant ≡ name
   pub stepped : IsStep before command reply after
   pub why : command ≡ Round → (reply.outcome ≡ Refused Worn) ⊎ (reply.outcome ≡ Refused Memory)
 
 -- the desk asked for the round, for which it had life, and an answer waits for its reply
-pub record Went (before : DeskIs) (place : ℕ) (name : List ℕ) (command : Command) (asked : DeskIs) (at : ℕ) (tenant : List ℕ) (known : DeskIs) : Type 0 where
+pub record Went (before : DeskIs) (place : ℕ) (name : List ℕ) (command : Command) (asked : DeskIs) (at : ℕ)
+    (tenant : List ℕ) (known : DeskIs) : Type 0 where
   pub round : command ≡ Round
   pub asked_is : asked ≡ desk_is before.queue before.place (before.put + 1) before.book
   pub left : before.book.given < before.book.rows.limits.life
@@ -81,7 +84,8 @@ pub record Went (before : DeskIs) (place : ℕ) (name : List ℕ) (command : Com
 -- what a command made of a desk of the place, and the answer to its line
 abbrev pub IsTaken : DeskIs → ℕ → List ℕ → Command → Seat → Slot → Type 0
 IsTaken before place name command (Home after) (Replied tenant reply) = Answered before name command after tenant reply
-IsTaken before place name command (Away asked) (Waiting at tenant known) = Went before place name command asked at tenant known.value
+IsTaken before place name command (Away asked) (Waiting at tenant known) =
+    Went before place name command asked at tenant known.value
 IsTaken before place name command (Home after) TooLong = ⊥
 IsTaken before place name command (Home after) Stranger = ⊥
 IsTaken before place name command (Home after) (Waiting at tenant known) = ⊥

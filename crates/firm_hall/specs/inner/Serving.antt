@@ -1,5 +1,6 @@
 -- How far a hall has come that serves.
-use Rattle.std.specs.Prelude.{◌≡◌, ℕ, ◌+◌, ◌<◌, ◌≤◌, Bool, true, false, not, List, [], ◌∷◌, ◌++◌, Option, map, length, slice_index_or, MatchBool}
+use Rattle.std.specs.Prelude.{◌≡◌, ℕ, ◌+◌, ◌<◌, ◌≤◌, Bool, true, false, not, List, [], ◌∷◌, ◌++◌, Option}
+use Rattle.std.specs.Prelude.{map, length, slice_index_or, MatchBool}
 use Rattle.std.specs.List.{flat_map}
 use Rattle.std.specs.VecDeque.{deque_len, deque_capacity}
 use Rattle.firm_rules.specs.Limits.{TenantLimits}
@@ -48,7 +49,8 @@ held_text marks slots = flat_map text_of_answer (map (answer_in marks) slots)
 
 -- the state of the tenants, once those rounds are answered
 abbrev pub state_with : (ℕ → Bool) → List Admitted → List Seat → List Slot → List ℕ → State
-state_with marks roster seats slots output = state_is roster (map (book_at marks) seats) (output ++ held_text marks slots)
+state_with marks roster seats slots output =
+    state_is roster (map (book_at marks) seats) (output ++ held_text marks slots)
 
 -- how many rounds the desk at a seat asked
 abbrev pub asked_at : Seat → ℕ
@@ -83,7 +85,8 @@ SeatIs queue place slots Gone = ⊥
 -- a seat for each place
 pub record AreSeats (queue : QueueId) (count : ℕ) (slots : List Slot) (seats : List Seat) : Type 0 where
   pub long : length seats ≡ count
-  pub each : (place : ℕ) (default : Seat) → place < count → SeatIs queue place slots (slice_index_or seats place default)
+  pub each : (place : ℕ) (default : Seat) → place < count
+      → SeatIs queue place slots (slice_index_or seats place default)
 
 -- the places of the answers that wait are below the count
 abbrev pub IsPlaced : ℕ → Slot → Type 0
@@ -108,13 +111,14 @@ pub record IsOpen (serving : Serving) : Type 0 where
   pub stands : AreOpen serving
   pub more : deque_len serving.slots < 1024
 
--- The lines of this text were answered. However memory is granted to the rounds that are away, what was written and what is held is
--- then the output for them; and as many rounds were asked as these lines tell.
+-- The lines of this text were answered. However memory is granted to the rounds that are away, what was written and
+-- what is held is then the output for them; and as many rounds were asked as these lines tell.
 pub record Tells (state : State) (asked : ℕ) (text : List ℕ) (written now : Option (List ℕ)) : Type 0 where
   pub told : Told state text written now
   pub counted : Counted asked told.lines (answers_of state.roster told.lines)
 
-abbrev pub TellsParts : List Admitted → List Seat → List Slot → List ℕ → List ℕ → Option (List ℕ) → Option (List ℕ) → Type 0
+abbrev pub TellsParts : List Admitted → List Seat → List Slot → List ℕ → List ℕ → Option (List ℕ) → Option (List ℕ)
+    → Type 0
 TellsParts roster seats slots output text written now =
     (marks : ℕ → Bool) → Tells (state_with marks roster seats slots output) (weigh asked_at seats) text written now
 
@@ -125,20 +129,24 @@ TellsAll serving text written now =
 
 -- what was told still is
 abbrev pub Keeps : Serving → Serving → Type 0
-Keeps old new = (text : List ℕ) (written now : Option (List ℕ)) → TellsAll old text written now → TellsAll new text written now
+Keeps old new = (text : List ℕ) (written now : Option (List ℕ))
+    → TellsAll old text written now → TellsAll new text written now
 
 -- and so it is where something was written meanwhile
 abbrev pub Passes : Serving → Serving → Option (List ℕ) → Option (List ℕ) → Type 0
-Passes old new now later = (text : List ℕ) (written : Option (List ℕ)) → TellsAll old text written now → TellsAll new text written later
+Passes old new now later = (text : List ℕ) (written : Option (List ℕ))
+    → TellsAll old text written now → TellsAll new text written later
 
 -- one line more is told
 abbrev pub Takes : Serving → Serving → Line → Type 0
-Takes old new line = (text after : List ℕ) (written now : Option (List ℕ)) → input_lines after ≡ input_lines text ++ line ∷ []
+Takes old new line = (text after : List ℕ) (written now : Option (List ℕ))
+    → input_lines after ≡ input_lines text ++ line ∷ []
     → TellsAll old text written now → TellsAll new after written now
 
 -- what was written begins the output for what was told
 abbrev pub Begins : Serving → Option (List ℕ) → Option (List ℕ) → Type 0
-Begins old now later = (text : List ℕ) (written : Option (List ℕ)) → TellsAll old text written now → BeginsAnswers old.roster.now text written later
+Begins old now later = (text : List ℕ) (written : Option (List ℕ))
+    → TellsAll old text written now → BeginsAnswers old.roster.now text written later
 
 -- the first answer that is held waits, or none is held
 abbrev pub FirstWaits : List Slot → Type 0
