@@ -16,3 +16,6 @@ pub use desks::{Asked, AskedPoll, Desk};
 pub use halls::Hall;
 pub use service::serve;
 pub use workers::{Gate, Open, Report, WorkerPass, worker};
+
+#[cfg(test)]
+mod tests;

@@ -249,7 +249,7 @@ fn close<R: Wait>(rt: &R, alloc: Global, hall: Hall, desks: Vec<Desk>, reports: 
     }
 }
 
-fn finish_all(alloc: Global, mut jobs: Vec<Job>) {
+pub(crate) fn finish_all(alloc: Global, mut jobs: Vec<Job>) {
     while let Some(job) = jobs.pop() {
         let _spent = job.finish(alloc);
     }
