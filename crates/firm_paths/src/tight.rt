@@ -194,6 +194,7 @@ impl Reach {
             × (length self.old.seen.items ≡ capacity_of net.now.nodes) }
         requires room { capacity_of net.now.nodes ≤ vec_capacity self.old.visits }
         requires start { IsNode net.now start.node × (start.node.id.place ≡ start.place) × (start.predecessor ≡ None) }
+        requires goal { goal < capacity_of net.now.nodes }
         requires net { IsNet net.now }
         requires marked { AreMarked self.old.seen.items self.old.visits.items 0 }
         ensures marked { AreMarked self.new.seen.items self.new.visits.items 0 }
@@ -213,6 +214,11 @@ impl Reach {
             let Visit { node, place, .. } = self.visits[number];
             if place == goal {
                 return Some(number);
+            }
+            // Once the goal was seen, what else lies as near is not read.
+            if self.seen[goal] {
+                number += 1;
+                continue;
             }
             let current = Current {
                 node,
