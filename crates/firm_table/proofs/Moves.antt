@@ -111,13 +111,40 @@ happened workers seats queue after_queue place seat new event mark answer here b
 pub nothing_more : (queue more : List Ticket) → more ≡ [] → queue ≡ queue ++ more
 nothing_more queue more none = sym (append-nil queue) ∙ ap (λ (ts : List Ticket). queue ++ ts) (sym none)
 
+-- an event at a place that queues no round
+quiet : (workers : ℕ) (seats : List Seat) (queue : List Ticket) (place : ℕ) (seat new : Seat) (event : Event) (mark : Bool) (answer : EventAnswer)
+    → (asks event ≡ true → mark ≡ false) → let table : TableState = table_of workers seats queue in
+    at_place table place (slice_get seats place) event mark ≡ happens table (event, mark) → IsSound table → slice_get seats place ≡ Some seat
+    → Becomes seat (local seat place event mark) answer new → queue_more (local seat place event mark).0 ≡ []
+    → Keeps table event answer (table_of workers (slice_set seats place new) queue)
+quiet workers seats queue place seat new event mark answer asked_so is sound here becomes none =
+    keeps (table_of workers seats queue) event mark answer (table_of workers (slice_set seats place new) queue) sound asked_so
+    (happened workers seats queue queue place seat new event mark answer here becomes
+    (nothing_more queue (queue_more answer) (ap queue_more becomes.answers ∙ none)) ∙ is)
+
 pub posts : (workers : ℕ) (seats : List Seat) (queue : List Ticket) (place : ℕ) (seat new : Seat) (command : Command) (mark : Bool) (answer : EventAnswer)
-    → IsSound (table_of workers seats queue) → slice_get seats place ≡ Some seat → Becomes seat (posted seat.station command mark) answer new
+    → IsSound (table_of workers seats queue) → place < length seats → seat ≡ slice_index_or seats place seat → Becomes seat (posted seat.station command mark) answer new
     → Keeps (table_of workers seats queue) (Post place command) answer (table_of workers (slice_set seats place new) queue)
-posts workers seats queue place seat new command mark answer sound here becomes =
-    keeps (table_of workers seats queue) (Post place command) mark answer (table_of workers (slice_set seats place new) queue) sound (λ e. cc)
-    (happened workers seats queue queue place seat new (Post place command) mark answer here becomes
-    (nothing_more queue (queue_more answer) (ap queue_more becomes.answers ∙ posted_none seat.station command mark)))
+posts workers seats queue place seat new command mark answer sound within value becomes =
+    quiet workers seats queue place seat new (Post place command) mark answer (λ e. cc) refl sound (seat_at seats place seat within value) becomes (posted_none seat.station command mark)
+
+pub collects : (workers : ℕ) (seats : List Seat) (queue : List Ticket) (place : ℕ) (seat new : Seat) (answer : EventAnswer)
+    → IsSound (table_of workers seats queue) → place < length seats → seat ≡ slice_index_or seats place seat → Becomes seat (collected seat.station) answer new
+    → Keeps (table_of workers seats queue) (Collect place) answer (table_of workers (slice_set seats place new) queue)
+collects workers seats queue place seat new answer sound within value becomes =
+    quiet workers seats queue place seat new (Collect place) false answer (λ e. cc) refl sound (seat_at seats place seat within value) becomes (collected_none seat.station)
+
+pub admits : (workers : ℕ) (seats : List Seat) (queue : List Ticket) (place : ℕ) (seat new : Seat) (limits : TenantLimits) (mark : Bool) (answer : EventAnswer)
+    → IsSound (table_of workers seats queue) → place < length seats → seat ≡ slice_index_or seats place seat → Becomes seat (admitted seat.station seat.admissions limits mark) answer new
+    → Keeps (table_of workers seats queue) (Admit place limits) answer (table_of workers (slice_set seats place new) queue)
+admits workers seats queue place seat new limits mark answer sound within value becomes =
+    quiet workers seats queue place seat new (Admit place limits) mark answer (λ e. cc) refl sound (seat_at seats place seat within value) becomes (admitted_none seat.station seat.admissions limits mark)
+
+pub retires : (workers : ℕ) (seats : List Seat) (queue : List Ticket) (place : ℕ) (seat new : Seat) (answer : EventAnswer)
+    → IsSound (table_of workers seats queue) → place < length seats → seat ≡ slice_index_or seats place seat → Becomes seat (retired seat.station) answer new
+    → Keeps (table_of workers seats queue) (Retire place) answer (table_of workers (slice_set seats place new) queue)
+retires workers seats queue place seat new answer sound within value becomes =
+    quiet workers seats queue place seat new (Retire place) false answer (λ e. cc) refl sound (seat_at seats place seat within value) becomes (retired_none seat.station)
 
 pub asks_for : (workers : ℕ) (seats : List Seat) (queue after_queue : List Ticket) (place : ℕ) (seat new : Seat) (answer : EventAnswer)
     → IsSound (table_of workers seats queue) → slice_get seats place ≡ Some seat → Becomes seat (asked seat.station (next_ticket place seat) false) answer new
@@ -126,30 +153,6 @@ pub asks_for : (workers : ℕ) (seats : List Seat) (queue after_queue : List Tic
 asks_for workers seats queue after_queue place seat new answer sound here becomes queue_is =
     keeps (table_of workers seats queue) (Ask place) false answer (table_of workers (slice_set seats place new) after_queue) sound (λ e. refl)
     (happened workers seats queue after_queue place seat new (Ask place) false answer here becomes queue_is)
-
-pub collects : (workers : ℕ) (seats : List Seat) (queue : List Ticket) (place : ℕ) (seat new : Seat) (answer : EventAnswer)
-    → IsSound (table_of workers seats queue) → slice_get seats place ≡ Some seat → Becomes seat (collected seat.station) answer new
-    → Keeps (table_of workers seats queue) (Collect place) answer (table_of workers (slice_set seats place new) queue)
-collects workers seats queue place seat new answer sound here becomes =
-    keeps (table_of workers seats queue) (Collect place) false answer (table_of workers (slice_set seats place new) queue) sound (λ e. cc)
-    (happened workers seats queue queue place seat new (Collect place) false answer here becomes
-    (nothing_more queue (queue_more answer) (ap queue_more becomes.answers ∙ collected_none seat.station)))
-
-pub admits : (workers : ℕ) (seats : List Seat) (queue : List Ticket) (place : ℕ) (seat new : Seat) (limits : TenantLimits) (mark : Bool) (answer : EventAnswer)
-    → IsSound (table_of workers seats queue) → slice_get seats place ≡ Some seat → Becomes seat (admitted seat.station seat.admissions limits mark) answer new
-    → Keeps (table_of workers seats queue) (Admit place limits) answer (table_of workers (slice_set seats place new) queue)
-admits workers seats queue place seat new limits mark answer sound here becomes =
-    keeps (table_of workers seats queue) (Admit place limits) mark answer (table_of workers (slice_set seats place new) queue) sound (λ e. cc)
-    (happened workers seats queue queue place seat new (Admit place limits) mark answer here becomes
-    (nothing_more queue (queue_more answer) (ap queue_more becomes.answers ∙ admitted_none seat.station seat.admissions limits mark)))
-
-pub retires : (workers : ℕ) (seats : List Seat) (queue : List Ticket) (place : ℕ) (seat new : Seat) (answer : EventAnswer)
-    → IsSound (table_of workers seats queue) → slice_get seats place ≡ Some seat → Becomes seat (retired seat.station) answer new
-    → Keeps (table_of workers seats queue) (Retire place) answer (table_of workers (slice_set seats place new) queue)
-retires workers seats queue place seat new answer sound here becomes =
-    keeps (table_of workers seats queue) (Retire place) false answer (table_of workers (slice_set seats place new) queue) sound (λ e. cc)
-    (happened workers seats queue queue place seat new (Retire place) false answer here becomes
-    (nothing_more queue (queue_more answer) (ap queue_more becomes.answers ∙ retired_none seat.station)))
 
 pub solves : (workers worker : ℕ) (seats : List Seat) (queue : List Ticket) (place : ℕ) (seat new : Seat) (mark : Bool) (answer : EventAnswer)
     → IsSound (table_of workers seats queue) → place_held worker seats ≡ Some place → slice_get seats place ≡ Some seat → Becomes seat (solved seat.station mark) answer new
