@@ -2,12 +2,14 @@
 
 ghost use Rattle.std.specs.Prelude.{◌≡◌, false};
 
-use super::{MOST, roster_of};
-use crate::{ServeFault, serve_one};
-use firm_text::{Bytes, Failed, Sink, Source};
+use super::{Dripping, MOST, WAYS, Way, roster_of, serve_by};
+use firm_table::ServeFault;
+use firm_text::{Bytes, Failed, Sink};
 use std::alloc::Global;
 use std::io;
+use std::sync::Wait;
 use std::test::Fail;
+use std::thread::Threads;
 
 const RECORD: &str = "alpha,6,11,100,1,2";
 
@@ -15,31 +17,6 @@ const INPUT: &[u8] = b"alpha machine m1 2\nalpha job j 5\nalpha task j a\nalpha 
 
 const OUTPUT: &[u8] =
     b"alpha 1 ok\nalpha 2 ok\nalpha 3 ok\nalpha 4 ok machines 1 jobs 1 tasks 1 running 0 nodes 5 of 6 arcs 7 of 11\n";
-
-/// Gives its bytes a few at a time, and then fails or ends.
-#[derive(Drop)]
-struct Dripping<'a> {
-    rest: &'a [u8],
-    piece: usize,
-    fails: bool,
-    failed: bool,
-}
-
-impl Source for Dripping<'_> {
-    ghost read_failed = { λ source. source.failed };
-
-    fn read(&mut self, buffer: &mut [u8]) -> Result<usize, Failed> {
-        let count = self.piece.min(self.rest.len()).min(buffer.len());
-        if count == 0 && self.fails {
-            self.failed = true;
-            return Err(Failed);
-        }
-        let (front, rest) = self.rest.split_at(count);
-        buffer[..count].copy_from_slice(front);
-        self.rest = rest;
-        Ok(count)
-    }
-}
 
 /// Takes a few bytes a call, so many in all, and then fails; it may fail its flush.
 #[derive(Drop)]
@@ -89,49 +66,34 @@ impl Sink for Choking {
 }
 
 /// How the service ends where the reader gives so many bytes, `piece` a call, and then fails.
-fn serve_until_read_fails(
+fn serve_until_read_fails<R: Threads + Wait + Sync>(
+    rt: &R,
     alloc: Global,
+    way: Way,
     count: usize,
     piece: usize,
 ) -> Result<(Vec<u8>, Result<(), ServeFault>), Fail> {
-    let mut reader = Dripping {
-        rest: INPUT.get(..count).ok_or("a count within the input")?,
-        piece,
-        fails: true,
-        failed: false,
-    };
+    let rest = INPUT.get(..count).ok_or("a count within the input")?;
+    let mut reader = Dripping::new(rest, piece, true);
     let mut writer = Choking::new(alloc, OUTPUT.len(), OUTPUT.len(), true);
-    let ended = serve_one(
-        alloc,
-        &mut reader,
-        &mut writer,
-        &roster_of(alloc, RECORD)?,
-        MOST,
-    );
+    let roster = roster_of(alloc, RECORD)?;
+    let ended = serve_by(rt, alloc, way, &mut reader, &mut writer, &roster, MOST);
     Ok((writer.taken, ended))
 }
 
 /// How the service ends where the writer takes so many bytes, `piece` a call, and then fails.
-fn serve_until_write_fails(
+fn serve_until_write_fails<R: Threads + Wait + Sync>(
+    rt: &R,
     alloc: Global,
+    way: Way,
     piece: usize,
     room: usize,
     flushes: bool,
 ) -> Result<(Vec<u8>, Result<(), ServeFault>), Fail> {
-    let mut reader = Dripping {
-        rest: INPUT,
-        piece: 7,
-        fails: false,
-        failed: false,
-    };
+    let mut reader = Dripping::new(INPUT, 7, false);
     let mut writer = Choking::new(alloc, piece, room, flushes);
-    let ended = serve_one(
-        alloc,
-        &mut reader,
-        &mut writer,
-        &roster_of(alloc, RECORD)?,
-        MOST,
-    );
+    let roster = roster_of(alloc, RECORD)?;
+    let ended = serve_by(rt, alloc, way, &mut reader, &mut writer, &roster, MOST);
     Ok((writer.taken, ended))
 }
 
@@ -148,53 +110,78 @@ fn answers_within(count: usize) -> &'static [u8] {
     }
 }
 
+/// Whether the service stops at a failed read after so many bytes, with the answers to all lines before it.
+fn stops_at_read<R: Threads + Wait + Sync>(
+    rt: &R,
+    alloc: Global,
+    way: Way,
+    count: usize,
+    piece: usize,
+) -> Result<bool, Fail> {
+    let (written, ended) = serve_until_read_fails(rt, alloc, way, count, piece)?;
+    Ok(ended == Err(ServeFault::Read) && written.as_slice() == answers_within(count))
+}
+
+/// Whether the service stops at a failed write after so many bytes, all of which were written.
+fn stops_at_write<R: Threads + Wait + Sync>(
+    rt: &R,
+    alloc: Global,
+    way: Way,
+    room: usize,
+) -> Result<bool, Fail> {
+    let (written, ended) = serve_until_write_fails(rt, alloc, way, 3, room, true)?;
+    Ok(ended == Err(ServeFault::Write) && Some(written.as_slice()) == OUTPUT.get(..room))
+}
+
 #[test]
 fn stops_at_each_failed_read(rt: HostRuntime) -> Result<(), Fail> {
-    for count in 0..=INPUT.len() {
-        let (written, ended) = serve_until_read_fails(rt.alloc(), count, 5)?;
-        assert_eq!(rt; ended, Err(ServeFault::Read), "after {count} bytes");
-        assert!(rt;
-            written.as_slice() == answers_within(count),
-            "after {count} bytes"
-        );
+    for way in WAYS {
+        for count in 0..=INPUT.len() {
+            let stops = stops_at_read(&rt, rt.alloc(), way, count, 5)?;
+            assert!(rt; stops, "{way:?} after {count} bytes");
+        }
     }
     Ok(())
 }
 
 #[test]
 fn stops_at_each_failed_write(rt: HostRuntime) -> Result<(), Fail> {
-    for room in 0..OUTPUT.len() {
-        let (written, ended) = serve_until_write_fails(rt.alloc(), 3, room, true)?;
-        assert_eq!(rt; ended, Err(ServeFault::Write), "after {room} bytes");
-        assert!(rt;
-            Some(written.as_slice()) == OUTPUT.get(..room),
-            "after {room} bytes"
-        );
+    for way in WAYS {
+        for room in 0..OUTPUT.len() {
+            let stops = stops_at_write(&rt, rt.alloc(), way, room)?;
+            assert!(rt; stops, "{way:?} after {room} bytes");
+        }
     }
     Ok(())
 }
 
 #[test]
 fn writes_all_through_a_narrow_writer(rt: HostRuntime) -> Result<(), Fail> {
-    let (written, ended) = serve_until_write_fails(rt.alloc(), 1, OUTPUT.len(), true)?;
-    assert_eq!(rt; ended, Ok(()));
-    assert!(rt; written.as_slice() == OUTPUT);
+    for way in WAYS {
+        let room = OUTPUT.len();
+        let (written, ended) = serve_until_write_fails(&rt, rt.alloc(), way, 1, room, true)?;
+        assert_eq!(rt; ended, Ok(()), "{way:?}");
+        assert!(rt; written.as_slice() == OUTPUT, "{way:?}");
+    }
     Ok(())
 }
 
 #[test]
 fn tells_a_failed_flush(rt: HostRuntime) -> Result<(), Fail> {
-    let (written, ended) = serve_until_write_fails(rt.alloc(), 9, OUTPUT.len(), false)?;
-    assert_eq!(rt; ended, Err(ServeFault::Write));
-    assert!(rt; written.as_slice() == OUTPUT);
+    for way in WAYS {
+        let room = OUTPUT.len();
+        let (written, ended) = serve_until_write_fails(&rt, rt.alloc(), way, 9, room, false)?;
+        assert_eq!(rt; ended, Err(ServeFault::Write), "{way:?}");
+        assert!(rt; written.as_slice() == OUTPUT, "{way:?}");
+    }
     Ok(())
 }
 
 #[test]
 fn stops_in_the_middle_of_a_line(rt: HostRuntime) -> Result<(), Fail> {
-    let (written, ended) = serve_until_read_fails(rt.alloc(), 27, 27)?;
-    assert_eq!(rt; ended, Err(ServeFault::Read));
-    assert!(rt; written.as_slice() == b"alpha 1 ok\n".as_slice());
+    for way in WAYS {
+        assert!(rt; stops_at_read(&rt, rt.alloc(), way, 27, 27)?, "{way:?}");
+    }
     Ok(())
 }
 
@@ -224,20 +211,32 @@ impl io::Write for Once {
     }
 }
 
+/// How the service ends whose first write takes nothing or is interrupted, and what was written.
+fn serve_once<R: Threads + Wait + Sync>(
+    rt: &R,
+    alloc: Global,
+    way: Way,
+    interrupted: bool,
+) -> Result<(Vec<u8>, Result<(), ServeFault>), Fail> {
+    let mut reader = Bytes::new(INPUT);
+    let mut writer = Bytes::new(Once {
+        begun: false,
+        interrupted,
+        taken: Vec::new(alloc),
+    });
+    let roster = roster_of(alloc, RECORD)?;
+    let ended = serve_by(rt, alloc, way, &mut reader, &mut writer, &roster, MOST);
+    Ok((writer.into_inner().taken, ended))
+}
+
 #[test]
 fn stops_at_a_write_that_takes_nothing(rt: HostRuntime) -> Result<(), Fail> {
-    let alloc = rt.alloc();
-    for interrupted in [false, true] {
-        let mut reader = Bytes::new(INPUT);
-        let mut writer = Bytes::new(Once {
-            begun: false,
-            interrupted,
-            taken: Vec::new(alloc),
-        });
-        let roster = roster_of(alloc, RECORD)?;
-        let ended = serve_one(alloc, &mut reader, &mut writer, &roster, MOST);
-        assert_eq!(rt; ended, Err(ServeFault::Write));
-        assert!(rt; writer.into_inner().taken.is_empty());
+    for way in WAYS {
+        for interrupted in [false, true] {
+            let (taken, ended) = serve_once(&rt, rt.alloc(), way, interrupted)?;
+            assert_eq!(rt; ended, Err(ServeFault::Write), "{way:?}");
+            assert!(rt; taken.is_empty(), "{way:?}");
+        }
     }
     Ok(())
 }

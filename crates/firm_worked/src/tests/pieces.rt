@@ -1,0 +1,231 @@
+//! Each worked service in each way of serving, in pieces, and when answers are written.
+
+ghost use Rattle.std.specs.Prelude.{◌≡◌, ◌≤◌, ◌^◌, false};
+
+use super::{
+    Dripping, MOST, WAYS, Way, Worked, formats, roster_of, rounds, rows, serve_by, worked_from,
+};
+use firm_table::ServeFault;
+use firm_text::{Bytes, Failed, Sink, Source};
+use std::alloc::Global;
+use std::cell::Cell;
+use std::sync::Wait;
+use std::test::Fail;
+use std::thread::Threads;
+
+/// How a service ends whose input comes in such pieces, and what it wrote.
+fn serve_pieces<R: Threads + Wait + Sync>(
+    rt: &R,
+    alloc: Global,
+    way: Way,
+    records: &str,
+    input: &[u8],
+    piece: usize,
+    most: u64,
+) -> Result<(Vec<u8>, Result<(), ServeFault>), Fail>
+    requires most { (1 ≤ most) × (most ≤ 2 ^ 32) }
+{
+    let mut reader = Dripping::new(input, piece, false);
+    let mut writer = Bytes::new(Vec::new(alloc));
+    let roster = roster_of(alloc, records)?;
+    let ended = serve_by(rt, alloc, way, &mut reader, &mut writer, &roster, most);
+    Ok((writer.into_inner(), ended))
+}
+
+/// Whether the service writes its output in this way, whatever the pieces of its input.
+fn answers_alike<R: Threads + Wait + Sync>(
+    rt: &R,
+    alloc: Global,
+    way: Way,
+    worked: &Worked,
+) -> Result<bool, Fail> {
+    let mut alike = true;
+    for piece in [1, 2, 7, 257, 4_096] {
+        let input = worked.input.as_slice();
+        let (written, ended) = serve_pieces(rt, alloc, way, worked.records, input, piece, MOST)?;
+        alike = alike && ended.is_ok() && written.as_slice() == worked.output.as_slice();
+    }
+    Ok(alike)
+}
+
+/// The way in which the service does not write its output, if there is one.
+fn differs_by<R: Threads + Wait + Sync>(
+    rt: &R,
+    alloc: Global,
+    worked: &Worked,
+) -> Result<Option<Way>, Fail> {
+    for way in WAYS {
+        if !answers_alike(rt, alloc, way, worked)? {
+            return Ok(Some(way));
+        }
+    }
+    Ok(None)
+}
+
+#[test]
+fn answers_line_for_line(rt: HostRuntime) -> Result<(), Fail> {
+    for (records, text) in rows::SERVICES {
+        let worked = worked_from(rt.alloc(), records, text)?;
+        assert_eq!(rt; differs_by(&rt, rt.alloc(), &worked)?, None, "{records}");
+    }
+    Ok(())
+}
+
+#[test]
+fn answers_rounds_line_for_line(rt: HostRuntime) -> Result<(), Fail> {
+    for (records, text) in rounds::SERVICES {
+        let worked = worked_from(rt.alloc(), records, text)?;
+        assert_eq!(rt; differs_by(&rt, rt.alloc(), &worked)?, None, "{records}");
+    }
+    Ok(())
+}
+
+#[test]
+fn answers_lines_of_each_form(rt: HostRuntime) -> Result<(), Fail> {
+    let forms = formats::forms(rt.alloc())?;
+    assert_eq!(rt; differs_by(&rt, rt.alloc(), &forms)?, None);
+    let edges = formats::edges(rt.alloc())?;
+    assert_eq!(rt; differs_by(&rt, rt.alloc(), &edges)?, None);
+    Ok(())
+}
+
+#[test]
+fn takes_no_more_than_the_most(rt: HostRuntime) -> Result<(), Fail> {
+    let shown = b"a 1 ok machines 0 jobs 0 tasks 0 running 0 nodes 2 of 2 arcs 0 of 0\n";
+    for way in WAYS {
+        let (written, ended) = serve_pieces(
+            &rt,
+            rt.alloc(),
+            way,
+            "a,2,0,1,0,0",
+            b"a show\n",
+            4_096,
+            6,
+        )?;
+        assert_eq!(rt; ended, Err(ServeFault::TooLong), "{way:?}");
+        assert!(rt; written.is_empty(), "{way:?}");
+        let (written, ended) = serve_pieces(
+            &rt,
+            rt.alloc(),
+            way,
+            "a,2,0,1,0,0",
+            b"a show\n",
+            4_096,
+            7,
+        )?;
+        assert_eq!(rt; ended, Ok(()), "{way:?}");
+        assert!(rt; written.as_slice() == shown.as_slice(), "{way:?}");
+    }
+    Ok(())
+}
+
+/// Gives one line a read, and notes how many bytes were written by then.
+#[derive(Drop)]
+struct LineByLine<'a> {
+    lines: &'a [&'static str],
+    next: usize,
+    written: &'a Cell<usize>,
+    noted: Vec<usize>,
+}
+
+impl Source for LineByLine<'_> {
+    ghost read_failed = { λ _. false };
+
+    fn read(&mut self, buffer: &mut [u8]) -> Result<usize, Failed> {
+        let _ = self.noted.push(self.written.get());
+        let Some(line) = self.lines.get(self.next) else {
+            return Ok(0);
+        };
+        let bytes = line.as_bytes();
+        let count = bytes.len().min(buffer.len());
+        buffer[..count].copy_from_slice(&bytes[..count]);
+        self.next += 1;
+        Ok(count)
+    }
+}
+
+/// Counts what is written.
+#[derive(Drop)]
+struct Counting<'a> {
+    written: &'a Cell<usize>,
+}
+
+impl Sink for Counting<'_> {
+    ghost write_failed = { λ _. false };
+
+    fn write(&mut self, bytes: &[u8]) -> Result<usize, Failed> {
+        self.written
+            .set(self.written.get().saturating_add(bytes.len()));
+        Ok(bytes.len())
+    }
+
+    fn flush(&mut self) -> Result<(), Failed> {
+        Ok(())
+    }
+}
+
+const LINES: [&str; 4] = [
+    "alpha machine m1 2\n",
+    "alpha job j 5\n",
+    "alpha task j a\n",
+    "alpha show\n",
+];
+
+/// How many bytes were written at each read, where each line comes by itself.
+fn written_by_reads<R: Threads + Wait + Sync>(
+    rt: &R,
+    alloc: Global,
+    way: Way,
+) -> Result<Vec<usize>, Fail> {
+    let written = Cell::new(0);
+    let mut reader = LineByLine {
+        lines: &LINES,
+        next: 0,
+        written: &written,
+        noted: Vec::new(alloc),
+    };
+    let mut writer = Counting { written: &written };
+    let roster = roster_of(alloc, "alpha,6,11,100,1,2")?;
+    let ended = serve_by(rt, alloc, way, &mut reader, &mut writer, &roster, MOST);
+    ended.map_err(|_| Fail::from("a service without faults"))?;
+    Ok(reader.noted)
+}
+
+#[test]
+fn writes_each_reply_before_the_next_read(rt: HostRuntime) -> Result<(), Fail> {
+    for way in WAYS {
+        let noted = written_by_reads(&rt, rt.alloc(), way)?;
+        assert!(rt;
+            noted.as_slice() == [0, 11, 22, 33, 106].as_slice(),
+            "{way:?}"
+        );
+    }
+    Ok(())
+}
+
+/// 64 tenants, each of which adds a machine.
+fn sixty_four(alloc: Global) -> Result<(String, Vec<u8>, Vec<u8>), Fail> {
+    let mut records = String::new(alloc);
+    let mut input = Vec::new(alloc);
+    let mut output = Vec::new(alloc);
+    for number in 1..=64 {
+        let record = format!(in alloc; "t{number},3,65,10,0,0\n")?;
+        records.push_str(&record)?;
+        let line = format!(in alloc; "t{number} machine m 64\n")?;
+        input.extend_from_slice(line.as_bytes())?;
+        let answer = format!(in alloc; "t{number} 1 ok\n")?;
+        output.extend_from_slice(answer.as_bytes())?;
+    }
+    Ok((records, input, output))
+}
+
+#[test]
+fn serves_sixty_four_tenants(rt: HostRuntime) -> Result<(), Fail> {
+    let (records, input, output) = sixty_four(rt.alloc())?;
+    for way in WAYS {
+        let (written, ended) = serve_pieces(&rt, rt.alloc(), way, &records, &input, 4_096, MOST)?;
+        assert_eq!(rt; ended, Ok(()), "{way:?}");
+        assert!(rt; written.as_slice() == output.as_slice(), "{way:?}");
+    }
+    Ok(())
+}
