@@ -11,7 +11,7 @@ use std::thread::{Promise, PromisedHandle, Scope, Threads};
 
 /// What a worker's thread promises: its report is of this hall.
 #[derive(Drop)]
-pub(crate) struct OfHall(Snapshot<Hall>);
+pub(crate) struct OfHall(pub(crate) Snapshot<Hall>);
 
 impl Promise<Report> for OfHall {
     ghost kept_by = { λ p r. r.queue ≡ p.0.value.id };

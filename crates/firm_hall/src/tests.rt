@@ -1,4 +1,4 @@
-//! Halls that are shut first, desks without life left, and services whose workers a gate holds.
+//! Desks on threads of their callers, gates that hold workers, halls that are shut first, a desk without life left.
 
 ghost use Rattle.std.specs.Prelude.{◌≡◌, All, IfSome};
 
@@ -8,6 +8,8 @@ use firm_text::{Roster, roster};
 use std::alloc::Global;
 use std::test::Fail;
 
+mod across;
+mod callers;
 mod closing;
 mod gates;
 mod lives;

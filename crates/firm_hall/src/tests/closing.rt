@@ -10,7 +10,7 @@ use std::sync::Wait;
 use std::test::Fail;
 
 /// How many rounds a closed hall had. None where it is not closed.
-fn rounds_at_close<R: Wait>(
+pub fn rounds_at_close<R: Wait>(
     rt: &R,
     alloc: Global,
     hall: Hall,

@@ -14,18 +14,18 @@ use std::thread;
 use std::thread::Threads;
 
 /// How often a gate, or a test, looks before it gives up. It yields between looks.
-const TURNS: u32 = 10_000_000;
+pub const TURNS: u32 = 10_000_000;
 
 /// A gate that waits until a count is reached, and notes where it gave up.
 #[derive(Drop)]
-struct Waiting {
+pub struct Waiting {
     reached: AtomicU64,
     wanted: u64,
     gave_up: AtomicU64,
 }
 
 impl Waiting {
-    fn until(wanted: u64) -> Waiting {
+    pub fn until(wanted: u64) -> Waiting {
         Waiting {
             reached: AtomicU64::new(0),
             wanted,
@@ -33,7 +33,7 @@ impl Waiting {
         }
     }
 
-    fn wait(&self) {
+    pub fn wait(&self) {
         for _ in 0..TURNS {
             if self.reached.load(Ordering::SeqCst) >= self.wanted {
                 return;
@@ -43,11 +43,11 @@ impl Waiting {
         self.gave_up.store(1, Ordering::SeqCst);
     }
 
-    fn count_one(&self) {
+    pub fn count_one(&self) {
         self.reached.fetch_add(1, Ordering::SeqCst);
     }
 
-    fn is_passed(&self) -> bool {
+    pub fn is_passed(&self) -> bool {
         self.gave_up.load(Ordering::SeqCst) == 0
     }
 }
