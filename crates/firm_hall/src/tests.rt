@@ -28,14 +28,17 @@ fn roster_of(alloc: Global, records: &str) -> Result<Roster, Fail> {
     roster(alloc, &text).map_err(|_| Fail::from("a roster"))
 }
 
-/// Takes the last desk off.
-fn last_desk(hall: &Hall, desks: &mut Vec<Desk>) -> Option<Desk>
+/// Takes the first desk off.
+fn first_desk(hall: &Hall, desks: &mut Vec<Desk>) -> Option<Desk>
     requires { All (λ d. d.queue ≡ hall.now.id) desks.old.items }
     ensures desk { IfSome result (λ d. d.queue ≡ hall.now.id) }
     ensures rest { All (λ d. d.queue ≡ hall.now.id) desks.new.items }
 {
     let _ = hall;
-    desks.pop()
+    if desks.is_empty() {
+        return None;
+    }
+    Some(desks.remove(0))
 }
 
 /// Takes the last pass off.

@@ -4,7 +4,7 @@ ghost use Rattle.std.specs.Prelude.{◌≡◌, All, IfSome};
 ghost use Rattle.std.specs.Thread.{IsSync};
 
 use super::gates::{TURNS, Waiting};
-use super::{TWO, is_idle_round, last_desk, roster_of};
+use super::{TWO, first_desk, is_idle_round, roster_of};
 use crate::team::{join_all, start};
 use crate::{Asked, AskedPoll, Desk, Gate, Hall, WorkerPass};
 use firm_rules::{Reply, Ticket};
@@ -14,15 +14,15 @@ use std::test::Fail;
 use std::thread;
 use std::thread::{Scope, Threads};
 
-/// Holds the last tenant's round until another tenant's was seen.
+/// Holds the first tenant's round until another tenant's was seen.
 #[derive(Drop)]
-struct HoldsLast {
+struct HoldsFirst {
     other_was_seen: Waiting,
 }
 
-impl Gate for HoldsLast {
+impl Gate for HoldsFirst {
     fn pass(&self, ticket: Ticket) {
-        if ticket.place == 1 {
+        if ticket.place == 0 {
             self.other_was_seen.wait();
         }
     }
@@ -41,12 +41,12 @@ fn polled(asked: Asked) -> Option<Reply> {
     None
 }
 
-/// Asks for the round of the last desk.
-fn ask_last<R: Wait>(rt: &R, alloc: Global, hall: &Hall, desks: &mut Vec<Desk>) -> Option<Asked>
+/// Asks for the round of the first desk.
+fn ask_first<R: Wait>(rt: &R, alloc: Global, hall: &Hall, desks: &mut Vec<Desk>) -> Option<Asked>
     requires { All (λ d. d.queue ≡ hall.now.id) desks.old.items }
     ensures { All (λ d. d.queue ≡ hall.now.id) desks.new.items }
 {
-    let desk = last_desk(hall, desks)?;
+    let desk = first_desk(hall, desks)?;
     desk.ask(rt, alloc, hall).ok()
 }
 
@@ -62,13 +62,13 @@ fn ask_across<R: Wait>(
     alloc: Global,
     hall: &Hall,
     desks: Vec<Desk>,
-    gate: &HoldsLast,
+    gate: &HoldsFirst,
 ) -> Option<(Reply, Reply)>
     requires { All (λ d. d.queue ≡ hall.now.id) desks.items }
 {
     let mut desks = desks;
-    let held = ask_last(rt, alloc, hall, &mut desks);
-    let other = ask_last(rt, alloc, hall, &mut desks);
+    let held = ask_first(rt, alloc, hall, &mut desks);
+    let other = ask_first(rt, alloc, hall, &mut desks);
     let other = other.and_then(polled);
     gate.other_was_seen.count_one();
     let held = waited(rt, held?);
@@ -83,7 +83,7 @@ fn ask_in<'s, E: 's, R: Threads + Wait + Sync>(
     hall: &'s Hall,
     desks: Vec<Desk>,
     passes: Vec<WorkerPass>,
-    gate: &'s HoldsLast,
+    gate: &'s HoldsFirst,
 ) -> Option<(Reply, Reply)>
     requires desks { All (λ d. d.queue ≡ hall.now.id) desks.items }
     requires passes { All (λ p. p.queue ≡ hall.now.id) passes.items }
@@ -104,7 +104,7 @@ fn ask_with<R: Threads + Wait + Sync>(
     hall: &Hall,
     desks: Vec<Desk>,
     passes: Vec<WorkerPass>,
-    gate: &HoldsLast,
+    gate: &HoldsFirst,
 ) -> Option<(Reply, Reply)>
     requires desks { All (λ d. d.queue ≡ hall.now.id) desks.items }
     requires passes { All (λ p. p.queue ≡ hall.now.id) passes.items }
@@ -123,7 +123,7 @@ fn ask_with<R: Threads + Wait + Sync>(
 fn ask_both<R: Threads + Wait + Sync>(
     rt: &R,
     alloc: Global,
-    gate: &HoldsLast,
+    gate: &HoldsFirst,
 ) -> Result<Option<(Reply, Reply)>, Fail> {
     let roster = roster_of(alloc, TWO)?;
     let (hall, desks, passes) = Hall::open(alloc, &roster, 2)?;
@@ -132,7 +132,7 @@ fn ask_both<R: Threads + Wait + Sync>(
 
 #[test]
 fn a_round_passes_another_that_a_gate_holds(rt: HostRuntime) -> Result<(), Fail> {
-    let gate = HoldsLast {
+    let gate = HoldsFirst {
         other_was_seen: Waiting::until(1),
     };
     let (held, other) = ask_both(&rt, rt.alloc(), &gate)?.ok_or("two rounds")?;

@@ -2,7 +2,7 @@
 
 ghost use Rattle.std.specs.Prelude.{◌≡◌, All, IfSome};
 
-use super::{is_idle_round, last_desk, last_pass, roster_of};
+use super::{first_desk, is_idle_round, last_pass, roster_of};
 use crate::{Desk, Hall, Open, WorkerPass, worker};
 use firm_rules::{Outcome, Refusal, Reply};
 use std::alloc::Global;
@@ -32,7 +32,7 @@ fn ask_twice<R: Wait>(
 fn replies_of_one_life<R: Wait>(rt: &R, alloc: Global) -> Result<Option<(Reply, Reply)>, Fail> {
     let roster = roster_of(alloc, "t,2,0,1,0,0")?;
     let (hall, mut desks, mut passes) = Hall::open(alloc, &roster, 1)?;
-    let desk = last_desk(&hall, &mut desks).ok_or("a desk")?;
+    let desk = first_desk(&hall, &mut desks).ok_or("a desk")?;
     let pass = last_pass(&hall, &mut passes).ok_or("a pass")?;
     Ok(ask_twice(rt, alloc, &hall, desk, pass))
 }
