@@ -62,21 +62,30 @@ fn differs_by<R: Threads + Wait + Sync>(
     Ok(None)
 }
 
+/// The roster and the way of the first of these services that does not write its output, if there is one.
+fn differs_among<R: Threads + Wait + Sync>(
+    rt: &R,
+    alloc: Global,
+    services: &[(&'static str, &'static [u8])],
+) -> Result<Option<(&'static str, Way)>, Fail> {
+    for (records, text) in services {
+        let worked = worked_from(alloc, records, text)?;
+        if let Some(way) = differs_by(rt, alloc, &worked)? {
+            return Ok(Some((*records, way)));
+        }
+    }
+    Ok(None)
+}
+
 #[test]
 fn answers_line_for_line(rt: HostRuntime) -> Result<(), Fail> {
-    for (records, text) in rows::SERVICES {
-        let worked = worked_from(rt.alloc(), records, text)?;
-        assert_eq!(rt; differs_by(&rt, rt.alloc(), &worked)?, None, "{records}");
-    }
+    assert_eq!(rt; differs_among(&rt, rt.alloc(), &rows::SERVICES)?, None);
     Ok(())
 }
 
 #[test]
 fn answers_rounds_line_for_line(rt: HostRuntime) -> Result<(), Fail> {
-    for (records, text) in rounds::SERVICES {
-        let worked = worked_from(rt.alloc(), records, text)?;
-        assert_eq!(rt; differs_by(&rt, rt.alloc(), &worked)?, None, "{records}");
-    }
+    assert_eq!(rt; differs_among(&rt, rt.alloc(), &rounds::SERVICES)?, None);
     Ok(())
 }
 
