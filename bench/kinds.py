@@ -1,4 +1,4 @@
-"""Streams for measuring rounds: ten kinds, each at any number of tasks and machines.
+"""Streams for measuring rounds: eleven kinds, each at any number of tasks and machines.
 
 A stream is a roster of one tenant and a list of parts; each part is a list of command lines, and the round that
 follows it is measured. The first round of a stream is the cold one: no task runs before it.
@@ -14,9 +14,9 @@ MOST_SLOTS = 64
 
 Stream = namedtuple("Stream", "kind roster parts")
 
-# What each kind is, and its numbers: spread, churn, the lowest and highest weight, and slots as parts of
-# (tasks / machines), the lowest and the highest; None stands for as many as the arcs allow.
-Kind = namedtuple("Kind", "words spread churn weights slots")
+# What each kind is, and its numbers: spread, churn, the lowest and highest weight, slots as parts of (tasks / machines),
+# the lowest and the highest, None standing for as many as the arcs allow; and remote, where tasks prefer machines.
+Kind = namedtuple("Kind", "words spread churn weights slots remote", defaults=[None])
 KINDS = {
     "fresh": Kind("all tasks new, room for all", 50, 400, (10_000, 1_000_000), (1.2, 2.0)),
     "dense": Kind("the same with as many arcs as a tenant may have", 50, 400, (10_000, 1_000_000), None),
@@ -28,6 +28,7 @@ KINDS = {
     "close": Kind("costs that differ by one or two", 1, 1, (2, 4), (0.9, 1.2)),
     "moves": Kind("machines come later, moves just pay", 1, 2, (4, 6), (1.2, 1.7)),
     "returns": Kind("drained tasks come back to equal costs", 0, 0, (12, 12), (0.8, 0.8)),
+    "local": Kind("most tasks prefer one to four machines", 50, 400, (10_000, 1_000_000), (1.0, 1.4), 120),
 }
 
 
@@ -69,9 +70,16 @@ class Maker:
     def add_tasks(self, count):
         for _ in range(count):
             job = min(self.next // 2, self.jobs - 1) if self.name == "rising" else self.draw.randrange(self.jobs)
-            self.say("task", f"j{job}", f"t{self.next}")
+            self.say("task", f"j{job}", f"t{self.next}", *self.preferred())
             self.there.append(self.next)
             self.next += 1
+
+    def preferred(self):
+        """The machines that the next task prefers: none, or some of the first half, so that those are in demand."""
+        if self.kind.remote is None or self.draw.random() < 0.2:
+            return []
+        places = range(max(4, self.machines // 2))
+        return [f"m{place % self.machines}" for place in self.draw.sample(places, self.draw.randint(1, 4))]
 
     def end_tasks(self, count):
         for _ in range(min(count, len(self.there))):
@@ -113,7 +121,7 @@ class Maker:
         yield self.exchange(5 * one)
         yield self.exchange(5 * one)
 
-    _rising = _ties = _close = _overload
+    _rising = _ties = _close = _local = _overload
 
     def _steady(self, one, _):
         self.add_tasks(self.tasks - 2 * one)
@@ -160,8 +168,10 @@ class Maker:
 def make(kind, tasks, machines, seed=1):
     """The stream of a kind at a size."""
     numbers = KINDS[kind]
-    roster = f"tenant,nodes,arcs,life,spread,churn\n{TENANT},4096,{MOST_ARCS},1000000,{numbers.spread},{numbers.churn}\n"
-    return Stream(kind, roster, list(Maker(kind, tasks, machines, seed).parts()))
+    heading, row = "tenant,nodes,arcs,life,spread,churn", f"{TENANT},4096,{MOST_ARCS},1000000,{numbers.spread},{numbers.churn}"
+    if numbers.remote is not None:
+        heading, row = heading + ",remote", f"{row},{numbers.remote}"
+    return Stream(kind, f"{heading}\n{row}\n", list(Maker(kind, tasks, machines, seed).parts()))
 
 
 def main():

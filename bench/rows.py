@@ -58,7 +58,7 @@ def cost_of(tenant, placement):
         if machine is None:
             cost += tenant.waiting_cost(task)
             continue
-        cost += tenant.spread * load[machine] + (tenant.churn if task[1] not in (None, machine) else 0)
+        cost += tenant.spread * load[machine] + tenant.placing_cost(task, machine)
         load[machine] += 1
     ask(all(load[machine] <= slots for machine, slots in tenant.machines.items()), "more tasks than slots")
     return cost
@@ -77,9 +77,11 @@ def network(tenant):
         arcs += [(machine, sink, 1, place * tenant.spread) for place in range(slots)]
     arcs += [(node["job", name], sink, tenant.nodes, 0) for name in tenant.jobs]
     for name, task in tenant.tasks.items():
-        job, machine, _ = task
+        job, machine, _, preferred = task
         own, runs = node["task", name], machine is not None
-        arcs.append((own, hub, 1, tenant.churn if runs else 0))
+        leaving = tenant.churn if runs else 0
+        arcs.append((own, hub, 1, leaving + (tenant.remote if preferred else 0)))
+        arcs += [(own, node["machine", near], 1, leaving) for near in preferred]
         arcs.append((own, node["machine", machine] if runs else hub, int(runs), 0))
         arcs.append((own, node["job", job], 1, tenant.waiting_cost(task)))
     lines = [f"{len(names) + 2} {len(arcs)} {sink}"]

@@ -1,12 +1,14 @@
 // Checks that a placement is the first of those that cost least, by LEMON's network simplex and no thought of its own:
 // with the tasks before a task as they are placed, each choice that ranks before the task's own must cost more.
 // usage: first < CASE
-// CASE: 'MACHINES TASKS SPREAD CHURN', the slots of each machine, then for each task 'OWN WAITING PLACED': the place of the
-// machine on which it runs or -1, the cost of its waiting, and where it is placed, -1 for waiting.
+// CASE: 'MACHINES TASKS SPREAD CHURN REMOTE', the slots of each machine, then for each task 'OWN WAITING PLACED COUNT PREFERRED..':
+// the place of the machine on which it runs or -1, the cost of its waiting, where it is placed, -1 for waiting, and how many
+// machines it prefers, with their places.
 // prints 'first COST SOLVED', or what is cheaper or as cheap and comes before.
 #include <lemon/network_simplex.h>
 #include <lemon/smart_graph.h>
 
+#include <algorithm>
 #include <cstdio>
 #include <vector>
 
@@ -17,17 +19,24 @@ struct Task {
     int own;
     Number waiting;
     int placed;
+    std::vector<int> preferred;
 };
 
 struct Book {
     int machines, tasks;
-    Number spread, churn;
+    Number spread, churn, remote;
     std::vector<int> slots;
     std::vector<Task> rows;
 
     Number cost(const Task& task, int choice, int load) const {
         if (choice < 0) return task.waiting;
-        return spread * load + (task.own >= 0 && task.own != choice ? churn : 0);
+        return spread * load + (task.own == choice ? 0 : (task.own >= 0 ? churn : 0) + (is_remote(task, choice) ? remote : 0));
+    }
+
+    // The task prefers machines, and this is none of them.
+    static bool is_remote(const Task& task, int choice) {
+        const auto& near = task.preferred;
+        return !near.empty() && std::find(near.begin(), near.end(), choice) == near.end();
     }
 
     // The choices in the order of their ranks.
@@ -71,13 +80,18 @@ static Number least(const Book& book, int first, const std::vector<int>& load) {
 }
 
 static bool read_book(Book& book) {
-    if (std::scanf("%d %d %lld %lld", &book.machines, &book.tasks, &book.spread, &book.churn) != 4) return false;
+    if (std::scanf("%d %d %lld %lld %lld", &book.machines, &book.tasks, &book.spread, &book.churn, &book.remote) != 5) return false;
     book.slots.resize(book.machines);
     book.rows.resize(book.tasks);
     for (int& slots : book.slots)
         if (std::scanf("%d", &slots) != 1) return false;
-    for (Task& task : book.rows)
-        if (std::scanf("%d %lld %d", &task.own, &task.waiting, &task.placed) != 3) return false;
+    for (Task& task : book.rows) {
+        int count;
+        if (std::scanf("%d %lld %d %d", &task.own, &task.waiting, &task.placed, &count) != 4) return false;
+        task.preferred.resize(count);
+        for (int& machine : task.preferred)
+            if (std::scanf("%d", &machine) != 1) return false;
+    }
     return true;
 }
 

@@ -26,10 +26,11 @@ def case_of(tenant, before):
     """A round as first.cc reads it: the rows before it, and where each task runs now."""
     place = {name: number for number, name in enumerate(tenant.machines)}
     place[None] = -1
-    lines = [f"{len(tenant.machines)} {len(tenant.tasks)} {tenant.spread} {tenant.churn}"]
+    lines = [f"{len(tenant.machines)} {len(tenant.tasks)} {tenant.spread} {tenant.churn} {tenant.remote}"]
     lines += [str(slots) for slots in tenant.machines.values()]
     for task, (own, waiting) in zip(tenant.tasks.values(), before):
-        lines.append(f"{place[own]} {waiting} {place[task[1]]}")
+        preferred = [place[machine] for machine in task[3]]
+        lines.append(" ".join(map(str, [place[own], waiting, place[task[1]], len(preferred), *preferred])))
     return "\n".join(lines) + "\n"
 
 

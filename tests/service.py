@@ -7,13 +7,15 @@ small books only. Nothing here knows a network, a flow or a price; nothing is sh
 import re
 
 HEADING = [b"tenant", b"nodes", b"arcs", b"life", b"spread", b"churn"]
-RANGES = [(2, 4096), (0, 65536), (1, 2**40), (0, 1000), (0, 1000000)]
+LONG_HEADING = HEADING + [b"remote"]
+RANGES = [(2, 4096), (0, 65536), (1, 2**40), (0, 1000), (0, 1000000), (0, 1000000)]
 ROSTER_FAULTS = ["header", "row", "name", "number", "repeated-name", "count", "memory"]
 REFUSALS = ["worn", "bad-command", "bad-name", "bad-number", "machine-exists", "no-such-machine", "job-exists",
             "no-such-job", "task-exists", "no-such-task", "job-has-tasks", "arena-nodes", "arena-arcs", "memory"]
 # Verb: the kind of each word after it, 'n' a name, otherwise the highest number (the lowest is 1).
 VERBS = {b"machine": ["n", 64], b"drain": ["n"], b"job": ["n", 1000000], b"close": ["n"], b"task": ["n", "n"],
          b"done": ["n"], b"where": ["n"], b"show": [], b"costs": [], b"round": []}
+MOST_PREFERRED = 4  # machines that a task may name behind its own name
 GROWING = {"machine", "job", "task", "round"}
 LONGEST_WAIT = 1000000
 
@@ -38,18 +40,18 @@ class Refused(Exception):
 class Tenant:
     """One tenant: its limits, its rows in order, the last costs, and how many commands it has given."""
 
-    def __init__(self, name, nodes, arcs, life, spread, churn):
+    def __init__(self, name, nodes, arcs, life, spread, churn, remote=0):
         self.name, self.life, self.given, self.costs = name, life, 0, []
-        self.nodes, self.arcs, self.spread, self.churn = nodes, arcs, spread, churn
+        self.nodes, self.arcs, self.spread, self.churn, self.remote = nodes, arcs, spread, churn, remote
         self.machines = {}  # name: slots
         self.jobs = {}  # name: weight
-        self.tasks = {}  # name: [job, machine or None, waited]
+        self.tasks = {}  # name: [job, machine or None, waited, the machines that it prefers]
 
     def use(self):
         """Nodes and arcs that the rows use."""
         nodes = 2 + len(self.machines) + len(self.jobs) + len(self.tasks)
-        arcs = sum(1 + slots for slots in self.machines.values()) + len(self.jobs) + 3 * len(self.tasks)
-        return nodes, arcs
+        arcs = sum(1 + slots for slots in self.machines.values()) + len(self.jobs)
+        return nodes, arcs + sum(3 + len(task[3]) for task in self.tasks.values())
 
     def answer(self, words, refuse_memory=False):
         """The reply line to a command, without its line feed."""
@@ -68,9 +70,13 @@ class Tenant:
 
     @staticmethod
     def _command(words):
-        if not words or words[0] not in VERBS or len(words) - 1 != len(VERBS[words[0]]):
+        if not words or words[0] not in VERBS:
             raise Refused(2)
-        pairs = list(zip(words[1:], VERBS[words[0]]))
+        kinds = VERBS[words[0]]
+        more = len(words) - 1 - len(kinds)
+        if more < 0 or more > (MOST_PREFERRED if words[0] == b"task" else 0):
+            raise Refused(2)
+        pairs = list(zip(words[1:], kinds + ["n"] * more))
         if any(kind == "n" and not is_name(word) for word, kind in pairs):
             raise Refused(3)
         if any(kind != "n" and number_in(word, 1, kind) is None for word, kind in pairs):
@@ -101,7 +107,9 @@ class Tenant:
         del self.machines[name]
         evicted = [task for task in self.tasks.values() if task[1] == name]
         for task in evicted:
-            task[1:] = [None, 0]
+            task[1:3] = [None, 0]
+        for task in self.tasks.values():
+            task[3] = [machine for machine in task[3] if machine != name]
         return f"ok evicted {len(evicted)}"
 
     def _job(self, arguments, refuse_memory):
@@ -122,13 +130,16 @@ class Tenant:
         return "ok"
 
     def _task(self, arguments, refuse_memory):
-        job, name = arguments
+        job, name, *preferred = arguments
+        if any(machine not in self.machines for machine in preferred):
+            raise Refused(6)
         if job not in self.jobs:
             raise Refused(8)
         if name in self.tasks:
             raise Refused(9)
-        self._grow(1, 3, refuse_memory)
-        self.tasks[name] = [job, None, 0]
+        preferred = list(dict.fromkeys(preferred))
+        self._grow(1, 3 + len(preferred), refuse_memory)
+        self.tasks[name] = [job, None, 0, preferred]
         return "ok"
 
     def _done(self, arguments, _):
@@ -142,7 +153,7 @@ class Tenant:
         (name,) = arguments
         if name not in self.tasks:
             raise Refused(10)
-        _, machine, waited = self.tasks[name]
+        _, machine, waited, _ = self.tasks[name]
         return f"ok waits {waited}" if machine is None else f"ok at {machine}"
 
     def _show(self, _, __):
@@ -164,6 +175,13 @@ class Tenant:
         """What it costs to leave the task (a row) waiting."""
         return self.jobs[task[0]] + task[2] + (self.churn if task[1] is not None else 0)
 
+    def placing_cost(self, task, machine):
+        """What it costs the task (a row) to be on the machine, apart from the machine's load."""
+        _, own, _, preferred = task
+        if machine == own:
+            return 0
+        return (self.churn if own is not None else 0) + (self.remote if preferred and machine not in preferred else 0)
+
     def settle(self, cost, placement):
         """The rows after a round with this placement, and the round's text."""
         changes = []
@@ -174,7 +192,7 @@ class Tenant:
                 changes.append(f" preempt {name} {task[1]}")
             elif machine != task[1]:
                 changes.append(f" move {name} {task[1]} {machine}")
-            task[1:] = [machine, 0 if machine is not None else min(task[2] + 1, LONGEST_WAIT)]
+            task[1:3] = [machine, 0 if machine is not None else min(task[2] + 1, LONGEST_WAIT)]
         self.costs = (self.costs + [cost])[-8:]
         return f"ok round cost {cost}" + "".join(changes)
 
@@ -202,8 +220,7 @@ class Tenant:
                 elif load[machine] == self.machines[machine]:
                     continue
                 else:
-                    more = self.spread * load[machine]
-                    more += self.churn if task[1] not in (None, machine) else 0
+                    more = self.spread * load[machine] + self.placing_cost(task, machine)
                     load[machine] += 1
                 chosen.append(machine)
                 try_all(cost + more)
@@ -220,13 +237,13 @@ def read_roster(text):
     if len(text) > 65536:
         return 2
     records = [line.split(b",") for line in re.split(rb"[\r\n]+", text) if line]
-    if not records or records[0] != HEADING:
+    if not records or records[0] not in (HEADING, LONG_HEADING):
         return 1
     tenants = {}
     for place, record in enumerate(records[1:]):
         if place == 64:
             return 6
-        if len(record) != len(HEADING):
+        if len(record) != len(records[0]):
             return 2
         if not is_name(record[0]):
             return 3

@@ -1,6 +1,6 @@
 """Random small streams: rosters and inputs that meet every verb, every refusal and every kind of bad line."""
 
-from service import HEADING
+from service import HEADING, LONG_HEADING
 
 NAMES = ["a", "b", "c0", "-", "x-1", "abcdefghijklmnop"]
 BAD_NAMES = [b"A", b"a_b", b"abcdefghijklmnopq", b"\xff", b"a\x00", b"m1\r", b"a,b", "é".encode(), b"a\x0b", b"+"]
@@ -9,24 +9,26 @@ BAD_NUMBERS = [b"0", b"65", b"1000001", b"-1", b"+1", b"1.0", b"0x1", b"00000000
 BAD_LINES = [b"", b" ", b"\t \t", b"#", b"# a show", b"#" + b"x" * 300, b"x" * 257, b"nobody show", b"A show", b"\xff",
              b" # a", b"! unknown-tenant", b"a\x00b show", b"\r", b"\x00", b"#" + b"x" * 9000, b"a show" + b" " * 5000]
 BAD_VERBS = [b"", b"fly", b"Show", b"shows", b"round 1", b"machine", b"machine m", b"machine m 1 2", b"job j",
-             b"task j", b"task j t u", b"where", b"done a b", b"show\r", b"costs \x0b", b"\xff", b"drain", b"close"]
+             b"task j", b"task j t u v w x y", b"task j t U", b"task J t m", b"where", b"done a b", b"show\r", b"costs \x0b", b"\xff", b"drain", b"close"]
 
 
-def roster_of(records):
-    return b"".join(b",".join(field for field in record) + b"\n" for record in [HEADING] + records)
+def roster_of(records, heading=HEADING):
+    return b"".join(b",".join(field for field in record) + b"\n" for record in [heading] + records)
 
 
 def random_roster(draw):
     """A roster of some tenants, and their names. The first has much room, as a rule."""
     records, names = [], draw.sample(["a", "b", "t-1", "abcdefghijklmnop", "0"], draw.choice([1, 1, 1, 2, 4]))
+    heading = draw.choice([HEADING, LONG_HEADING, LONG_HEADING])
     for name in names:
         roomy = draw.random() < 0.8
         nodes = draw.randint(10, 30) if roomy else draw.randint(2, 9)
         arcs = draw.randint(60, 300) if roomy else draw.randint(0, 20)
         life = draw.choice([1, 5, 20, 10**6, 2**40]) if draw.random() < 0.1 else 1000
         numbers = [nodes, arcs, life, draw.choice([0, 1, 5, 10, 20, 1000]), draw.choice([0, 0, 1, 1, 2, 3, 20, 1000000])]
-        records.append([name.encode()] + [str(number).encode() for number in numbers])
-    return roster_of(records), names
+        numbers.append(draw.choice([0, 1, 1, 2, 5, 10, 50, 1000000]))
+        records.append(([name.encode()] + [str(number).encode() for number in numbers])[:len(heading)])
+    return roster_of(records, heading), names
 
 
 class Stream:
@@ -56,10 +58,16 @@ class Stream:
             job = self.name(held["job"], False)
             if job in held["job"]:
                 held["task"].setdefault(name, job)
-            return f"task {job} {name}"
+            return " ".join(["task", job, name] + self.preferred(held))
         number = self.draw.choice(self.slots if kind == "machine" else self.weights)
         held[kind].setdefault(name, number)
         return f"{kind} {name} {number}"
+
+    def preferred(self, held):
+        """The machines that a task prefers: mostly some that are held, now and then one that is not, or one twice."""
+        if self.draw.random() < 0.4:
+            return []
+        return [self.name(held["machine"], self.draw.random() < 0.05) for _ in range(self.draw.choice([1, 1, 2, 3, 4]))]
 
     def remove(self, tenant, kind):
         held = self.held[tenant]
@@ -139,8 +147,9 @@ def with_noise(draw, text):
 
 def random_bad_roster(draw):
     """A roster with a fault or two somewhere, or none."""
-    records = [[b"a%d" % place, b"9", b"24", b"100", b"1", b"2"] for place in range(draw.choice([0, 1, 2, 3, 64, 65]))]
-    heading = list(HEADING)
+    heading = list(draw.choice([HEADING, LONG_HEADING]))
+    records = [[b"a%d" % place, b"9", b"24", b"100", b"1", b"2", b"3"][:len(heading)]
+               for place in range(draw.choice([0, 1, 2, 3, 64, 65]))]
     for _ in range(draw.choice([0, 1, 1, 2])):
         row = draw.choice(records + [heading])
         shape = draw.randrange(4)
