@@ -20,7 +20,7 @@ import service
 from small_streams import random_stream
 
 HEADING = b",".join(service.HEADING) + b"\n"
-MEMORY = b" no 14 memory"
+MEMORY = (b" no 14 memory", b"+ no 28 operator-memory")
 
 
 def commands(text):
@@ -38,6 +38,8 @@ TWO = ("alpha machine m1 2; beta machine m1 1; alpha machine m2 2; beta job low 
        " alpha task j a; beta round; alpha task j b; alpha round; beta job high 20; beta task high h; alpha task j c;"
        " beta round; alpha round")
 SHOW = "machine m1 2; job j 5; task j a; show"
+STAYS = ("b show; a job j 5; + admit b,6,20,5,0,0; b machine m 1; b job j 5; b task j x; b round; + admit b,2,0,5,0,0; + retire b;"
+         " b show; + admit b,3,2,5,0,0; b round; + admit c,6,9,9,1,1; c job k 5; + retire c; + retire b; + retire b; a show")
 MANY = "; ".join([f"machine m{n} {n % 64 + 1}" for n in range(60)] + [f"job j{n} 5" for n in range(30)]
                  + [f"task j{n % 30} t{n}" for n in range(150)] + ["show", "where t149", "task j0 t150", "drain m3", "show"])
 
@@ -49,6 +51,7 @@ STREAMS = {
     "two tenants": (b"alpha,9,24,100,1,2\nbeta,8,30,100,0,3\n", commands(TWO)),
     "many rows": (b"a,300,4000,1000,1,1\n", for_tenant("a", MANY)),
     "no round": (b"alpha,6,11,100,1,2\n", for_tenant("alpha", SHOW)),
+    "tenants that come and go": (b"a,4,9,10,0,0\n", commands(STAYS)),
     "no rounds but faults": (b"a,8,30,100,0,0\n", b"a fly\na machine M1 2\n\nnobody show\r\n#c\n" + b"x" * 300 + b"\na show"),
 }
 
@@ -85,7 +88,7 @@ def full_output(roster, text, marks=frozenset()):
 
 
 def marked_lines(text, output):
-    """The places of the input lines that were answered `no 14 memory`; the output may end early."""
+    """The places of the input lines that were answered for want of memory; the output may end early."""
     answered = [place for place, line in enumerate(service.lines_of(text))
                 if not line.startswith(b"#") and (len(line) > 256 or line.strip(b" \t"))]
     lines = output.split(b"\n")[:-1]
@@ -97,7 +100,7 @@ def judge_memory(found, roster, text):
     """How a run to which memory was refused has ended."""
     marks = marked_lines(text, found.output)
     full = full_output(roster, text, marks)
-    lines = f", {len(marks)} answered 14" if marks else ""
+    lines = f", {len(marks)} answered for want of memory" if marks else ""
     if found.status == 6:
         ask(found.faults == b"firm: memory\n", f"faults {found.faults}")
         ask(full.startswith(found.output), f"no prefix of the marked output: {found.output}")

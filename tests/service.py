@@ -16,6 +16,9 @@ REFUSALS = ["worn", "bad-command", "bad-name", "bad-number", "machine-exists", "
 VERBS = {b"machine": ["n", 64], b"drain": ["n"], b"job": ["n", 1000000], b"close": ["n"], b"task": ["n", "n"],
          b"done": ["n"], b"where": ["n"], b"show": [], b"costs": [], b"round": []}
 MOST_PREFERRED = 4  # machines that a task may name behind its own name
+OPERATOR_REFUSALS = ["operator-command", "operator-row", "operator-name", "operator-number", "tenant-exists", "no-such-tenant",
+                     "operator-full", "operator-memory"]  # from 21 on
+PLACES, MOST_ADMISSIONS = 64, 32768
 GROWING = {"machine", "job", "task", "round"}
 LONGEST_WAIT = 1000000
 
@@ -265,7 +268,59 @@ def lines_of(text):
     return [piece[:-1] if piece.endswith(b"\r") else piece for piece in pieces]
 
 
-def answer_line(tenants, line, refuse_memory=False):
+class Service:
+    """The tenants that are there, by name; who has which place, and how often each place was given."""
+
+    def __init__(self, tenants):
+        self.tenants = tenants
+        self.places = list(tenants) + [None] * (PLACES - len(tenants))
+        self.admissions = [1] * len(tenants) + [0] * (PLACES - len(tenants))
+
+    def operate(self, words, refuse_memory):
+        """The answer to an operator's line."""
+        try:
+            verb, name, tenant = self._read(words)
+            return f"+ ok {getattr(self, '_' + verb)(name, tenant, refuse_memory)} {name}".encode()
+        except Refused as refusal:
+            return f"+ no {refusal.code} {OPERATOR_REFUSALS[refusal.code - 21]}".encode()
+
+    @staticmethod
+    def _read(words):
+        if len(words) != 2 or words[0] not in (b"admit", b"retire"):
+            raise Refused(21)
+        fields = words[1].split(b",") if words[0] == b"admit" else [words[1]]
+        if words[0] == b"admit" and len(fields) not in (len(HEADING), len(LONG_HEADING)):
+            raise Refused(22)
+        if not is_name(fields[0]):
+            raise Refused(23)
+        numbers = [number_in(word, *bounds) for word, bounds in zip(fields[1:], RANGES)]
+        if None in numbers:
+            raise Refused(24)
+        name = fields[0].decode()
+        return words[0].decode(), name, Tenant(name, *numbers) if numbers else None
+
+    def _admit(self, name, tenant, refuse_memory):
+        if name in self.tenants:
+            raise Refused(25)
+        free = [place for place in range(PLACES)
+                if self.places[place] is None and self.admissions[place] < MOST_ADMISSIONS]
+        if not free:
+            raise Refused(27)
+        if refuse_memory:
+            raise Refused(28)
+        self.places[free[0]], self.tenants[name] = name, tenant
+        self.admissions[free[0]] += 1
+        return "admitted"
+
+    def _retire(self, name, _, __):
+        if name not in self.tenants:
+            raise Refused(26)
+        del self.tenants[name]
+        self.places[self.places.index(name)] = None
+        return "retired"
+
+
+def answer_line(service, line, refuse_memory=False):
     """The output line to an input line, or None."""
     if line.startswith(b"#"):
         return None
@@ -274,13 +329,15 @@ def answer_line(tenants, line, refuse_memory=False):
     words = [word for word in re.split(rb"[ \t]+", line) if word]
     if not words:
         return None
-    if not is_name(words[0]) or words[0].decode() not in tenants:
+    if words[0] == b"+":
+        return service.operate(words[1:], refuse_memory)
+    if not is_name(words[0]) or words[0].decode() not in service.tenants:
         return b"! unknown-tenant"
-    return tenants[words[0].decode()].answer(words[1:], refuse_memory)
+    return service.tenants[words[0].decode()].answer(words[1:], refuse_memory)
 
 
 def serve(roster, text, marks=frozenset()):
     """The output lines of an input; memory is refused to the input lines whose places are in `marks`."""
-    tenants = read_roster(roster)
-    answers = (answer_line(tenants, line, place in marks) for place, line in enumerate(lines_of(text)))
+    service = Service(read_roster(roster))
+    answers = (answer_line(service, line, place in marks) for place, line in enumerate(lines_of(text)))
     return [answer for answer in answers if answer is not None]

@@ -7,7 +7,9 @@ BAD_NAMES = [b"A", b"a_b", b"abcdefghijklmnopq", b"\xff", b"a\x00", b"m1\r", b"a
 BAD_NUMBERS = [b"0", b"65", b"1000001", b"-1", b"+1", b"1.0", b"0x1", b"00000000000001", b"99999999999999",
                b"18446744073709551617", b"1_0", b"two", b"\xb2", b"9999999999999"]
 BAD_LINES = [b"", b" ", b"\t \t", b"#", b"# a show", b"#" + b"x" * 300, b"x" * 257, b"nobody show", b"A show", b"\xff",
-             b" # a", b"! unknown-tenant", b"a\x00b show", b"\r", b"\x00", b"#" + b"x" * 9000, b"a show" + b" " * 5000]
+             b" # a", b"! unknown-tenant", b"a\x00b show", b"\r", b"\x00", b"#" + b"x" * 9000, b"a show" + b" " * 5000, b"+", b"+ show", b"+ admit",
+             b"+ retire", b"+ retire a b", b"+ admit a,2,0,1,0,0 b", b"++ retire a", b"+a show", b"+ Admit a,2,0,1,0,0",
+             b"+" + b" " * 300, b"+ admit \"a\",2,0,1,0,0"]
 BAD_VERBS = [b"", b"fly", b"Show", b"shows", b"round 1", b"machine", b"machine m", b"machine m 1 2", b"job j",
              b"task j", b"task j t u v w x y", b"task j t U", b"task J t m", b"where", b"done a b", b"show\r", b"costs \x0b", b"\xff", b"drain", b"close"]
 
@@ -39,6 +41,7 @@ class Stream:
         self.held = {tenant: {"machine": {}, "job": {}, "task": {}} for tenant in tenants}
         self.weights = draw.choice([[1, 2, 3], [5, 50], [1, 1000000], [10, 20, 21, 22], [60, 61], [100], [3000]])
         self.slots = draw.choice([[1], [1, 2], [2, 3], [1, 2, 64], [5]])
+        self.operators = draw.choice([0, 0, 0.02, 0.1])  # the part of the lines that is the operator's
 
     def name(self, held, new):
         """A name of those that are held, or a new one, as asked most of the time."""
@@ -104,7 +107,25 @@ class Stream:
                              [b"close", bad], [b"done", bad], [b"where", bad], [b"machine", bad, number]])
         return tenant.encode() + b" " + b" ".join(words)
 
+    def operator(self):
+        """A line of the operator: a tenant is retired, or one is admitted that is there or not, now and then with a fault."""
+        draw, name = self.draw, self.draw.choice(self.tenants + ["new", "z"]).encode()
+        if draw.random() < 0.1:
+            name = draw.choice(BAD_NAMES[:4] + [b"+"])
+        if draw.random() < 0.4:
+            return b"+ retire " + name
+        row = [name, b"%d" % draw.randint(2, 30), b"%d" % draw.randint(0, 200), b"%d" % draw.choice([1, 5, 1000]),
+               b"%d" % draw.choice([0, 1, 20]), b"%d" % draw.choice([0, 1, 3, 20]), b"%d" % draw.choice([0, 1, 5])]
+        if draw.random() < 0.15:
+            row[draw.randint(1, 6)] = draw.choice(BAD_NUMBERS + [b""])
+        if name in (b"new", b"z") and draw.random() < 0.5 and name.decode() not in self.tenants:
+            self.tenants.append(name.decode())
+            self.held[name.decode()] = {"machine": {}, "job": {}, "task": {}}
+        return b"+ admit " + b",".join(row[:draw.choice([6, 7, 7, 7]) if draw.random() < 0.95 else draw.randint(1, 8)])
+
     def line(self):
+        if self.draw.random() < self.operators:
+            return self.operator()
         tenant = self.draw.choice(self.tenants)
         if self.draw.random() < 0.12:
             return self.bad(tenant)
