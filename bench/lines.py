@@ -1,10 +1,11 @@
 #!/usr/bin/env python3
 """Measures lines a second of the built program, and its memory over a long input.
 
-usage: bench/lines.py [--program FILE] [--lines N] [--repeats R] [--bytes B]
+usage: bench/lines.py [--program FILE] [--lines N] [--repeats R] [--bytes B] [--rates]
 Streams of refused adders, `show`, `where`, and all three in turn, for a tenant of 10 rows and for one of 4,000, from a
 file to a file. Times are processor times (user and system), the least of R runs, less those of a run that only adds
 the rows; where valgrind is installed, also instructions. Every output is checked: its last number is the count of lines.
+The program may be `firm_single`, which serves on one thread; with `--rates` nothing but lines a second is measured.
 """
 
 import argparse
@@ -118,9 +119,12 @@ def main():
     parser.add_argument("--lines", type=int, default=1_000_000)
     parser.add_argument("--repeats", type=int, default=5)
     parser.add_argument("--bytes", type=int, default=100_000_000)
+    parser.add_argument("--rates", action="store_true")
     words = parser.parse_args()
     with tempfile.TemporaryDirectory(prefix="firm-") as folder:
         measure_lines(words, Path(folder))
+        if words.rates:
+            return
         if shutil.which("valgrind"):
             measure_instructions(words, Path(folder))
         measure_memory(words, Path(folder))

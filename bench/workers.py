@@ -1,10 +1,11 @@
 #!/usr/bin/env python3
 """Measures the built program with some numbers of workers: rounds a second, an idle service, and one round's way back.
 
-usage: bench/workers.py [--program FILE] [--workers 1,2,4] [--idle 2,8] [--tenants N] [--size 500x100] [--rounds N] [--repeats R]
+usage: bench/workers.py [--program FILE] [--single FILE] [--workers 1,2,4] [--idle 2,8] [--tenants N] [--size 500x100] [--rounds N]
+                        [--repeats R]
 Rounds a second: each tenant has a full cold book and asks its rounds in turn with the others, from a file to a file, by
 the clock on the wall, the best of R runs, less a run that only adds the rows; with each number of workers the output
-must be the same. Idle: processor time while nothing comes for some seconds. A round's way back: from a round's line and
+must be the same, and that of `firm_single`, the service on one thread, where it is built. Idle: processor time while nothing comes for some seconds. A round's way back: from a round's line and
 one that waits for it to both replies, as workers look for work, and once they sleep.
 """
 
@@ -49,10 +50,10 @@ class Inputs:
         self.all.write_text("\n".join(rows + rounds) + "\n")
 
 
-def seconds_of(words, workers, inputs, path):
+def seconds_of(command, repeats, path):
     """The least time of some runs by the clock on the wall, and the output."""
-    best, command = None, [words.program, "--roster", str(inputs.roster), "--workers", str(workers)]
-    for _ in range(words.repeats):
+    best = None
+    for _ in range(repeats):
         with open(path) as source:
             begun = time.monotonic()
             done = subprocess.run(command, stdin=source, stdout=subprocess.PIPE, check=True)
@@ -62,16 +63,20 @@ def seconds_of(words, workers, inputs, path):
 
 
 def measure_rounds(words, folder):
-    """A row for each number of workers; whether all outputs were the same."""
+    """A row for the service on one thread and for each number of workers; whether all outputs were the same."""
     inputs, outputs, first = Inputs(folder, words), [], None
-    print("| workers | rounds a second | times one worker |\n| ---: | ---: | ---: |")
-    for workers in map(int, words.workers.split(",")):
-        rows, _ = seconds_of(words, workers, inputs, inputs.rows)
-        whole, output = seconds_of(words, workers, inputs, inputs.all)
+    services = {workers: [words.program, "--workers", workers] for workers in words.workers.split(",")}
+    if Path(words.single).exists():
+        services = {"none, one thread": [words.single], **services}
+    print("| workers | rounds a second | times the first |\n| ---: | ---: | ---: |")
+    for name, command in services.items():
+        command += ["--roster", str(inputs.roster)]
+        rows, _ = seconds_of(command, words.repeats, inputs.rows)
+        whole, output = seconds_of(command, words.repeats, inputs.all)
         rate = inputs.count / (whole - rows)
         first = first or rate
         outputs.append(output)
-        print(f"| {workers} | {rate:,.0f} | {rate / first:.2f} |", flush=True)
+        print(f"| {name} | {rate:,.0f} | {rate / first:.2f} |", flush=True)
     return all(output == outputs[0] for output in outputs)
 
 
@@ -134,6 +139,7 @@ def measure_way(words, folder):
 def read_words():
     parser = argparse.ArgumentParser(description=__doc__.splitlines()[0])
     parser.add_argument("--program", default=str(ROOT / "crates" / "firm" / "out" / "firm"))
+    parser.add_argument("--single", default=str(ROOT / "crates" / "firm_single" / "out" / "firm_single"))
     parser.add_argument("--workers", default="1,2,4", help="of the busy service")
     parser.add_argument("--idle", default="2,8", help="workers of the idle service, and of a single round")
     parser.add_argument("--tenants", type=int, default=8)
