@@ -1,5 +1,5 @@
 -- What holds of each element of a list, as a loop takes one off its front, or puts one at its back.
-use Rattle.std.proofs.Common.{◌≡◌, zero, suc, ◌+◌, ◌<◌, List, [], ◌∷◌, ◌++◌, All, length, sym, subst, arith}
+use Rattle.std.proofs.Common.{◌≡◌, zero, suc, List, [], ◌∷◌, ◌++◌, All, sym, subst, arith}
 use Rattle.std.proofs.lemmas.List.Elements.{All-append}
 
 module _ {A : Type 0} (P : A → Type 0) where

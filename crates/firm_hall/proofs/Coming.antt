@@ -1,6 +1,6 @@
 -- A round that comes back leaves what was told.
-use Rattle.std.proofs.Common.{◌≡◌, ℕ, ◌+◌, ◌<◌, ◌≤◌, List, [], ◌∷◌, ◌++◌, length, set, get_or, refl, sym, ap, ◌∙◌, subst, arith}
-use Rattle.std.specs.Prelude.{Bool, true, ◌==◌, map, Option, Some, None, is_some, MatchBool}
+use Rattle.std.proofs.Common.{◌≡◌, ℕ, ◌<◌, List, [], ◌∷◌, ◌++◌, length, set, get_or, sym, ap, ◌∙◌, subst, arith}
+use Rattle.std.specs.Prelude.{Bool, map, Option, Some, None, is_some, MatchBool}
 use mathlib.Core.Logic.{dite}
 use native.Mathlib.Decide.{ℕ_discrete}
 use Rattle.std.specs.List.{flat_map}
@@ -10,19 +10,19 @@ use Rattle.firm_rules.specs.declared.commands.Command.TheVariants.{Round}
 use Rattle.firm_rules.specs.declared.replies.Reply.{Reply}
 use Rattle.firm_tenant.specs.Step.{is_memory}
 use Rattle.firm_text.specs.Rosters.{Admitted}
-use Rattle.firm_table.specs.Answers.{Answer, text_of_answer}
+use Rattle.firm_table.specs.Answers.{text_of_answer}
 use Rattle.firm_rounds.specs.Rounds.{weigh}
 use Rattle.firm_rounds.specs.Passes.{QueueId}
 use Rattle.firm_table.specs.inner.Line.{state_is}
 use Rattle.firm_hall.specs.Desks.{DeskIs, IsStep}
-use Rattle.firm_hall.specs.inner.Seats.{IsSeated, IsTurned, waiting_place, filled, filled_if}
-use Rattle.firm_hall.specs.inner.Serving.{answer_in, held_text, book_at, asked_at, AreSeats, IsPlaced, ArePlaced, SeatIs, NoneWaits, OneWaits, Tells, TellsParts, IsHome, IsHomeAt, FirstIsFor, FirstIsKnown, FirstWaits}
+use Rattle.firm_hall.specs.inner.Seats.{IsSeated, IsHome, IsTurned, waiting_place, filled, filled_if}
+use Rattle.firm_hall.specs.inner.Serving.{held_text, book_at, asked_at, AreSeats, IsPlaced, ArePlaced, SeatIs, NoneWaits, OneWaits, Tells, TellsParts, IsHomeAt, FirstIsFor, FirstIsKnown, FirstWaits}
 use Rattle.firm_hall.specs.declared.seats.Seat.{Seat}
 use Rattle.firm_hall.specs.declared.seats.Seat.TheVariants.{Home, Away, Gone}
 use Rattle.firm_hall.specs.declared.seats.Slot.{Slot}
 use Rattle.firm_hall.specs.declared.seats.Slot.TheVariants.{TooLong, Stranger, Replied, Waiting}
 use Rattle.firm_hall.proofs.Slots.{is_place, with_mark, answers_filled, placed_filled, first_filled}
-use Rattle.firm_hall.proofs.Seating.{set_twice, here_is, seats_back, books_back, asked_back}
+use Rattle.firm_hall.proofs.Seating.{here_is, seats_back, books_back, asked_back}
 
 -- what still holds of other seats and answers
 pub record Turned (roster : List Admitted) (queue : QueueId) (count : ℕ) (slots later : List Slot) (seats after : List Seat) : Type 0 where
@@ -31,19 +31,18 @@ pub record Turned (roster : List Admitted) (queue : QueueId) (count : ℕ) (slot
   pub keeps : (output text : List ℕ) (written now : Option (List ℕ)) → TellsParts roster seats slots output text written now
       → TellsParts roster after later output text written now
 
-module _ (roster : List Admitted) (queue : QueueId) (count place : ℕ) (slots : List Slot) (seats : List Seat) (default mid : Seat)
+module _ (roster : List Admitted) (queue : QueueId) (count place : ℕ) (slots : List Slot) (seats : List Seat) (default : Seat)
     (are : AreSeats queue count slots seats) (placed : ArePlaced count slots) (low : place < count) where
-  stayed : (before last : Seat) → before ≡ get_or seats place default → last ≡ before → Turned roster queue count slots slots seats (set (set seats place mid) place last)
+  stayed : (before last : Seat) → before ≡ get_or seats place default → last ≡ before → Turned roster queue count slots slots seats (set seats place last)
   stayed before last at same =
-      let whole : set (set seats place mid) place last ≡ seats =
-      set_twice seats place mid last ∙ ap (set seats place) (same ∙ at) ∙ set-get_or seats place default in
+      let whole : set seats place last ≡ seats =
+      ap (set seats place) (same ∙ at) ∙ set-get_or seats place default in
       rw whole (record { seats_are = are; placed = placed; keeps = λ output text written now told. told })
 
   came : (asked desk : DeskIs) (reply : Reply) → Away asked ≡ get_or seats place default → IsStep asked Round reply desk
-      → Turned roster queue count slots (filled place reply slots) seats (set (set seats place mid) place (Home desk))
+      → Turned roster queue count slots (filled place reply slots) seats (set seats place (Home desk))
   came asked desk reply away back =
-      rw (set_twice seats place mid (Home desk))
-      (record {
+      record {
         seats_are = seats_back queue count place slots seats asked desk reply default are low away back;
         placed = placed_filled count place reply slots placed;
         keeps = λ output text written now told marks.
@@ -58,10 +57,10 @@ module _ (roster : List Admitted) (queue : QueueId) (count place : ℕ) (slots :
             subst (λ (n : ℕ). Tells (state_is roster (map (book_at marks) (set seats place (Home desk))) (output ++ held_text marks (filled place reply slots))) n text written now) asked_same
             (subst (λ (l : List ℕ). Tells (state_is roster (map (book_at marks) (set seats place (Home desk))) (output ++ l)) (weigh asked_at seats) text written now) held
             (subst (λ (bs : List Book). Tells (state_is roster bs (output ++ held_text marked slots)) (weigh asked_at seats) text written now) books (told marked)));
-      })
+      }
 
   pub turned : (before last : Seat) (reply : Option Reply) → before ≡ get_or seats place default → IsTurned before last reply
-      → Turned roster queue count slots (filled_if place reply slots) seats (set (set seats place mid) place last)
+      → Turned roster queue count slots (filled_if place reply slots) seats (set seats place last)
   turned before last None at turn = stayed before last at turn
   turned (Away asked) (Home desk) (Some reply) at turn = came asked desk reply at turn
   turned (Away asked) (Away other) (Some reply) at turn = absurd turn
@@ -69,12 +68,12 @@ module _ (roster : List Admitted) (queue : QueueId) (count place : ℕ) (slots :
   turned (Home desk) last (Some reply) at turn = absurd turn
   turned Gone last (Some reply) at turn = absurd turn
 
--- the same, of what a body knows of the seat that it put there and of the answers that it left
-pub turned_by : (roster : List Admitted) (queue : QueueId) (count place : ℕ) (slots later : List Slot) (seats : List Seat) (default mid before last put : Seat) (reply : Option Reply)
-    → AreSeats queue count slots seats → ArePlaced count slots → place < count → before ≡ get_or seats place default → put ≡ last → later ≡ filled_if place reply slots
-    → IsTurned before last reply → Turned roster queue count slots later seats (set (set seats place mid) place put)
-turned_by roster queue count place slots later seats default mid before last put reply are placed low at same filled_is turn =
-    rw (same, filled_is) (turned roster queue count place slots seats default mid are placed low before last reply at turn)
+-- the same, of what a body knows of the answers that it left
+pub turned_by : (roster : List Admitted) (queue : QueueId) (count place : ℕ) (slots later : List Slot) (seats : List Seat) (default before last : Seat) (reply : Option Reply)
+    → AreSeats queue count slots seats → ArePlaced count slots → place < count → before ≡ get_or seats place default → later ≡ filled_if place reply slots
+    → IsTurned before last reply → Turned roster queue count slots later seats (set seats place last)
+turned_by roster queue count place slots later seats default before last reply are placed low at filled_is turn =
+    rw filled_is (turned roster queue count place slots seats default are placed low before last reply at turn)
 
 -- something stands at each place
 pub seated : (queue : QueueId) (place : ℕ) (slots : List Slot) (seat : Seat) → SeatIs queue place slots seat → IsSeated seat
@@ -88,37 +87,35 @@ seated_at queue count place slots seats before default are low at =
     subst IsSeated (sym at) (seated queue place slots (get_or seats place default) (are.each place default low))
 
 -- the desk that was put at a place is home there, and others are home where they were
-pub home_set : (seats : List Seat) (place : ℕ) (mid put : Seat) (desk : DeskIs) → put ≡ Home desk → IsHomeAt place (set (set seats place mid) place put)
-home_set seats place mid put desk is default low =
-    let low' : place < length (set seats place mid) = omega (arith, length-set (set seats place mid) place put) in
-    subst IsHome (sym (get_or-set_same (set seats place mid) place put default low' ∙ is)) tt
+pub home_set : (seats : List Seat) (place : ℕ) (put : Seat) → IsHome put → IsHomeAt place (set seats place put)
+home_set seats place put home default low =
+    let low' : place < length seats = omega (arith, length-set seats place put) in
+    subst IsHome (sym (get_or-set_same seats place put default low')) home
 
-pub home_others : (seats : List Seat) (place other : ℕ) (mid put : Seat) (desk : DeskIs) → put ≡ Home desk → IsHomeAt other seats → IsHomeAt other (set (set seats place mid) place put)
-home_others seats place other mid put desk is home default low = dite (ℕ_discrete other place)
-    (λ same. subst (λ (j : ℕ). IsHome (get_or (set (set seats place mid) place put) j default)) (sym same) (home_set seats place mid put desk is default (subst (λ (j : ℕ). j < length (set (set seats place mid) place put)) same low)))
-    (λ differ.
-    let there : get_or (set (set seats place mid) place put) other default ≡ get_or seats other default =
-    get_or-set_other (set seats place mid) place other put default differ ∙ get_or-set_other seats place other mid default differ in
-    subst IsHome (sym there) (home default (omega (arith, length-set (set seats place mid) place put, length-set seats place mid))))
+pub home_others : (seats : List Seat) (place other : ℕ) (put : Seat) → IsHome put → IsHomeAt other seats → IsHomeAt other (set seats place put)
+home_others seats place other put is home default low = dite (ℕ_discrete other place)
+    (λ same. subst (λ (j : ℕ). IsHome (get_or (set seats place put) j default)) (sym same)
+    (home_set seats place put is default (subst (λ (j : ℕ). j < length (set seats place put)) same low)))
+    (λ differ. subst IsHome (sym (get_or-set_other seats place other put default differ)) (home default (omega (arith, length-set seats place put))))
 
 -- what the first answer is, once its round came back
 first_not : {X : Type 0} (place : ℕ) (slots : List Slot) → NoneWaits place slots → FirstIsFor place slots → X
 first_not place [] none here = absurd here
 first_not place (slot ∷ rest) none here = cc
 
-first_home : (queue : QueueId) (place : ℕ) (slots : List Slot) (before : Seat) (desk : DeskIs) (reply : Option Reply) → SeatIs queue place slots before
-    → IsTurned before (Home desk) reply → FirstIsFor place slots → FirstIsKnown (filled_if place reply slots)
-first_home queue place slots (Home old) desk None is turn here = first_not place slots is.2 here
-first_home queue place slots (Home old) desk (Some reply) is turn here = absurd turn
-first_home queue place slots (Away asked) desk None is turn here = cc
-first_home queue place slots (Away asked) desk (Some reply) is turn here = first_filled place reply slots here
-first_home queue place slots Gone desk reply is turn here = absurd is
+first_home : (queue : QueueId) (place : ℕ) (slots : List Slot) (before last : Seat) (reply : Option Reply) → SeatIs queue place slots before
+    → IsTurned before last reply → IsHome last → FirstIsFor place slots → FirstIsKnown (filled_if place reply slots)
+first_home queue place slots (Home old) last None is turn home here = first_not place slots is.2 here
+first_home queue place slots (Home old) last (Some reply) is turn home here = absurd turn
+first_home queue place slots (Away asked) last None is turn home here = absurd (subst IsHome turn home)
+first_home queue place slots (Away asked) last (Some reply) is turn home here = first_filled place reply slots here
+first_home queue place slots Gone last reply is turn home here = absurd is
 
-pub first_comes : (queue : QueueId) (count place : ℕ) (slots later : List Slot) (seats : List Seat) (before default : Seat) (desk : DeskIs) (reply : Option Reply) → AreSeats queue count slots seats
-    → place < count → before ≡ get_or seats place default → later ≡ filled_if place reply slots → IsTurned before (Home desk) reply → FirstIsFor place slots → FirstIsKnown later
-first_comes queue count place slots later seats before default desk reply are low at filled_is turn here =
+pub first_comes : (queue : QueueId) (count place : ℕ) (slots later : List Slot) (seats : List Seat) (before last default : Seat) (reply : Option Reply) → AreSeats queue count slots seats
+    → place < count → before ≡ get_or seats place default → later ≡ filled_if place reply slots → IsTurned before last reply → IsHome last → FirstIsFor place slots → FirstIsKnown later
+first_comes queue count place slots later seats before last default reply are low at filled_is turn home here =
     subst FirstIsKnown (sym filled_is)
-    (first_home queue place slots before desk reply (subst (SeatIs queue place slots) (sym at) (are.each place default low)) turn here)
+    (first_home queue place slots before last reply (subst (SeatIs queue place slots) (sym at) (are.each place default low)) turn home here)
 
 first_waits : (place : ℕ) (slots : List Slot) → FirstIsFor place slots → FirstWaits slots
 first_waits place [] here = absurd here

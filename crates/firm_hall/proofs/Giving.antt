@@ -1,6 +1,6 @@
 -- Known answers are taken off the front, and written.
-use Rattle.std.proofs.Common.{◌≡◌, ℕ, ◌+◌, ◌<◌, ◌≤◌, List, [], ◌∷◌, ◌++◌, length, take, set, get_or, refl, sym, ap, ◌∙◌, subst, arith, append_assoc, append-nil}
-use Rattle.std.specs.Prelude.{Bool, true, false, ◌==◌, map, Option, Some, None, Result, Ok, Err, OnErr, OnOk}
+use Rattle.std.proofs.Common.{◌≡◌, ℕ, ◌<◌, ◌≤◌, List, [], ◌∷◌, ◌++◌, length, take, get_or, refl, sym, ap, ◌∙◌, subst, arith, append_assoc, append-nil}
+use Rattle.std.specs.Prelude.{Bool, true, false, ◌==◌, map, Option, Result, Ok, Err, OnErr, OnOk}
 use Rattle.std.proofs.Math.Seq.{take-length}
 use Rattle.std.specs.Io.KnownBytes.{Appends}
 use Rattle.std.proofs.KnownBytes.{Appends-nil}
@@ -10,8 +10,8 @@ use Rattle.firm_table.specs.Service.{Answers, BeginsAnswers}
 use Rattle.firm_rounds.specs.Rounds.{weigh}
 use Rattle.firm_rounds.specs.Passes.{QueueId}
 use Rattle.firm_table.specs.inner.Line.{state_is}
-use Rattle.firm_hall.specs.inner.Seats.{waits_for}
-use Rattle.firm_hall.specs.inner.Serving.{answer_in, held_text, book_at, asked_at, state_with, AreSeats, ArePlaced, SeatIs, Tells, TellsParts, FirstIsKnown, FirstWaits, IsHome, IsHomeAt, AllHome, NoneWaits, IsPlaced}
+use Rattle.firm_hall.specs.inner.Seats.{IsHome}
+use Rattle.firm_hall.specs.inner.Serving.{answer_in, held_text, book_at, asked_at, state_with, AreSeats, ArePlaced, SeatIs, Tells, TellsParts, FirstIsKnown, AllHome, NoneWaits}
 use Rattle.firm_hall.specs.declared.seats.Seat.{Seat}
 use Rattle.firm_hall.specs.declared.seats.Seat.TheVariants.{Home, Away, Gone}
 use Rattle.firm_hall.specs.declared.seats.Slot.{Slot}

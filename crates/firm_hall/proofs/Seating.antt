@@ -1,31 +1,24 @@
 -- What stands at the places, as a desk comes home, answers or asks.
-use Rattle.std.proofs.Common.{◌≡◌, ◌≢◌, ℕ, zero, suc, ◌+◌, ◌<◌, ◌≤◌, List, [], ◌∷◌, ◌++◌, length, set, get_or, refl, sym, ap, ◌∙◌, subst, arith, ne_eqb}
-use Rattle.std.specs.Prelude.{Bool, true, false, ◌==◌, map, Option, Some, None, if◌then◌else◌}
-use Rattle.std.proofs.lemmas.List.{length-set, length-map, map-set, get_or-map, get_or-set_same, get_or-set_other, set-get_or, ext_get_or}
+use Rattle.std.proofs.Common.{◌≡◌, ◌≢◌, ℕ, zero, suc, ◌+◌, ◌<◌, List, [], ◌∷◌, ◌++◌, length, set, get_or, refl, sym, ap, ◌∙◌, subst, arith}
+use Rattle.std.specs.Prelude.{Bool, false, map}
+use Rattle.std.proofs.lemmas.List.{length-set, length-map, get_or-map, get_or-set_same, get_or-set_other, ext_get_or}
 use mathlib.Core.Logic.{dite}
 use native.Mathlib.Decide.{ℕ_discrete}
 use Rattle.firm_rules.specs.Book.{Book}
-use Rattle.firm_rules.specs.declared.commands.Command.{Command}
 use Rattle.firm_rules.specs.declared.commands.Command.TheVariants.{Round}
 use Rattle.firm_rules.specs.declared.replies.Reply.{Reply}
 use Rattle.firm_tenant.specs.Step.{step, is_memory}
 use Rattle.firm_rounds.specs.Rounds.{weigh}
 use Rattle.firm_rounds.specs.Passes.{QueueId}
-use Rattle.firm_hall.specs.Desks.{DeskIs, desk_is, IsStep}
-use Rattle.firm_hall.specs.inner.Seats.{IsTurned, IsTaken, Answered, Went, waits_for, filled, filled_if}
-use Rattle.firm_hall.specs.inner.Serving.{book_at, asked_at, NoneWaits, OneWaits, IsFor, SeatIs, AreSeats, IsHome, IsHomeAt, AllHome}
+use Rattle.firm_hall.specs.Desks.{DeskIs, IsStep}
+use Rattle.firm_hall.specs.inner.Seats.{waits_for, filled}
+use Rattle.firm_hall.specs.inner.Serving.{book_at, asked_at, SeatIs, AreSeats}
 use Rattle.firm_hall.specs.declared.seats.Seat.{Seat}
 use Rattle.firm_hall.specs.declared.seats.Seat.TheVariants.{Home, Away, Gone}
 use Rattle.firm_hall.specs.declared.seats.Slot.{Slot}
-use Rattle.firm_hall.specs.declared.seats.Slot.TheVariants.{TooLong, Stranger, Replied, Waiting}
-use Rattle.firm_hall.proofs.Slots.{with_mark, with_here, with_other, none_push, one_push, one_here, one_pop, none_filled, none_other, one_other}
+use Rattle.firm_hall.proofs.Slots.{with_mark, with_here, with_other, none_push, one_push, none_filled, none_other, one_other}
 
 module _ {A : Type 0} where
-  pub set_twice : (xs : List A) (i : ℕ) (x y : A) → set (set xs i x) i y ≡ set xs i y
-  set_twice [] i x y = refl
-  set_twice (z ∷ xs) zero x y = refl
-  set_twice (z ∷ xs) (suc i) x y = ap (λ (ys : List A). z ∷ ys) (set_twice xs i x y)
-
   pub weigh_set : (g : A → ℕ) (xs : List A) (i : ℕ) (y d : A) → i < length xs → weigh g (set xs i y) + g (get_or xs i d) ≡ weigh g xs + g y
   weigh_set g [] i y d low = absurd (omega arith)
   weigh_set g (x ∷ xs) zero y d low = omega arith

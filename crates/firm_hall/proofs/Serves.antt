@@ -1,10 +1,10 @@
 -- What serving comes to.
-use Rattle.std.proofs.Common.{◌≡◌, ℕ, ◌+◌, ◌≤◌, List, [], ◌++◌, length, refl, sym, ap, subst, ◌∙◌, append-nil, arith, inl}
+use Rattle.std.proofs.Common.{◌≡◌, ℕ, List, [], ◌++◌, refl, sym, ap, subst, ◌∙◌, append-nil, arith, inl}
 use Rattle.std.specs.Prelude.{Bool, false, Option}
 use Rattle.std.specs.Io.KnownBytes.{Appends}
 use Rattle.std.proofs.KnownBytes.{Appends-nil, Appends-kept, Consumes-nil}
 use Rattle.firm_text.specs.Rosters.{Admitted}
-use Rattle.firm_table.specs.Output.{answers_of, output_of}
+use Rattle.firm_table.specs.Output.{output_of}
 use Rattle.firm_table.specs.Service.{Device, device, Served, Stopped, ToldToTheEnd}
 use Rattle.firm_table.specs.declared.faults.ServeFault.TheVariants.{Memory}
 use Rattle.firm_rounds.specs.Rounds.{weigh}

@@ -1,16 +1,16 @@
 -- What is known once all desks and reports are handed in.
 use Rattle.std.proofs.Common.{◌≡◌, ℕ, zero, suc, ◌+◌, ◌<◌, ◌≤◌, ◌^◌, List, [], ◌∷◌, ◌++◌, map, length, get_or, take}
-use Rattle.std.proofs.Common.{drop, sym, refl, ap, ◌∙◌, subst, arith, length-append}
+use Rattle.std.proofs.Common.{refl, ap, ◌∙◌, subst, arith, length-append}
 use Rattle.std.proofs.lemmas.List.{length-map}
 use Rattle.firm_rules.specs.declared.tickets.Ticket.{Ticket}
 use Rattle.firm_rounds.specs.declared.protocol.Share.{Share}
-use Rattle.firm_rounds.specs.Rounds.{weigh, share, numbered, put_by, got_by, is_at, beyond}
+use Rattle.firm_rounds.specs.Rounds.{weigh, share, put_by, got_by, is_at}
 use Rattle.firm_rounds.specs.Passes.{PopIs, JobIs, ClosingIs, closing_is, spent_pop}
-use Rattle.firm_rounds.specs.Closed.{got_weight, job_weight, Settled}
+use Rattle.firm_rounds.specs.Closed.{got_weight, Settled}
 use Rattle.firm_rounds.specs.Turning.{weigh-append, weigh_more}
 use Rattle.firm_hall.specs.Desks.{DeskIs}
-use Rattle.firm_hall.specs.Closed.{asked_weight, is_ticket, taken_count, IsClosed}
-use Rattle.firm_hall.specs.Gathered.{of_place, Gave, IsGathered}
+use Rattle.firm_hall.specs.Closed.{taken_count, IsClosed}
+use Rattle.firm_hall.specs.Gathered.{Gave, IsGathered}
 use Rattle.firm_hall.proofs.Once.{asked_once}
 
 pub one_given : (f : Share → ℕ) (v n : ClosingIs) (x : Share) → n ≡ closing_is v.id (v.shares ++ x ∷ [])

@@ -1,5 +1,5 @@
 -- A hall before its first line, and its desks after the last.
-use Rattle.std.proofs.Common.{◌≡◌, ℕ, zero, suc, ◌+◌, ◌<◌, ◌≤◌, List, [], ◌∷◌, ◌++◌, All, length, get_or, refl, sym, ap, ◌∙◌, subst, arith}
+use Rattle.std.proofs.Common.{◌≡◌, ℕ, zero, suc, ◌+◌, ◌<◌, List, [], ◌∷◌, ◌++◌, All, length, get_or, refl, sym, ap, ◌∙◌, subst, arith}
 use Rattle.std.specs.Prelude.{Bool, map, Option, Some, None}
 use Rattle.firm_rules.specs.Book.{Book, opening_book}
 use Rattle.firm_text.specs.Rosters.{Admitted}
@@ -7,14 +7,12 @@ use Rattle.firm_rounds.specs.Rounds.{weigh}
 use Rattle.firm_rounds.specs.Turning.{weigh-append}
 use Rattle.firm_rounds.specs.Passes.{QueueId}
 use Rattle.firm_rules.specs.declared.replies.Reply.{Reply}
-use Rattle.firm_rules.specs.declared.commands.Command.TheVariants.{Round}
 use Rattle.firm_table.specs.inner.Line.{state_is}
 use Rattle.firm_table.specs.inner.Adding.{NothingIsTold}
-use Rattle.firm_hall.specs.Counts.{Counted, rounds_in, refusals_in}
+use Rattle.firm_hall.specs.Counts.{Counted}
 use Rattle.firm_table.specs.Places.{MarkedLine}
-use Rattle.firm_table.specs.Answers.{Answer}
 use Rattle.firm_table.specs.Output.{answers_of}
-use Rattle.firm_hall.specs.Desks.{DeskIs, IsStep}
+use Rattle.firm_hall.specs.Desks.{DeskIs}
 use Rattle.firm_hall.specs.Opening.{opening_desks}
 use Rattle.firm_hall.specs.inner.Seats.{IsSeated, IsTurned}
 use Rattle.firm_hall.specs.inner.Serving.{book_at, asked_at, AreSeats, SeatIs, Tells, TellsParts}

@@ -1,37 +1,36 @@
 -- One line more is answered at a desk, or asks a round there.
-use Rattle.std.proofs.Common.{◌≡◌, ◌≢◌, ℕ, ◌+◌, ◌<◌, ◌≤◌, List, [], ◌∷◌, ◌++◌, length, set, get_or, refl, sym, ap, ◌∙◌, subst, arith, append_assoc, append-nil, ne_eqb, ⊎_elim, inl, inr}
-use Rattle.std.specs.Prelude.{Bool, true, false, ◌==◌, ◌⊎◌, map, Option, Some, None, slice_set, slice_index_or, nat_le, if◌then◌else◌}
+use Rattle.std.proofs.Common.{◌≡◌, ◌≢◌, ℕ, ◌+◌, ◌<◌, ◌≤◌, List, [], ◌∷◌, ◌++◌, length, set, get_or, refl, sym, ap, ◌∙◌, subst, arith, append_assoc, append-nil, ne_eqb, ⊎_elim}
+use Rattle.std.specs.Prelude.{Bool, true, false, ◌⊎◌, map, Option, Some, None, if◌then◌else◌}
 use Rattle.std.proofs.lemmas.List.{length-set, length-map, map-set, get_or-map}
 use Rattle.std.proofs.lemmas.Bool.{lt-leb}
 use Rattle.firm_rules.specs.Book.{Book}
 use Rattle.firm_rules.specs.declared.commands.Command.{Command}
 use Rattle.firm_rules.specs.declared.commands.Command.TheVariants.{AddMachine, AddJob, AddTask, Drain, CloseJob, Done, Find, Show, Costs, Round, Faulty}
 use Rattle.firm_rules.specs.declared.replies.Reply.{Reply}
-use Rattle.firm_rules.specs.declared.replies.Outcome.{Outcome}
 use Rattle.firm_rules.specs.declared.replies.Outcome.TheVariants.{Refused}
 use Rattle.firm_rules.specs.declared.replies.Refusal.TheVariants.{Worn, Memory}
-use Rattle.firm_tenant.specs.Step.{step, is_memory, is_memory_outcome}
+use Rattle.firm_tenant.specs.Step.{step, is_memory}
 use Rattle.firm_tenant.specs.Laws.{RepliesTellTheirMarks}
 use Rattle.firm_text.specs.Inputs.{input_lines}
 use Rattle.firm_text.specs.Rosters.{Admitted, place_among}
 use Rattle.firm_text.specs.declared.inputs.Line.{Line}
 use Rattle.firm_text.specs.declared.inputs.Line.TheVariants.{Nothing, Long, Nameless, For}
-use Rattle.firm_table.specs.Answers.{Answer, silent, too_long, unknown_tenant, replied, text_of_answer, tells_memory}
-use Rattle.firm_table.specs.inner.Line.{State, IsAnswer, answer_with, books_behind, state_is}
+use Rattle.firm_table.specs.Answers.{Answer, silent, too_long, unknown_tenant, replied, text_of_answer}
+use Rattle.firm_table.specs.inner.Line.{IsAnswer}
 use Rattle.firm_rounds.specs.Rounds.{weigh}
 use Rattle.firm_rounds.specs.Passes.{QueueId}
 use Rattle.firm_table.specs.inner.Adding.{OneMoreIsTold, TenantsAreAnswered, StrangersAreAnswered}
-use Rattle.firm_hall.specs.Desks.{DeskIs, desk_is, IsStep}
-use Rattle.firm_hall.specs.Counts.{round_of, round_in, is_round, is_worn}
-use Rattle.firm_hall.specs.inner.Seats.{IsTaken, Answered, Went, waits_for}
-use Rattle.firm_hall.specs.inner.Serving.{answer_in, held_text, book_at, asked_at, state_with, AreSeats, ArePlaced, SeatIs, NoneWaits, OneWaits, IsFor, IsPlaced, IsHome, Tells, TellsParts}
+use Rattle.firm_hall.specs.Desks.{DeskIs}
+use Rattle.firm_hall.specs.Counts.{round_in, is_round}
+use Rattle.firm_hall.specs.inner.Seats.{IsHome, IsHomeOf, IsTaken, IsTakenAt, Answered, waits_for}
+use Rattle.firm_hall.specs.inner.Serving.{answer_in, held_text, book_at, asked_at, state_with, AreSeats, ArePlaced, SeatIs, IsPlaced, IsHomeAt, TellsParts}
 use Rattle.firm_hall.specs.declared.seats.Seat.{Seat}
 use Rattle.firm_hall.specs.declared.seats.Seat.TheVariants.{Home, Away, Gone}
 use Rattle.firm_hall.specs.declared.seats.Slot.{Slot}
 use Rattle.firm_hall.specs.declared.seats.Slot.TheVariants.{TooLong, Stranger, Replied, Waiting}
 use Rattle.firm_hall.proofs.Slots.{is_place, none_push, one_here, placed_push}
-use Rattle.firm_hall.proofs.Seating.{set_twice, weigh_set, each_set, seat_push}
-use Rattle.firm_hall.proofs.Telling.{Adds, refusal_in, tells_more, held_push}
+use Rattle.firm_hall.proofs.Seating.{weigh_set, each_set, seat_push}
+use Rattle.firm_hall.proofs.Telling.{Adds, tells_more, held_push}
 
 -- what one line makes of the books and of what is held, however memory is granted to the rounds that are away
 pub record LineStep (roster : List Admitted) (seats after : List Seat) (slots later : List Slot) (output : List ℕ) (line : Line) (marks : ℕ → Bool) : Type 0 where
@@ -124,7 +123,7 @@ round_counts : (b : Book) (mark : Bool) → b.given < b.rows.limits.life → rou
 round_counts b true left = rw (lt-leb b.rows.limits.life b.given left) refl
 round_counts b false left = rw (lt-leb b.rows.limits.life b.given left) refl
 
-module _ (roster : List Admitted) (queue : QueueId) (place : ℕ) (name : List ℕ) (command : Command) (slots : List Slot) (seats : List Seat) (output : List ℕ) (default mid : Seat) (desk : DeskIs)
+module _ (roster : List Admitted) (queue : QueueId) (place : ℕ) (name : List ℕ) (command : Command) (slots : List Slot) (seats : List Seat) (output : List ℕ) (default : Seat) (desk : DeskIs)
     (are : AreSeats queue (length roster) slots seats) (home : Home desk ≡ get_or seats place default) (found : place_among roster name ≡ Some place) (low : place < length roster) where
   within : place < length seats
   within = omega (arith, are.long)
@@ -132,40 +131,38 @@ module _ (roster : List Admitted) (queue : QueueId) (place : ℕ) (name : List �
   here_is : SeatIs queue place slots (Home desk)
   here_is = subst (SeatIs queue place slots) (sym home) (are.each place default low)
 
-  books_set : (marks : ℕ → Bool) (last : Seat) → map (book_at marks) (set (set seats place mid) place last) ≡ set (map (book_at marks) seats) place (book_at marks last)
-  books_set marks last = ap (map (book_at marks)) (set_twice seats place mid last) ∙ map-set (book_at marks) seats place last
+  books_set : (marks : ℕ → Bool) (last : Seat) → map (book_at marks) (set seats place last) ≡ set (map (book_at marks) seats) place (book_at marks last)
+  books_set marks last = map-set (book_at marks) seats place last
 
   book_here : (marks : ℕ → Bool) (book : Book) → get_or (map (book_at marks) seats) place book ≡ desk.book
   book_here marks book = get_or-map (book_at marks) seats place default book within ∙ ap (book_at marks) (sym home)
 
-  asked_set : (last : Seat) → weigh asked_at (set (set seats place mid) place last) + desk.put ≡ weigh asked_at seats + asked_at last
+  asked_set : (last : Seat) → weigh asked_at (set seats place last) + desk.put ≡ weigh asked_at seats + asked_at last
   asked_set last =
       let turn = weigh_set asked_at seats place last default within in
-      let same : weigh asked_at (set (set seats place mid) place last) ≡ weigh asked_at (set seats place last) = ap (weigh asked_at) (set_twice seats place mid last) in
       let put : asked_at (get_or seats place default) ≡ desk.put = sym (ap asked_at home) in
-      omega (arith, turn, same, put)
+      omega (arith, turn, put)
 
   -- the seats behind a line, of which the answer is held last
   seats_set : (slot : Slot) (last : Seat) → ((other : ℕ) → other ≢ place → waits_for other slot ≡ false) → SeatIs queue place (slots ++ slot ∷ []) last
-      → AreSeats queue (length roster) (slots ++ slot ∷ []) (set (set seats place mid) place last)
+      → AreSeats queue (length roster) (slots ++ slot ∷ []) (set seats place last)
   seats_set slot last out is =
-      rw (set_twice seats place mid last)
-      (record {
+      record {
         long = length-set seats place last ∙ are.long;
         each = λ j d l.
             each_set (λ k (s : Seat). SeatIs queue k slots s) (λ k (s : Seat). SeatIs queue k (slots ++ slot ∷ []) s) seats place last d within is
             (λ k differ old. seat_push queue k slots slot (get_or seats k d) (out k differ) old)
             j (λ w. are.each j d l) (omega (arith, are.long));
-      })
+      }
 
   pub answered_seats : (after : DeskIs) (tenant : List ℕ) (reply : Reply) → Answered desk name command after tenant reply
-      → AreSeats queue (length roster) (slots ++ Replied tenant reply ∷ []) (set (set seats place mid) place (Home after))
+      → AreSeats queue (length roster) (slots ++ Replied tenant reply ∷ []) (set seats place (Home after))
   answered_seats after tenant reply a =
       seats_set (Replied tenant reply) (Home after) (λ other differ. refl)
       (ap (λ (d : DeskIs). d.queue) a.stepped.same_desk ∙ here_is.0, ap (λ (d : DeskIs). d.place) a.stepped.same_desk ∙ here_is.1, none_push place slots (Replied tenant reply) here_is.2 refl)
 
   pub answered_step : TenantsAreAnswered → (after : DeskIs) (tenant : List ℕ) (reply : Reply) → Answered desk name command after tenant reply → (marks : ℕ → Bool)
-      → LineStep roster seats (set (set seats place mid) place (Home after)) slots (slots ++ Replied tenant reply ∷ []) output (For name command) marks
+      → LineStep roster seats (set seats place (Home after)) slots (slots ++ Replied tenant reply ∷ []) output (For name command) marks
   answered_step known after tenant reply a marks =
       let books = map (book_at marks) seats in
       let later = output ++ held_text marks (slots ++ Replied tenant reply ∷ []) in
@@ -176,13 +173,13 @@ module _ (roster : List Admitted) (queue : QueueId) (place : ℕ) (name : List �
       (length-map seats (book_at marks) ∙ are.long)
       (record { reply = reply; stepped = a.stepped.stepped ∙ ap (λ (b : Book). step b command (is_memory reply)) (sym (book_here marks desk.book)); text = text }) in
       let put : after.put ≡ desk.put = ap (λ (d : DeskIs). d.put) a.stepped.same_desk in
-      let asked : weigh asked_at (set (set seats place mid) place (Home after)) ≡ weigh asked_at seats = omega (arith, asked_set (Home after), put) in
-      step_of roster seats (set (set seats place mid) place (Home after)) slots (slots ++ Replied tenant reply ∷ []) output (For name command) marks _ (books_set marks (Home after)) is.0
-      (subst (λ (x : Answer). Adds (weigh asked_at seats) (weigh asked_at (set (set seats place mid) place (Home after))) (For name command) x) (sym is.1)
+      let asked : weigh asked_at (set seats place (Home after)) ≡ weigh asked_at seats = omega (arith, asked_set (Home after), put) in
+      step_of roster seats (set seats place (Home after)) slots (slots ++ Replied tenant reply ∷ []) output (For name command) marks _ (books_set marks (Home after)) is.0
+      (subst (λ (x : Answer). Adds (weigh asked_at seats) (weigh asked_at (set seats place (Home after))) (For name command) x) (sym is.1)
       (record { least = omega (arith, asked); most = omega (arith, asked, refused_counts command reply a.why) }))
 
   pub went_seats : (asked : DeskIs) (slot : Slot) → IsTaken desk place name command (Away asked) slot
-      → AreSeats queue (length roster) (slots ++ slot ∷ []) (set (set seats place mid) place (Away asked))
+      → AreSeats queue (length roster) (slots ++ slot ∷ []) (set seats place (Away asked))
   went_seats asked (Waiting at tenant known) w =
       seats_set (Waiting at tenant known) (Away asked) (λ other differ. ne_eqb at other (λ e. differ (sym e ∙ w.here))) (
         ap (λ (d : DeskIs). d.queue) w.asked_is ∙ here_is.0,
@@ -194,7 +191,7 @@ module _ (roster : List Admitted) (queue : QueueId) (place : ℕ) (name : List �
   went_seats asked (Replied tenant reply) w = absurd w
 
   pub went_step : TenantsAreAnswered → RepliesTellTheirMarks → (asked : DeskIs) (slot : Slot) → IsTaken desk place name command (Away asked) slot → (marks : ℕ → Bool)
-      → LineStep roster seats (set (set seats place mid) place (Away asked)) slots (slots ++ slot ∷ []) output (For name command) marks
+      → LineStep roster seats (set seats place (Away asked)) slots (slots ++ slot ∷ []) output (For name command) marks
   went_step answers tell asked (Waiting at tenant known) w marks =
       let books = map (book_at marks) seats in
       let mark = marks place in
@@ -219,13 +216,13 @@ module _ (roster : List Admitted) (queue : QueueId) (place : ℕ) (name : List �
       (length-map seats (book_at marks) ∙ are.long) (record { reply = reply; stepped = stepped; text = text }) in
       let here : book_at marks (Away asked) ≡ new =
       ap (λ (b : Book). (step b Round (marks asked.place)).1) asked_book ∙ ap (λ (p : ℕ). (step desk.book Round (marks p)).1) asked_place in
-      let books_are : map (book_at marks) (set (set seats place mid) place (Away asked)) ≡ set books place new =
+      let books_are : map (book_at marks) (set seats place (Away asked)) ≡ set books place new =
       books_set marks (Away asked) ∙ ap (set books place) here in
       let put : asked.put ≡ desk.put + 1 = ap (λ (d : DeskIs). d.put) w.asked_is in
-      let asked_more : weigh asked_at (set (set seats place mid) place (Away asked)) ≡ weigh asked_at seats + 1 = omega (arith, asked_set (Away asked), put) in
+      let asked_more : weigh asked_at (set seats place (Away asked)) ≡ weigh asked_at seats + 1 = omega (arith, asked_set (Away asked), put) in
       let counts : round_in command reply ≡ 1 = ap (λ (c : Command). round_in c reply) w.round ∙ round_counts desk.book mark w.left in
-      step_of roster seats (set (set seats place mid) place (Away asked)) slots (slots ++ Waiting at tenant known ∷ []) output (For name command) marks _ books_are is.0
-      (subst (λ (x : Answer). Adds (weigh asked_at seats) (weigh asked_at (set (set seats place mid) place (Away asked))) (For name command) x) (sym is.1)
+      step_of roster seats (set seats place (Away asked)) slots (slots ++ Waiting at tenant known ∷ []) output (For name command) marks _ books_are is.0
+      (subst (λ (x : Answer). Adds (weigh asked_at seats) (weigh asked_at (set seats place (Away asked))) (For name command) x) (sym is.1)
       (record { least = omega (arith, asked_more, counts); most = omega (arith, asked_more, counts) }))
   went_step answers tell asked TooLong w marks = absurd w
   went_step answers tell asked Stranger w marks = absurd w
@@ -233,9 +230,9 @@ module _ (roster : List Admitted) (queue : QueueId) (place : ℕ) (name : List �
 
   -- both
   pub record Taken (seat : Seat) (slot : Slot) : Type 0 where
-    pub seats_are : AreSeats queue (length roster) (slots ++ slot ∷ []) (set (set seats place mid) place seat)
+    pub seats_are : AreSeats queue (length roster) (slots ++ slot ∷ []) (set seats place seat)
     pub placed : IsPlaced (length roster) slot
-    pub steps : (marks : ℕ → Bool) → LineStep roster seats (set (set seats place mid) place seat) slots (slots ++ slot ∷ []) output (For name command) marks
+    pub steps : (marks : ℕ → Bool) → LineStep roster seats (set seats place seat) slots (slots ++ slot ∷ []) output (For name command) marks
 
   pub taken : OneMoreIsTold → TenantsAreAnswered → RepliesTellTheirMarks → (seat : Seat) (slot : Slot) → IsTaken desk place name command seat slot → Taken seat slot
   taken one_more known tell (Home after) (Replied tenant reply) t = record {
@@ -264,19 +261,32 @@ pub record TakenBy (roster : List Admitted) (queue : QueueId) (slots later : Lis
       → TellsParts roster seats slots output text written now → TellsParts roster after later output text_after written now
 
 pub taken_by : (roster : List Admitted) (queue : QueueId) (place : ℕ) (name : List ℕ) (command : Command) (slots later : List Slot) (seats : List Seat) (output : List ℕ)
-    (default mid before put : Seat) (desk : DeskIs) (last : Seat) (slot : Slot)
-    → AreSeats queue (length roster) slots seats → ArePlaced (length roster) slots → before ≡ get_or seats place default → before ≡ Home desk → place_among roster name ≡ Some place
-    → put ≡ last → later ≡ slots ++ slot ∷ [] → OneMoreIsTold → TenantsAreAnswered → RepliesTellTheirMarks → IsTaken desk place name command last slot
-    → place < length roster → TakenBy roster queue slots later seats (set (set seats place mid) place put) output (For name command)
-taken_by roster queue place name command slots later seats output default mid before put desk last slot are placed at is found same held one_more known tell t low =
-    let done = taken roster queue place name command slots seats output default mid desk are (sym is ∙ at) found low one_more known tell last slot t in
-    rw (same, held)
+    (default before last : Seat) (slot : Slot)
+    → AreSeats queue (length roster) slots seats → ArePlaced (length roster) slots → before ≡ get_or seats place default → place_among roster name ≡ Some place
+    → later ≡ slots ++ slot ∷ [] → OneMoreIsTold → TenantsAreAnswered → RepliesTellTheirMarks → IsTakenAt before place name command last slot
+    → place < length roster → TakenBy roster queue slots later seats (set seats place last) output (For name command)
+taken_by roster queue place name command slots later seats output default (Home desk) last slot are placed at found held one_more known tell t low =
+    let done = taken roster queue place name command slots seats output default desk are at found low one_more known tell last slot t in
+    rw held
     (record {
       seats_are = done.seats_are;
       placed = placed_push (length roster) slots slot placed done.placed;
       takes = λ text text_after written now more told.
-          line_told one_more roster seats (set (set seats place mid) place last) slots (slots ++ slot ∷ []) output (For name command) done.steps text text_after written now more told;
+          line_told one_more roster seats (set seats place last) slots (slots ++ slot ∷ []) output (For name command) done.steps text text_after written now more told;
     })
+taken_by roster queue place name command slots later seats output default (Away asked) last slot are placed at found held one_more known tell t low = absurd t
+taken_by roster queue place name command slots later seats output default Gone last slot are placed at found held one_more known tell t low = absurd t
+
+-- a desk that is home there is one of this hall
+pub home_of : (queue : QueueId) (count place : ℕ) (slots : List Slot) (seats : List Seat) (before default : Seat) → AreSeats queue count slots seats → place < count
+    → before ≡ get_or seats place default → IsHomeAt place seats → IsHomeOf queue before
+home_of queue count place slots seats before default are low at home =
+    subst (IsHomeOf queue) (sym at) (of (get_or seats place default) (home default (omega (arith, are.long))) (are.each place default low))
+  where
+    of : (seat : Seat) → IsHome seat → SeatIs queue place slots seat → IsHomeOf queue seat
+    of (Home desk) is here = here.0
+    of (Away asked) is here = absurd is
+    of Gone is here = absurd is
 
 module _ (one_more : OneMoreIsTold) (roster : List Admitted) (seats : List Seat) (slots later : List Slot) (output : List ℕ) (line : Line) where
   pub nothing_follows : line ≡ Nothing → later ≡ slots → (text text_after : List ℕ) (written now : Option (List ℕ)) → input_lines text_after ≡ input_lines text ++ line ∷ []

@@ -1,26 +1,23 @@
 -- What is told, as one line more is answered, and as rounds come back.
-use Rattle.std.proofs.Common.{◌≡◌, ℕ, ◌+◌, ◌<◌, ◌≤◌, List, [], ◌∷◌, ◌++◌, length, set, get_or, take, refl, sym, ap, ◌∙◌, subst, arith, append_assoc, append-nil, length-append}
-use Rattle.std.specs.Prelude.{Bool, true, false, map, Option, Some, None, slice_set, slice_index_or, if◌then◌else◌}
+use Rattle.std.proofs.Common.{◌≡◌, ℕ, ◌+◌, ◌≤◌, List, [], ◌∷◌, ◌++◌, length, take, sym, ap, ◌∙◌, subst, arith, append_assoc, append-nil}
+use Rattle.std.specs.Prelude.{Bool, map, Option, if◌then◌else◌}
 use Rattle.std.specs.List.{flat_map}
 use Rattle.std.specs.Io.KnownBytes.{Appends}
-use Rattle.std.proofs.KnownBytes.{Appends-nil, Appends-trans}
+use Rattle.std.proofs.KnownBytes.{Appends-trans}
 use Rattle.std.proofs.lemmas.Grind.{flat_map-append}
 use Rattle.std.proofs.lemmas.List.{length-map, map-append, take-append-le}
-use Rattle.std.proofs.Math.Seq.{take-append-add, take-length}
+use Rattle.std.proofs.Math.Seq.{take-append-add}
 use Rattle.firm_rules.specs.Book.{Book}
 use Rattle.firm_text.specs.Inputs.{input_lines}
-use Rattle.firm_text.specs.Rosters.{Admitted}
 use Rattle.firm_text.specs.declared.inputs.Line.{Line}
 use Rattle.firm_table.specs.Places.{MarkedLine}
 use Rattle.firm_table.specs.Answers.{Answer, tells_memory, text_of_answer}
 use Rattle.firm_table.specs.Output.{answers_of, output_of}
-use Rattle.firm_table.specs.Service.{Answers, BeginsAnswers}
+use Rattle.firm_table.specs.Service.{BeginsAnswers}
 use Rattle.firm_table.specs.inner.Line.{State, IsAnswer, state_is}
-use Rattle.firm_table.specs.inner.Progress.{Told}
 use Rattle.firm_table.specs.inner.Adding.{OneMoreIsTold}
-use Rattle.firm_hall.specs.Counts.{Counted, rounds_in, round_of, refusals_in}
-use Rattle.firm_hall.specs.inner.Serving.{answer_in, held_text, state_with, Tells, TellsParts}
-use Rattle.firm_hall.specs.declared.seats.Seat.{Seat}
+use Rattle.firm_hall.specs.Counts.{rounds_in, round_of, refusals_in}
+use Rattle.firm_hall.specs.inner.Serving.{answer_in, held_text, Tells}
 use Rattle.firm_hall.specs.declared.seats.Slot.{Slot}
 
 -- the counts, with one line more

@@ -1,5 +1,5 @@
 -- What a hall answers that is not closed, or still held a round.
-use Rattle.std.specs.Prelude.{◌≡◌, ℕ, ◌<◌, ◌⊎◌, List, map, length}
+use Rattle.std.specs.Prelude.{◌≡◌, ◌<◌, ◌⊎◌, List, map, length}
 use Rattle.firm_rounds.specs.Passes.{QueueIs, PopIs, spent_pop}
 use Rattle.firm_hall.specs.Desks.{DeskIs, spent_desk}
 use Rattle.firm_hall.specs.Closed.{IsClosed}

@@ -1,12 +1,14 @@
 //! What stands at a tenant's place while the hall serves, and the answers that are held.
 ghost use Rattle.std.specs.Prelude.{◌≡◌};
 ghost use Rattle.firm_hall.specs.declared.seats.Seat.TheVariants.{Home};
-ghost use Rattle.firm_hall.specs.inner.Seats.{IsSeated, IsTurned, IsTaken, waits_for, waiting_place, answered};
+ghost use Rattle.firm_hall.specs.inner.Seats.{IsSeated, IsHome, IsHomeOf, IsTurned, IsTaken, IsTakenAt, waits_for, waiting_place, answered};
+ghost use Rattle.firm_rules.specs.declared.commands.Command.TheVariants.{Round};
 
 use crate::desks::{Asked, AskedPoll, Desk};
 use crate::halls::Hall;
 use firm_rules::{Command, Name, Reply};
 use std::alloc::Global;
+use std::mem;
 use std::snapshot::Snapshot;
 use std::sync::Wait;
 
@@ -35,8 +37,22 @@ pub(crate) enum Slot {
 }
 
 impl Seat {
+    // The desk comes home, if it is not there, with the reply to the round that was away. Only then is it moved.
+    pub(crate) fn come_home<R: Wait>(&mut self, rt: &R) -> Option<Reply>
+        requires { IsSeated self.old }
+        ensures turned { IsTurned self.old self.new result }
+        ensures home { IsHome self.new }
+    {
+        if let Seat::Home(_) = self {
+            return None;
+        }
+        let (desk, reply) = mem::replace(self, Seat::Gone).into_desk(rt);
+        let _gone = mem::replace(self, Seat::Home(desk));
+        reply
+    }
+
     // The desk, once it is home, with the reply to the round that was away.
-    pub(crate) fn come_home<R: Wait>(self, rt: &R) -> (Desk, Option<Reply>)
+    pub(crate) fn into_desk<R: Wait>(self, rt: &R) -> (Desk, Option<Reply>)
         requires { IsSeated self }
         ensures { IsTurned self (Home result.0) result.1 }
     {
@@ -50,17 +66,55 @@ impl Seat {
         }
     }
 
-    // What stands there after a look: a round that is answered brings its desk home. It waits for nobody.
-    pub(crate) fn look(self) -> (Seat, Option<Reply>)
-        ensures { IsTurned self result.0 result.1 }
+    // A look: a round that is answered brings its desk home, with its reply. It waits for nobody.
+    pub(crate) fn look(&mut self) -> Option<Reply>
+        ensures { IsTurned self.old self.new result }
     {
-        match self {
+        let (seat, reply) = match mem::replace(self, Seat::Gone) {
             Seat::Away(asked) => match asked.poll() {
                 AskedPoll::Back(desk, reply) => (Seat::Home(desk), Some(reply)),
                 AskedPoll::Not(same) => (Seat::Away(same), None),
             },
             seat => (seat, None),
+        };
+        let _gone = mem::replace(self, seat);
+        reply
+    }
+
+    // What a command makes of the desk that is home at this place, and the answer to its line. Only a round moves it.
+    pub(crate) fn take<R: Wait>(
+        &mut self,
+        rt: &R,
+        alloc: Global,
+        hall: &Hall,
+        place: usize,
+        name: Name,
+        command: Command,
+    ) -> Slot
+        requires { IsHomeOf hall.now.id self.old }
+        ensures { IsTakenAt self.old place name command self.new result }
+    {
+        if command == Command::Round {
+            return self.ask(rt, alloc, hall, place, name);
         }
+        let Seat::Home(desk) = self else {
+            unreachable!()
+        };
+        let reply = desk.command(alloc, command);
+        Slot::Replied(name, reply)
+    }
+
+    // The same for a round.
+    fn ask<R: Wait>(&mut self, rt: &R, alloc: Global, hall: &Hall, place: usize, name: Name) -> Slot
+        requires { IsHomeOf hall.now.id self.old }
+        ensures { IsTakenAt self.old place name Round self.new result }
+    {
+        let Seat::Home(desk) = mem::replace(self, Seat::Gone) else {
+            unreachable!()
+        };
+        let (seat, slot) = ask(rt, alloc, hall, desk, place, name);
+        let _gone = mem::replace(self, seat);
+        slot
     }
 }
 
@@ -95,23 +149,18 @@ impl Slot {
     }
 }
 
-// What a command makes of the desk of this place, and the answer to its line.
-pub(crate) fn take<R: Wait>(
+// What a round makes of the desk of this place, and the answer to its line.
+fn ask<R: Wait>(
     rt: &R,
     alloc: Global,
     hall: &Hall,
-    mut desk: Desk,
+    desk: Desk,
     place: usize,
     name: Name,
-    command: Command,
 ) -> (Seat, Slot)
     requires { desk.queue ≡ hall.now.id }
-    ensures { IsTaken desk place name command result.0 result.1 }
+    ensures { IsTaken desk place name Round result.0 result.1 }
 {
-    if command != Command::Round {
-        let reply = desk.command(alloc, command);
-        return (Seat::Home(desk), Slot::Replied(name, reply));
-    }
     match desk.ask(rt, alloc, hall) {
         Ok(asked) => {
             let slot = Slot::Waiting(place, name, Snapshot::of(&asked));

@@ -19,14 +19,13 @@ ghost use Rattle.firm_hall.specs.inner.Serving.{IsWrittenOut, IsFinished};
 
 use crate::desks::Desk;
 use crate::halls::Hall;
-use crate::seats::{Seat, Slot, take};
+use crate::seats::{Seat, Slot};
 use firm_rules::{Command, Name, Reply};
 use firm_table::{ServeFault, answers_add_up, write_all};
 use firm_tenant::replies_tell_their_marks;
 use firm_text::{Line, Roster, Sink, put_reply};
 use std::alloc::{AllocError, Global};
 use std::collections::VecDeque;
-use std::mem;
 use std::sync::Wait;
 
 /// How many answers are held at most.
@@ -144,11 +143,7 @@ impl<'h> Serving<'h> {
         // Laws: of one line more, and of marks that replies tell.
         answers_add_up();
         replies_tell_their_marks();
-        let Seat::Home(desk) = mem::replace(&mut self.seats[place], Seat::Gone) else {
-            unreachable!()
-        };
-        let (seat, slot) = take(rt, alloc, self.hall, desk, place, name, command);
-        let _gone = mem::replace(&mut self.seats[place], seat);
+        let slot = self.seats[place].take(rt, alloc, self.hall, place, name, command);
         self.slots.push_back_reserved(slot);
     }
 
@@ -165,9 +160,7 @@ impl<'h> Serving<'h> {
         ensures roster { self.new.roster ≡ self.old.roster }
         ensures hall { self.new.hall ≡ self.old.hall }
     {
-        let seat = mem::replace(&mut self.seats[place], Seat::Gone);
-        let (desk, reply) = seat.come_home(rt);
-        let _gone = mem::replace(&mut self.seats[place], Seat::Home(desk));
+        let reply = self.seats[place].come_home(rt);
         fill(&mut self.slots, place, reply);
     }
 
@@ -183,10 +176,8 @@ impl<'h> Serving<'h> {
         ensures roster { self.new.roster ≡ self.old.roster }
         ensures hall { self.new.hall ≡ self.old.hall }
     {
-        let seat = mem::replace(&mut self.seats[place], Seat::Gone);
-        let (seat, reply) = seat.look();
+        let reply = self.seats[place].look();
         let is_back = reply.is_some();
-        let _gone = mem::replace(&mut self.seats[place], seat);
         fill(&mut self.slots, place, reply);
         is_back
     }
@@ -371,7 +362,7 @@ impl<'h> Serving<'h> {
     {
         let mut desks = room;
         for seat in self.seats {
-            let (desk, _) = seat.come_home(rt);
+            let (desk, _) = seat.into_desk(rt);
             desks.push_reserved(desk);
         }
         desks

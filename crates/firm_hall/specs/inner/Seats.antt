@@ -1,15 +1,11 @@
 -- What stands at the places of a hall that serves, and the answers that it holds.
-use Rattle.std.specs.Prelude.{◌≡◌, ℕ, ◌+◌, ◌<◌, ◌==◌, ◌⊎◌, Bool, true, false, List, [], ◌∷◌, Option, Some, None, length}
-use Rattle.std.specs.Prelude.{slice_index_or, if◌then◌else◌, MatchBool}
-use Rattle.firm_rules.specs.Limits.{TenantLimits}
-use Rattle.firm_rules.specs.Book.{Book, opening_book}
+use Rattle.std.specs.Prelude.{◌≡◌, ℕ, ◌+◌, ◌<◌, ◌==◌, ◌⊎◌, Bool, false, List, [], ◌∷◌, Option, Some, None}
+use Rattle.std.specs.Prelude.{if◌then◌else◌}
 use Rattle.firm_rules.specs.declared.commands.Command.{Command}
 use Rattle.firm_rules.specs.declared.commands.Command.TheVariants.{Round}
 use Rattle.firm_rules.specs.declared.replies.Reply.{Reply}
 use Rattle.firm_rules.specs.declared.replies.Outcome.TheVariants.{Refused}
 use Rattle.firm_rules.specs.declared.replies.Refusal.TheVariants.{Worn, Memory}
-use Rattle.firm_tenant.specs.Step.{step}
-use Rattle.firm_table.specs.Answers.{Answer, too_long, unknown_tenant, replied}
 use Rattle.firm_rounds.specs.Passes.{QueueId}
 use Rattle.firm_hall.specs.Desks.{DeskIs, desk_is, IsStep}
 use Rattle.firm_hall.specs.declared.seats.Seat.{Seat}
@@ -22,6 +18,18 @@ abbrev pub IsSeated : Seat → Type 0
 IsSeated (Home desk) = Unit {0}
 IsSeated (Away asked) = Unit {0}
 IsSeated Gone = ⊥
+
+-- a desk at home
+abbrev pub IsHome : Seat → Type 0
+IsHome (Home desk) = Unit {0}
+IsHome (Away asked) = ⊥
+IsHome Gone = ⊥
+
+-- and one of this hall
+abbrev pub IsHomeOf : QueueId → Seat → Type 0
+IsHomeOf queue (Home desk) = desk.queue ≡ queue
+IsHomeOf queue (Away asked) = ⊥
+IsHomeOf queue Gone = ⊥
 
 -- what stands at a place later: the same, or the desk that came back with the round's reply
 abbrev pub IsTurned : Seat → Seat → Option Reply → Type 0
@@ -93,3 +101,9 @@ IsTaken before place name command (Away asked) TooLong = ⊥
 IsTaken before place name command (Away asked) Stranger = ⊥
 IsTaken before place name command (Away asked) (Replied tenant reply) = ⊥
 IsTaken before place name command Gone slot = ⊥
+
+-- the same of the seat where the desk was home
+abbrev pub IsTakenAt : Seat → ℕ → List ℕ → Command → Seat → Slot → Type 0
+IsTakenAt (Home before) place name command after slot = IsTaken before place name command after slot
+IsTakenAt (Away asked) place name command after slot = ⊥
+IsTakenAt Gone place name command after slot = ⊥

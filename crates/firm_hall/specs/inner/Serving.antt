@@ -1,5 +1,5 @@
 -- How far a hall has come that serves.
-use Rattle.std.specs.Prelude.{◌≡◌, ℕ, ◌+◌, ◌<◌, ◌≤◌, Bool, true, false, not, List, [], ◌∷◌, ◌++◌, Option}
+use Rattle.std.specs.Prelude.{◌≡◌, ℕ, ◌<◌, ◌≤◌, Bool, true, false, List, [], ◌∷◌, ◌++◌, Option}
 use Rattle.std.specs.Prelude.{map, length, slice_index_or, MatchBool}
 use Rattle.std.specs.List.{flat_map}
 use Rattle.std.specs.VecDeque.{deque_len, deque_capacity}
@@ -19,7 +19,7 @@ use Rattle.firm_rounds.specs.Rounds.{weigh}
 use Rattle.firm_rounds.specs.Passes.{QueueId}
 use Rattle.firm_hall.specs.Desks.{DeskIs}
 use Rattle.firm_hall.specs.Counts.{Counted}
-use Rattle.firm_hall.specs.inner.Seats.{waits_for}
+use Rattle.firm_hall.specs.inner.Seats.{IsHome, waits_for}
 use Rattle.firm_hall.specs.declared.serving.Serving.{Serving}
 use Rattle.firm_hall.specs.declared.seats.Seat.{Seat}
 use Rattle.firm_hall.specs.declared.seats.Seat.TheVariants.{Home, Away, Gone}
@@ -169,12 +169,7 @@ abbrev pub FirstIsFor : ℕ → List Slot → Type 0
 FirstIsFor place [] = ⊥
 FirstIsFor place (slot ∷ rest) = waits_for place slot ≡ true
 
--- a desk at home
-abbrev pub IsHome : Seat → Type 0
-IsHome (Home desk) = Unit {0}
-IsHome (Away asked) = ⊥
-IsHome Gone = ⊥
-
+-- a desk is home at the place
 abbrev pub IsHomeAt : ℕ → List Seat → Type 0
 IsHomeAt place seats = (default : Seat) → place < length seats → IsHome (slice_index_or seats place default)
 

@@ -1,4 +1,4 @@
-use Rattle.std.proofs.Common.{rules, ap, refl, get_or}
+use Rattle.std.proofs.Common.{ap, refl, get_or}
 use Rattle.firm_rounds.specs.Passes.{ClosingIs}
 use Rattle.firm_hall.proofs.Shutting.{gathered}
 use Rattle.firm_hall.proofs.close.gather.Goals as goal

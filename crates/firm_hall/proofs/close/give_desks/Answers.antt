@@ -1,5 +1,4 @@
-use Rattle.std.proofs.Common.{rules, ◌≡◌, ℕ, ◌+◌, ◌<◌, List, [], length, get_or, set, ap, ◌∙◌, arith}
-use Rattle.firm_rounds.specs.declared.protocol.Share.{Share}
+use Rattle.std.proofs.Common.{◌≡◌, ℕ, ◌<◌, List, [], length, get_or, set, ap, ◌∙◌, arith}
 use Rattle.firm_rounds.specs.Rounds.{share}
 use Rattle.firm_rounds.specs.Passes.{ClosingIs}
 use Rattle.firm_rounds.specs.Turning.{turned, turned_at, turned_set, weigh_more}

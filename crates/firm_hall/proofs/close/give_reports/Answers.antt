@@ -1,4 +1,4 @@
-use Rattle.std.proofs.Common.{rules, ◌≡◌, ℕ, ◌+◌, ◌<◌, List, [], length, get_or, set, ap, ◌∙◌, arith}
+use Rattle.std.proofs.Common.{◌≡◌, ◌<◌, List, length, get_or, set, ap, ◌∙◌}
 use Rattle.firm_rounds.specs.Passes.{PopIs, ClosingIs, spent_pop}
 use Rattle.firm_rounds.specs.Turning.{turned, turned_at, turned_set}
 use Rattle.firm_hall.proofs.Shutting.{gave_more}

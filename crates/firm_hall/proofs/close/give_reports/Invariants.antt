@@ -1,4 +1,4 @@
-use Rattle.std.proofs.Common.{◌≡◌, ℕ, ◌+◌, [], take}
+use Rattle.std.proofs.Common.{◌≡◌, take}
 use Rattle.firm_rounds.specs.Passes.{spent_pop}
 use Rattle.firm_rounds.specs.Turning.{turned}
 use Rattle.firm_hall.specs.Gathered.{Gave}

@@ -1,4 +1,4 @@
-use Rattle.std.proofs.Common.{rules, ◌≡◌, ℕ, ◌+◌, ◌<◌, ◌∷◌, Some, length, vec_len, sym, ◌∙◌, ap, drop}
+use Rattle.std.proofs.Common.{rules, ◌≡◌, ℕ, ◌+◌, ◌<◌, Some, length, vec_len, sym, ◌∙◌, ap, drop}
 use Rattle.std.specs.Prelude.{slice_get}
 use Rattle.firm_rules.specs.Book.{opening_book}
 use Rattle.firm_rounds.specs.Passes.{PutIs}

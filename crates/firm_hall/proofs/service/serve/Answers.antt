@@ -1,4 +1,4 @@
-use Rattle.std.proofs.Common.{◌≡◌, ◌≤◌, ◌∙◌, ℕ, List, ap, arith, length}
+use Rattle.std.proofs.Common.{◌≡◌, ◌∙◌, List, ap, arith, length}
 use Rattle.firm_hall.specs.Desks.{DeskIs}
 use Rattle.firm_hall.proofs.Serves.{unread}
 use Rattle.firm_hall.proofs.service.serve.Goals as goal

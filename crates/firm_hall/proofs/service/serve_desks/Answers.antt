@@ -1,4 +1,3 @@
-use Rattle.std.proofs.Common.{rules}
 use Rattle.firm_hall.proofs.Serves.{unread, served_by}
 use Rattle.firm_hall.proofs.service.serve_desks.Goals as goal
 

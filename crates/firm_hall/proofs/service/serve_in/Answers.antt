@@ -1,4 +1,3 @@
-use Rattle.std.proofs.Common.{rules}
 use Rattle.firm_hall.proofs.Serves.{unread}
 use Rattle.firm_hall.proofs.service.serve_in.Goals as goal
 

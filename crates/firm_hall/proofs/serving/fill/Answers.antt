@@ -1,10 +1,6 @@
-use Rattle.std.proofs.Common.{rules, ◌≡◌, ◌∙◌, sym, ap, refl, subst, get_or, set, take, length, true, false}
-use Rattle.std.specs.Prelude.{Option, Some}
-use Rattle.firm_rules.specs.declared.replies.Reply.{Reply}
-use Rattle.firm_hall.specs.inner.Seats.{filled_if, answered, waits_for}
-use Rattle.firm_hall.specs.inner.Serving.{NoneWaits}
-use Rattle.firm_hall.specs.declared.seats.Slot.{Slot}
-use Rattle.firm_hall.proofs.Slots.{filled_at, filled_nowhere, none_take, found_at, none_left}
+use Rattle.std.proofs.Common.{rules, ◌≡◌, ◌∙◌, sym, ap, true, false}
+use Rattle.firm_hall.specs.inner.Seats.{waits_for}
+use Rattle.firm_hall.proofs.Slots.{none_take, found_at, none_left}
 use Rattle.firm_hall.proofs.serving.fill.Goals as goal
 
 pub loop-at-preserved : goal.loop-at-preserved

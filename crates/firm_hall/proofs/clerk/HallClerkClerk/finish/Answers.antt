@@ -1,4 +1,3 @@
-use Rattle.std.proofs.Common.{rules, ap, length}
 use Rattle.std.proofs.lemmas.Result.{on_ok_weaker}
 use Rattle.firm_hall.proofs.Giving.{both_ok, answers_all}
 use Rattle.firm_hall.proofs.clerk.HallClerkClerk.finish.Goals as goal

@@ -1,4 +1,4 @@
-use Rattle.std.proofs.Common.{rules, ◌≡◌, ℕ, ◌≤◌, List, [], length, map, sym, ap, ◌∙◌, subst, arith, refl}
+use Rattle.std.proofs.Common.{rules, ◌≡◌, ℕ, List, [], length, map, ap, ◌∙◌, subst, arith, refl}
 use Rattle.firm_rounds.specs.Rounds.{weigh}
 use Rattle.firm_rounds.specs.Passes.{PopIs, JobIs, spent_pop}
 use Rattle.firm_rounds.specs.Closed.{got_weight}

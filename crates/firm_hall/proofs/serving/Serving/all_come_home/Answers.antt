@@ -1,4 +1,4 @@
-use Rattle.std.proofs.Common.{rules, ◌≡◌, ◌∙◌, ◌<◌, ◌≤◌, ◌+◌, arith, refl, subst, sym, ⊎_elim, length, ℕ}
+use Rattle.std.proofs.Common.{◌≡◌, ◌∙◌, ◌<◌, ◌≤◌, arith, subst, ⊎_elim, ℕ}
 use Rattle.std.proofs.lemmas.Bool.{cases_lt}
 use Rattle.firm_hall.specs.inner.Serving.{IsHomeAt}
 use Rattle.firm_hall.proofs.serving.Serving.all_come_home.Goals as goal

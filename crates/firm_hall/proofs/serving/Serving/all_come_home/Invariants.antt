@@ -1,4 +1,4 @@
-use Rattle.std.proofs.Common.{◌≡◌, ◌<◌, ℕ, length}
+use Rattle.std.proofs.Common.{◌≡◌, ◌<◌, ℕ}
 use Rattle.std.specs.VecDeque.{deque_len}
 use Rattle.firm_hall.specs.inner.Serving.{AreOpen, Keeps, IsHomeAt}
 use Rattle.firm_hall.proofs.serving.Serving.all_come_home.Given as goal

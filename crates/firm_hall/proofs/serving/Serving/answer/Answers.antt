@@ -1,4 +1,3 @@
-use Rattle.std.proofs.Common.{rules, ◌∙◌, refl}
 use Rattle.std.proofs.lemmas.Result.{on_ok_weaker}
 use Rattle.firm_hall.proofs.Giving.{on_err_always}
 use Rattle.firm_hall.proofs.serving.Serving.answer.Goals as goal

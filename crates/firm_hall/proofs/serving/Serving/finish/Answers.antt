@@ -1,4 +1,4 @@
-use Rattle.std.proofs.Common.{rules, ◌∙◌, refl}
+use Rattle.std.proofs.Common.{◌∙◌}
 use Rattle.firm_hall.proofs.Giving.{begun, partly, wholly, written_all}
 use Rattle.firm_hall.proofs.serving.Serving.finish.Goals as goal
 

@@ -1,13 +1,11 @@
-use Rattle.std.proofs.Common.{rules, ◌≡◌, ◌∙◌, ◌+◌, ap, arith, length}
-use Rattle.firm_rounds.specs.Rounds.{weigh}
+use Rattle.std.proofs.Common.{rules, ◌≡◌}
 use Rattle.firm_hall.specs.Desks.{DeskIs}
-use Rattle.firm_hall.specs.inner.Serving.{asked_at}
 use Rattle.firm_hall.proofs.Alls.{all_head, all_rest, all_push}
 use Rattle.firm_hall.proofs.Starting.{IsOf, seated_of, came_home, asked_more}
 use Rattle.firm_hall.proofs.serving.Serving.into_desks.Goals as goal
 
-pub come_home-desk-requires : goal.come_home-desk-requires
-come_home-desk-requires g c =
+pub into_desk-desk-requires : goal.into_desk-desk-requires
+into_desk-desk-requires g c =
     let id = c.args.self.hall.now.id in
     seated_of id c.in-Some.seat (all_head (IsOf id) _ _ _ c.in-Some.ensures.steps.0 c.loop-seat.invariant.seats)
 
@@ -16,7 +14,7 @@ loop-seat-preserved g c =
     let id = c.args.self.hall.now.id in
     let i = c.loop-seat.invariant in
     let steps = c.in-Some.ensures.steps.0 in
-    let home = came_home id c.in-Some.seat c.come_home-desk.result.0 c.come_home-desk.result.1 (all_head (IsOf id) _ _ _ steps i.seats) c.come_home-desk.ensures in
+    let home = came_home id c.in-Some.seat c.into_desk-desk.result.0 c.into_desk-desk.result.1 (all_head (IsOf id) _ _ _ steps i.seats) c.into_desk-desk.ensures in
     record {
       seats = all_rest (IsOf id) _ _ _ steps i.seats;
       desks = all_push (λ (d : DeskIs). d.queue ≡ id) _ _ _ c.push_reserved.ensures.items i.desks home.of;

@@ -1,4 +1,4 @@
-use Rattle.std.proofs.Common.{rules, ◌∙◌, refl}
+use Rattle.std.proofs.Common.{◌∙◌}
 use Rattle.std.proofs.lemmas.Result.{on_ok_weaker}
 use Rattle.firm_hall.proofs.Giving.{begun}
 use Rattle.firm_hall.proofs.serving.Serving.make_room.Goals as goal

@@ -1,6 +1,5 @@
-use Rattle.std.proofs.Common.{rules, ◌≡◌, ◌∙◌, ap, sym, length, []}
+use Rattle.std.proofs.Common.{rules, ◌∙◌, ap}
 use Rattle.std.specs.Prelude.{map}
-use Rattle.firm_hall.specs.Desks.{DeskIs}
 use Rattle.firm_hall.specs.declared.seats.Seat.TheVariants.{Home}
 use Rattle.firm_hall.proofs.Starting.{seats_open, tells_open}
 use Rattle.firm_hall.proofs.serving.Serving.open.Goals as goal

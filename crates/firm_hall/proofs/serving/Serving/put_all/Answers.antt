@@ -1,6 +1,4 @@
-use Rattle.std.proofs.Common.{rules, ◌≡◌, ◌∙◌, ◌≤◌, ◌+◌, arith, length, sym, refl, subst}
-use Rattle.firm_hall.specs.declared.seats.Seat.{Seat}
-use Rattle.firm_hall.specs.inner.Serving.{AllHome}
+use Rattle.std.proofs.Common.{rules, ◌∙◌, arith, length}
 use Rattle.firm_hall.proofs.Giving.{all_known}
 use Rattle.firm_hall.proofs.serving.Serving.put_all.Goals as goal
 

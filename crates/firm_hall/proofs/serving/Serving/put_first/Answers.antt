@@ -1,6 +1,6 @@
 use Rattle.std.proofs.Common.{rules, ◌≡◌, ◌∷◌}
 use Rattle.std.proofs.lemmas.Result.{on_ok_weaker}
-use Rattle.firm_hall.proofs.Giving.{popped_seats, popped_placed, popped_tells}
+use Rattle.firm_hall.proofs.Giving.{popped_tells}
 use Rattle.firm_hall.proofs.serving.Serving.put_first.Goals as goal
 
 pub returns-clause-keeps : goal.returns-clause-keeps

@@ -1,4 +1,4 @@
-use Rattle.std.proofs.Common.{rules, ◌≡◌, ◌∙◌, refl, true, false, arith}
+use Rattle.std.proofs.Common.{rules, ◌≡◌, ◌∙◌, true, false, arith}
 use Rattle.firm_hall.proofs.serving.Serving.put_known.Goals as goal
 
 pub put_first-requires-clause-first : goal.put_first-requires-clause-first

@@ -1,6 +1,5 @@
-use Rattle.std.proofs.Common.{rules, ◌≡◌, ◌∙◌, ap, sym, refl, length, List, ◌++◌, ◌∷◌, []}
+use Rattle.std.proofs.Common.{rules, ◌∙◌, ap, sym, refl, length, ◌++◌, ◌∷◌, []}
 use Rattle.firm_text.specs.Inputs.{input_lines}
-use Rattle.firm_text.specs.Rosters.{place_among}
 use Rattle.firm_text.specs.declared.inputs.Line.{Line}
 use Rattle.firm_hall.specs.declared.seats.Slot.TheVariants.{TooLong, Stranger}
 use Rattle.firm_hall.proofs.Taking.{nothing_follows, long_follows, nameless_follows, stranger_follows, known_seats, known_placed}

@@ -1,4 +1,3 @@
-use Rattle.std.proofs.Common.{rules, ◌∙◌, refl}
 use Rattle.firm_hall.proofs.Giving.{begun, partly, wholly, written_all}
 use Rattle.firm_hall.proofs.serving.Serving.write_out.Goals as goal
 
