@@ -1,6 +1,9 @@
 mod Examples
 mod RegisterExamples
+mod OperatorExamples
 pub mod Cuts
+pub mod Commas
+pub mod Forms
 pub mod Cutting
 pub mod Digits
 pub mod Puts

@@ -11,11 +11,13 @@ mod inputs;
 mod laws;
 mod numbers;
 mod operator;
+mod operator_lines;
 mod reading;
 mod records;
 mod registers;
 mod replies;
 mod rosters;
+mod rows;
 mod words;
 
 pub use admission::roster;
@@ -24,11 +26,11 @@ pub use cutter::{Cutter, Fed};
 pub use devices::{Failed, Sink, Source};
 pub use faults::RosterFault;
 pub use inputs::Line;
-pub use laws::{admits_records, refuses_first_fault};
-pub use operator::OperatorRefusal;
+pub use laws::{admits_records, refuses_first_fault, refuses_for_the_form};
+pub use operator::{OperatorLine, OperatorRefusal, OperatorReply};
 pub use reading::line;
 pub use registers::{MOST_ADMISSIONS, PLACES, Register};
-pub use replies::{put_reply, reply_text};
+pub use replies::{put_operator_reply, put_reply, reply_text};
 pub use rosters::Roster;
 
 #[cfg(test)]

@@ -1,6 +1,30 @@
-//! What an operator's line is refused for.
+//! What the operator asks for, and what it is answered.
 ghost use Rattle.std.specs.Prelude.{◌≡◌};
 ghost use Rattle.firm_text.specs.OperatorRefusals.{operator_code, operator_name};
+
+use firm_rules::{Limits, Name};
+
+/// What a line of the operator asks for: a line whose first word is `+`.
+#[derive(Clone, Copy, Debug, PartialEq, Eq)]
+pub enum OperatorLine {
+    /// A tenant of this name is to be admitted, with these limits.
+    Admit(Name, Limits),
+    /// The tenant of this name is to be retired.
+    Retire(Name),
+    /// The line asks for neither.
+    Faulty(OperatorRefusal),
+}
+
+/// What the operator is answered.
+#[derive(Clone, Copy, Debug, PartialEq, Eq)]
+pub enum OperatorReply {
+    /// The tenant of this name was admitted.
+    Admitted(Name),
+    /// The tenant of this name was retired.
+    Retired(Name),
+    /// Nothing was done.
+    Refused(OperatorRefusal),
+}
 
 /// Why an operator's line is refused. Checks are made in the order of the variants.
 #[derive(Clone, Copy, Debug, PartialEq, Eq)]

@@ -72,6 +72,7 @@ impl Register {
     /// `TenantExists` where a tenant of the name is there, else `Full` where no place may be given; it changes nothing.
     pub fn admit(&mut self, name: Name) -> Result<usize, OperatorRefusal>
         ensures place { result ≡ place_for self.old name }
+        ensures within { IfOk result (λ place. place < most_places) }
         ensures admitted { IfOk result (λ place. self.new ≡ with_tenant self.old place name) }
         ensures unchanged { OnErr result (self.new ≡ self.old) }
     {
@@ -90,6 +91,8 @@ impl Register {
     /// nothing.
     pub fn retire(&mut self, name: Name) -> Result<usize, OperatorRefusal>
         ensures place { result ≡ ok_or (place_in self.old name) NoSuchTenant }
+        ensures within { IfOk result (λ place. place < most_places) }
+        ensures sound { AreSound self.old }
         ensures retired { IfOk result (λ place. self.new ≡ without_tenant self.old place) }
         ensures unchanged { OnErr result (self.new ≡ self.old) }
     {

@@ -4,8 +4,10 @@ ghost use Rattle.std.specs.Prelude.{◌≡◌, ◌∷◌, ◌++◌, [], IfOk, On
 ghost use Rattle.std.specs.List.{flat_map};
 ghost use Rattle.std.specs.Io.{StartsWith};
 ghost use Rattle.std.specs.Fmt.{decimal, signed_decimal};
+ghost use Rattle.firm_text.specs.OperatorReplies.{operator_reply_words, text_of_operator_reply};
 ghost use Rattle.firm_text.specs.Replies.{text_of_reply, outcome_words, change_words, rows_words, use_words, labelled, spaced};
 
+use crate::operator::OperatorReply;
 use firm_rules::{Change, Name, Outcome, Reply};
 use itoa::Buffer;
 use std::alloc::{AllocError, Global};
@@ -28,6 +30,31 @@ pub fn put_reply(text: &mut Vec<u8>, tenant: Name, reply: &Reply) -> Result<(), 
     text.extend_from_slice(tenant.as_bytes())?;
     put_number(text, reply.number)?;
     put_outcome(text, &reply.outcome)
+}
+
+/// Adds the line of a reply to the operator, without its line feed. Where memory runs out, some bytes may have been added.
+#[tactic(auto, using(crate::proofs::Puts::kept_trans))]
+pub fn put_operator_reply(text: &mut Vec<u8>, reply: OperatorReply) -> Result<(), AllocError>
+    ensures kept { StartsWith text.new.items text.old.items }
+    ensures added { OnOk result (text.new.items ≡ text.old.items ++ text_of_operator_reply reply) }
+{
+    text.extend_from_slice(b"+")?;
+    put_operator_words(text, reply)
+}
+
+#[tactic(auto, using(crate::proofs::Puts::kept_trans))]
+fn put_operator_words(text: &mut Vec<u8>, reply: OperatorReply) -> Result<(), AllocError>
+    ensures kept { StartsWith text.new.items text.old.items }
+    ensures added { OnOk result (text.new.items ≡ text.old.items ++ flat_map spaced (operator_reply_words reply)) }
+{
+    match reply {
+        OperatorReply::Admitted(name) => put_three(text, b"ok", b"admitted", name.as_bytes()),
+        OperatorReply::Retired(name) => put_three(text, b"ok", b"retired", name.as_bytes()),
+        OperatorReply::Refused(refusal) => {
+            put_labelled(text, b"no", u64::from(refusal.code()))?;
+            put(text, refusal.name().as_bytes())
+        }
+    }
 }
 
 #[tactic(auto, using(crate::proofs::Puts::kept_trans))]

@@ -1,6 +1,6 @@
 //! Cutting a line into words.
 
-ghost use Rattle.std.specs.Prelude.{◌≡◌, ◌≤◌, ◌∷◌, [], length, MatchOption};
+ghost use Rattle.std.specs.Prelude.{◌≡◌, ◌≢◌, ◌≤◌, ◌∷◌, [], ℕ, List, length, MatchOption};
 ghost use Rattle.std.specs.List.{position_or_len, prefix_len};
 ghost use Rattle.firm_text.specs.Lines.{words, is_blank};
 
@@ -14,6 +14,17 @@ pub fn next_word(line: &[u8]) -> Option<(&[u8], &[u8])>
         return None;
     }
     Some(line.split_at(length_to_blank(line)))
+}
+
+/// The word of a line that has one.
+pub fn only_word(line: &[u8]) -> Option<&[u8]>
+    ensures { MatchOption result ((a : List ℕ) → words line.now ≢ a ∷ []) (λ word. words line.now ≡ word.now ∷ []) }
+{
+    let (word, rest) = next_word(line)?;
+    match next_word(rest) {
+        None => Some(word),
+        Some(_) => None,
+    }
 }
 
 fn length_to_blank(line: &[u8]) -> usize

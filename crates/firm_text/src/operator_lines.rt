@@ -1,0 +1,72 @@
+//! Reading what the operator asks for.
+
+ghost use Rattle.std.specs.Prelude.{◌≡◌};
+ghost use Rattle.firm_text.specs.Lines.{words};
+ghost use Rattle.firm_text.specs.OperatorLines.{admit_line, operator_line_of, operator_verb, retire_line, row_refusal, row_told};
+
+use crate::admission::told_tenant;
+use crate::commands::is_word;
+use crate::faults::RosterFault;
+use crate::operator::{OperatorLine, OperatorRefusal};
+use crate::rows::row_fields;
+use crate::words::{next_word, only_word};
+use firm_rules::{Limits, Name};
+
+/// What the words after the operator's `+` ask for.
+pub fn operator_line(line: &[u8]) -> OperatorLine
+    ensures { result ≡ operator_line_of (words line.now) }
+{
+    match verb(line) {
+        Ok(line) => line,
+        Err(refusal) => OperatorLine::Faulty(refusal),
+    }
+}
+
+fn verb(line: &[u8]) -> Result<OperatorLine, OperatorRefusal>
+    ensures { result ≡ operator_verb (words line.now) }
+{
+    let (verb, rest) = next_word(line).ok_or(OperatorRefusal::BadCommand)?;
+    if is_word(verb, "admit") {
+        admit(rest)
+    } else if is_word(verb, "retire") {
+        retire(rest)
+    } else {
+        Err(OperatorRefusal::BadCommand)
+    }
+}
+
+fn admit(line: &[u8]) -> Result<OperatorLine, OperatorRefusal>
+    ensures { result ≡ admit_line (words line.now) }
+{
+    let row = only_word(line).ok_or(OperatorRefusal::BadCommand)?;
+    let (name, limits) = row_told(row)?;
+    Ok(OperatorLine::Admit(name, limits))
+}
+
+fn retire(line: &[u8]) -> Result<OperatorLine, OperatorRefusal>
+    ensures { result ≡ retire_line (words line.now) }
+{
+    let word = only_word(line).ok_or(OperatorRefusal::BadCommand)?;
+    let name = Name::read(word).ok_or(OperatorRefusal::BadName)?;
+    Ok(OperatorLine::Retire(name))
+}
+
+// The tenant that a row tells, whose fields stand between commas.
+fn row_told(row: &[u8]) -> Result<(Name, Limits), OperatorRefusal>
+    ensures { result ≡ row_told row.now }
+{
+    let fields = row_fields(row).ok_or(OperatorRefusal::BadRow)?;
+    told_tenant(&fields).map_err(row_refusal)
+}
+
+// What a line is refused for whose row has this fault.
+fn row_refusal(fault: RosterFault) -> OperatorRefusal
+    ensures { result ≡ row_refusal fault }
+{
+    match fault {
+        RosterFault::BadName => OperatorRefusal::BadName,
+        RosterFault::BadNumber => OperatorRefusal::BadNumber,
+        // A row by itself has no other fault than the count of its fields.
+        _ => OperatorRefusal::BadRow,
+    }
+}
