@@ -7,7 +7,7 @@ use Rattle.firm_tenant.specs.Step.{step}
 use Rattle.firm_tenant.specs.Alone.{replies_from, book_after, alone_marked}
 use Rattle.firm_table.specs.Places.{Given, Stay, with_command}
 use Rattle.firm_table.specs.Answers.{last_of, last_reply}
-use Rattle.firm_table.specs.inner.Progress.{book_of}
+use Rattle.firm_table.specs.inner.Line.{book_of}
 
 last_of-last : {X : Type 0} (xs : List X) (x : X) → last_of (xs ++ x ∷ []) ≡ Some x
 last_of-last [] x = refl

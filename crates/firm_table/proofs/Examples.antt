@@ -1,13 +1,15 @@
 -- The answers, computed at worked examples.
-use Rattle.std.proofs.Common.{◌≡◌, ℕ, true, List, [], ◌∷◌, refl, codes}
-use Rattle.std.specs.Prelude.{map}
-use Rattle.std.specs.List.{flat_map}
+use Rattle.std.proofs.Common.{◌≡◌, ℕ, ◌+◌, true, List, [], ◌∷◌, ◌++◌, refl, codes}
+use Rattle.std.specs.Prelude.{◌/◌, ◌%◌, map, pos}
+use Rattle.std.specs.List.{flat_map, range_with_len}
 use Rattle.firm_rules.specs.declared.replies.Outcome.{Outcome}
-use Rattle.firm_rules.specs.declared.replies.Outcome.TheVariants.{Plain, Shown, Refused}
+use Rattle.firm_rules.specs.declared.replies.Outcome.TheVariants.{Plain, Shown, Refused, Round as Placed}
 use Rattle.firm_rules.specs.declared.replies.Refusal.TheVariants.{Memory}
 use Rattle.firm_text.specs.Rosters.{Admitted}
 use Rattle.firm_text.specs.Inputs.{input_lines, line_of}
-use Rattle.firm_table.specs.Answers.{Answer, unknown_tenant, replied, ended}
+use Rattle.firm_text.specs.declared.operator.OperatorRefusal.TheVariants.{BadCommand, BadRow, BadName, BadNumber, TenantExists, NoSuchTenant, Full, Memory as NoMemory}
+use Rattle.firm_text.specs.declared.operator.OperatorReply.TheVariants.{Admitted as WasAdmitted, Retired, Refused as NotDone}
+use Rattle.firm_table.specs.Answers.{Answer, unknown_tenant, replied, told_operator, ended}
 use Rattle.firm_table.specs.Output.{answers_of, unmarked}
 
 abbrev tenant : List ℕ → ℕ → ℕ → ℕ → Admitted
@@ -45,3 +47,38 @@ one_of_two = refl
 refused_once : answers_of two_tenants ((line_of (codes "alpha job j 5"), true) ∷ unmarked (line_of (codes "beta job j 5")) ∷ unmarked (line_of (codes "alpha job j 5")) ∷ [])
     ≡ says alpha 1 (Refused Memory) ∷ says beta 1 Plain ∷ says alpha 2 Plain ∷ []
 refused_once = refl
+
+-- tenants that come and go
+abbrev a : List ℕ
+a = codes "a"
+
+abbrev b : List ℕ
+b = codes "b"
+
+abbrev one_tenant : List Admitted
+one_tenant = (a, record { nodes = 4; arcs = 9; life = 10; spread = 0; churn = 0 }) ∷ []
+
+-- a name is known from its admission to its retirement, and its numbers begin anew; each refusal has its code
+coming_and_going : told one_tenant (codes "b show" ∷ codes "a job j 5" ∷ codes "+ admit b,2,0,5,0,0" ∷ codes "b show" ∷ codes "+ admit b,2,0,5,0,0"
+    ∷ codes "+ retire b" ∷ codes "b show" ∷ codes "+ admit b,3,2,5,0,0" ∷ codes "b round" ∷ codes "+ retire c" ∷ codes "+ admit c,1,0,1,0,0"
+    ∷ codes "+ admit C,1,0,1,0,0" ∷ codes "+ admit c,2,0,1,0" ∷ codes "+ drop b" ∷ codes "+" ∷ codes "a show" ∷ [])
+    ≡ unknown_tenant ∷ says a 1 Plain ∷ told_operator (WasAdmitted b) ∷ says b 1 (Shown 0 0 0 0 2 2 0 0)
+    ∷ told_operator (NotDone TenantExists) ∷ told_operator (Retired b) ∷ unknown_tenant ∷ told_operator (WasAdmitted b)
+    ∷ says b 1 (Placed (pos 0) []) ∷ told_operator (NotDone NoSuchTenant) ∷ told_operator (NotDone BadNumber)
+    ∷ told_operator (NotDone BadName) ∷ told_operator (NotDone BadRow) ∷ told_operator (NotDone BadCommand) ∷ told_operator (NotDone BadCommand)
+    ∷ says a 2 (Shown 0 1 0 0 3 4 1 9) ∷ []
+coming_and_going = refl
+
+-- memory refused to an admission leaves the place empty, and the next admission is given it
+admitted_later : answers_of one_tenant ((line_of (codes "+ admit b,2,0,5,0,0"), true) ∷ unmarked (line_of (codes "b show")) ∷ (line_of (codes "a job j 5"), true)
+    ∷ unmarked (line_of (codes "+ admit b,2,0,5,0,0")) ∷ unmarked (line_of (codes "b show")) ∷ [])
+    ≡ told_operator (NotDone NoMemory) ∷ unknown_tenant ∷ says a 1 (Refused Memory) ∷ told_operator (WasAdmitted b) ∷ says b 1 (Shown 0 0 0 0 2 2 0 0) ∷ []
+admitted_later = refl
+
+-- sixty-four tenants, and one more
+abbrev numbered : ℕ → Admitted
+numbered number = tenant (codes "t" ++ (48 + number / 10) ∷ (48 + number % 10) ∷ []) 2 0 1
+
+full : told (map numbered (range_with_len 0 64)) (codes "+ admit z,2,0,1,0,0" ∷ codes "+ retire t63" ∷ codes "+ admit z,2,0,1,0,0" ∷ [])
+    ≡ told_operator (NotDone Full) ∷ told_operator (Retired (codes "t63")) ∷ told_operator (WasAdmitted (codes "z")) ∷ []
+full = refl

@@ -1,4 +1,6 @@
+pub mod Firsts
 pub mod Lookups
+pub mod Registering
 pub mod Alones
 pub mod Stays
 mod Unmarked
@@ -20,4 +22,6 @@ mod Interleaved
 mod Waiting
 mod Happening
 mod Seating
+mod Openings
+mod Seated
 mod Moves

@@ -1,14 +1,25 @@
 -- The lines of a tenant, and lines without marks.
-use Rattle.std.proofs.Common.{◌≡◌, ℕ, List, [], ◌∷◌, refl, sym, ap, ◌∙◌, append_assoc, append-nil}
-use Rattle.std.specs.Prelude.{Bool, true, false, ◌||◌, Option, Some, None, map, option_map}
+use Rattle.std.proofs.Common.{◌≡◌, ℕ, ◌+◌, List, [], ◌∷◌, refl, sym, ap, ◌∙◌, append_assoc, append-nil}
+use Rattle.std.specs.Prelude.{Bool, true, false, ◌||◌, Option, Some, None, Result, Ok, Err, bytes_eq, map, option_map, position, slice_index_or}
+use Rattle.std.specs.Option.{is_some}
 use Rattle.std.specs.List.{list_any}
 use Rattle.firm_rules.specs.declared.commands.Command.{Command}
-use Rattle.firm_text.specs.declared.inputs.Line.TheVariants.{Nothing, Long, Nameless, For}
-use Rattle.firm_table.specs.Places.{Given, MarkedLine, Stay, Place, opening_places, stay_of, with_command, commanded, after_lines}
+use Rattle.firm_rules.specs.Limits.{TenantLimits}
+use Rattle.firm_text.specs.Registers.{is_free, place_for, place_in}
+use Rattle.firm_text.specs.declared.inputs.Line.TheVariants.{Nothing, Long, Nameless, For, Operator}
+use Rattle.firm_text.specs.declared.operator.OperatorLine.TheVariants.{Admit, Retire, Faulty}
+use Rattle.firm_text.specs.declared.operator.OperatorRefusal.{OperatorRefusal}
+use Rattle.firm_table.specs.Places.{Given, MarkedLine, Stay, Place, new_stay, unused_place, opening_places, stay_of, with_command, commanded}
+use Rattle.firm_table.specs.Places.{register_of, admission, retirement, after_line, after_lines}
 use Rattle.firm_table.specs.Answers.{Answer, tells_memory}
 use Rattle.firm_table.specs.Output.{answers_of, output_of, unmarked}
-use Rattle.firm_table.specs.Isolation.{commands_to, with_commands, StaysHoldTheirLines, NeedsNoMarks}
-use Rattle.firm_table.proofs.Lookups.{Which, same, other, which, eq_same, stay_of-commanded, stay_of-commanded-other}
+use Rattle.firm_table.specs.Isolation.{is_operators_for, commands_to, with_commands, NoneIsOperatorsFor, StaysHoldTheirLines, NeedsNoMarks}
+use Rattle.firm_table.proofs.Lookups.{Which, same, other, which, eq_same, stay_of-commanded, stay_of-commanded-other, stay_of-left-other, stay_of-entered-other}
+use Rattle.firm_table.proofs.Registering.{given_place}
+
+both_false : (b c : Bool) → (b || c) ≡ false → (b ≡ false) × (c ≡ false)
+both_false true c e = cc
+both_false false c e = (refl, e)
 
 none_more : (s : Option Stay) → option_map (with_commands []) s ≡ s
 none_more None = refl
@@ -35,23 +46,45 @@ module _ (name : List ℕ) where
       rw out
       (holds ∙ ap (option_map (with_commands (commands_to name rest))) (stay_of-commanded-other places tenant name (command, mark) out))
 
-  holds_lines : (places : List Place) (lines : List MarkedLine) → Holds places lines
-  holds_lines places [] = sym (none_more (stay_of places name))
-  holds_lines places ((Nothing, mark) ∷ rest) = holds_lines places rest
-  holds_lines places ((Long, mark) ∷ rest) = holds_lines places rest
-  holds_lines places ((Nameless, mark) ∷ rest) = holds_lines places rest
-  holds_lines places ((For tenant command, mark) ∷ rest) =
-      behind_command places tenant command mark rest (which tenant name) (holds_lines (map (commanded tenant (command, mark)) places) rest)
+  -- a line of the operator for another leaves the tenant
+  leaves_retire : (places : List Place) (tenant : List ℕ) (stay : Option Stay) → bytes_eq tenant name ≡ false
+      → stay_of (retirement places tenant stay).1 name ≡ stay_of places name
+  leaves_retire places tenant None out = refl
+  leaves_retire places tenant (Some stay) out = stay_of-left-other places tenant name out
 
-  held : (places : List Place) (lines : List MarkedLine) → Holds places lines
-  held places lines = holds_lines places lines
+  leaves_admit : (places : List Place) (tenant : List ℕ) (limits : TenantLimits) (found : Result ℕ OperatorRefusal) (mark : Bool)
+      → place_for (register_of places) tenant ≡ found → bytes_eq tenant name ≡ false
+      → stay_of (admission places tenant limits found mark).1 name ≡ stay_of places name
+  leaves_admit places tenant limits (Err refusal) mark is out = refl
+  leaves_admit places tenant limits (Ok at) true is out = refl
+  leaves_admit places tenant limits (Ok at) false is out =
+      let free = given_place (is_some (place_in (register_of places) tenant)) (position is_free (register_of places)) at is in
+      let new : Place = record { admissions = (slice_index_or places at unused_place).admissions + 1; stay = Some (new_stay tenant limits) } in
+      stay_of-entered-other places name at new free.1 out
+
+  holds_lines : (places : List Place) (lines : List MarkedLine) → NoneIsOperatorsFor name lines → Holds places lines
+  holds_lines places [] none = sym (none_more (stay_of places name))
+  holds_lines places ((Nothing, mark) ∷ rest) none = holds_lines places rest none
+  holds_lines places ((Long, mark) ∷ rest) none = holds_lines places rest none
+  holds_lines places ((Nameless, mark) ∷ rest) none = holds_lines places rest none
+  holds_lines places ((For tenant command, mark) ∷ rest) none =
+      behind_command places tenant command mark rest (which tenant name) (holds_lines (map (commanded tenant (command, mark)) places) rest none)
+  holds_lines places ((Operator (Admit tenant limits), mark) ∷ rest) none =
+      let parts = both_false (bytes_eq tenant name) (list_any (λ given. is_operators_for name given.0) rest) none in
+      holds_lines (after_line places (Operator (Admit tenant limits), mark)) rest parts.1
+      ∙ ap (option_map (with_commands (commands_to name rest)))
+      (leaves_admit places tenant limits (place_for (register_of places) tenant) mark refl parts.0)
+  holds_lines places ((Operator (Retire tenant), mark) ∷ rest) none =
+      let parts = both_false (bytes_eq tenant name) (list_any (λ given. is_operators_for name given.0) rest) none in
+      holds_lines (after_line places (Operator (Retire tenant), mark)) rest parts.1
+      ∙ ap (option_map (with_commands (commands_to name rest))) (leaves_retire places tenant (stay_of places tenant) parts.0)
+  holds_lines places ((Operator (Faulty refusal), mark) ∷ rest) none = holds_lines places rest none
+
+  held : (places : List Place) (lines : List MarkedLine) → NoneIsOperatorsFor name lines → Holds places lines
+  held places lines none = holds_lines places lines none
 
 pub stays_hold_their_lines : StaysHoldTheirLines
-stays_hold_their_lines roster lines name = held name (opening_places roster) lines
-
-both_false : (b c : Bool) → (b || c) ≡ false → (b ≡ false) × (c ≡ false)
-both_false true c e = cc
-both_false false c e = (refl, e)
+stays_hold_their_lines roster lines name none = held name (opening_places roster) lines none
 
 unmarked_lines : (lines : List MarkedLine) (answers : List Answer) → map (λ given. given.1) lines ≡ map tells_memory answers → list_any tells_memory answers ≡ false
     → lines ≡ map unmarked (map (λ given. given.0) lines)

@@ -1,9 +1,9 @@
 -- What each arm of the table's call does to its parts.
-use Rattle.std.proofs.Common.{◌≡◌, ℕ, zero, suc, ◌+◌, ◌<◌, ◌≤◌, List, [], ◌∷◌, ◌++◌, length, refl, sym, ap, ◌∙◌, append-nil, length-append, take, arith}
+use Rattle.std.proofs.Common.{◌≡◌, ℕ, zero, suc, ◌<◌, ◌≤◌, List, [], ◌∷◌, ◌++◌, length, refl, sym, ap, ◌∙◌, append-nil, arith}
 use Rattle.std.specs.Prelude.{nat_lt, nat_le, ◌&&◌, ◌-◌, not, Bool, true, false, Option, Some, None, slice_get, slice_set, slice_index_or, map, replicate, if◌then◌else◌}
 use Rattle.std.specs.List.{list_any}
 use Rattle.std.proofs.lemmas.Bool.Decides.{nat_tests}
-use Rattle.std.proofs.lemmas.List.{length-set, length-map, length-replicate, take_all}
+use Rattle.std.proofs.lemmas.List.{length-set}
 use Rattle.std.proofs.lemmas.Option.{slice_get-get_or, slice_get_within}
 use Rattle.firm_rules.specs.Book.{opening_book}
 use Rattle.firm_rules.specs.Limits.{TenantLimits}
@@ -16,7 +16,7 @@ use Rattle.firm_text.specs.Rosters.{Admitted as Row}
 use Rattle.firm_table.specs.Interleaving.{is_round, Station, empty, home, queued, held, answered, Seat, TableState, opening_seat, unused_seat, opening_seats, posted, asked, taken_by, is_held, solved, collected, admitted, retired, next_ticket, local, seat_behind, at_place, place_held, take_front, may_take, answering, happens, queue_more}
 use Rattle.firm_table.specs.Fitting.{asks}
 use Rattle.firm_table.specs.inner.Seats.{Becomes}
-use Rattle.firm_table.specs.inner.Tables.{table_of, first_seat, queued_ticket, waiting, waiting_at, IsSound}
+use Rattle.firm_table.specs.inner.Tables.{table_of, queued_ticket, waiting, waiting_at, IsSound}
 use Rattle.firm_table.specs.inner.Events.{IsDone}
 use Rattle.firm_table.specs.declared.events.Event.{Event}
 use Rattle.firm_table.specs.declared.events.Event.TheVariants.{Post, Ask, Take, Answer, Collect, Admit, Retire}
@@ -281,14 +281,6 @@ takes workers worker seats queue rest ticket seat new sound may queue_is here ne
     ∙ sym (ap (λ (b : Bool). if b then take_front table worker queue else (NotNow, table)) may))
 
 -- before the first event
-pub opening_length : (roster : List Row) → length roster ≤ most_places → length (opening_seats roster) ≡ most_places
-opening_length roster few =
-    let unused : List Seat = replicate (most_places - length roster) unused_seat in
-    let whole = length-append (map opening_seat roster) unused in
-    let rows = length-map roster opening_seat in
-    let others = length-replicate (most_places - length roster) unused_seat in
-    omega (arith, whole, rows, others, few)
-
 pub sound_opening : (workers : ℕ) (roster : List Row) → length (opening_seats roster) ≤ most_places → IsSound (table_of workers (opening_seats roster) [])
 sound_opening workers roster few = record {
   few = few;
@@ -319,25 +311,3 @@ sound_opening workers roster few = record {
 
     none_at : (rows : List Row) (place : ℕ) → [] ≡ waiting_at (slice_get (opening_seats rows) place)
     none_at rows place = none_at_with rows (most_places - length rows) place
-
--- one place more is opened
-opened_next : (rows : List Row) (n place : ℕ) → place < length rows + n
-    → take (suc place) (map opening_seat rows ++ replicate n unused_seat)
-    ≡ take place (map opening_seat rows ++ replicate n unused_seat) ++ first_seat (slice_get rows place) ∷ []
-opened_next [] zero place within = absurd (let none : place < 0 = within in omega (arith, none))
-opened_next [] (suc n) zero within = refl
-opened_next [] (suc n) (suc place) within =
-    ap (λ (seats : List Seat). unused_seat ∷ seats) (opened_next [] n place (let less : suc place < 0 + suc n = within in omega (arith, less)))
-opened_next (row ∷ rest) n zero within = refl
-opened_next (row ∷ rest) n (suc place) within =
-    ap (λ (seats : List Seat). opening_seat row ∷ seats) (opened_next rest n place (let less : suc place < suc (length rest) + n = within in omega (arith, less)))
-
-pub opens_next : (roster : List Row) (place : ℕ) → length roster ≤ most_places → place < most_places
-    → take (place + 1) (opening_seats roster) ≡ take place (opening_seats roster) ++ first_seat (slice_get roster place) ∷ []
-opens_next roster place few within =
-    let same : place + 1 ≡ suc place = omega arith in
-    ap (λ (n : ℕ). take n (opening_seats roster)) same
-    ∙ opened_next roster (most_places - length roster) place (omega (arith, few, within))
-
-pub opens_all : (roster : List Row) → length roster ≤ most_places → take most_places (opening_seats roster) ≡ opening_seats roster
-opens_all roster few = take_all most_places (opening_seats roster) (let all = opening_length roster few in omega (arith, all))

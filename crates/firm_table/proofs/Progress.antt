@@ -7,21 +7,22 @@ use Rattle.std.proofs.KnownBytes.{Appends-nil, Appends-trans}
 use Rattle.std.proofs.lemmas.List.{map-append}
 use Rattle.std.proofs.lemmas.Grind.{flat_map-append}
 use Rattle.std.proofs.Math.Seq.{take-append_seam, take-length}
-use Rattle.firm_rules.specs.Book.{Book}
 use Rattle.firm_tenant.specs.Laws.{UnmarkedStepsAreGranted}
-use Rattle.firm_text.specs.Inputs.{input_lines}
+use Rattle.firm_text.specs.Inputs.{input_lines, line_of}
+use Rattle.firm_text.specs.LineLaws.{RefusesForTheForm}
+use Rattle.firm_text.specs.Lines.{lines}
 use Rattle.firm_text.specs.Rosters.{Admitted}
 use Rattle.firm_text.specs.declared.inputs.Line.{Line}
-use Rattle.firm_table.specs.Places.{MarkedLine, Place, opening_places, after_line, after_lines}
+use Rattle.firm_table.specs.Places.{MarkedLine, Place, opening_places, after_lines}
 use Rattle.firm_table.specs.Answers.{Answer, answer_of, tells_memory, text_of_answer}
 use Rattle.firm_table.specs.Output.{answers_from, answers_of, output_of, unmarked, AreLinesOf}
 use Rattle.firm_table.specs.Service.{Answers, BeginsAnswers, Device, UpToDate}
 use Rattle.firm_table.specs.inner.Adding.{NothingIsTold, OneMoreIsTold, FrontIsWritten, ToldBegins, AllIsWritten, OneMoreBegins}
-use Rattle.firm_table.specs.inner.Line.{State, state_is}
-use Rattle.firm_table.specs.inner.Progress.{Told, Shows}
+use Rattle.firm_table.specs.inner.Line.{State, state_is, Shows}
+use Rattle.firm_table.specs.inner.Progress.{Told}
 use Rattle.firm_table.proofs.Stays.{after_lines-append, answers_from-append}
-use Rattle.firm_table.proofs.Unmarked.{go_unmarked}
-use Rattle.firm_table.proofs.Books.{answer_is, shows_more, shows_opening}
+use Rattle.firm_table.proofs.Unmarked.{IsOfText, unmarked_answer}
+use Rattle.firm_table.proofs.Books.{shows_opening}
 
 -- the output for these lines and more
 output_of-append : (roster : List Admitted) (lines more : List MarkedLine)
@@ -65,17 +66,15 @@ nothing_told roster written = (
 
 -- one line more was answered
 pub one_more : OneMoreIsTold
-one_more state text after written now books pending line p more a =
+one_more state text after written now tenants pending line p more a =
     let mark : Bool = tells_memory a.answer in
     let given : MarkedLine = (line, mark) in
     let places : List Place = after_lines (opening_places state.roster) p.lines in
-    let here : answer_of places given ≡ a.answer = answer_is state.roster state.books places line mark p.shows ∙ sym a.right in (
+    let here : answer_of places given ≡ a.answer = sym (a.right.answers places p.shows) in (
       record {
         lines = p.lines ++ given ∷ [];
         are_lines = lines_more state.roster text after p.lines (given ∷ []) p.are_lines more (ap (λ (x : Answer). tells_memory x ∷ []) (sym here));
-        shows =
-            subst (Shows state.roster books) (sym (after_lines-append (opening_places state.roster) p.lines (given ∷ [])))
-            (subst (λ (bs : List Book). Shows state.roster bs (after_line places given)) (sym a.books_are) (shows_more state.roster state.books places line mark p.shows));
+        shows = subst (Shows tenants) (sym (after_lines-append (opening_places state.roster) p.lines (given ∷ []))) (a.right.leaves places p.shows);
         sent = p.sent;
         wrote = p.wrote;
         whole =
@@ -122,26 +121,33 @@ all_is_written state text written now p empty = record {
   wrote = subst (Appends written now) (sym (append-nil p.sent) ∙ ap (λ (l : List ℕ). p.sent ++ l) (sym empty) ∙ p.whole) p.wrote;
 }
 
+-- a line that stands last in an input is that of a text
+last_of_text : (texts : List (List ℕ)) (before : List Line) (line : Line) → map line_of texts ≡ before ++ line ∷ [] → IsOfText line
+last_of_text [] [] line e = cc
+last_of_text [] (first ∷ before) line e = cc
+last_of_text (text ∷ rest) [] line e = (text, cc)
+last_of_text (text ∷ rest) (first ∷ before) line e = let more : map line_of rest ≡ before ++ line ∷ [] = cc in last_of_text rest before line more
+
 -- the answer to one line more was not made
-pub one_more_begins : UnmarkedStepsAreGranted → OneMoreBegins
-one_more_begins granted state text after written now line p more =
+pub one_more_begins : UnmarkedStepsAreGranted → RefusesForTheForm → OneMoreBegins
+one_more_begins granted formal state text after written now line p more =
     let others : List MarkedLine = unmarked line ∷ [] in
     let places : List Place = after_lines (opening_places state.roster) p.lines in
     let behind = flat_map text_of_answer (answers_from places others) in
     begins_with state.roster after written now (p.lines ++ others) p.sent (state.pending ++ behind)
-    (lines_more state.roster text after p.lines others p.are_lines more (sym (go_unmarked granted places (line ∷ []))))
+    (lines_more state.roster text after p.lines others p.are_lines more (ap (λ (b : Bool). b ∷ []) (sym (unmarked_answer granted formal places line (last_of_text (lines after) (input_lines text) line more)))))
     p.wrote
     (output_of-append state.roster p.lines others ∙ ap (λ (l : List ℕ). l ++ behind) (sym p.whole) ∙ append_assoc p.sent state.pending behind)
 
 -- all that was to be written was
 pub all_written_now : (state : State) (text held : List ℕ) (written now later : Option (List ℕ)) → Told state text written now → Appends now later state.pending
-    → held ≡ [] → Told (state_is state.roster state.books held) text written later
+    → held ≡ [] → Told (state_is state.roster state.tenants held) text written later
 all_written_now state text held written now later p wrote empty =
     front_written state text written now later state.pending held p (sym (append-nil state.pending) ∙ ap (λ (l : List ℕ). state.pending ++ l) (sym empty)) wrote
 
 -- some of it was
 pub partly_written : (state : State) (text : List ℕ) (written now later : Option (List ℕ)) (count : ℕ) → Told state text written now
-    → Appends now later (take count state.pending) → Told (state_is state.roster state.books (drop count state.pending)) text written later
+    → Appends now later (take count state.pending) → Told (state_is state.roster state.tenants (drop count state.pending)) text written later
 partly_written state text written now later count p wrote =
     front_written state text written now later (take count state.pending) (drop count state.pending) p (sym (take-append-drop count state.pending)) wrote
 

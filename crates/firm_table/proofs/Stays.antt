@@ -1,19 +1,27 @@
 -- Each tenant gets the replies of one that is alone.
-use Rattle.std.proofs.Common.{◌≡◌, ℕ, List, [], ◌∷◌, ◌++◌, refl, sym, ap, ◌∙◌}
-use Rattle.std.specs.Prelude.{Bool, true, false, Option, Some, None, map, bytes_eq, option_map}
+use Rattle.std.proofs.Common.{◌≡◌, ℕ, zero, suc, ◌+◌, ◌-◌, List, [], ◌∷◌, ◌++◌, refl, sym, ap, ◌∙◌, length}
+use Rattle.std.specs.Prelude.{Bool, true, false, Option, Some, None, Result, Ok, Err, map, bytes_eq, option_map, position, replicate, slice_index_or, if◌then◌else◌}
+use Rattle.std.specs.Option.{is_some}
 use Rattle.firm_rules.specs.declared.commands.Command.{Command}
 use Rattle.firm_rules.specs.declared.replies.Reply.{Reply}
 use Rattle.firm_tenant.specs.Step.{step}
 use Rattle.firm_tenant.specs.Alone.{replies_from}
 use Rattle.firm_text.specs.Rosters.{Admitted}
-use Rattle.firm_text.specs.declared.inputs.Line.TheVariants.{Nothing, Long, Nameless, For}
-use Rattle.firm_table.specs.Places.{Given, MarkedLine, Stay, Place, new_stay, place_of_row, opening_places, stay_of, with_command, commanded, after_line, after_lines}
-use Rattle.firm_table.specs.Answers.{Answer, replied, reply_answer, answer_to_command, answer_of}
+use Rattle.firm_rules.specs.Limits.{TenantLimits}
+use Rattle.firm_text.specs.Registers.{is_free, most_places, place_for, place_in}
+use Rattle.firm_text.specs.declared.inputs.Line.TheVariants.{Nothing, Long, Nameless, For, Operator}
+use Rattle.firm_text.specs.declared.operator.OperatorLine.TheVariants.{Admit, Retire, Faulty}
+use Rattle.firm_text.specs.declared.operator.OperatorRefusal.{OperatorRefusal}
+use Rattle.firm_table.specs.Places.{Given, MarkedLine, Stay, Place, new_stay, unused_place, place_of_row, opening_places, stay_of, with_command, commanded, left_by, entered_at}
+use Rattle.firm_table.specs.Places.{register_of, admission, retirement, after_line, after_lines}
+use Rattle.firm_table.specs.Answers.{Answer, replied, told_operator, reply_answer, answer_to_command, answer_of}
 use Rattle.firm_table.specs.Output.{answers_from, replies_with, replies_behind}
 use Rattle.firm_table.specs.Isolation.{AnswersLineByLine, RepliesAreAlone, StaysAreIsolated, StaysAreServedAlone, line_to}
-use Rattle.firm_table.proofs.Lookups.{Which, same, other, which, eq_same, stay_of-commanded, stay_of-commanded-other}
+use Rattle.firm_table.proofs.Lookups.{Which, same, other, which, eq_same, stay_of-commanded, stay_of-commanded-other, stay_of-left, stay_of-left-other}
+use Rattle.firm_table.proofs.Lookups.{stay_of-entered, stay_of-entered-other}
+use Rattle.firm_table.proofs.Registering.{none_there, given_place, is_nowhere}
 use Rattle.firm_table.proofs.Alones.{replies_in, replies_in-more, book_of-more, last_reply-more}
-use Rattle.firm_table.specs.inner.Progress.{book_of}
+use Rattle.firm_table.specs.inner.Line.{book_of}
 
 -- lines behind lines
 pub after_lines-append : (places : List Place) (lines more : List MarkedLine) → after_lines places (lines ++ more) ≡ after_lines (after_lines places lines) more
@@ -64,11 +72,43 @@ module _ (name : List ℕ) (replies : List Reply) (places : List Place) (has : H
       rw (quiet tenant (stay_of places tenant) (command, mark) out)
       (alike (map (commanded tenant (command, mark)) places) (stay_of-commanded-other places tenant name (command, mark) out))
 
+  heard_left : (tenant : List ℕ) → Which tenant name → Has name replies (map (left_by tenant) places)
+  heard_left tenant (same _) = λ stay is. let no : stay_of (map (left_by name) places) name ≡ None = stay_of-left places name in cc
+  heard_left tenant (other _ _ out back) = alike (map (left_by tenant) places) (stay_of-left-other places tenant name out)
+
+  heard_retire : (tenant : List ℕ) (stay : Option Stay)
+      → Has name (replies_with name replies (told_operator (retirement places tenant stay).0)) (retirement places tenant stay).1
+  heard_retire tenant None = has
+  heard_retire tenant (Some stay) = heard_left tenant (which tenant name)
+
+  heard_entered : (tenant : List ℕ) (limits : TenantLimits) (at : ℕ) → Which tenant name → place_for (register_of places) tenant ≡ Ok at
+      → Has name (if bytes_eq tenant name then [] else replies) (entered_at at tenant limits places)
+  heard_entered tenant limits at (same _) given =
+      let free = given_place (is_some (place_in (register_of places) name)) (position is_free (register_of places)) at given in
+      let nowhere = none_there places name (is_nowhere (place_in (register_of places) name) free.0) in
+      let new : Place = record { admissions = (slice_index_or places at unused_place).admissions + 1; stay = Some (new_stay name limits) } in
+      rw (eq_same name) (λ stay is.
+      let here = stay_of-entered places name at new free.1 nowhere (eq_same name) in
+      let same_stay : new_stay name limits ≡ stay = cc in ap replies_in same_stay)
+  heard_entered tenant limits at (other _ _ out back) given =
+      let free = given_place (is_some (place_in (register_of places) tenant)) (position is_free (register_of places)) at given in
+      let new : Place = record { admissions = (slice_index_or places at unused_place).admissions + 1; stay = Some (new_stay tenant limits) } in
+      rw out (alike (entered_at at tenant limits places) (stay_of-entered-other places name at new free.1 out))
+
+  heard_admit : (tenant : List ℕ) (limits : TenantLimits) (found : Result ℕ OperatorRefusal) (mark : Bool) → place_for (register_of places) tenant ≡ found
+      → Has name (replies_with name replies (told_operator (admission places tenant limits found mark).0)) (admission places tenant limits found mark).1
+  heard_admit tenant limits (Err refusal) mark is = has
+  heard_admit tenant limits (Ok at) true is = has
+  heard_admit tenant limits (Ok at) false is = heard_entered tenant limits at (which tenant name) is
+
   heard : (given : MarkedLine) → Has name (replies_with name replies (answer_of places given)) (after_line places given)
   heard (Nothing, mark) = has
   heard (Long, mark) = has
   heard (Nameless, mark) = has
   heard (For tenant command, mark) = heard_command tenant command mark (which tenant name)
+  heard (Operator (Admit tenant limits), mark) = heard_admit tenant limits (place_for (register_of places) tenant) mark refl
+  heard (Operator (Retire tenant), mark) = heard_retire tenant (stay_of places tenant)
+  heard (Operator (Faulty refusal), mark) = has
 
 heard_all : (name : List ℕ) (replies : List Reply) (places : List Place) (lines : List MarkedLine) → Has name replies places
     → Has name (replies_behind name replies (answers_from places lines)) (after_lines places lines)
@@ -76,16 +116,21 @@ heard_all name replies places [] has = has
 heard_all name replies places (given ∷ rest) has =
     heard_all name (replies_with name replies (answer_of places given)) (after_line places given) rest (heard name replies places has given)
 
+-- nobody stays at places that nobody had
+pub none_unused : (name : List ℕ) (n : ℕ) → stay_of (replicate n unused_place) name ≡ None
+none_unused name zero = refl
+none_unused name (suc n) = none_unused name n
+
 -- before the first line nobody has replies
-begins_empty : (name : List ℕ) (roster : List Admitted) → Has name [] (map place_of_row roster)
-begins_empty name [] stay is = cc
-begins_empty name (tenant ∷ rest) stay is = elim (bytes_eq tenant.0 name) as (λ b. bytes_eq tenant.0 name ≡ b → [] ≡ replies_in stay) [
+begins_empty : (name : List ℕ) (roster : List Admitted) (n : ℕ) → Has name [] (map place_of_row roster ++ replicate n unused_place)
+begins_empty name [] n stay is = let none = none_unused name n in cc
+begins_empty name (tenant ∷ rest) n stay is = elim (bytes_eq tenant.0 name) as (λ b. bytes_eq tenant.0 name ≡ b → [] ≡ replies_in stay) [
   | true ↦ λ e. let first : new_stay tenant.0 tenant.1 ≡ stay = let it = rw e at is in cc in ap replies_in first
-  | false ↦ λ e. begins_empty name rest stay (rw e at is)
+  | false ↦ λ e. begins_empty name rest n stay (rw e at is)
 ] refl
 
 pub replies_are_alone : RepliesAreAlone
-replies_are_alone roster lines name stay is = heard_all name [] (opening_places roster) lines (begins_empty name roster) stay is
+replies_are_alone roster lines name stay is = heard_all name [] (opening_places roster) lines (begins_empty name roster (most_places - length roster)) stay is
 
 pub stays_are_isolated : StaysAreIsolated
 stays_are_isolated roster other_roster lines other_lines name stay is other_is =

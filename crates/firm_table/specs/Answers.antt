@@ -1,18 +1,24 @@
 -- What is answered to a line, and its text.
-use Rattle.std.specs.Prelude.{ℕ, Bool, false, List, [], ◌∷◌, ◌++◌, codes, Option, Some, None}
+use Rattle.std.specs.Prelude.{ℕ, Bool, true, false, List, [], ◌∷◌, ◌++◌, codes, Option, Some, None}
 use Rattle.firm_rules.specs.declared.replies.Reply.{Reply}
 use Rattle.firm_tenant.specs.Step.{is_memory}
 use Rattle.firm_tenant.specs.Alone.{alone_marked}
+use Rattle.firm_text.specs.OperatorReplies.{text_of_operator_reply}
 use Rattle.firm_text.specs.Replies.{text_of_reply}
-use Rattle.firm_text.specs.declared.inputs.Line.TheVariants.{Nothing, Long, Nameless, For}
-use Rattle.firm_table.specs.Places.{Given, MarkedLine, Stay, Place, stay_of, with_command}
+use Rattle.firm_text.specs.declared.inputs.Line.TheVariants.{Nothing, Long, Nameless, For, Operator}
+use Rattle.firm_text.specs.declared.operator.OperatorRefusal.TheVariants.{Memory}
+use Rattle.firm_text.specs.declared.operator.OperatorReply.{OperatorReply}
+use Rattle.firm_text.specs.declared.operator.OperatorReply.TheVariants.{Refused}
+use Rattle.firm_table.specs.Places.{Given, MarkedLine, Stay, Place, stay_of, with_command, obeyed}
 
--- the answer to a line: none, that it is too long, that it names no tenant of the service, or the reply of the tenant of this name
+-- the answer to a line: none, that it is too long, that it names no tenant of the service, the reply of the tenant of
+-- this name, or the reply to the operator
 pub data Answer : Type 0 where
   silent : Answer
   too_long : Answer
   unknown_tenant : Answer
   replied : List ℕ → Reply → Answer
+  told_operator : OperatorReply → Answer
 
 -- the last of a list
 abbrev pub last_of : {X : Type 0} → List X → Option X
@@ -40,6 +46,12 @@ answer_of places (Nothing, mark) = silent
 answer_of places (Long, mark) = too_long
 answer_of places (Nameless, mark) = unknown_tenant
 answer_of places (For name command, mark) = answer_to_command name (stay_of places name) (command, mark)
+answer_of places (Operator asked, mark) = told_operator (obeyed places asked mark).0
+
+-- whether a reply to the operator says that memory was refused
+abbrev pub is_operator_memory : OperatorReply → Bool
+is_operator_memory (Refused Memory) = true
+is_operator_memory _ = false
 
 -- whether an answer says that memory was refused
 abbrev pub tells_memory : Answer → Bool
@@ -47,6 +59,7 @@ tells_memory silent = false
 tells_memory too_long = false
 tells_memory unknown_tenant = false
 tells_memory (replied name reply) = is_memory reply
+tells_memory (told_operator reply) = is_operator_memory reply
 
 -- a text with a line feed
 abbrev pub ended : List ℕ → List ℕ
@@ -58,3 +71,4 @@ text_of_answer silent = []
 text_of_answer too_long = ended (codes "! line-too-long")
 text_of_answer unknown_tenant = ended (codes "! unknown-tenant")
 text_of_answer (replied name reply) = ended (text_of_reply name reply)
+text_of_answer (told_operator reply) = ended (text_of_operator_reply reply)

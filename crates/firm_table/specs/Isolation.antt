@@ -1,11 +1,13 @@
 -- What the output is to each tenant.
-use Rattle.std.specs.Prelude.{◌≡◌, ℕ, false, List, [], ◌∷◌, ◌++◌, Option, Some, None, map, option_map, bytes_eq, if◌then◌else◌}
+use Rattle.std.specs.Prelude.{◌≡◌, ℕ, Bool, false, List, [], ◌∷◌, ◌++◌, Option, Some, None, map, option_map, bytes_eq, if◌then◌else◌}
 use Rattle.std.specs.List.{filter_map, list_any}
 use Rattle.firm_rules.specs.Limits.{TenantLimits}
 use Rattle.firm_tenant.specs.Alone.{alone_marked}
 use Rattle.firm_text.specs.Inputs.{command_to, input_lines}
 use Rattle.firm_text.specs.Rosters.{Admitted}
-use Rattle.firm_text.specs.declared.inputs.Line.TheVariants.{For}
+use Rattle.firm_text.specs.declared.inputs.Line.{Line}
+use Rattle.firm_text.specs.declared.inputs.Line.TheVariants.{Nothing, Long, Nameless, For, Operator}
+use Rattle.firm_text.specs.declared.operator.OperatorLine.TheVariants.{Admit, Retire, Faulty}
 use Rattle.firm_table.specs.Places.{Given, MarkedLine, Stay, Place, opening_places, after_lines, stay_of}
 use Rattle.firm_table.specs.Answers.{replied, answer_of, tells_memory}
 use Rattle.firm_table.specs.Output.{answers_from, answers_of, output, output_of, AreLinesOf, replies_to, unmarked}
@@ -24,12 +26,14 @@ abbrev pub AnswersLineByLine : Type 0
 AnswersLineByLine = (roster : List Admitted) (lines : List MarkedLine) (given : MarkedLine)
     → answers_of roster (lines ++ given ∷ []) ≡ answers_of roster lines ++ answer_of (after_lines (opening_places roster) lines) given ∷ []
 
--- at every moment a tenant has got the replies of one that is alone in the service and is given what it was given
+-- at every moment a tenant has got, since it came, the replies of one that is alone in the service and is given what it
+-- was given
 abbrev pub RepliesAreAlone : Type 0
 RepliesAreAlone = (roster : List Admitted) (lines : List MarkedLine) (name : List ℕ) (stay : Stay) → stay_in roster lines name ≡ Some stay
     → replies_to name (answers_of roster lines) ≡ alone_marked stay.limits stay.commands
 
--- two tenants that began with the same limits and were given the same have got the same, whatever else the two services hold and were told
+-- two stays that began with the same limits and were given the same have got the same, whatever else the two services
+-- hold and were told, and whoever stayed there before
 abbrev pub StaysAreIsolated : Type 0
 StaysAreIsolated = (roster other_roster : List Admitted) (lines other_lines : List MarkedLine) (name : List ℕ) (stay : Stay)
     → stay_in roster lines name ≡ Some stay → stay_in other_roster other_lines name ≡ Some stay
@@ -56,15 +60,32 @@ commands_to name lines = filter_map (given_to name) lines
 abbrev pub with_commands : List Given → Stay → Stay
 with_commands commands stay = record stay { commands = stay.commands ++ commands }
 
--- a tenant was given the commands of its lines, and has the limits that it had
+-- whether a line is the operator's and names this tenant
+abbrev pub is_operators_for : List ℕ → Line → Bool
+is_operators_for name Nothing = false
+is_operators_for name Long = false
+is_operators_for name Nameless = false
+is_operators_for name (For tenant command) = false
+is_operators_for name (Operator (Admit tenant limits)) = bytes_eq tenant name
+is_operators_for name (Operator (Retire tenant)) = bytes_eq tenant name
+is_operators_for name (Operator (Faulty refusal)) = false
+
+-- none of these lines is the operator's and names this tenant
+abbrev pub NoneIsOperatorsFor : List ℕ → List MarkedLine → Type 0
+NoneIsOperatorsFor name lines = list_any (λ given. is_operators_for name given.0) lines ≡ false
+
+-- a tenant that the operator does not name was given the commands of its lines, and has the limits that it had
 abbrev pub StaysHoldTheirLines : Type 0
-StaysHoldTheirLines = (roster : List Admitted) (lines : List MarkedLine) (name : List ℕ)
+StaysHoldTheirLines = (roster : List Admitted) (lines : List MarkedLine) (name : List ℕ) → NoneIsOperatorsFor name lines
     → stay_in roster lines name ≡ option_map (with_commands (commands_to name lines)) (stay_in roster [] name)
 
--- a tenant with the same row in two rosters gets the same replies in services that are given equal lines for it
+-- a tenant with the same row in two rosters, which the operator does not name, gets the same replies in services that
+-- are given equal lines for it
 abbrev pub TenantsAreIsolated : Type 0
 TenantsAreIsolated = (roster other_roster : List Admitted) (lines other_lines : List MarkedLine) (name : List ℕ) (limits : TenantLimits)
-    → limits_in roster name ≡ Some limits → limits_in other_roster name ≡ Some limits → commands_to name lines ≡ commands_to name other_lines
+    → limits_in roster name ≡ Some limits → limits_in other_roster name ≡ Some limits
+    → NoneIsOperatorsFor name lines → NoneIsOperatorsFor name other_lines
+    → commands_to name lines ≡ commands_to name other_lines
     → replies_to name (answers_of roster lines) ≡ replies_to name (answers_of other_roster other_lines)
 
 -- where no answer says that memory was refused, the output is a function of the roster and of the bytes of the input

@@ -5,8 +5,9 @@ use Rattle.firm_rules.specs.declared.replies.Reply.{Reply}
 use Rattle.firm_text.specs.Inputs.{input_lines}
 use Rattle.firm_text.specs.Rosters.{Admitted}
 use Rattle.firm_text.specs.declared.inputs.Line.{Line}
+use Rattle.firm_text.specs.declared.operator.OperatorReply.TheVariants.{Admitted as WasAdmitted, Retired, Refused}
 use Rattle.firm_table.specs.Places.{MarkedLine, Place, opening_places, after_line}
-use Rattle.firm_table.specs.Answers.{Answer, silent, too_long, unknown_tenant, replied, answer_of, tells_memory, text_of_answer}
+use Rattle.firm_table.specs.Answers.{Answer, silent, too_long, unknown_tenant, replied, told_operator, answer_of, tells_memory, text_of_answer}
 
 -- the answers to these lines in order, where these are the places before them
 abbrev pub answers_from : List Place → List MarkedLine → List Answer
@@ -34,18 +35,21 @@ pub record AreLinesOf (roster : List Admitted) (input : List ℕ) (lines : List 
   pub each : map (λ given. given.0) lines ≡ input_lines input
   pub marks : map (λ given. given.1) lines ≡ map tells_memory (answers_of roster lines)
 
--- the replies to the tenant of this name, after these ones and after an answer
+-- the replies to the tenant of this name, after these ones and after an answer: a stay that begins has none yet
 abbrev pub replies_with : List ℕ → List Reply → Answer → List Reply
 replies_with name replies silent = replies
 replies_with name replies too_long = replies
 replies_with name replies unknown_tenant = replies
 replies_with name replies (replied tenant reply) = if bytes_eq tenant name then replies ++ reply ∷ [] else replies
+replies_with name replies (told_operator (WasAdmitted tenant)) = if bytes_eq tenant name then [] else replies
+replies_with name replies (told_operator (Retired tenant)) = replies
+replies_with name replies (told_operator (Refused refusal)) = replies
 
--- the replies in these answers to the tenant of this name, behind these ones
+-- the replies in these answers to the tenant of this name since it came last, behind these ones
 abbrev pub replies_behind : List ℕ → List Reply → List Answer → List Reply
 replies_behind name replies [] = replies
 replies_behind name replies (answer ∷ rest) = replies_behind name (replies_with name replies answer) rest
 
--- the replies in these answers to the tenant of this name
+-- the replies in these answers to the tenant of this name since it came last
 abbrev pub replies_to : List ℕ → List Answer → List Reply
 replies_to name answers = replies_behind name [] answers

@@ -1,10 +1,20 @@
--- The places of a service: which tenant has each, and what it was given since it came.
-use Rattle.std.specs.Prelude.{ℕ, Bool, List, [], ◌∷◌, ◌++◌, map, Option, Some, None, bytes_eq, if◌then◌else◌}
+-- The places of a service: which tenant stays at each, and what it was given since it came.
+use Rattle.std.specs.Prelude.{ℕ, ◌+◌, ◌-◌, Bool, true, false, List, [], ◌∷◌, ◌++◌, length, map, replicate}
+use Rattle.std.specs.Prelude.{Option, Some, None, option_map, Result, Ok, Err, bytes_eq, slice_index_or, slice_set}
+use Rattle.std.specs.Prelude.{if◌then◌else◌}
 use Rattle.firm_rules.specs.Limits.{TenantLimits}
 use Rattle.firm_rules.specs.declared.commands.Command.{Command}
-use Rattle.firm_text.specs.Rosters.{Admitted}
+use Rattle.firm_text.specs.Registers.{most_places, place_for}
+use Rattle.firm_text.specs.Rosters.{Admitted as Row}
 use Rattle.firm_text.specs.declared.inputs.Line.{Line}
-use Rattle.firm_text.specs.declared.inputs.Line.TheVariants.{Nothing, Long, Nameless, For}
+use Rattle.firm_text.specs.declared.inputs.Line.TheVariants.{Nothing, Long, Nameless, For, Operator}
+use Rattle.firm_text.specs.declared.operator.OperatorLine.{OperatorLine}
+use Rattle.firm_text.specs.declared.operator.OperatorLine.TheVariants.{Admit, Retire, Faulty}
+use Rattle.firm_text.specs.declared.operator.OperatorRefusal.{OperatorRefusal}
+use Rattle.firm_text.specs.declared.operator.OperatorRefusal.TheVariants.{NoSuchTenant, Memory}
+use Rattle.firm_text.specs.declared.operator.OperatorReply.{OperatorReply}
+use Rattle.firm_text.specs.declared.operator.OperatorReply.TheVariants.{Admitted, Retired, Refused}
+use Rattle.firm_text.specs.declared.registers.Place.{Place as Registered}
 
 -- a command, and whether memory was refused to it
 abbrev pub Given : Type 0
@@ -24,22 +34,32 @@ pub record Stay : Type 0 where
 abbrev pub new_stay : List ℕ → TenantLimits → Stay
 new_stay name limits = record { name = name; limits = limits; commands = [] }
 
--- a place, and who stays there
-abbrev pub Place : Type 0
-Place = Stay
+-- a place: how often it was given, and who stays there
+pub record Place : Type 0 where
+  pub admissions : ℕ
+  pub stay : Option Stay
 
--- the place of a row of the roster
-abbrev pub place_of_row : Admitted → Place
-place_of_row tenant = new_stay tenant.0 tenant.1
+-- a place that nobody had
+abbrev pub unused_place : Place
+unused_place = record { admissions = 0; stay = None }
 
--- the places before the first line
-abbrev pub opening_places : List Admitted → List Place
-opening_places roster = map place_of_row roster
+-- the place of a row of the roster, which counts as an admission
+abbrev pub place_of_row : Row → Place
+place_of_row row = record { admissions = 1; stay = Some (new_stay row.0 row.1) }
+
+-- the places before the first line: those of the roster's rows, in their order, and then those that nobody had
+abbrev pub opening_places : List Row → List Place
+opening_places roster = map place_of_row roster ++ replicate (most_places - length roster) unused_place
+
+-- whether this is a stay of the tenant of this name
+abbrev pub is_stay_of : List ℕ → Option Stay → Bool
+is_stay_of name None = false
+is_stay_of name (Some stay) = bytes_eq stay.name name
 
 -- the stay of the tenant of this name
 abbrev pub stay_of : List Place → List ℕ → Option Stay
 stay_of [] name = None
-stay_of (place ∷ rest) name = if bytes_eq place.name name then Some place else stay_of rest name
+stay_of (place ∷ rest) name = if is_stay_of name place.stay then place.stay else stay_of rest name
 
 -- the stay, with one more command
 abbrev pub with_command : Given → Stay → Stay
@@ -47,7 +67,45 @@ with_command given stay = record stay { commands = stay.commands ++ given ∷ []
 
 -- the place after a command to the tenant of this name
 abbrev pub commanded : List ℕ → Given → Place → Place
-commanded name given place = if bytes_eq place.name name then with_command given place else place
+commanded name given place =
+    if is_stay_of name place.stay then record place { stay = option_map (with_command given) place.stay } else place
+
+-- the place once the tenant of this name has left
+abbrev pub left_by : List ℕ → Place → Place
+left_by name place = if is_stay_of name place.stay then record place { stay = None } else place
+
+-- the places, this one given once more: a tenant of this name begins its stay there
+abbrev pub entered_at : ℕ → List ℕ → TenantLimits → List Place → List Place
+entered_at at name limits places =
+    let admissions : ℕ = (slice_index_or places at unused_place).admissions in
+    slice_set places at (record { admissions = admissions + 1; stay = Some (new_stay name limits) })
+
+-- a place as the register knows it
+abbrev pub registered : Place → Registered
+registered place = record { tenant = option_map (λ stay. stay.name) place.stay; admissions = place.admissions }
+
+-- which tenant has which of these places, and how often each was given
+abbrev pub register_of : List Place → List Registered
+register_of places = map registered places
+
+-- the reply to an admission to the place that the register gives, if it gives one, and the places after it; where memory
+-- is refused nobody comes, and the place was not given
+abbrev pub admission : List Place → List ℕ → TenantLimits → Result ℕ OperatorRefusal → Bool → OperatorReply × List Place
+admission places name limits (Err refusal) mark = (Refused refusal, places)
+admission places name limits (Ok at) true = (Refused Memory, places)
+admission places name limits (Ok at) false = (Admitted name, entered_at at name limits places)
+
+-- the reply to a retirement of the tenant that has this stay, if it is there, and the places after it
+abbrev pub retirement : List Place → List ℕ → Option Stay → OperatorReply × List Place
+retirement places name None = (Refused NoSuchTenant, places)
+retirement places name (Some stay) = (Retired name, map (left_by name) places)
+
+-- the reply to a line of the operator, and the places after it
+abbrev pub obeyed : List Place → OperatorLine → Bool → OperatorReply × List Place
+obeyed places (Admit name limits) mark =
+    admission places name limits (place_for (register_of places) name) mark
+obeyed places (Retire name) mark = retirement places name (stay_of places name)
+obeyed places (Faulty refusal) mark = (Refused refusal, places)
 
 -- the places after a line
 abbrev pub after_line : List Place → MarkedLine → List Place
@@ -55,6 +113,7 @@ after_line places (Nothing, mark) = places
 after_line places (Long, mark) = places
 after_line places (Nameless, mark) = places
 after_line places (For name command, mark) = map (commanded name (command, mark)) places
+after_line places (Operator asked, mark) = (obeyed places asked mark).1
 
 -- the places after these lines
 abbrev pub after_lines : List Place → List MarkedLine → List Place

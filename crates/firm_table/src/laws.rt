@@ -7,8 +7,11 @@ ghost use Rattle.firm_table.specs.Histories.{EventsKeepAlone, RowsStay, StaysAre
 ghost use Rattle.firm_table.specs.Histories.{EventsAreIsolated};
 ghost use Rattle.firm_table.specs.inner.Adding.{NothingIsTold, OneMoreIsTold, FrontIsWritten, ToldBegins};
 ghost use Rattle.firm_table.specs.inner.Adding.{AllIsWritten, OneMoreBegins, TenantsAreAnswered, StrangersAreAnswered};
+ghost use Rattle.firm_table.specs.inner.Adding.{AdmissionsAreAnswered, AdmissionsFindNoMemory, AdmissionsAreRefused};
+ghost use Rattle.firm_table.specs.inner.Adding.{RetirementsAreAnswered, RetirementsAreRefused};
 
 use firm_tenant::{replies_tell_their_marks, unmarked_steps_are_granted};
+use firm_text::refuses_for_the_form;
 
 /// The laws on the service's answers: they come line by line; each tenant gets the replies of a service that holds this
 /// tenant alone and is given its commands alone, whatever else stands in the roster and in the input; and where memory
@@ -34,6 +37,7 @@ pub fn isolation()
 {
     unmarked_steps_are_granted();
     replies_tell_their_marks();
+    refuses_for_the_form();
 }
 
 /// The laws by which a clerk's answers add up to the output: where what it told is right so far, it is right after one
@@ -47,6 +51,12 @@ pub fn answers_add_up()
     ensures short { OneMoreBegins }
     ensures known { TenantsAreAnswered }
     ensures unknown { StrangersAreAnswered }
+    ensures admitted { AdmissionsAreAnswered }
+    ensures no_memory { AdmissionsFindNoMemory }
+    ensures not_admitted { AdmissionsAreRefused }
+    ensures retired { RetirementsAreAnswered }
+    ensures not_retired { RetirementsAreRefused }
 {
     unmarked_steps_are_granted();
+    refuses_for_the_form();
 }

@@ -5,16 +5,16 @@ ghost use Rattle.std.specs.Io.KnownBytes.{Appends};
 ghost use Rattle.firm_table.specs.Service.{Answers, Served, Stopped, UpToDate, device};
 ghost use Rattle.firm_table.specs.declared.faults.ServeFault.TheVariants.{Read};
 ghost use Rattle.firm_table.specs.inner.Faults.{IsWritingFault};
-ghost use Rattle.firm_table.specs.inner.Line.{opening_books, state_is, state_of};
-ghost use Rattle.firm_table.specs.inner.Progress.{Told};
+ghost use Rattle.firm_table.specs.inner.Line.{opening_tenants, state_is};
+ghost use Rattle.firm_table.specs.inner.Progress.{Told, state_of};
 
 use crate::clerk::Clerk;
 use crate::devices::write_all;
 use crate::faults::ServeFault;
 use crate::reading::serve_lines;
-use crate::tenants::{admit_all, put_answer};
-use firm_tenant::{Tenant, unmarked_steps_are_granted};
-use firm_text::{Line, Roster, Sink, Source};
+use crate::tenants::Tenants;
+use firm_tenant::unmarked_steps_are_granted;
+use firm_text::{Line, Roster, Sink, Source, refuses_for_the_form};
 use std::alloc::{AllocError, Global};
 
 /// Answers of so many bytes are written before the next line is answered.
@@ -54,25 +54,23 @@ pub fn serve_one<R: Source, W: Sink>(
     serve_lines(reader, writer, &mut service, most)
 }
 
-// The tenants in the roster's order, and the answers that are still to be written.
+// The tenants at their places, and the answers that are still to be written.
 #[derive(Drop)]
 pub(crate) struct Service<'a> {
     alloc: Global,
     roster: &'a Roster,
-    tenants: Vec<Tenant>,
+    tenants: Tenants,
     output: Vec<u8>,
 }
 
 impl<'a> Service<'a> {
     fn open(alloc: Global, roster: &'a Roster) -> Result<Service<'a>, AllocError>
-        ensures opening { IfOk result (λ service.
-            state_of service ≡ state_is roster.now (opening_books roster.now) []) }
-        ensures open { IfOk result (λ service. length service.tenants.items ≡ length service.roster.now) }
+        ensures { IfOk result (λ service. state_of service ≡ state_is roster.now (opening_tenants roster.now) []) }
     {
         Ok(Service {
             alloc,
             roster,
-            tenants: admit_all(alloc, roster)?,
+            tenants: Tenants::open(alloc, roster)?,
             output: Vec::new(alloc),
         })
     }
@@ -84,7 +82,7 @@ impl Clerk for Service<'_> {
 
     ghost roster = { λ service. service.roster.now };
 
-    ghost is_open = { λ service. length service.tenants.items ≡ length service.roster.now };
+    ghost is_open = { λ _. Unit {0} };
 
     ghost told = { λ service. Told (state_of service) };
 
@@ -94,15 +92,10 @@ impl Clerk for Service<'_> {
 
     fn answer<W: Sink>(&mut self, writer: &mut W, line: Line) -> Result<(), ServeFault> {
         let before = self.output.len();
-        let Ok(()) = put_answer(
-            self.alloc,
-            self.roster,
-            &mut self.tenants,
-            &mut self.output,
-            line,
-        ) else {
-            // A law: a line that gets no answer can be taken as one to which memory was not refused.
+        let Ok(()) = self.tenants.put_answer(self.alloc, &mut self.output, line) else {
+            // Laws: a line that gets no answer can be taken as one to which memory was not refused.
             unmarked_steps_are_granted();
+            refuses_for_the_form();
             self.output.truncate(before);
             write_held(writer, &mut self.output)?;
             return Err(ServeFault::Memory);

@@ -1,55 +1,158 @@
-//! The tenants of a roster, and the answer to one line for them.
+//! The tenants of a service at their places, and the answer to one line for them.
 
-ghost use Rattle.std.specs.Prelude.{◌≡◌, ◌<◌, ◌++◌, List, IfOk, OnOk, codes, length, map, slice_index_or, slice_set};
+ghost use Rattle.std.specs.Prelude.{◌≡◌, ◌++◌, Some, IfOk, MatchOption, OnOk, codes, option_map, slice_get};
 ghost use Rattle.std.specs.Io.{StartsWith};
 ghost use Rattle.firm_rules.specs.Book.{opening_book};
 ghost use Rattle.firm_text.specs.Replies.{text_of_reply};
-ghost use Rattle.firm_table.specs.Answers.{ended};
-ghost use Rattle.firm_table.specs.inner.Line.{IsAnswer, Steps};
+ghost use Rattle.firm_text.specs.OperatorReplies.{text_of_operator_reply};
+ghost use Rattle.firm_text.specs.declared.inputs.Line.TheVariants.{For, Operator};
+ghost use Rattle.firm_text.specs.declared.operator.OperatorLine.TheVariants.{Admit, Retire};
+ghost use Rattle.firm_table.specs.Answers.{ended, replied, told_operator, unknown_tenant};
+ghost use Rattle.firm_table.specs.inner.Line.{IsAnswer, IsRight, opening_books, opening_tenants};
 
-use firm_rules::{Command, Name, Reply};
+use firm_rules::{Command, Limits, Name, Reply};
 use firm_tenant::Tenant;
-use firm_text::{Line, Roster, put_reply};
+use firm_text::{
+    Line, OperatorLine, OperatorRefusal, OperatorReply, PLACES, Register, Roster,
+    put_operator_reply, put_reply,
+};
 use std::alloc::{AllocError, Global};
+use std::marker::Model;
 
-/// The tenants of the roster, admitted in its order.
-pub fn admit_all(alloc: Global, roster: &Roster) -> Result<Vec<Tenant>, AllocError>
-    ensures { IfOk result (λ tenants. tenants.items ≡ map (λ tenant. opening_book tenant.1) roster.now) }
-{
-    let count = roster.len();
-    let mut tenants = Vec::with_capacity(alloc, count)?;
-    for place in 0..count {
-        let (_, limits) = roster.get(place).unwrap();
-        tenants.push(Tenant::admit(alloc, limits)?)?;
-    }
-    Ok(tenants)
+/// The tenants at the 64 places of a service, and the register that knows which one has which.
+#[derive(Drop)]
+pub struct Tenants {
+    register: Register,
+    places: Vec<Option<Tenant>>,
 }
 
-/// Adds the answer to a line. An error comes where no memory was granted for its text, of which a part may have been added.
-pub fn put_answer(
-    alloc: Global,
-    roster: &Roster,
-    tenants: &mut [Tenant],
-    output: &mut Vec<u8>,
-    line: Line,
-) -> Result<(), AllocError>
-    requires { length tenants.old ≡ length roster.now }
-    ensures kept { StartsWith output.new.items output.old.items }
-    ensures answered { OnOk result (IsAnswer roster.now tenants.old tenants.new line output.old.items output.new.items) }
-    ensures length { length tenants.new ≡ length tenants.old }
-{
-    match line {
-        Line::Nothing => Ok(()),
-        Line::Long => output.extend_from_slice(b"! line-too-long\n"),
-        Line::Nameless => put_unknown(output),
-        Line::For(name, command) => match roster.place_of(name) {
-            None => put_unknown(output),
-            Some(place) => put_step(alloc, name, &mut tenants[place], output, command),
-        },
+impl Model for Tenants {
+    ghost use Rattle.firm_table.specs.inner.Line.{Tenants as TenantsState};
+
+    ghost Value = { TenantsState };
+
+    ghost use Rattle.firm_table.specs.inner.Line.{Fits, tenants_are};
+
+    ghost view = { λ t. tenants_are t.register t.places.items };
+
+    ghost invariant = { λ t. Fits (tenants_are t.register t.places.items) };
+}
+
+impl Tenants {
+    /// The tenants of the roster, admitted in its order, and then empty places.
+    pub fn open(alloc: Global, roster: &Roster) -> Result<Tenants, AllocError>
+        ensures { IfOk result (λ tenants. tenants ≡ opening_tenants roster.now) }
+    {
+        Ok(Tenants {
+            register: Register::of(roster),
+            places: admit_all(alloc, roster)?,
+        })
+    }
+
+    /// Adds the answer to a line. An error comes where no memory was granted for its text, of which a part may have been
+    /// added.
+    pub fn put_answer(
+        &mut self,
+        alloc: Global,
+        output: &mut Vec<u8>,
+        line: Line,
+    ) -> Result<(), AllocError>
+        ensures kept { StartsWith output.new.items output.old.items }
+        ensures answered { OnOk result (IsAnswer self.old self.new line output.old.items output.new.items) }
+    {
+        match line {
+            Line::Nothing => Ok(()),
+            Line::Long => output.extend_from_slice(b"! line-too-long\n"),
+            Line::Nameless => put_unknown(output),
+            Line::For(name, command) => match self.step(alloc, name, command) {
+                None => put_unknown(output),
+                Some(reply) => put_line(output, name, &reply),
+            },
+            Line::Operator(asked) => {
+                let reply = self.obey(alloc, asked);
+                put_operator_line(output, reply)
+            }
+        }
+    }
+
+    // The reply of the tenant of this name to a command. None where it is not there.
+    fn step(&mut self, alloc: Global, name: Name, command: Command) -> Option<Reply>
+        ensures { MatchOption result (IsRight self.old self.new (For name command) unknown_tenant)
+            (λ reply. IsRight self.old self.new (For name command) (replied name reply)) }
+    {
+        let place = self.register.place_of(name)?;
+        let Some(tenant) = &mut self.places[place] else {
+            unreachable!()
+        };
+        Some(tenant.step(alloc, command))
+    }
+
+    // Does what the operator asks for, where it can be done.
+    fn obey(&mut self, alloc: Global, asked: OperatorLine) -> OperatorReply
+        ensures { IsRight self.old self.new (Operator asked) (told_operator result) }
+    {
+        match asked {
+            OperatorLine::Admit(name, limits) => self.admit(alloc, name, limits),
+            OperatorLine::Retire(name) => self.retire(name),
+            OperatorLine::Faulty(refusal) => OperatorReply::Refused(refusal),
+        }
+    }
+
+    // Admits a tenant. Where memory is refused to it nobody comes, and no admission is used.
+    fn admit(&mut self, alloc: Global, name: Name, limits: Limits) -> OperatorReply
+        ensures { IsRight self.old self.new (Operator (Admit name limits)) (told_operator result) }
+    {
+        let place = match self.register.admit(name) {
+            Ok(place) => place,
+            Err(refusal) => return OperatorReply::Refused(refusal),
+        };
+        let Ok(tenant) = Tenant::admit(alloc, limits) else {
+            self.register.undo(place);
+            return OperatorReply::Refused(OperatorRefusal::Memory);
+        };
+        self.places[place] = Some(tenant);
+        OperatorReply::Admitted(name)
+    }
+
+    // Retires a tenant, and its book with it.
+    fn retire(&mut self, name: Name) -> OperatorReply
+        ensures { IsRight self.old self.new (Operator (Retire name)) (told_operator result) }
+    {
+        match self.register.retire(name) {
+            Ok(place) => {
+                self.places[place] = None;
+                OperatorReply::Retired(name)
+            }
+            Err(refusal) => OperatorReply::Refused(refusal),
+        }
     }
 }
 
-// The answer to a line for a tenant that the roster has not.
+// The roster's tenants, admitted in its order, and then empty places.
+fn admit_all(alloc: Global, roster: &Roster) -> Result<Vec<Option<Tenant>>, AllocError>
+    ensures { IfOk result (λ places. places.items ≡ opening_books roster.now) }
+{
+    // A roster has no more tenants than a service has places.
+    prove!(roster.len() <= PLACES);
+    let mut places = Vec::with_capacity(alloc, PLACES)?;
+    for place in 0..PLACES {
+        places.push(first_tenant(alloc, roster, place)?)?;
+    }
+    Ok(places)
+}
+
+// The roster's tenant at a place, if it has one.
+fn first_tenant(alloc: Global, roster: &Roster, place: usize) -> Result<Option<Tenant>, AllocError>
+    ensures { IfOk result (λ tenant. tenant
+        ≡ option_map (λ row. opening_book row.1) (slice_get roster.now place)) }
+{
+    match roster.get(place) {
+        Some((_, limits)) => Ok(Some(Tenant::admit(alloc, limits)?)),
+        None => Ok(None),
+    }
+}
+
+// The answer to a line for a tenant that the service has not.
 fn put_unknown(output: &mut Vec<u8>) -> Result<(), AllocError>
     ensures kept { StartsWith output.new.items output.old.items }
     ensures added { OnOk result (output.new.items ≡ output.old.items ++ ended (codes "! unknown-tenant")) }
@@ -57,25 +160,20 @@ fn put_unknown(output: &mut Vec<u8>) -> Result<(), AllocError>
     output.extend_from_slice(b"! unknown-tenant\n")
 }
 
-// Adds the tenant's reply to a command.
-fn put_step(
-    alloc: Global,
-    name: Name,
-    tenant: &mut Tenant,
-    output: &mut Vec<u8>,
-    command: Command,
-) -> Result<(), AllocError>
-    ensures kept { StartsWith output.new.items output.old.items }
-    ensures stepped { OnOk result (Steps name tenant.old tenant.new command output.old.items output.new.items) }
-{
-    let reply = tenant.step(alloc, command);
-    put_line(output, name, &reply)
-}
-
+// Adds a tenant's reply.
 fn put_line(output: &mut Vec<u8>, name: Name, reply: &Reply) -> Result<(), AllocError>
     ensures kept { StartsWith output.new.items output.old.items }
     ensures added { OnOk result (output.new.items ≡ output.old.items ++ ended (text_of_reply name reply.now)) }
 {
     put_reply(output, name, reply)?;
+    output.extend_from_slice(b"\n")
+}
+
+// Adds a reply to the operator.
+fn put_operator_line(output: &mut Vec<u8>, reply: OperatorReply) -> Result<(), AllocError>
+    ensures kept { StartsWith output.new.items output.old.items }
+    ensures added { OnOk result (output.new.items ≡ output.old.items ++ ended (text_of_operator_reply reply)) }
+{
+    put_operator_reply(output, reply)?;
     output.extend_from_slice(b"\n")
 }

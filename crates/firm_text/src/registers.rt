@@ -73,6 +73,7 @@ impl Register {
     pub fn admit(&mut self, name: Name) -> Result<usize, OperatorRefusal>
         ensures place { result ≡ place_for self.old name }
         ensures within { IfOk result (λ place. place < most_places) }
+        ensures sound { AreSound self.old }
         ensures admitted { IfOk result (λ place. self.new ≡ with_tenant self.old place name) }
         ensures unchanged { OnErr result (self.new ≡ self.old) }
     {

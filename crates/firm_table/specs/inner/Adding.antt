@@ -1,43 +1,54 @@
 -- How answers add up: laws from which a clerk learns that it tells right.
-use Rattle.std.specs.Prelude.{◌≡◌, ℕ, List, [], ◌∷◌, ◌++◌, Option, Some, None, length, slice_index_or, slice_set}
+use Rattle.std.specs.Prelude.{◌≡◌, ℕ, List, [], ◌∷◌, ◌++◌, Option, Some, None, Ok, Err, slice_index_or, slice_set}
 use Rattle.std.specs.Io.KnownBytes.{Appends}
-use Rattle.firm_rules.specs.Book.{Book}
+use Rattle.firm_rules.specs.Book.{Book, opening_book}
+use Rattle.firm_rules.specs.Limits.{TenantLimits}
 use Rattle.firm_rules.specs.declared.commands.Command.{Command}
+use Rattle.firm_rules.specs.declared.replies.Reply.{Reply}
+use Rattle.firm_tenant.specs.Step.{step, is_memory}
 use Rattle.firm_text.specs.Inputs.{input_lines}
-use Rattle.firm_text.specs.Rosters.{Admitted, place_among}
+use Rattle.firm_text.specs.Registers.{AreSound, place_for, place_in, with_tenant, without_tenant}
+use Rattle.firm_text.specs.Rosters.{Admitted as Row}
 use Rattle.firm_text.specs.declared.inputs.Line.{Line}
-use Rattle.firm_text.specs.declared.inputs.Line.TheVariants.{For}
-use Rattle.firm_table.specs.Answers.{unknown_tenant, replied, tells_memory, text_of_answer}
+use Rattle.firm_text.specs.declared.inputs.Line.TheVariants.{For, Operator}
+use Rattle.firm_text.specs.declared.operator.OperatorLine.TheVariants.{Admit, Retire}
+use Rattle.firm_text.specs.declared.operator.OperatorRefusal.{OperatorRefusal}
+use Rattle.firm_text.specs.declared.operator.OperatorRefusal.TheVariants.{NoSuchTenant, Memory}
+use Rattle.firm_text.specs.declared.operator.OperatorReply.TheVariants.{Admitted, Retired, Refused}
+use Rattle.firm_table.specs.Answers.{unknown_tenant, replied, told_operator, tells_memory}
 use Rattle.firm_table.specs.Output.{answers_of}
 use Rattle.firm_table.specs.Service.{Answers, BeginsAnswers}
-use Rattle.firm_table.specs.inner.Line.{State, state_is, opening_books, IsAnswer, Steps}
+use Rattle.firm_table.specs.inner.Line.{Tenants, tenants_are, opening_tenants, IsRight, IsAnswer, State, state_is}
 use Rattle.firm_table.specs.inner.Progress.{Told}
 
 -- before the first line nothing is to be written
 abbrev pub NothingIsTold : Type 0
 NothingIsTold =
-    (roster : List Admitted) (written : Option (List ℕ))
-    → (told : Told (state_is roster (opening_books roster) []) [] written written) × (told.lines ≡ [])
+    (roster : List Row) (written : Option (List ℕ))
+    → (told : Told (state_is roster (opening_tenants roster) []) [] written written) × (told.lines ≡ [])
 
 -- one line more was answered: the line and its answer stand behind those before
 abbrev pub OneMoreIsTold : Type 0
 OneMoreIsTold =
-    (state : State) (text after : List ℕ) (written now : Option (List ℕ)) (books : List Book) (pending : List ℕ) (line : Line)
-    → (before : Told state text written now) → input_lines after ≡ input_lines text ++ line ∷ []
-    → (answered : IsAnswer state.roster state.books books line state.pending pending)
-    → (told : Told (state_is state.roster books pending) after written now)
+    (state : State) (text after : List ℕ) (written now : Option (List ℕ)) (tenants : Tenants) (pending : List ℕ)
+    (line : Line) → (before : Told state text written now) → input_lines after ≡ input_lines text ++ line ∷ []
+    → (answered : IsAnswer state.tenants tenants line state.pending pending)
+    → (told : Told (state_is state.roster tenants pending) after written now)
     × (told.lines ≡ before.lines ++ (line, tells_memory answered.answer) ∷ [])
     × (answers_of state.roster told.lines ≡ answers_of state.roster before.lines ++ answered.answer ∷ [])
 
 -- the front of what was to be written was
 abbrev pub FrontIsWritten : Type 0
 FrontIsWritten =
-    (state : State) (text : List ℕ) (written now later : Option (List ℕ)) (front held : List ℕ) → Told state text written now
-    → state.pending ≡ front ++ held → Appends now later front → Told (state_is state.roster state.books held) text written later
+    (state : State) (text : List ℕ) (written now later : Option (List ℕ)) (front held : List ℕ)
+    → Told state text written now → state.pending ≡ front ++ held → Appends now later front
+    → Told (state_is state.roster state.tenants held) text written later
 
 -- what was written begins the output
 abbrev pub ToldBegins : Type 0
-ToldBegins = (state : State) (text : List ℕ) (written now : Option (List ℕ)) → Told state text written now → BeginsAnswers state.roster text written now
+ToldBegins =
+    (state : State) (text : List ℕ) (written now : Option (List ℕ)) → Told state text written now
+    → BeginsAnswers state.roster text written now
 
 -- and is the output, where nothing is to be written
 abbrev pub AllIsWritten : Type 0
@@ -51,17 +62,54 @@ OneMoreBegins =
     (state : State) (text after : List ℕ) (written now : Option (List ℕ)) (line : Line) → Told state text written now
     → input_lines after ≡ input_lines text ++ line ∷ [] → BeginsAnswers state.roster after written now
 
--- a line of the tenant at this place, which steps, is answered so
+-- a command of the tenant at this place is answered by its step
 abbrev pub TenantsAreAnswered : Type 0
 TenantsAreAnswered =
-    (roster : List Admitted) (books : List Book) (name : List ℕ) (command : Command) (line : Line) (pending after : List ℕ)
-    (place : ℕ) (book new : Book) → line ≡ For name command → place_among roster name ≡ Some place → length books ≡ length roster
-    → (steps : Steps name (slice_index_or books place book) new command pending after)
-    → (answered : IsAnswer roster books (slice_set books place new) line pending after) × (answered.answer ≡ replied name steps.reply)
+    (tenants : Tenants) (name : List ℕ) (command : Command) (place : ℕ) (book after : Book) (reply : Reply)
+    → AreSound tenants.register → place_in tenants.register name ≡ Some place
+    → slice_index_or tenants.books place None ≡ Some book → (reply, after) ≡ step book command (is_memory reply)
+    → IsRight tenants (tenants_are tenants.register (slice_set tenants.books place (Some after))) (For name command)
+    (replied name reply)
 
--- a line for a tenant that the roster lacks is answered so
+-- a command of a tenant that is not there changes nothing
 abbrev pub StrangersAreAnswered : Type 0
 StrangersAreAnswered =
-    (roster : List Admitted) (books : List Book) (name : List ℕ) (command : Command) (line : Line) (pending after : List ℕ)
-    → line ≡ For name command → place_among roster name ≡ None → after ≡ pending ++ text_of_answer unknown_tenant
-    → (answered : IsAnswer roster books books line pending after) × (answered.answer ≡ unknown_tenant)
+    (tenants : Tenants) (name : List ℕ) (command : Command) → place_in tenants.register name ≡ None
+    → IsRight tenants tenants (For name command) unknown_tenant
+
+-- a tenant that is admitted to the place that the register gives it has its opening book there
+abbrev pub AdmissionsAreAnswered : Type 0
+AdmissionsAreAnswered =
+    (tenants : Tenants) (name : List ℕ) (limits : TenantLimits) (place : ℕ)
+    → place_for tenants.register name ≡ Ok place
+    → IsRight tenants (tenants_are (with_tenant tenants.register place name)
+    (slice_set tenants.books place (Some (opening_book limits)))) (Operator (Admit name limits))
+    (told_operator (Admitted name))
+
+-- one to which memory was refused leaves all as it was
+abbrev pub AdmissionsFindNoMemory : Type 0
+AdmissionsFindNoMemory =
+    (tenants : Tenants) (name : List ℕ) (limits : TenantLimits) (place : ℕ)
+    → place_for tenants.register name ≡ Ok place
+    → IsRight tenants tenants (Operator (Admit name limits)) (told_operator (Refused Memory))
+
+-- and so does one to which the register gives no place
+abbrev pub AdmissionsAreRefused : Type 0
+AdmissionsAreRefused =
+    (tenants : Tenants) (name : List ℕ) (limits : TenantLimits) (refusal : OperatorRefusal)
+    → place_for tenants.register name ≡ Err refusal
+    → IsRight tenants tenants (Operator (Admit name limits)) (told_operator (Refused refusal))
+
+-- a tenant that is retired leaves its place, and its book is gone
+abbrev pub RetirementsAreAnswered : Type 0
+RetirementsAreAnswered =
+    (tenants : Tenants) (name : List ℕ) (place : ℕ) → AreSound tenants.register
+    → place_in tenants.register name ≡ Some place
+    → IsRight tenants (tenants_are (without_tenant tenants.register place) (slice_set tenants.books place None))
+    (Operator (Retire name)) (told_operator (Retired name))
+
+-- the retirement of a tenant that is not there changes nothing
+abbrev pub RetirementsAreRefused : Type 0
+RetirementsAreRefused =
+    (tenants : Tenants) (name : List ℕ) → place_in tenants.register name ≡ None
+    → IsRight tenants tenants (Operator (Retire name)) (told_operator (Refused NoSuchTenant))

@@ -29,7 +29,7 @@ pub returns-clause-no_marks : goal.returns-clause-no_marks
 returns-clause-no_marks c = needs_no_marks
 
 pub returns-clause-unmarked : goal.returns-clause-unmarked
-returns-clause-unmarked c = may_go_unmarked c.unmarked_steps_are_granted.ensures
+returns-clause-unmarked c = may_go_unmarked c.unmarked_steps_are_granted.ensures c.refuses_for_the_form.ensures
 
 pub returns-clause-events : goal.returns-clause-events
 returns-clause-events c = events_keep_alone c.replies_tell_their_marks.ensures

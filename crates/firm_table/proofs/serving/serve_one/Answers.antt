@@ -1,8 +1,8 @@
 use Rattle.std.proofs.Common.{◌∙◌, [], refl, sym, ap, subst}
 use Rattle.std.proofs.KnownBytes.{Consumes-nil}
 use Rattle.firm_table.specs.declared.faults.ServeFault.TheVariants.{Memory}
-use Rattle.firm_table.specs.inner.Line.{State, state_of}
-use Rattle.firm_table.specs.inner.Progress.{Told}
+use Rattle.firm_table.specs.inner.Line.{State}
+use Rattle.firm_table.specs.inner.Progress.{Told, state_of}
 use Rattle.firm_table.proofs.Pieces.{ended_none}
 use Rattle.firm_table.proofs.Progress.{nothing_told, answers_up_to_date}
 use Rattle.firm_table.proofs.Stops.{stopped_within, err_weaker}
@@ -18,11 +18,11 @@ returns-in_default-clause-stopped g c =
 pub serve_lines-requires-clause-opening : goal.serve_lines-requires-clause-opening
 serve_lines-requires-clause-opening g c =
     subst (λ (state : State). Told state [] (g.W.Sink.written c.args.writer.now) (g.W.Sink.written c.args.writer.now))
-    (sym c.in-Ok.ensures.opening) (nothing_told c.args.roster.now _).0
+    (sym c.in-Ok.ensures) (nothing_told c.args.roster.now _).0
 
 pub returns-clause-in_full : goal.returns-clause-in_full
 returns-clause-in_full g c =
-    let same = c.serve_lines.ensures.roster ∙ ap (λ (state : State). state.roster) c.in-Ok.ensures.opening in
+    let same = c.serve_lines.ensures.roster ∙ ap (λ (state : State). state.roster) c.in-Ok.ensures in
     err_weaker c.serve_lines.result _ _ (λ fault waiting reading.
     let told = waiting reading in
     answers_up_to_date c.args.roster.now (state_of c.serve_lines.new.clerk) _ _ same told.0 told.1)

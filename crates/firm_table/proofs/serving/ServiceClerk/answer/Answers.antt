@@ -1,5 +1,4 @@
-use Rattle.std.proofs.Common.{◌≡◌, ◌∙◌, rules, sym, ap, take, length, ℕ}
-use Rattle.std.proofs.lemmas.List.{with_items_is}
+use Rattle.std.proofs.Common.{◌≡◌, ◌∙◌, rules, ap, take, length, ℕ}
 use Rattle.std.proofs.lemmas.Result.{err_from_is_err_and}
 use Rattle.firm_table.proofs.Progress.{one_more, one_more_begins, told_begins, partly_written, all_written_now}
 use Rattle.firm_table.proofs.serving.ServiceClerk.answer.Goals as goal
@@ -12,32 +11,30 @@ returns-in_err-write_held-clause-begins g c =
     c.truncate.ensures.items ∙ ap (λ (n : ℕ). take n c.put_answer.new.output.items) before ∙ c.put_answer.ensures.kept in
     let part = rw kept at c.in_err-write_held.ensures.err in
     rw p.1 (λ text after written more told.
-    one_more_begins c.unmarked_steps_are_granted.ensures _ text after written _ c.args.line (partly_written _ text written _ _ part.0 told part.2) more)
+    one_more_begins c.unmarked_steps_are_granted.ensures c.refuses_for_the_form.ensures _ text after written _ c.args.line (partly_written _ text written _ _ part.0 told part.2) more)
 
 pub returns-in_default-clause-begins : goal.returns-in_default-clause-begins
 returns-in_default-clause-begins g c text after written more told =
     let before : c.len-before.result ≡ length c.args.self.now.output.items = search rules in
     let kept : c.truncate.new.self.items ≡ c.args.self.now.output.items =
     c.truncate.ensures.items ∙ ap (λ (n : ℕ). take n c.put_answer.new.output.items) before ∙ c.put_answer.ensures.kept in
-    one_more_begins c.unmarked_steps_are_granted.ensures _ text after written _ c.args.line
+    one_more_begins c.unmarked_steps_are_granted.ensures c.refuses_for_the_form.ensures _ text after written _ c.args.line
     (all_written_now _ text _ written _ _ told (rw kept at c.in_ok-write_held.ensures.ok) c.in_ok-write_held.ensures.empty) more
 
 pub returns-in_err-write_held-2-clause-begins : goal.returns-in_err-write_held-2-clause-begins
 returns-in_err-write_held-2-clause-begins g c =
     let p = err_from_is_err_and c.from_residual-in_err-write_held-2.result c.from_residual-in_err-write_held-2.ensures.1 in
     let part = c.in_err-write_held-2.ensures.err in
-    let answered = rw c.deref_mut.ensures.value at c.in-Ok.ensures.answered in
+    let answered = c.in-Ok.ensures.answered in
     rw p.1 (λ text after written more told.
     told_begins _ after written _ (partly_written _ after written _ _ part.0 (one_more _ text after written _ _ _ c.args.line told more answered).0 part.2))
 
 pub returns-in_ok-write_held-2-clause-told : goal.returns-in_ok-write_held-2-clause-told
 returns-in_ok-write_held-2-clause-told g c text after written more told =
-    let answered = rw c.deref_mut.ensures.value at c.in-Ok.ensures.answered in
-    rw (with_items_is c.args.self.now.tenants c.put_answer.new.tenants (c.put_answer.ensures.length ∙ ap length c.deref_mut.ensures.value ∙ sym c.args.self.now.tenants.ok.0))
-    (all_written_now _ after _ written _ _ (one_more _ text after written _ _ _ c.args.line told more answered).0 c.in_ok-write_held-2.ensures.ok c.in_ok-write_held-2.ensures.empty)
+    let answered = c.in-Ok.ensures.answered in
+    all_written_now _ after _ written _ _ (one_more _ text after written _ _ _ c.args.line told more answered).0 c.in_ok-write_held-2.ensures.ok c.in_ok-write_held-2.ensures.empty
 
 pub returns-else-len-ge-FULL-clause-told : goal.returns-else-len-ge-FULL-clause-told
 returns-else-len-ge-FULL-clause-told g c text after written more told =
-    let answered = rw c.deref_mut.ensures.value at c.in-Ok.ensures.answered in
-    rw (with_items_is c.args.self.now.tenants c.put_answer.new.tenants (c.put_answer.ensures.length ∙ ap length c.deref_mut.ensures.value ∙ sym c.args.self.now.tenants.ok.0))
+    let answered = c.in-Ok.ensures.answered in
     (one_more _ text after written _ _ _ c.args.line told more answered).0

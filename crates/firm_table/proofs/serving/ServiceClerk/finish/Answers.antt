@@ -2,7 +2,7 @@ use Rattle.std.proofs.Common.{List, subst}
 use Rattle.std.proofs.lemmas.Result.{on_ok_weaker}
 use Rattle.firm_text.specs.Rosters.{Admitted}
 use Rattle.firm_table.specs.Service.{Answers}
-use Rattle.firm_table.specs.inner.Line.{state_of}
+use Rattle.firm_table.specs.inner.Progress.{state_of}
 use Rattle.firm_table.proofs.Progress.{all_is_written}
 use Rattle.firm_table.proofs.Stops.{both_ok}
 use Rattle.firm_table.proofs.serving.ServiceClerk.finish.Goals as goal
