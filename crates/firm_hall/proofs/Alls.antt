@@ -1,5 +1,5 @@
 -- What holds of each element of a list, as a loop takes one off its front, or puts one at its back.
-use Rattle.std.proofs.Common.{◌≡◌, zero, suc, List, [], ◌∷◌, ◌++◌, All, sym, subst, arith}
+use Rattle.std.proofs.Common.{◌≡◌, ◌∙◌, zero, suc, List, [], ◌∷◌, ◌++◌, All, map, ap, sym, subst, arith, append_assoc}
 use Rattle.std.proofs.lemmas.List.Elements.{All-append}
 
 module _ {A : Type 0} (P : A → Type 0) where
@@ -15,3 +15,13 @@ module _ {A : Type 0} (P : A → Type 0) where
 
   pub all_push : (old new : List A) (x : A) → new ≡ old ++ x ∷ [] → All P old → P x → All P new
   all_push old new x e every p = subst (All P) (sym e) (All-append P old (x ∷ []) every (all_one x p))
+
+-- one element more is turned, off the front of those that are left
+module _ {A B : Type 0} (f : A → B) where
+  pub one_turned : (old new whole : List B) (y : B) (x : A) (all rest : List A) → all ≡ x ∷ rest → y ≡ f x → new ≡ old ++ y ∷ []
+      → old ++ map f all ≡ whole → new ++ map f rest ≡ whole
+  one_turned old new whole y x all rest steps is pushed before =
+      ap (λ (ys : List B). ys ++ map f rest) (pushed ∙ ap (λ (z : B). old ++ z ∷ []) is)
+      ∙ append_assoc old (f x ∷ []) (map f rest)
+      ∙ sym (ap (λ (xs : List A). old ++ map f xs) steps)
+      ∙ before

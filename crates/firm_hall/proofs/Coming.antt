@@ -92,6 +92,10 @@ home_set seats place put home default low =
     let low' : place < length seats = omega (arith, length-set seats place put) in
     subst IsHome (sym (get_or-set_same seats place put default low')) home
 
+pub home_here : (seats : List Seat) (place : ℕ) (seat default : Seat) → seat ≡ get_or seats place default → IsHome seat → IsHomeAt place seats
+home_here seats place seat default at home =
+    subst (IsHomeAt place) (ap (set seats place) at ∙ set-get_or seats place default) (home_set seats place seat home)
+
 pub home_others : (seats : List Seat) (place other : ℕ) (put : Seat) → IsHome put → IsHomeAt other seats → IsHomeAt other (set seats place put)
 home_others seats place other put is home default low = dite (ℕ_discrete other place)
     (λ same. subst (λ (j : ℕ). IsHome (get_or (set seats place put) j default)) (sym same)

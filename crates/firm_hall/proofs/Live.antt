@@ -14,29 +14,29 @@ use Rattle.firm_tenant.specs.Laws.{StepsCountOnce}
 use Rattle.firm_hall.specs.Desks.{IsLive, IsAway}
 
 -- the book after a step is live where the one before was
-pub live_step : StepsCountOnce → (put : ℕ) (b after : Book) (command : Command) (mark : Bool) (reply : Reply)
-    → (reply, after) ≡ step b command mark → IsLive put b → IsLive put after
-live_step once put b after command mark reply e live =
+pub live_step : StepsCountOnce → (put admissions : ℕ) (b after : Book) (command : Command) (mark : Bool) (reply : Reply)
+    → (reply, after) ≡ step b command mark → IsLive put admissions b → IsLive put admissions after
+live_step once put admissions b after command mark reply e live =
     let law = once b command mark in
     let new = (step b command mark).1 in
     let is : after ≡ new = ap (λ (p : Reply × Book). p.1) e in
     let same : new.rows.limits.life ≡ b.rows.limits.life = ap (λ (limits : TenantLimits). limits.life) law.limits in
-    subst (IsLive put) (sym is) (⊎_elim
+    subst (IsLive put admissions) (sym is) (⊎_elim
     (λ (less : b.given < b.rows.limits.life). let counted : new.given ≡ b.given + 1 = law.counted less in
     record { asked = omega (arith, live.asked); given = omega (arith, live.given); life = omega (arith, live.life) })
-    (λ (worn : b.rows.limits.life ≤ b.given). subst (IsLive put) (sym (law.worn worn)) live)
+    (λ (worn : b.rows.limits.life ≤ b.given). subst (IsLive put admissions) (sym (law.worn worn)) live)
     (cases_lt b.given b.rows.limits.life))
 
 -- and so is the book after a round that was away
-pub live_back : StepsCountOnce → (put : ℕ) (b after : Book) (mark : Bool) (reply : Reply)
-    → (reply, after) ≡ step b Round mark → IsAway put b → IsLive put after
-live_back once put b after mark reply e away =
+pub live_back : StepsCountOnce → (put admissions : ℕ) (b after : Book) (mark : Bool) (reply : Reply)
+    → (reply, after) ≡ step b Round mark → IsAway put admissions b → IsLive put admissions after
+live_back once put admissions b after mark reply e away =
     let law = once b Round mark in
     let new = (step b Round mark).1 in
     let is : after ≡ new = ap (λ (p : Reply × Book). p.1) e in
     let same : new.rows.limits.life ≡ b.rows.limits.life = ap (λ (limits : TenantLimits). limits.life) law.limits in
     let counted : new.given ≡ b.given + 1 = law.counted away.given in
-    subst (IsLive put) (sym is)
+    subst (IsLive put admissions) (sym is)
     (record { asked = omega (arith, away.asked); given = omega (arith, away.given); life = omega (arith, away.life) })
 
 -- where no life is left, the reply says so

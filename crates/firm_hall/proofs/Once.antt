@@ -6,9 +6,9 @@ use Rattle.std.proofs.lemmas.Bool.{eqb-true, and_right, ne_eqb}
 use Rattle.firm_rules.specs.declared.tickets.Ticket.{Ticket}
 use Rattle.firm_rounds.specs.Rounds.{weigh, ticket, share, numbered, is_at}
 use Rattle.firm_rounds.specs.Turning.{weigh-append}
-use Rattle.firm_hall.specs.Desks.{DeskIs}
-use Rattle.firm_hall.specs.Closed.{asked_weight, is_ticket}
-use Rattle.firm_hall.specs.Gathered.{of_place}
+use Rattle.firm_hall.specs.Desks.{DeskIs, PlaceIs}
+use Rattle.firm_hall.specs.Closed.{asked_weight, left_weight, is_ticket}
+use Rattle.firm_hall.specs.Gathered.{of_place, is_place}
 
 -- one ticket more of a place
 one_more : (t : Ticket) (p n : ℕ)
@@ -52,3 +52,11 @@ asked_once t (d ∷ ds) =
     let one : weigh (is_ticket t) (numbered d.place d.put) ≤ is_at t.place (share d.place d.put []) =
     numbered_once t d.place d.put in
     omega (arith, asked_once t ds)
+
+-- and at the places that no tenant has no more often than there are places of it
+pub left_once : (t : Ticket) (places : List PlaceIs) → left_weight (is_ticket t) places ≤ is_place t.place places
+left_once t [] = omega arith
+left_once t (p ∷ ps) =
+    let one : weigh (is_ticket t) (numbered p.place p.put) ≤ is_at t.place (share p.place p.put []) =
+    numbered_once t p.place p.put in
+    omega (arith, left_once t ps)

@@ -4,11 +4,15 @@ use Rattle.firm_rules.specs.declared.tickets.Ticket.{Ticket}
 use Rattle.firm_rounds.specs.Rounds.{weigh, numbered}
 use Rattle.firm_rounds.specs.Passes.{PopIs, JobIs}
 use Rattle.firm_rounds.specs.Closed.{got_weight, job_weight}
-use Rattle.firm_hall.specs.Desks.{DeskIs}
+use Rattle.firm_hall.specs.Desks.{DeskIs, PlaceIs}
 
 -- the weights of the tickets that these desks asked, added up
 abbrev pub asked_weight : (Ticket → ℕ) → List DeskIs → ℕ
 asked_weight h desks = weigh (λ d. weigh h (numbered d.place d.put)) desks
+
+-- and those that were asked at these places, which no tenant has any more
+abbrev pub left_weight : (Ticket → ℕ) → List PlaceIs → ℕ
+left_weight h places = weigh (λ p. weigh h (numbered p.place p.put)) places
 
 -- 1 for this ticket, and 0 for each other
 abbrev pub is_ticket : Ticket → Ticket → ℕ
@@ -18,9 +22,10 @@ is_ticket one other = cond ((one.place == other.place) && (one.number == other.n
 abbrev pub taken_count : List PopIs → ℕ
 taken_count reports = weigh (λ r. length r.got) reports
 
--- The tickets that the desks asked are, each as often, those of the reports and of the jobs that are left: however
--- tickets are weighed, both weigh the same. And each ticket was asked once at most; so each stands exactly once in the
--- reports and jobs.
-pub record IsClosed (desks : List DeskIs) (reports : List PopIs) (jobs : List JobIs) : Type 0 where
-  pub as_often : (h : Ticket → ℕ) → asked_weight h desks ≡ got_weight h reports + job_weight h jobs
-  pub once : (t : Ticket) → t.place < 2 ^ 32 → asked_weight (is_ticket t) desks ≤ 1
+-- The tickets that were asked at the desks and at the places that no tenant has any more are, each as often, those of the
+-- reports and of the jobs that are left: however tickets are weighed, both weigh the same. And each ticket was asked once
+-- at most; so each stands exactly once in the reports and jobs.
+pub record IsClosed (desks : List DeskIs) (empty : List PlaceIs) (reports : List PopIs) (jobs : List JobIs) : Type 0 where
+  pub as_often : (h : Ticket → ℕ)
+      → asked_weight h desks + left_weight h empty ≡ got_weight h reports + job_weight h jobs
+  pub once : (t : Ticket) → t.place < 2 ^ 32 → asked_weight (is_ticket t) desks + left_weight (is_ticket t) empty ≤ 1

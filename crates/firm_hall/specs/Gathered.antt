@@ -5,12 +5,16 @@ use Rattle.firm_rounds.specs.declared.protocol.Share.{Share}
 use Rattle.firm_rounds.specs.Rounds.{weigh, share, put_by, got_by, is_at}
 use Rattle.firm_rounds.specs.Passes.{PopIs}
 use Rattle.firm_rounds.specs.Closed.{got_weight}
-use Rattle.firm_hall.specs.Desks.{DeskIs}
-use Rattle.firm_hall.specs.Closed.{asked_weight}
+use Rattle.firm_hall.specs.Desks.{DeskIs, PlaceIs}
+use Rattle.firm_hall.specs.Closed.{asked_weight, left_weight}
 
 -- how many of the desks are of the place
 abbrev pub of_place : ℕ → List DeskIs → ℕ
 of_place place desks = weigh (λ d. is_at place (share d.place d.put [])) desks
+
+-- how many of these are the place
+abbrev pub is_place : ℕ → List PlaceIs → ℕ
+is_place place places = weigh (λ p. is_at place (share p.place p.put [])) places
 
 -- what reports add to the shares that were handed in
 pub record Gave (old new : List Share) (reports : List PopIs) : Type 0 where
@@ -19,9 +23,9 @@ pub record Gave (old new : List Share) (reports : List PopIs) : Type 0 where
   pub count : length new ≡ length old + length reports
   pub places : (p : ℕ) → weigh (is_at p) old ≤ weigh (is_at p) new
 
--- the shares that were handed in are these desks' and reports'
-pub record IsGathered (shares : List Share) (desks : List DeskIs) (reports : List PopIs) : Type 0 where
-  pub put : (h : Ticket → ℕ) → weigh (put_by h) shares ≡ asked_weight h desks
+-- the shares that were handed in are these desks', these places' and these reports'
+pub record IsGathered (shares : List Share) (desks : List DeskIs) (empty : List PlaceIs) (reports : List PopIs) : Type 0 where
+  pub put : (h : Ticket → ℕ) → weigh (put_by h) shares ≡ asked_weight h desks + left_weight h empty
   pub got : (h : Ticket → ℕ) → weigh (got_by h) shares ≡ got_weight h reports
-  pub count : length shares ≡ length desks + length reports
-  pub places : (p : ℕ) → of_place p desks ≤ weigh (is_at p) shares
+  pub count : length shares ≡ length desks + length empty + length reports
+  pub places : (p : ℕ) → of_place p desks + is_place p empty ≤ weigh (is_at p) shares

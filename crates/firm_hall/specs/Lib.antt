@@ -1,5 +1,6 @@
 pub mod Desks
 pub mod Polls
+pub mod Admissions
 pub mod Opening
 pub mod Closed
 pub mod Gathered

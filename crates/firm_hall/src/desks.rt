@@ -4,10 +4,12 @@ ghost use Rattle.firm_rules.specs.Book.{opening_book};
 ghost use Rattle.firm_rules.specs.declared.commands.Command.TheVariants.{Round};
 ghost use Rattle.firm_rounds.specs.Passes.{closing_is};
 ghost use Rattle.firm_rounds.specs.Rounds.{share};
-ghost use Rattle.firm_hall.specs.Desks.{desk_is, spent_desk, IsStep, IsRefused};
+ghost use Rattle.firm_hall.specs.Desks.{desk_is, place_is, spent_desk, IsLive, IsStep, IsRefused};
 ghost use Rattle.firm_hall.specs.Polls.{IsPolled};
 
+use crate::empty::EmptyDesk;
 use crate::halls::Hall;
+use crate::places::Place;
 use firm_rounds::{Closing, Job, PutPass};
 use firm_rules::{Command, Limits, Reply};
 use firm_tenant::{Tenant, steps_count_once};
@@ -16,12 +18,12 @@ use std::alloc::{AllocError, Global};
 use std::marker::Model;
 use std::sync::Wait;
 
-/// A tenant at home: whoever holds the desk owns it. Contracts see its hall, its place, how many rounds it asked and
-/// its book.
+/// A tenant at home: whoever holds the desk owns it. Contracts see its hall, its place, how many rounds were asked there
+/// and how often the place was given, whoever had it, and the tenant's book.
 #[derive(Drop)]
 pub struct Desk {
     tenant: Tenant,
-    pass: PutPass,
+    place: Place,
 }
 
 impl Model for Desk {
@@ -29,9 +31,9 @@ impl Model for Desk {
 
     ghost Value = { DeskIs };
 
-    ghost view = { λ d. desk_is d.pass.queue d.pass.place d.pass.put d.tenant };
+    ghost view = { λ d. desk_is d.place.queue d.place.place d.place.put d.place.admissions d.tenant };
 
-    ghost invariant = { λ d. IsLive d.pass.put d.tenant };
+    ghost invariant = { λ d. IsLive d.place.put d.place.admissions d.tenant };
 }
 
 /// The token for a tenant whose round is away. Contracts see it as the desk that asked, with the book that was handed
@@ -39,7 +41,7 @@ impl Model for Desk {
 #[derive(Drop)]
 pub struct Asked {
     side: AskSide,
-    pass: PutPass,
+    place: Place,
 }
 
 impl Model for Asked {
@@ -47,9 +49,9 @@ impl Model for Asked {
 
     ghost Value = { DeskIs };
 
-    ghost view = { λ a. desk_is a.pass.queue a.pass.place a.pass.put a.side.book };
+    ghost view = { λ a. desk_is a.place.queue a.place.place a.place.put a.place.admissions a.side.book };
 
-    ghost invariant = { λ a. IsAway a.pass.put a.side.book };
+    ghost invariant = { λ a. IsAway a.place.put a.place.admissions a.side.book };
 }
 
 /// What a look at an asked round gives.
@@ -62,15 +64,25 @@ pub enum AskedPoll {
 }
 
 impl Desk {
-    // The desk of a tenant that is admitted with these limits. The error comes for want of memory alone.
+    // The desk of a tenant that has this place, and came just now.
+    pub(crate) fn at(place: Place, tenant: Tenant) -> Desk
+        requires { IsLive place.put place.admissions tenant }
+        ensures { result ≡ desk_is place.queue place.place place.put place.admissions tenant }
+    {
+        Desk { tenant, place }
+    }
+
+    // The desk of a tenant that is admitted with these limits to a place that nobody had. The error comes for want of
+    // memory alone.
     pub(crate) fn open(alloc: Global, limits: Limits, pass: PutPass) -> Result<Desk, AllocError>
         requires { pass.put ≡ 0 }
-        ensures { IfOk result (λ desk. desk ≡ desk_is pass.queue pass.place 0 (opening_book limits)) }
+        ensures { IfOk result (λ desk. desk ≡ desk_is pass.queue pass.place 0 1 (opening_book limits)) }
     {
         // A life is 2^40 commands at most, so the numbers of tickets never run out.
         prove!(limits.life() <= 1 << 40);
         let tenant = Tenant::admit(alloc, limits)?;
-        Ok(Desk { tenant, pass })
+        let place = Place::unused(pass).given();
+        Ok(Desk { tenant, place })
     }
 
     /// The tenant's reply to a command that is not a round. It waits for nobody.
@@ -88,35 +100,44 @@ impl Desk {
     pub fn ask<R: Wait>(self, rt: &R, alloc: Global, hall: &Hall) -> Result<Asked, (Desk, Reply)>
         requires { self.queue ≡ hall.now.id }
         ensures asked { MatchResult result
-            (λ asked. asked ≡ desk_is self.queue self.place (self.put + 1) self.book)
+            (λ asked. asked ≡ desk_is self.queue self.place (self.put + 1) self.admissions self.book)
             (λ back. IsRefused self back.1 back.0) }
         ensures left { OnOk result (self.book.given < self.book.rows.limits.life) }
     {
         let Desk {
             mut tenant,
-            mut pass,
+            mut place,
         } = self;
         // A law: a step counts once.
         steps_count_once();
         if tenant.life_left() == 0 {
             let reply = tenant.step(alloc, Command::Round);
-            return Err((Desk { tenant, pass }, reply));
+            return Err((Desk { tenant, place }, reply));
         }
         let Ok((side, answer)) = Tray::open(alloc, &tenant) else {
             let reply = tenant.no_memory();
-            return Err((Desk { tenant, pass }, reply));
+            return Err((Desk { tenant, place }, reply));
         };
-        let job = Job::new(pass.next(), tenant, answer);
-        hall.put(rt, &mut pass, job);
-        Ok(Asked { side, pass })
+        let job = Job::new(place.next(), tenant, answer);
+        place.put(rt, hall, job);
+        Ok(Asked { side, place })
     }
 
-    // How many rounds it asked: no more than commands were given to it, which are 2^40 at most.
+    /// The tenant leaves its place, and all that it had goes. The numbers of its tickets stay with the place. It waits for
+    /// nobody and takes no memory.
+    pub fn retire(self) -> EmptyDesk
+        ensures { result ≡ place_is self.queue self.place self.put self.admissions }
+    {
+        let Desk { tenant: _, place } = self;
+        EmptyDesk::of(place)
+    }
+
+    // How many rounds were asked there.
     pub(crate) fn asked(&self) -> u64
         ensures count { result ≡ self.now.put }
-        ensures few { result ≤ 2 ^ 40 }
+        ensures few { result ≤ 2 ^ 55 }
     {
-        self.pass.next().number - 1
+        self.place.asked()
     }
 
     // Hands the pass in.
@@ -126,7 +147,7 @@ impl Desk {
             ≡ closing_is closing.old.id (closing.old.shares ++ share self.old.place self.old.put [] ∷ []) }
         ensures desk { self.new ≡ spent_desk self.old }
     {
-        closing.put_pass(&mut self.pass);
+        self.place.give(closing);
     }
 }
 
@@ -138,10 +159,13 @@ impl Asked {
     {
         // A law: a step counts once.
         steps_count_once();
-        let Asked { side, pass } = self;
+        let Asked { side, place } = self;
         match side.poll() {
-            Polled::Back(Solved { tenant, reply }) => AskedPoll::Back(Desk { tenant, pass }, reply),
-            Polled::Not(side) => AskedPoll::Not(Asked { side, pass }),
+            Polled::Back(Solved { tenant, reply }) => AskedPoll::Back(
+                Desk { tenant, place },
+                reply,
+            ),
+            Polled::Not(side) => AskedPoll::Not(Asked { side, place }),
         }
     }
 
@@ -151,8 +175,8 @@ impl Asked {
     {
         // A law: a step counts once.
         steps_count_once();
-        let Asked { side, pass } = self;
+        let Asked { side, place } = self;
         let Solved { tenant, reply } = side.wait(rt);
-        (Desk { tenant, pass }, reply)
+        (Desk { tenant, place }, reply)
     }
 }

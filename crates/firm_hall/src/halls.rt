@@ -1,14 +1,18 @@
 //! The hall itself: the round queue and the stop word, which desks and workers share.
-ghost use Rattle.std.specs.Prelude.{◌≡◌, ◌+◌, ◌<◌, ◌≤◌, ◌^◌, ◌++◌, ◌∷◌, [], All, IfOk, MatchOption, length};
+ghost use Rattle.std.specs.Prelude.{◌≡◌, ◌+◌, ◌-◌, ◌<◌, ◌≤◌, ◌^◌, ◌++◌, ◌∷◌, [], All, IfOk, MatchOption, length, map};
 ghost use Rattle.firm_rounds.specs.Passes.{put_is, pop_is, new_puts, new_pops};
 ghost use Rattle.firm_rounds.specs.Rounds.{ticket};
-ghost use Rattle.firm_hall.specs.Opening.{opening_desks};
+ghost use Rattle.firm_text.specs.Registers.{most_places};
+ghost use Rattle.firm_hall.specs.Desks.{place_is};
+ghost use Rattle.firm_hall.specs.Opening.{opening_desks, unused_places};
 
 use crate::desks::Desk;
+use crate::empty::EmptyDesk;
+use crate::places::Place;
 use crate::workers::WorkerPass;
 use crossbeam_utils::CachePadded;
 use firm_rounds::{Job, PopPass, PutPass, Queue};
-use firm_text::Roster;
+use firm_text::{PLACES, Roster};
 use std::alloc::{AllocError, Global};
 use std::marker::Model;
 use std::sync::Wait;
@@ -36,28 +40,27 @@ impl Model for Hall {
 }
 
 impl Hall {
-    /// A hall for the tenants of the roster, which are admitted, and for 1 to 8 workers: a desk for each row, in order,
-    /// and a pass for each worker. All its memory is taken here; the error comes for want of it alone.
+    /// A hall of 64 places for the tenants of the roster, which are admitted, and for 1 to 8 workers: a desk for each row,
+    /// in order, a pass for each worker, and an empty desk for each further place. All its memory is taken here; the error
+    /// comes for want of it alone.
     pub fn open(
         alloc: Global,
         roster: &Roster,
         workers: usize,
-    ) -> Result<(Hall, Vec<Desk>, Vec<WorkerPass>), AllocError>
+    ) -> Result<(Hall, Vec<Desk>, Vec<WorkerPass>, Vec<EmptyDesk>), AllocError>
         requires { (1 ≤ workers) × (workers ≤ 8) }
-        ensures counts { IfOk result (λ r. (r.0.puts ≡ length roster.now) × (r.0.pops ≡ workers)) }
+        ensures counts { IfOk result (λ r. (r.0.puts ≡ most_places) × (r.0.pops ≡ workers)) }
         ensures desks { IfOk result (λ r. r.1.items ≡ opening_desks r.0.id 0 roster.now) }
         ensures passes { IfOk result (λ r. r.2.items ≡ new_pops r.0.id workers) }
+        ensures empty { IfOk result
+            (λ r. r.3.items ≡ unused_places r.0.id (length roster.now) (most_places - length roster.now)) }
         ensures of_this { IfOk result
             (λ r. All (λ d. d.queue ≡ r.0.id) r.1.items × All (λ p. p.queue ≡ r.0.id) r.2.items) }
+        ensures empty_of_this { IfOk result (λ r. All (λ e. e.queue ≡ r.0.id) r.3.items) }
     {
-        let (queue, puts, pops) = Queue::open(alloc, roster.len(), workers)?;
-        let desks = open_desks(alloc, roster, puts)?;
-        let passes = open_passes(alloc, pops)?;
-        let hall = Hall {
-            queue,
-            stop: CachePadded::new(AtomicU64::new(0)),
-        };
-        Ok((hall, desks, passes))
+        // A roster has no more rows than there are places.
+        prove!(roster.len() <= PLACES);
+        open_hall(alloc, roster, PLACES, workers)
     }
 
     /// Tells the workers to end once the queue is empty. It takes no memory.
@@ -112,6 +115,36 @@ impl Hall {
     }
 }
 
+// A hall of so many places, the first of which the tenants of the roster have.
+fn open_hall(
+    alloc: Global,
+    roster: &Roster,
+    places: usize,
+    workers: usize,
+) -> Result<(Hall, Vec<Desk>, Vec<WorkerPass>, Vec<EmptyDesk>), AllocError>
+    requires workers { (1 ≤ workers) × (workers ≤ 8) }
+    requires places { (length roster.now ≤ places) × (places ≤ most_places) }
+    ensures counts { IfOk result (λ r. (r.0.puts ≡ places) × (r.0.pops ≡ workers)) }
+    ensures desks { IfOk result (λ r. r.1.items ≡ opening_desks r.0.id 0 roster.now) }
+    ensures passes { IfOk result (λ r. r.2.items ≡ new_pops r.0.id workers) }
+    ensures empty { IfOk result
+        (λ r. r.3.items ≡ unused_places r.0.id (length roster.now) (places - length roster.now)) }
+    ensures of_this { IfOk result
+        (λ r. All (λ d. d.queue ≡ r.0.id) r.1.items × All (λ p. p.queue ≡ r.0.id) r.2.items) }
+    ensures empty_of_this { IfOk result (λ r. All (λ e. e.queue ≡ r.0.id) r.3.items) }
+{
+    let (queue, mut puts, pops) = Queue::open(alloc, places, workers)?;
+    let rest = puts.split_off(roster.len())?;
+    let desks = open_desks(alloc, roster, puts)?;
+    let empty = open_empty(alloc, rest)?;
+    let passes = open_passes(alloc, pops)?;
+    let hall = Hall {
+        queue,
+        stop: CachePadded::new(AtomicU64::new(0)),
+    };
+    Ok((hall, desks, passes, empty))
+}
+
 // A desk for each row of the roster, in order.
 fn open_desks(alloc: Global, roster: &Roster, passes: Vec<PutPass>) -> Result<Vec<Desk>, AllocError>
     requires count { length passes.items ≡ length roster.now }
@@ -126,6 +159,18 @@ fn open_desks(alloc: Global, roster: &Roster, passes: Vec<PutPass>) -> Result<Ve
         desks.push_reserved(Desk::open(alloc, limits, pass)?);
     }
     Ok(desks)
+}
+
+// An empty desk for each place that nobody had.
+fn open_empty(alloc: Global, passes: Vec<PutPass>) -> Result<Vec<EmptyDesk>, AllocError>
+    requires { All (λ p. p.put ≡ 0) passes.items }
+    ensures { IfOk result (λ empty. empty.items ≡ map (λ p. place_is p.queue p.place 0 0) passes.items) }
+{
+    let mut empty = Vec::with_capacity(alloc, passes.len())?;
+    for pass in passes {
+        empty.push_reserved(EmptyDesk::of(Place::unused(pass)));
+    }
+    Ok(empty)
 }
 
 // A worker's pass for each.

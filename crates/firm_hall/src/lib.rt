@@ -4,7 +4,9 @@
 mod clerk;
 mod close;
 mod desks;
+mod empty;
 mod halls;
+mod places;
 mod seats;
 mod service;
 mod serving;
@@ -13,6 +15,7 @@ mod workers;
 
 pub use close::{CloseFault, Totals};
 pub use desks::{Asked, AskedPoll, Desk};
+pub use empty::{AdmitFault, EmptyDesk};
 pub use halls::Hall;
 pub use service::serve;
 pub use workers::{Gate, Open, Report, WorkerPass, worker};

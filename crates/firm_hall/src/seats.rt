@@ -1,5 +1,5 @@
 //! What stands at a tenant's place while the hall serves, and the answers that are held.
-ghost use Rattle.std.specs.Prelude.{◌≡◌};
+ghost use Rattle.std.specs.Prelude.{◌≡◌, MatchBool};
 ghost use Rattle.firm_hall.specs.declared.seats.Seat.TheVariants.{Home};
 ghost use Rattle.firm_hall.specs.inner.Seats.{IsSeated, IsHome, IsHomeOf, IsTurned, IsTaken, IsTakenAt, waits_for, waiting_place, answered};
 ghost use Rattle.firm_rules.specs.declared.commands.Command.TheVariants.{Round};
@@ -37,15 +37,22 @@ pub(crate) enum Slot {
 }
 
 impl Seat {
-    // The desk comes home, if it is not there, with the reply to the round that was away. Only then is it moved.
+    // Whether the desk is home.
+    pub(crate) fn is_home(&self) -> bool
+        ensures { MatchBool result (IsHome self.now) (Unit {0}) }
+    {
+        match self {
+            Seat::Home(_) => true,
+            _ => false,
+        }
+    }
+
+    // The desk comes home, with the reply to the round that was away.
     pub(crate) fn come_home<R: Wait>(&mut self, rt: &R) -> Option<Reply>
         requires { IsSeated self.old }
         ensures turned { IsTurned self.old self.new result }
         ensures home { IsHome self.new }
     {
-        if let Seat::Home(_) = self {
-            return None;
-        }
         let (desk, reply) = mem::replace(self, Seat::Gone).into_desk(rt);
         let _gone = mem::replace(self, Seat::Home(desk));
         reply

@@ -10,6 +10,7 @@ ghost use Rattle.firm_hall.specs.Opening.{opening_desks};
 use crate::clerk::HallClerk;
 use crate::close::{CloseFault, Totals};
 use crate::desks::Desk;
+use crate::empty::EmptyDesk;
 use crate::halls::Hall;
 use crate::serving::Serving;
 use crate::team::{join_all, start};
@@ -53,7 +54,7 @@ pub fn serve<S: Source, W: Sink, R: Threads + Wait + Sync, G: Gate + Sync>(
         (device (S.left reader.old) (S.left reader.new) (S.read_failed reader.new))
         (device (W.written writer.old) (W.written writer.new) (W.write_failed writer.new))) }
 {
-    let Ok((hall, desks, passes)) = Hall::open(alloc, roster, workers) else {
+    let Ok((hall, desks, passes, empty)) = Hall::open(alloc, roster, workers) else {
         return Err(ServeFault::Memory);
     };
     let (desks, reports) = serve_with(
@@ -63,7 +64,7 @@ pub fn serve<S: Source, W: Sink, R: Threads + Wait + Sync, G: Gate + Sync>(
     let count = roster.len();
     prove!(count <= 64);
     let rounds = asked_by(desks.as_slice());
-    close(rt, alloc, hall, desks, reports);
+    close(rt, alloc, hall, desks, reports, empty);
     Ok(Totals { rounds })
 }
 
@@ -238,14 +239,22 @@ fn asked_by(desks: &[Desk]) -> u64
 }
 
 // Ends the hall. Rounds that no worker took are solved here.
-fn close<R: Wait>(rt: &R, alloc: Global, hall: Hall, desks: Vec<Desk>, reports: Vec<Report>)
+fn close<R: Wait>(
+    rt: &R,
+    alloc: Global,
+    hall: Hall,
+    desks: Vec<Desk>,
+    reports: Vec<Report>,
+    empty: Vec<EmptyDesk>,
+)
     requires desks { All (λ desk. desk.queue ≡ hall.id) desks.items }
     requires reports { All (λ report. report.queue ≡ hall.id) reports.items }
+    requires empty { All (λ place. place.queue ≡ hall.id) empty.items }
 {
-    match hall.close(rt, desks, reports) {
+    match hall.close(rt, desks, reports, empty) {
         Ok(_totals) => {}
-        Err(CloseFault::Missing(_hall, _desks, _reports)) => {}
-        Err(CloseFault::Left(_desks, _reports, jobs)) => finish_all(alloc, jobs),
+        Err(CloseFault::Missing(_hall, _desks, _reports, _empty)) => {}
+        Err(CloseFault::Left(_desks, _reports, jobs, _empty)) => finish_all(alloc, jobs),
     }
 }
 

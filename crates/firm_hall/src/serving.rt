@@ -160,6 +160,9 @@ impl<'h> Serving<'h> {
         ensures roster { self.new.roster ≡ self.old.roster }
         ensures hall { self.new.hall ≡ self.old.hall }
     {
+        if self.seats[place].is_home() {
+            return;
+        }
         let reply = self.seats[place].come_home(rt);
         fill(&mut self.slots, place, reply);
     }

@@ -2,7 +2,7 @@
 
 ghost use Rattle.std.specs.Prelude.{◌≡◌, All, IfSome};
 
-use crate::{Desk, Hall, WorkerPass};
+use crate::{Desk, EmptyDesk, Hall, WorkerPass};
 use firm_rules::{Outcome, Reply};
 use firm_text::{Roster, roster};
 use std::alloc::Global;
@@ -13,6 +13,7 @@ mod callers;
 mod closing;
 mod gates;
 mod lives;
+mod stays;
 
 const HEADING: &[u8] = b"tenant,nodes,arcs,life,spread,churn\n";
 
@@ -49,6 +50,16 @@ fn last_pass(hall: &Hall, passes: &mut Vec<WorkerPass>) -> Option<WorkerPass>
 {
     let _ = hall;
     passes.pop()
+}
+
+/// Takes the last empty desk off.
+fn last_empty(hall: &Hall, empty: &mut Vec<EmptyDesk>) -> Option<EmptyDesk>
+    requires { All (λ e. e.queue ≡ hall.now.id) empty.old.items }
+    ensures desk { IfSome result (λ e. e.queue ≡ hall.now.id) }
+    ensures rest { All (λ e. e.queue ≡ hall.now.id) empty.new.items }
+{
+    let _ = hall;
+    empty.pop()
 }
 
 /// Whether this is the reply to a round that places nothing.

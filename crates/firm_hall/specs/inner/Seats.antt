@@ -83,7 +83,7 @@ pub record Answered (before : DeskIs) (name : List ℕ) (command : Command) (aft
 pub record Went (before : DeskIs) (place : ℕ) (name : List ℕ) (command : Command) (asked : DeskIs) (at : ℕ)
     (tenant : List ℕ) (known : DeskIs) : Type 0 where
   pub round : command ≡ Round
-  pub asked_is : asked ≡ desk_is before.queue before.place (before.put + 1) before.book
+  pub asked_is : asked ≡ desk_is before.queue before.place (before.put + 1) before.admissions before.book
   pub left : before.book.given < before.book.rows.limits.life
   pub here : at ≡ place
   pub named : tenant ≡ name

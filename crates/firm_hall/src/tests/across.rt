@@ -126,7 +126,7 @@ fn ask_both<R: Threads + Wait + Sync>(
     gate: &HoldsFirst,
 ) -> Result<Option<(Reply, Reply)>, Fail> {
     let roster = roster_of(alloc, TWO)?;
-    let (hall, desks, passes) = Hall::open(alloc, &roster, 2)?;
+    let (hall, desks, passes, _empty) = Hall::open(alloc, &roster, 2)?;
     Ok(ask_with(rt, alloc, &hall, desks, passes, gate))
 }
 

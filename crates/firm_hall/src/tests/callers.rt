@@ -231,11 +231,11 @@ fn run_with<R: Threads + Wait + Sync>(
 /// How many rounds the hall had, where all four desks answer as they should.
 fn rounds_of_four<R: Threads + Wait + Sync>(rt: &R, alloc: Global) -> Result<Option<u64>, Fail> {
     let roster = roster_of(alloc, FOUR)?;
-    let (hall, desks, passes) = Hall::open(alloc, &roster, 2)?;
+    let (hall, desks, passes, empty) = Hall::open(alloc, &roster, 2)?;
     let Some((desks, reports)) = run_with(rt, alloc, &hall, desks, passes) else {
         return Ok(None);
     };
-    Ok(rounds_at_close(rt, alloc, hall, desks, reports))
+    Ok(rounds_at_close(rt, alloc, hall, desks, reports, empty))
 }
 
 #[test]

@@ -31,7 +31,7 @@ fn ask_twice<R: Wait>(
 
 fn replies_of_one_life<R: Wait>(rt: &R, alloc: Global) -> Result<Option<(Reply, Reply)>, Fail> {
     let roster = roster_of(alloc, "t,2,0,1,0,0")?;
-    let (hall, mut desks, mut passes) = Hall::open(alloc, &roster, 1)?;
+    let (hall, mut desks, mut passes, _empty) = Hall::open(alloc, &roster, 1)?;
     let desk = first_desk(&hall, &mut desks).ok_or("a desk")?;
     let pass = last_pass(&hall, &mut passes).ok_or("a pass")?;
     Ok(ask_twice(rt, alloc, &hall, desk, pass))

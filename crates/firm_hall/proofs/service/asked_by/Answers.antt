@@ -13,5 +13,5 @@ loop-i-preserved c =
     let low : i < length all = c.loop-i-test.true in
     let more = weigh_more put i all x low in
     let step : c.loop-i.rounds + c.asked-rounds.result ≡ weigh put (take (i + 1) all) = omega arith in
-    let few : c.loop-i.rounds + c.asked-rounds.result ≤ (i + 1) * 2 ^ 40 = omega (arith, c.loop-i.invariant.few, c.asked-rounds.ensures.few) in
+    let few : c.loop-i.rounds + c.asked-rounds.result ≤ (i + 1) * 2 ^ 55 = omega (arith, c.loop-i.invariant.few, c.asked-rounds.ensures.few) in
     record { sum = step; few = few }
