@@ -6,7 +6,9 @@ pub mod TaskWrites
 pub mod Legals
 pub mod Loads
 pub mod Places
+pub mod Padded
 pub mod Recents
+pub mod PreferredNames
 pub mod Listing
 pub mod Firsts
 mod Examples

@@ -1,12 +1,14 @@
 -- The place of a name in a list of names.
-use Rattle.std.proofs.Common.{◌≡◌, ℕ, ◌<◌, ◌≤◌, Bool, not, ltb, List, length, map, get_or, bytes_eq, Option, Some, None}
-use Rattle.std.proofs.Common.{sym, ap, ◌∙◌, arith, ⊎_elim}
-use Rattle.std.specs.Prelude.{position, slice_get}
-use Rattle.std.specs.List.{position_or_len}
+use Rattle.std.proofs.Common.{◌≡◌, ℕ, ◌<◌, ◌≤◌, Bool, not, ltb, ◌||◌, ◌&&◌, List, [], ◌∷◌, length, map, get_or, bytes_eq, Option, Some, None}
+use Rattle.std.proofs.Common.{refl, sym, ap, ◌∙◌, arith, ⊎_elim}
+use Rattle.std.specs.Prelude.{position, slice_get, nat_lt, ◌==◌}
+use Rattle.std.specs.List.{position_or_len, list_any}
 use Rattle.std.specs.Option.{unwrap_or, option_map}
 use Rattle.std.proofs.lemmas.List.{length-map}
 use Rattle.firm_rules.specs.Book.{TenantRows, job_names}
-use Rattle.firm_rules.specs.Round.{weight_at}
+use Rattle.firm_rules.specs.Placement.{is_remote, runs_at}
+use Rattle.firm_rules.specs.Round.{weight_at, place_of, machine_place, demand_of}
+use Rattle.firm_rules.specs.declared.parts.Task.{Task}
 use Rattle.firm_rules.specs.declared.parts.Job.{Job}
 use Rattle.std.proofs.lemmas.Bool.{cases_lt, cond-true, cond-false, lt-ltb, le-ltb}
 use Rattle.std.proofs.lemmas.List.Sums.{prefix_len-le-length}
@@ -25,6 +27,26 @@ module _ {X : Type 0} (p : X → Bool) (xs : List X) where
       ap (λ r. unwrap_or r n) (cond-false (ltb first (length xs)) (Some first) None (le-ltb first (length xs) l))
       ∙ (let all : n ≡ first = omega (arith, e, prefix_len-le-length (λ (x : X). not (p x)) xs) in all))
       (cases_lt first (length xs))
+
+-- a test of what `f` makes of each element
+pub list_any-map : {X Y : Type 0} (p : Y → Bool) (f : X → Y) (xs : List X)
+    → list_any p (map f xs) ≡ list_any (λ x. p (f x)) xs
+list_any-map p f [] = refl
+list_any-map p f (x ∷ xs) = ap (λ b. p (f x) || b) (list_any-map p f xs)
+
+-- whether a machine is remote for a task, from its parts
+pub remote-by : (rows : TenantRows) (task : Task) (place : ℕ) (some prefers runs : Bool)
+    → nat_lt 0 (length task.preferred) ≡ some
+    → list_any (λ name. place_of rows name == place) task.preferred ≡ prefers
+    → runs_at (machine_place rows task.machine) place ≡ runs
+    → is_remote (demand_of rows task) place ≡ (some && not prefers && not runs)
+remote-by rows task place some prefers runs some-is prefers-is runs-is =
+    ap (λ b. b && not (list_any (λ k. k == place) (map (place_of rows) task.preferred))
+    && not (runs_at (machine_place rows task.machine) place))
+    (ap (λ n. nat_lt 0 n) (length-map task.preferred (place_of rows)) ∙ some-is)
+    ∙ ap (λ b. some && not b && not (runs_at (machine_place rows task.machine) place))
+    (list_any-map (λ k. k == place) (place_of rows) task.preferred ∙ prefers-is)
+    ∙ ap (λ b. some && not prefers && not b) runs-is
 
 -- a number of each row, read at a place, and past the end 0
 pub read_at : {X : Type 0} (f : X → ℕ) (xs : List X) (i : ℕ) (r : Option X) → r ≡ slice_get xs i

@@ -2,7 +2,8 @@
 use Rattle.std.proofs.Common.{◌≡◌, ℕ, true, false, List, [], ◌∷◌, Some, None, refl, codes}
 use Rattle.std.specs.Prelude.{map}
 use Rattle.firm_rules.specs.Limits.{TenantLimits}
-use Rattle.firm_rules.specs.Book.{TenantRows}
+use Rattle.firm_rules.specs.Book.{TenantRows, new_task, without_machine, without_task}
+use Rattle.firm_rules.specs.ArenaUse.{arena_use}
 use Rattle.firm_rules.specs.Placement.{placement_cost, is_legal, comes_before}
 use Rattle.firm_rules.specs.Round.{case_of, legal_placements, round_placement, changes_made, rows_after}
 use Rattle.firm_rules.specs.declared.rounds.Choice.{Choice}
@@ -10,7 +11,7 @@ use Rattle.firm_rules.specs.declared.rounds.Choice.TheVariants.{On, Wait}
 use Rattle.firm_rules.specs.declared.rounds.Change.TheVariants.{Start, Move, Preempt}
 
 abbrev limits : ℕ → ℕ → TenantLimits
-limits spread churn = record { nodes = 8; arcs = 30; life = 100; spread = spread; churn = churn }
+limits spread churn = record { nodes = 8; arcs = 30; life = 100; spread = spread; churn = churn; remote = 0 }
 
 -- the legal placements in their order, each with its cost
 abbrev costed : TenantRows → List (List Choice × ℕ)
@@ -28,8 +29,8 @@ crowded =
       machines = record { name = codes "m1"; slots = 2 } ∷ [];
       jobs = record { name = codes "j"; weight = 1 } ∷ [];
       tasks =
-          record { name = codes "x"; job = codes "j"; machine = None; waited = 0 }
-          ∷ record { name = codes "y"; job = codes "j"; machine = None; waited = 0 } ∷ [];
+          record { name = codes "x"; job = codes "j"; preferred = []; machine = None; waited = 0 }
+          ∷ record { name = codes "y"; job = codes "j"; preferred = []; machine = None; waited = 0 } ∷ [];
     }
 
 crowded_costs : costed crowded
@@ -47,8 +48,8 @@ abbrev tenth : TenantRows
 tenth =
     record crowded {
       tasks =
-          record { name = codes "x"; job = codes "j"; machine = Some (codes "m1"); waited = 0 }
-          ∷ record { name = codes "y"; job = codes "j"; machine = None; waited = 9 } ∷ [];
+          record { name = codes "x"; job = codes "j"; preferred = []; machine = Some (codes "m1"); waited = 0 }
+          ∷ record { name = codes "y"; job = codes "j"; preferred = []; machine = None; waited = 9 } ∷ [];
     }
 
 tenth_costs : costed tenth
@@ -69,8 +70,8 @@ preempting =
       machines = record { name = codes "m1"; slots = 1 } ∷ [];
       jobs = record { name = codes "low"; weight = 2 } ∷ record { name = codes "high"; weight = 20 } ∷ [];
       tasks =
-          record { name = codes "l"; job = codes "low"; machine = Some (codes "m1"); waited = 0 }
-          ∷ record { name = codes "h"; job = codes "high"; machine = None; waited = 0 } ∷ [];
+          record { name = codes "l"; job = codes "low"; preferred = []; machine = Some (codes "m1"); waited = 0 }
+          ∷ record { name = codes "h"; job = codes "high"; preferred = []; machine = None; waited = 0 } ∷ [];
     }
 
 preempting_costs : costed preempting ≡ (On 0 ∷ Wait ∷ [], 20) ∷ (Wait ∷ On 0 ∷ [], 5) ∷ (Wait ∷ Wait ∷ [], 25) ∷ []
@@ -91,8 +92,8 @@ moving =
       machines = record { name = codes "m1"; slots = 2 } ∷ record { name = codes "m2"; slots = 2 } ∷ [];
       jobs = record { name = codes "j"; weight = 50 } ∷ [];
       tasks =
-          record { name = codes "p"; job = codes "j"; machine = Some (codes "m1"); waited = 0 }
-          ∷ record { name = codes "q"; job = codes "j"; machine = Some (codes "m1"); waited = 0 } ∷ [];
+          record { name = codes "p"; job = codes "j"; preferred = []; machine = Some (codes "m1"); waited = 0 }
+          ∷ record { name = codes "q"; job = codes "j"; preferred = []; machine = Some (codes "m1"); waited = 0 } ∷ [];
     }
 
 moving_costs : costed moving
@@ -124,7 +125,8 @@ free_changes : changes_made free (round_of free) ≡ Move (codes "q") (codes "m1
 free_changes = refl
 
 -- a running task's own machine ranks first, also where it was added last
-own_machine_first : comes_before 2 (record { home = Some 1; delay = 50; job = 0 } ∷ []) (On 1 ∷ []) (On 0 ∷ []) ≡ true
+own_machine_first :
+    comes_before 2 (record { home = Some 1; preferred = []; delay = 50; job = 0 } ∷ []) (On 1 ∷ []) (On 0 ∷ []) ≡ true
 own_machine_first = refl
 
 -- one slot, and two tasks whose waits take turns: the third round is a tie
@@ -135,8 +137,8 @@ third =
       machines = record { name = codes "m1"; slots = 1 } ∷ [];
       jobs = record { name = codes "light"; weight = 1 } ∷ record { name = codes "heavy"; weight = 3 } ∷ [];
       tasks =
-          record { name = codes "x"; job = codes "light"; machine = None; waited = 2 }
-          ∷ record { name = codes "y"; job = codes "heavy"; machine = Some (codes "m1"); waited = 0 } ∷ [];
+          record { name = codes "x"; job = codes "light"; preferred = []; machine = None; waited = 2 }
+          ∷ record { name = codes "y"; job = codes "heavy"; preferred = []; machine = Some (codes "m1"); waited = 0 } ∷ [];
     }
 
 third_costs : costed third ≡ (On 0 ∷ Wait ∷ [], 3) ∷ (Wait ∷ On 0 ∷ [], 3) ∷ (Wait ∷ Wait ∷ [], 6) ∷ []
@@ -158,8 +160,8 @@ abbrev fourth : TenantRows
 fourth =
     record third {
       tasks =
-          record { name = codes "x"; job = codes "light"; machine = Some (codes "m1"); waited = 0 }
-          ∷ record { name = codes "y"; job = codes "heavy"; machine = None; waited = 1 } ∷ [];
+          record { name = codes "x"; job = codes "light"; preferred = []; machine = Some (codes "m1"); waited = 0 }
+          ∷ record { name = codes "y"; job = codes "heavy"; preferred = []; machine = None; waited = 1 } ∷ [];
     }
 
 fourth_rows : rows_after third (round_of third) ≡ fourth
@@ -176,8 +178,53 @@ abbrev patient : TenantRows
 patient =
     record third {
       machines = [];
-      tasks = record { name = codes "x"; job = codes "light"; machine = None; waited = 1000000 } ∷ [];
+      tasks = record { name = codes "x"; job = codes "light"; preferred = []; machine = None; waited = 1000000 } ∷ [];
     }
 
 patient_rows : rows_after patient (round_of patient) ≡ patient
 patient_rows = refl
+
+-- two machines of one slot, and two tasks that prefer the second: one of them pays for the first
+abbrev preferring : TenantRows
+preferring =
+    record {
+      limits = record (limits 0 0) { remote = 7 };
+      machines = record { name = codes "m1"; slots = 1 } ∷ record { name = codes "m2"; slots = 1 } ∷ [];
+      jobs = record { name = codes "j"; weight = 20 } ∷ [];
+      tasks = new_task (codes "j") (codes "x") (codes "m2" ∷ []) ∷ new_task (codes "j") (codes "y") (codes "m2" ∷ []) ∷ [];
+    }
+
+preferring_costs : costed preferring
+    ≡ (On 0 ∷ On 1 ∷ [], 7) ∷ (On 0 ∷ Wait ∷ [], 27) ∷ (On 1 ∷ On 0 ∷ [], 7) ∷ (On 1 ∷ Wait ∷ [], 20)
+    ∷ (Wait ∷ On 0 ∷ [], 27) ∷ (Wait ∷ On 1 ∷ [], 20) ∷ (Wait ∷ Wait ∷ [], 40) ∷ []
+preferring_costs = refl
+
+preferring_round : round_of preferring ≡ On 0 ∷ On 1 ∷ []
+preferring_round = refl
+
+-- where the first machine costs more than a wait, one of them waits
+abbrev farther : TenantRows
+farther = record preferring { limits = record (limits 0 0) { remote = 50 } }
+
+farther_round : round_of farther ≡ On 1 ∷ Wait ∷ []
+farther_round = refl
+
+farther_cost : placement_cost (case_of farther) (On 1 ∷ Wait ∷ []) ≡ 20
+farther_cost = refl
+
+-- a task that stays pays nothing
+abbrev staying : TenantRows
+staying = without_task (rows_after preferring (round_of preferring)) (codes "y")
+
+staying_costs : costed staying ≡ (On 0 ∷ [], 0) ∷ (On 1 ∷ [], 0) ∷ (Wait ∷ [], 20) ∷ []
+staying_costs = refl
+
+staying_round : round_of staying ≡ On 0 ∷ []
+staying_round = refl
+
+-- its preference is an arc as long as the machine is there
+staying_use : arena_use staying ≡ record { nodes = 6; arcs = 9 }
+staying_use = refl
+
+drained_use : arena_use (without_machine staying (codes "m2")) ≡ record { nodes = 5; arcs = 6 }
+drained_use = refl

@@ -1,19 +1,23 @@
 -- The rows stay sound: as rows are added, as they are removed, and after a round.
-use Rattle.std.proofs.Common.{◌≡◌, ℕ, zero, suc, ◌+◌, ◌<◌, ◌≤◌, ◌≢◌, AllPairs, Bool, true, false, cond, eqb, ◌||◌, List}
+use Rattle.std.proofs.Common.{◌≡◌, ℕ, zero, suc, ◌+◌, ◌<◌, ◌≤◌, ◌≢◌, AllPairs, Bool, true, false, not, cond, eqb, ◌||◌, List}
 use Rattle.std.proofs.Common.{[], ◌∷◌, map, filter, length, count_by, All, slice_index, slice_index_or, Option, None}
 use Rattle.std.proofs.Common.{Some, IfSome, bytes_eq, true≢false, refl, sym, ap, subst, ◌∙◌, arith, ⊎_elim}
+use Rattle.std.specs.Int.{from_bool}
 use Rattle.std.specs.List.{IsDistinct, list_any}
 use Rattle.std.proofs.lemmas.Bool.{cond_both, cases_lt, eq-eqb, eqb-true}
 use Rattle.std.proofs.lemmas.Slice.Eq.{bytes_eq-Decides}
 use Rattle.std.proofs.lemmas.List.{length-map, map-append, get_or-map}
 use Rattle.std.proofs.lemmas.List.Elements.{All-nil, All-cons, All-head, All-tail, All-push, All-map, All-filter}
+use Rattle.std.proofs.lemmas.List.Elements.{filter_passes}
+use Rattle.std.proofs.lemmas.List.Kept.{AllPairs-filter}
 use Rattle.std.proofs.lemmas.List.Sums.{sum_by-cons, sum_by_push}
-use Rattle.std.proofs.lemmas.Map.Made.{AllPairs-from_IsDistinct}
+use Rattle.std.proofs.lemmas.Map.Made.{AllPairs-from_IsDistinct, IsDistinct-from_AllPairs}
 use Rattle.firm_rules.specs.Names.{is_among}
 use Rattle.firm_rules.specs.Book.{TenantRows, machine_names, job_names, task_names, name_at, is_on, evicted, running_on}
 use Rattle.firm_rules.specs.Book.{with_machine, with_job, with_task, without_machine, without_job, without_task}
-use Rattle.firm_rules.specs.Book.{has_tasks}
-use Rattle.firm_rules.specs.ArenaUse.{FitsLimits}
+use Rattle.firm_rules.specs.Book.{has_tasks, new_task, forgetting}
+use Rattle.firm_rules.specs.Preferences.{without_preference}
+use Rattle.firm_rules.specs.ArenaUse.{FitsLimits, preference_count}
 use Rattle.firm_rules.specs.Sound.{AreSound}
 use Rattle.firm_rules.specs.Placement.{IsLegal, IsPlace, load, goes_to}
 use Rattle.firm_rules.specs.Round.{case_of, rows_after, task_after, zipped}
@@ -27,6 +31,14 @@ use Rattle.firm_rules.proofs.NamedRows.{among-append, is_other, among-filter}
 
 abbrev IsThere : List (List ℕ) → Option (List ℕ) → Type 0
 IsThere names machine = IfSome machine (λ name. is_among names name ≡ true)
+
+-- a truth value as a number
+pub one_if-from_bool : (b : Bool) → from_bool b ≡ cond b 1 0
+one_if-from_bool true = refl
+one_if-from_bool false = refl
+
+abbrev AreThere : List (List ℕ) → List (List ℕ) → Type 0
+AreThere names preferred = All (λ name. is_among names name ≡ true) preferred
 
 abbrev pub one_if : Bool → ℕ
 one_if b = cond b 1 0
@@ -63,6 +75,10 @@ module _ (rows : TenantRows) (sound : AreSound rows) where
         task_names_differ = sound.task_names_differ;
         jobs_there = sound.jobs_there;
         machines_there = λ k d l. stays (slice_index_or rows.tasks k d).machine (sound.machines_there k d l);
+        preferred_there = λ k d l i e j.
+            one_more (slice_index_or (slice_index_or rows.tasks k d).preferred i e) (sound.preferred_there k d l i e j);
+        preferred_few = sound.preferred_few;
+        preferred_differ = sound.preferred_differ;
         room = All-push (λ (m : Machine). running_on rows m.name ≤ m.slots) rows.machines machine sound.room
             (omega (arith, none_on (machine_names rows) name rows.tasks new sound.machines_there));
         waited = sound.waited;
@@ -74,15 +90,20 @@ module _ (rows : TenantRows) (sound : AreSound rows) where
         most_arcs = sound.most_arcs;
         most_spread = sound.most_spread;
         most_churn = sound.most_churn;
+        most_remote = sound.most_remote;
       }
     where
+      one_more : (other : List ℕ) → is_among (machine_names rows) other ≡ true
+          → is_among (machine_names (with_machine rows name slots)) other ≡ true
+      one_more other h =
+          ap (λ (names : List (List ℕ)). is_among names other)
+          (map-append (λ (m : Machine). m.name) rows.machines (record { name = name; slots = slots } ∷ []))
+          ∙ among-append (machine_names rows) (name ∷ []) other h
+
       stays : (home : Option (List ℕ)) → IsThere (machine_names rows) home
           → IsThere (machine_names (with_machine rows name slots)) home
       stays None h = h
-      stays (Some home) h =
-          ap (λ (names : List (List ℕ)). is_among names home)
-          (map-append (λ (m : Machine). m.name) rows.machines (record { name = name; slots = slots } ∷ []))
-          ∙ among-append (machine_names rows) (name ∷ []) home h
+      stays (Some home) h = one_more home h
 
   pub sound-with_job : (name : List ℕ) (weight : ℕ) → IsDistinct bytes_eq (job_names (with_job rows name weight))
       → FitsLimits (with_job rows name weight) → 1 ≤ weight → weight ≤ 1000000 → AreSound (with_job rows name weight)
@@ -97,6 +118,9 @@ module _ (rows : TenantRows) (sound : AreSound rows) where
             (map-append (λ (j : Job). j.name) rows.jobs (job ∷ []))
             ∙ among-append (job_names rows) (name ∷ []) (slice_index_or rows.tasks k d).job (sound.jobs_there k d l);
         machines_there = sound.machines_there;
+        preferred_there = sound.preferred_there;
+        preferred_few = sound.preferred_few;
+        preferred_differ = sound.preferred_differ;
         room = sound.room;
         waited = sound.waited;
         fits = fits;
@@ -107,13 +131,15 @@ module _ (rows : TenantRows) (sound : AreSound rows) where
         most_arcs = sound.most_arcs;
         most_spread = sound.most_spread;
         most_churn = sound.most_churn;
+        most_remote = sound.most_remote;
       }
 
-  pub sound-with_task : (job name : List ℕ) → IsDistinct bytes_eq (task_names (with_task rows job name))
-      → is_among (job_names rows) job ≡ true
-      → FitsLimits (with_task rows job name) → AreSound (with_task rows job name)
-  sound-with_task job name differ there fits =
-      let task : Task = record { name = name; job = job; machine = None; waited = 0 } in
+  pub sound-with_task : (job name : List ℕ) (preferred : List (List ℕ))
+      → IsDistinct bytes_eq (task_names (with_task rows job name preferred)) → is_among (job_names rows) job ≡ true
+      → AreThere (machine_names rows) preferred → length preferred ≤ 4 → IsDistinct bytes_eq preferred
+      → FitsLimits (with_task rows job name preferred) → AreSound (with_task rows job name preferred)
+  sound-with_task job name preferred differ there machines few apart fits =
+      let task : Task = new_task job name preferred in
       record {
         machine_names_differ = sound.machine_names_differ;
         job_names_differ = sound.job_names_differ;
@@ -122,6 +148,12 @@ module _ (rows : TenantRows) (sound : AreSound rows) where
             All-push (λ (t : Task). is_among (job_names rows) t.job ≡ true) rows.tasks task sound.jobs_there there;
         machines_there =
             All-push (λ (t : Task). IsThere (machine_names rows) t.machine) rows.tasks task sound.machines_there tt;
+        preferred_there =
+            All-push (λ (t : Task). AreThere (machine_names rows) t.preferred) rows.tasks task sound.preferred_there
+            machines;
+        preferred_few = All-push (λ (t : Task). length t.preferred ≤ 4) rows.tasks task sound.preferred_few few;
+        preferred_differ =
+            All-push (λ (t : Task). IsDistinct bytes_eq t.preferred) rows.tasks task sound.preferred_differ apart;
         room = λ k d l.
             let on : Task → ℕ = λ t. cond (is_on (slice_index_or rows.machines k d).name t.machine) 1 0 in
             omega (arith, sound.room k d l, sum_by_push on rows.tasks task);
@@ -133,14 +165,39 @@ module _ (rows : TenantRows) (sound : AreSound rows) where
         most_arcs = sound.most_arcs;
         most_spread = sound.most_spread;
         most_churn = sound.most_churn;
+        most_remote = sound.most_remote;
       }
 
 -- a task that is thrown out keeps its name and job, has waited no longer, and runs nowhere else
 evicted-cases : (name : List ℕ) (task : Task) (P : Task → Type 0)
-    → (is_on name task.machine ≡ true → P (record task { machine = None; waited = 0 }))
-    → (is_on name task.machine ≡ false → P task) → P (evicted name task)
+    → (is_on name task.machine ≡ true → P (record (forgetting name task) { machine = None; waited = 0 }))
+    → (is_on name task.machine ≡ false → P (forgetting name task)) → P (evicted name task)
 evicted-cases name task P there apart =
-    cond_both (is_on name task.machine) (record task { machine = None; waited = 0 }) task P there apart
+    cond_both (is_on name task.machine) (record (forgetting name task) { machine = None; waited = 0 })
+    (forgetting name task) P there apart
+
+-- and prefers the other machines that it preferred
+pub preferred-evicted : (name : List ℕ) (task : Task)
+    → (evicted name task).preferred ≡ without_preference name task.preferred
+preferred-evicted name task =
+    evicted-cases name task (λ (t : Task). t.preferred ≡ without_preference name task.preferred) (λ _. refl) (λ _. refl)
+
+-- so no more than before
+fewer-evicted : (name : List ℕ) (task : Task) → length (evicted name task).preferred ≤ length task.preferred
+fewer-evicted name task =
+    omega (
+      arith,
+      ap (λ (l : List (List ℕ)). length l) (preferred-evicted name task),
+      length-filter-le (λ other. not (bytes_eq name other)) task.preferred,
+    )
+
+-- names that differ do so without one of them
+pub IsDistinct-without : (name : List ℕ) (names : List (List ℕ)) → IsDistinct bytes_eq names
+    → IsDistinct bytes_eq (without_preference name names)
+IsDistinct-without name names differ =
+    IsDistinct-from_AllPairs bytes_eq-Decides (without_preference name names)
+    (AllPairs-filter (λ (x y : List ℕ). x ≢ y) (λ other. not (bytes_eq name other)) names
+    (AllPairs-from_IsDistinct bytes_eq-Decides names differ))
 
 pub names-evicted : (name : List ℕ) (tasks : List Task)
     → map (λ task. task.name) (map (evicted name) tasks) ≡ map (λ task. task.name) tasks
@@ -184,6 +241,17 @@ module _ (rows : TenantRows) (sound : AreSound rows) where
             evicted-cases gone (slice_index_or rows.tasks k d)
             (λ (t : Task). IsThere (map (λ (m : Machine). m.name) left) t.machine) (λ _. tt)
             (λ apart. stays (slice_index_or rows.tasks k d).machine apart (sound.machines_there k d l)));
+        preferred_there =
+            All-map (λ (t : Task). AreThere (map (λ (m : Machine). m.name) left) t.preferred) (evicted gone) rows.tasks
+            (λ k d l.
+            subst (AreThere (map (λ (m : Machine). m.name) left))
+            (sym (preferred-evicted gone (slice_index_or rows.tasks k d)))
+            (others-there (slice_index_or rows.tasks k d).preferred (sound.preferred_there k d l)));
+        preferred_few = All-map (λ (t : Task). length t.preferred ≤ 4) (evicted gone) rows.tasks (λ k d l.
+            omega (arith, sound.preferred_few k d l, fewer-evicted gone (slice_index_or rows.tasks k d)));
+        preferred_differ = All-map (λ (t : Task). IsDistinct bytes_eq t.preferred) (evicted gone) rows.tasks (λ k d l.
+            subst (IsDistinct bytes_eq) (sym (preferred-evicted gone (slice_index_or rows.tasks k d)))
+            (IsDistinct-without gone (slice_index_or rows.tasks k d).preferred (sound.preferred_differ k d l)));
         room = All-filter (is_other (λ (m : Machine). m.name) gone)
             (λ (m : Machine). running_on (without_machine rows gone) m.name ≤ m.slots) rows.machines (λ k d l.
             let name : List ℕ = (slice_index_or rows.machines k d).name in
@@ -208,6 +276,9 @@ module _ (rows : TenantRows) (sound : AreSound rows) where
             sound.fits.arcs,
             sum_by-filter-le (λ (m : Machine). 1 + m.slots) (is_other (λ (m : Machine). m.name) gone) rows.machines,
             length-map rows.tasks (evicted gone),
+            sum_by-map (λ (t : Task). length t.preferred) (evicted gone) rows.tasks,
+            sum_by-le-each (λ (t : Task). length (evicted gone t).preferred) (λ (t : Task). length t.preferred)
+                rows.tasks (fewer-evicted gone),
           );
         };
         slots = All-filter (is_other (λ (m : Machine). m.name) gone) (λ (m : Machine). (1 ≤ m.slots) × (m.slots ≤ 64))
@@ -217,12 +288,27 @@ module _ (rows : TenantRows) (sound : AreSound rows) where
         most_arcs = sound.most_arcs;
         most_spread = sound.most_spread;
         most_churn = sound.most_churn;
+        most_remote = sound.most_remote;
       }
     where
       stays : (home : Option (List ℕ)) → is_on gone home ≡ false → IsThere (machine_names rows) home
           → IsThere (machine_names (without_machine rows gone)) home
       stays None apart h = h
       stays (Some home) apart h = among-filter (λ (m : Machine). m.name) rows.machines gone home apart h
+
+      is_false : (b : Bool) → not b ≡ true → b ≡ false
+      is_false true h = sym h
+      is_false false h = refl
+
+      others-there : (preferred : List (List ℕ)) → AreThere (machine_names rows) preferred
+          → AreThere (machine_names (without_machine rows gone)) (without_preference gone preferred)
+      others-there preferred there i e below =
+          among-filter (λ (m : Machine). m.name) rows.machines gone
+          (slice_index_or (without_preference gone preferred) i e)
+          (is_false (bytes_eq gone (slice_index_or (without_preference gone preferred) i e))
+          (filter_passes (λ other. not (bytes_eq gone other)) preferred i e below))
+          (All-filter (λ other. not (bytes_eq gone other)) (λ name. is_among (machine_names rows) name ≡ true) preferred
+          there i e below)
 
   pub sound-without_job : (gone : List ℕ) → IsDistinct bytes_eq (job_names (without_job rows gone))
       → has_tasks rows gone ≡ false → AreSound (without_job rows gone)
@@ -234,6 +320,9 @@ module _ (rows : TenantRows) (sound : AreSound rows) where
         jobs_there = λ k d l. among-filter (λ (j : Job). j.name) rows.jobs gone (slice_index_or rows.tasks k d).job
             (all-fail (λ (t : Task). bytes_eq gone t.job) rows.tasks no_tasks k d l) (sound.jobs_there k d l);
         machines_there = sound.machines_there;
+        preferred_there = sound.preferred_there;
+        preferred_few = sound.preferred_few;
+        preferred_differ = sound.preferred_differ;
         room = sound.room;
         waited = sound.waited;
         fits = record {
@@ -248,6 +337,7 @@ module _ (rows : TenantRows) (sound : AreSound rows) where
         most_arcs = sound.most_arcs;
         most_spread = sound.most_spread;
         most_churn = sound.most_churn;
+        most_remote = sound.most_remote;
       }
 
   pub sound-without_task : (gone : List ℕ) → IsDistinct bytes_eq (task_names (without_task rows gone))
@@ -262,13 +352,24 @@ module _ (rows : TenantRows) (sound : AreSound rows) where
             All-filter others (λ (t : Task). is_among (job_names rows) t.job ≡ true) rows.tasks sound.jobs_there;
         machines_there =
             All-filter others (λ (t : Task). IsThere (machine_names rows) t.machine) rows.tasks sound.machines_there;
+        preferred_there =
+            All-filter others (λ (t : Task). AreThere (machine_names rows) t.preferred) rows.tasks
+            sound.preferred_there;
+        preferred_few = All-filter others (λ (t : Task). length t.preferred ≤ 4) rows.tasks sound.preferred_few;
+        preferred_differ =
+            All-filter others (λ (t : Task). IsDistinct bytes_eq t.preferred) rows.tasks sound.preferred_differ;
         room = λ k d l.
             let on : Task → ℕ = λ t. cond (is_on (slice_index_or rows.machines k d).name t.machine) 1 0 in
             omega (arith, sound.room k d l, sum_by-filter-le on others rows.tasks);
         waited = All-filter others (λ (t : Task). t.waited ≤ 1000000) rows.tasks sound.waited;
         fits = record {
           nodes = omega (arith, sound.fits.nodes, length-filter-le others rows.tasks);
-          arcs = omega (arith, sound.fits.arcs, length-filter-le others rows.tasks);
+          arcs = omega (
+            arith,
+            sound.fits.arcs,
+            length-filter-le others rows.tasks,
+            sum_by-filter-le (λ (t : Task). length t.preferred) others rows.tasks,
+          );
         };
         slots = sound.slots;
         weights = sound.weights;
@@ -276,6 +377,7 @@ module _ (rows : TenantRows) (sound : AreSound rows) where
         most_arcs = sound.most_arcs;
         most_spread = sound.most_spread;
         most_churn = sound.most_churn;
+        most_remote = sound.most_remote;
       }
 
 -- what holds of each task and choice holds of each task after them
@@ -302,6 +404,26 @@ names-zipped rows (task ∷ tasks) (On j ∷ placement) same =
     ap (λ (l : List (List ℕ)). task.name ∷ l) (names-zipped rows tasks placement (omega arith))
 names-zipped rows (task ∷ tasks) (Wait ∷ placement) same =
     ap (λ (l : List (List ℕ)). task.name ∷ l) (names-zipped rows tasks placement (omega arith))
+
+-- a round changes no preferences
+pub preferences-zipped : (rows : TenantRows) (tasks : List Task) (placement : List Choice)
+    → length placement ≡ length tasks
+    → preference_count (zipped (task_after rows) tasks placement) ≡ preference_count tasks
+preferences-zipped rows [] placement same = refl
+preferences-zipped rows (task ∷ tasks) [] same = absurd (omega arith)
+preferences-zipped rows (task ∷ tasks) (choice ∷ placement) same =
+    let many : Task → ℕ = λ t. length t.preferred in
+    omega (
+      arith,
+      sum_by-cons many (task_after rows task choice) (zipped (task_after rows) tasks placement),
+      sum_by-cons many task tasks,
+      one choice,
+      preferences-zipped rows tasks placement (omega arith),
+    )
+  where
+    one : (choice : Choice) → length (task_after rows task choice).preferred ≡ length task.preferred
+    one (On j) = refl
+    one Wait = refl
 
 -- the name at a place is among the names
 among-at : (names : List (List ℕ)) (place : ℕ) → place < length names → is_among names (name_at names place) ≡ true
@@ -395,6 +517,9 @@ module _ (rows : TenantRows) (sound : AreSound rows) (placement : List Choice)
             All-zipped (λ (t : Task). IsThere (machine_names rows) t.machine) (λ _. Unit {0})
             (IsPlace (length (machine_names rows))) (task_after rows)
             machine-there rows.tasks placement (λ k d l. tt) places;
+        preferred_there = kept (λ l. AreThere (machine_names rows) l) sound.preferred_there;
+        preferred_few = kept (λ l. length l ≤ 4) sound.preferred_few;
+        preferred_differ = kept (λ l. IsDistinct bytes_eq l) sound.preferred_differ;
         room = λ k d l.
             let below : k < length (machine_names rows) = omega (arith, l, named) in
             let name-at : name_at (machine_names rows) k ≡ (slice_index_or rows.machines k d).name =
@@ -413,7 +538,12 @@ module _ (rows : TenantRows) (sound : AreSound rows) (placement : List Choice)
             rows.tasks placement (λ k d l. tt) (λ k d l. tt);
         fits = record {
           nodes = omega (arith, sound.fits.nodes, length-zipped (task_after rows) rows.tasks placement one_each);
-          arcs = omega (arith, sound.fits.arcs, length-zipped (task_after rows) rows.tasks placement one_each);
+          arcs = omega (
+            arith,
+            sound.fits.arcs,
+            length-zipped (task_after rows) rows.tasks placement one_each,
+            preferences-zipped rows rows.tasks placement one_each,
+          );
         };
         slots = sound.slots;
         weights = sound.weights;
@@ -421,8 +551,19 @@ module _ (rows : TenantRows) (sound : AreSound rows) (placement : List Choice)
         most_arcs = sound.most_arcs;
         most_spread = sound.most_spread;
         most_churn = sound.most_churn;
+        most_remote = sound.most_remote;
       }
     where
+      kept : (P : List (List ℕ) → Type 0) → All (λ (t : Task). P t.preferred) rows.tasks
+          → All (λ (t : Task). P t.preferred) (zipped (task_after rows) rows.tasks placement)
+      kept P held =
+          All-zipped (λ (t : Task). P t.preferred) (λ (t : Task). P t.preferred) (λ _. Unit {0}) (task_after rows)
+          (λ t c h u. same t c h) rows.tasks placement held (λ k d l. tt)
+        where
+          same : (t : Task) (c : Choice) → P t.preferred → P (task_after rows t c).preferred
+          same t (On j) h = h
+          same t Wait h = h
+
       job-stays : (t : Task) (c : Choice) → is_among (job_names rows) t.job ≡ true
           → IsPlace (length (machine_names rows)) c → is_among (job_names rows) (task_after rows t c).job ≡ true
       job-stays t (On j) there place = there

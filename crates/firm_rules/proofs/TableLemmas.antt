@@ -1,6 +1,6 @@
 -- Rows that stand under their own names.
 use Rattle.std.proofs.Common.{◌≡◌, ◌+◌, ◌<◌, ◌≤◌, ℕ, zero, suc, true, false, cond, List, [], ◌∷◌, ◌++◌, map, remove}
-use Rattle.std.proofs.Common.{length, count_by, Option, None, Some, is_some, slice_get, slice_index_or, true≢false}
+use Rattle.std.proofs.Common.{All, length, count_by, Option, None, Some, is_some, slice_get, slice_index_or, true≢false}
 use Rattle.std.proofs.Common.{refl, sym, ap, subst, ◌∙◌, ◌-◌, bytes_eq, arith}
 use Rattle.std.specs.List.{IsDistinct}
 use Rattle.std.specs.Map.{lookup, keys_of, values_of}
@@ -14,8 +14,8 @@ use Rattle.firm_rules.specs.Limits.{TenantLimits}
 use Rattle.firm_rules.specs.Names.{is_among}
 use Rattle.firm_rules.specs.Book.{TenantRows, machine_names, job_names, task_names, name_at, is_on, evicted}
 use Rattle.firm_rules.specs.Book.{running_count, with_machine, with_job, with_task, without_machine, without_job}
-use Rattle.firm_rules.specs.Book.{without_task, has_tasks}
-use Rattle.firm_rules.specs.ArenaUse.{FitsLimits, machine_arcs}
+use Rattle.firm_rules.specs.Book.{without_task, has_tasks, new_task, forgetting}
+use Rattle.firm_rules.specs.ArenaUse.{FitsLimits, machine_arcs, preference_count}
 use Rattle.firm_rules.specs.Sound.{AreSound}
 use Rattle.firm_rules.specs.Tables.{StandsByName, AreTables, rows_in, settled}
 use Rattle.firm_rules.specs.Placement.{IsLegal, is_legal}
@@ -29,7 +29,7 @@ use Rattle.firm_rules.proofs.Legals.{to_legal}
 use Rattle.firm_rules.proofs.NamedRows.{filter-remove}
 use Rattle.firm_rules.proofs.SoundRows.{sound-with_machine, sound-with_job, sound-with_task, sound-without_machine}
 use Rattle.firm_rules.proofs.SoundRows.{sound-without_job, sound-without_task, sound-rows_after, names-evicted}
-use Rattle.firm_rules.proofs.SoundRows.{names-zipped, one_each, one_if}
+use Rattle.firm_rules.proofs.SoundRows.{names-zipped, preferences-zipped, one_each, one_if}
 
 module _ {Row : Type 0} (name_of_row : Row → List ℕ) (entries : List (List ℕ × Row)) where
   -- a look-up finds a name exactly where a row has it
@@ -65,8 +65,8 @@ insert_entry-last table name row new =
 
 -- three tables that hold these rows, with the counts that are kept
 pub record AreTablesOf (rows : TenantRows) (limits : TenantLimits) (machines : List (List ℕ × Machine))
-    (jobs : List (List ℕ × Job)) (tasks : List (List ℕ × Task)) (arcs running : ℕ) : Type 0 where
-  pub tables : AreTables limits machines jobs tasks arcs running
+    (jobs : List (List ℕ × Job)) (tasks : List (List ℕ × Task)) (arcs preferences running : ℕ) : Type 0 where
+  pub tables : AreTables limits machines jobs tasks arcs preferences running
   pub view : rows_in limits machines jobs tasks ≡ rows
 
 -- an entry that was read at a place
@@ -103,7 +103,8 @@ running-evicted gone (task ∷ tasks) =
     one : one_if (is_some (evicted gone task).machine) + one_if (is_on gone task.machine)
         ≡ one_if (is_some task.machine)
     one = elim (is_on gone task.machine) as (λ b. is_on gone task.machine ≡ b
-        → one_if (is_some (cond b (record task { machine = None; waited = 0 }) task).machine) + one_if b
+        → one_if (is_some (cond b (record (forgetting gone task) { machine = None; waited = 0 }) (forgetting gone task)).machine)
+        + one_if b
         ≡ one_if (is_some task.machine)) [
           | true ↦ λ e. sym (ap one_if (on_runs task.machine e))
           | false ↦ λ _. omega arith
@@ -120,7 +121,8 @@ zipped-settled rows (task ∷ tasks) (Wait ∷ choices) =
     ap (λ (l : List Task). task_after rows task Wait ∷ l) (zipped-settled rows tasks choices)
 
 module _ {limits : TenantLimits} {machines : List (List ℕ × Machine)} {jobs : List (List ℕ × Job)}
-    {tasks : List (List ℕ × Task)} {arcs running : ℕ} (were : AreTables limits machines jobs tasks arcs running)
+    {tasks : List (List ℕ × Task)} {arcs preferences running : ℕ}
+    (were : AreTables limits machines jobs tasks arcs preferences running)
     {rows : TenantRows}
     (view : rows_in limits machines jobs tasks ≡ rows) where
   sound : AreSound rows
@@ -130,7 +132,8 @@ module _ {limits : TenantLimits} {machines : List (List ℕ × Machine)} {jobs :
       → more ≡ machines ++ (name, record { name = name; slots = slots }) ∷ []
       → IsDistinct bytes_eq (keys_of more) → is_among (machine_names rows) name ≡ false
       → FitsLimits (with_machine rows name slots) → 1 ≤ slots → slots ≤ 64
-      → wide ≡ slots → AreTablesOf (with_machine rows name slots) limits more jobs tasks (arcs + (1 + wide)) running
+      → wide ≡ slots → AreTablesOf (with_machine rows name slots) limits more jobs tasks (arcs + (1 + wide))
+      preferences running
   tables-with_machine name slots {wide} {more} is unique new fits least most wide-is =
       let machine : Machine = record { name = name; slots = slots } in
       let values : values_of more ≡ values_of machines ++ machine ∷ [] =
@@ -160,6 +163,7 @@ module _ {limits : TenantLimits} {machines : List (List ℕ × Machine)} {jobs :
                 ap machine_arcs values,
                 sum_by_push (λ (m : Machine). 1 + m.slots) (values_of machines) machine,
               );
+          preferences_kept = were.preferences_kept;
           running_kept = were.running_kept;
         };
         view = after;
@@ -168,7 +172,7 @@ module _ {limits : TenantLimits} {machines : List (List ℕ × Machine)} {jobs :
   pub tables-with_job : (name : List ℕ) (weight : ℕ) {more : List (List ℕ × Job)}
       → more ≡ jobs ++ (name, record { name = name; weight = weight }) ∷ []
       → IsDistinct bytes_eq (keys_of more) → FitsLimits (with_job rows name weight) → 1 ≤ weight → weight ≤ 1000000
-      → AreTablesOf (with_job rows name weight) limits machines more tasks arcs running
+      → AreTablesOf (with_job rows name weight) limits machines more tasks arcs preferences running
   tables-with_job name weight {more} is unique fits least most =
       let job : Job = record { name = name; weight = weight } in
       let values : values_of more ≡ values_of jobs ++ job ∷ [] =
@@ -191,30 +195,33 @@ module _ {limits : TenantLimits} {machines : List (List ℕ × Machine)} {jobs :
           tasks_by_name = were.tasks_by_name;
           sound = subst AreSound (sym after) kept;
           arcs_kept = were.arcs_kept;
+          preferences_kept = were.preferences_kept;
           running_kept = were.running_kept;
         };
         view = after;
       }
 
-  pub tables-with_task : (job name : List ℕ) {more : List (List ℕ × Task)}
-      → more ≡ tasks ++ (name, record { name = name; job = job; machine = None; waited = 0 }) ∷ []
-      → IsDistinct bytes_eq (keys_of more) → is_among (job_names rows) job ≡ true → FitsLimits (with_task rows job name)
-      → AreTablesOf (with_task rows job name) limits machines jobs more arcs running
-  tables-with_task job name {more} is unique there fits =
-      let task : Task = record { name = name; job = job; machine = None; waited = 0 } in
+  pub tables-with_task : (job name : List ℕ) (preferred : List (List ℕ)) {more : List (List ℕ × Task)} {many : ℕ}
+      → more ≡ tasks ++ (name, new_task job name preferred) ∷ []
+      → IsDistinct bytes_eq (keys_of more) → is_among (job_names rows) job ≡ true
+      → All (λ machine. is_among (machine_names rows) machine ≡ true) preferred → length preferred ≤ 4
+      → IsDistinct bytes_eq preferred → FitsLimits (with_task rows job name preferred) → many ≡ length preferred
+      → AreTablesOf (with_task rows job name preferred) limits machines jobs more arcs (preferences + many) running
+  tables-with_task job name preferred {more} {many} is unique there prefers few apart fits many-is =
+      let task : Task = new_task job name preferred in
       let values : values_of more ≡ values_of tasks ++ task ∷ [] =
       ap values_of is ∙ map-append (λ (e : List ℕ × Task). e.1) tasks ((name, task) ∷ []) in
       let named : StandsByName (λ (t : Task). t.name) more =
       subst (StandsByName (λ (t : Task). t.name)) (sym is)
       (StandsByName-add (λ (t : Task). t.name) tasks were.tasks_by_name task) in
-      let after : rows_in limits machines jobs more ≡ with_task rows job name =
+      let after : rows_in limits machines jobs more ≡ with_task rows job name preferred =
       ap (λ (l : List Task). let r : TenantRows =
       record { limits = limits; machines = values_of machines; jobs = values_of jobs; tasks = l } in r)
       values
-      ∙ ap (λ (r : TenantRows). with_task r job name) view in
-      let kept : AreSound (with_task rows job name) =
-      sound-with_task rows sound job name (subst (IsDistinct bytes_eq) (named ∙ ap task_names after) unique) there
-      fits in
+      ∙ ap (λ (r : TenantRows). with_task r job name preferred) view in
+      let kept : AreSound (with_task rows job name preferred) =
+      sound-with_task rows sound job name preferred (subst (IsDistinct bytes_eq) (named ∙ ap task_names after) unique)
+      there prefers few apart fits in
       record {
         tables = record {
           machines_by_name = were.machines_by_name;
@@ -222,6 +229,14 @@ module _ {limits : TenantLimits} {machines : List (List ℕ × Machine)} {jobs :
           tasks_by_name = named;
           sound = subst AreSound (sym after) kept;
           arcs_kept = were.arcs_kept;
+          preferences_kept =
+              omega (
+                arith,
+                many-is,
+                were.preferences_kept,
+                ap preference_count values,
+                sum_by_push (λ (t : Task). length t.preferred) (values_of tasks) task,
+              );
           running_kept =
               omega (
                 arith,
@@ -236,7 +251,7 @@ module _ {limits : TenantLimits} {machines : List (List ℕ × Machine)} {jobs :
   pub tables-without_job : (place : ℕ) {less : List (List ℕ × Job)} → less ≡ remove jobs place
       → IsDistinct bytes_eq (keys_of less) → place < length rows.jobs
       → has_tasks rows (name_at (job_names rows) place) ≡ false
-      → AreTablesOf (without_job rows (name_at (job_names rows) place)) limits machines less tasks arcs running
+      → AreTablesOf (without_job rows (name_at (job_names rows) place)) limits machines less tasks arcs preferences running
   tables-without_job place {less} is unique below no_tasks =
       let gone : List ℕ = name_at (job_names rows) place in
       let values : values_of less ≡ remove (values_of jobs) place =
@@ -260,10 +275,26 @@ module _ {limits : TenantLimits} {machines : List (List ℕ × Machine)} {jobs :
           tasks_by_name = were.tasks_by_name;
           sound = subst AreSound (sym after) kept;
           arcs_kept = were.arcs_kept;
+          preferences_kept = were.preferences_kept;
           running_kept = were.running_kept;
         };
         view = after;
       }
+
+  -- how many preferences the tasks have without the task at a place
+  pub preferences-at : (place : ℕ) (name : List ℕ) (task : Task) → Some (name, task) ≡ slice_get tasks place
+      → place < length rows.tasks
+      → preference_count (remove (values_of tasks) place) + length task.preferred ≡ preferences
+  preferences-at place name task read below =
+      let many : Task → ℕ = λ t. length t.preferred in
+      let there : place < length (values_of tasks) =
+      omega (arith, below, ap (λ (r : TenantRows). length r.tasks) view) in
+      omega (
+        arith,
+        were.preferences_kept,
+        sum_by-remove many (values_of tasks) place task there,
+        ap many ((entry-at tasks place name task read).1 task),
+      )
 
   -- what the task at a place counts for among those that run
   pub running-at : (place : ℕ) (name : List ℕ) (task : Task) → Some (name, task) ≡ slice_get tasks place
@@ -280,12 +311,13 @@ module _ {limits : TenantLimits} {machines : List (List ℕ × Machine)} {jobs :
         ap runs ((entry-at tasks place name task read).1 task),
       )
 
-  -- the tables without the task at a place, where `one` is what it counts for
-  pub tables-without_task : (place : ℕ) {less : List (List ℕ × Task)} {name : List ℕ} {task : Task} {one : ℕ}
+  -- the tables without the task at a place, where `one` is what it counts for, and `many` its preferences
+  pub tables-without_task : (place : ℕ) {less : List (List ℕ × Task)} {name : List ℕ} {task : Task} {many one : ℕ}
       → less ≡ remove tasks place → IsDistinct bytes_eq (keys_of less) → Some (name, task) ≡ slice_get tasks place
-      → place < length rows.tasks → one ≡ one_if (is_some task.machine)
-      → AreTablesOf (without_task rows (name_at (task_names rows) place)) limits machines jobs less arcs (running - one)
-  tables-without_task place {less} {name} {task} {one} is unique read below one-is =
+      → place < length rows.tasks → many ≡ length task.preferred → one ≡ one_if (is_some task.machine)
+      → AreTablesOf (without_task rows (name_at (task_names rows) place)) limits machines jobs less arcs
+      (preferences - many) (running - one)
+  tables-without_task place {less} {name} {task} {many} {one} is unique read below many-is one-is =
       let gone : List ℕ = name_at (task_names rows) place in
       let values : values_of less ≡ remove (values_of tasks) place =
       ap values_of is ∙ map-remove (λ (e : List ℕ × Task). e.1) tasks place in
@@ -308,6 +340,8 @@ module _ {limits : TenantLimits} {machines : List (List ℕ × Machine)} {jobs :
           tasks_by_name = named;
           sound = subst AreSound (sym after) kept;
           arcs_kept = were.arcs_kept;
+          preferences_kept =
+              omega (arith, many-is, preferences-at place name task read below, ap preference_count values);
           running_kept = omega (arith, one-is, running-at place name task read below, ap running_count values);
         };
         view = after;
@@ -346,15 +380,17 @@ module _ {limits : TenantLimits} {machines : List (List ℕ × Machine)} {jobs :
 
   -- the tables without the machine at a place, which had `wide` slots and `out` tasks
   pub tables-without_machine : (place : ℕ) {less : List (List ℕ × Machine)} {name : List ℕ} {machine : Machine}
-      {waiting : List (List ℕ × Task)} {wide out : ℕ}
+      {waiting : List (List ℕ × Task)} {wide left out : ℕ}
       → less ≡ remove machines place → IsDistinct bytes_eq (keys_of less)
       → Some (name, machine) ≡ slice_get machines place
       → place < length rows.machines → keys_of waiting ≡ keys_of tasks
       → values_of waiting ≡ map (evicted machine.name) (values_of tasks) → wide ≡ machine.slots
+      → left ≡ preference_count (values_of waiting)
       → out ≡ count_by (λ task. is_on machine.name task.machine) (values_of tasks)
       → AreTablesOf (without_machine rows (name_at (machine_names rows) place)) limits less jobs waiting
-      (arcs - (1 + wide)) (running - out)
-  tables-without_machine place {less} {name} {machine} {waiting} is unique read below same-keys evicts wide-is out-is =
+      (arcs - (1 + wide)) left (running - out)
+  tables-without_machine place {less} {name} {machine} {waiting} is unique read below same-keys evicts wide-is left-is
+      out-is =
       let gone : List ℕ = name_at (machine_names rows) place in
       let gone-is : machine.name ≡ gone = read-name place name machine read below in
       let values : values_of less ≡ remove (values_of machines) place =
@@ -384,6 +420,7 @@ module _ {limits : TenantLimits} {machines : List (List ℕ × Machine)} {jobs :
           tasks_by_name = same-keys ∙ were.tasks_by_name ∙ sym (names-evicted machine.name (values_of tasks))
               ∙ sym (ap (λ (l : List Task). map (λ (t : Task). t.name) l) evicts);
           sound = subst AreSound (sym after) kept;
+          preferences_kept = left-is;
           arcs_kept = omega (arith, wide-is, arcs-at place name machine read below, ap machine_arcs values);
           running_kept = omega (arith, running-drained machine.name _ out-is, ap running_count evicts);
         };
@@ -395,7 +432,7 @@ module _ {limits : TenantLimits} {machines : List (List ℕ × Machine)} {jobs :
       → keys_of placed ≡ keys_of tasks
       → values_of placed ≡ zipped (settled (values_of machines)) (values_of tasks) choices
       → now ≡ running_count (values_of placed)
-      → AreTablesOf (rows_after rows choices) limits machines jobs placed arcs now
+      → AreTablesOf (rows_after rows choices) limits machines jobs placed arcs preferences now
   tables-settled choices {placed} {now} legal same-keys values now-is =
       let is_legal_list : IsLegal (case_of rows) choices = to_legal (case_of rows) choices legal in
       let round : values_of placed ≡ zipped (task_after rows) rows.tasks choices =
@@ -418,6 +455,10 @@ module _ {limits : TenantLimits} {machines : List (List ℕ × Machine)} {jobs :
               ∙ sym (ap (λ (l : List Task). map (λ (t : Task). t.name) l) round);
           sound = subst AreSound (sym after) (sound-rows_after rows sound choices is_legal_list);
           arcs_kept = were.arcs_kept;
+          preferences_kept =
+              were.preferences_kept ∙ ap (λ (r : TenantRows). preference_count r.tasks) view
+              ∙ sym (preferences-zipped rows rows.tasks choices (one_each rows sound choices is_legal_list))
+              ∙ sym (ap preference_count round);
           running_kept = now-is;
         };
         view = after;

@@ -8,6 +8,7 @@ use Rattle.std.proofs.lemmas.Bool.{cond_both}
 use Rattle.std.proofs.lemmas.List.{length-map, get_or-map}
 use Rattle.std.proofs.lemmas.List.Sums.{sum_by-cons, sum_by_more, sum_by-take-le}
 use Rattle.firm_rules.specs.Book.{is_on, evicted, running_count}
+use Rattle.firm_rules.specs.ArenaUse.{preference_count}
 use Rattle.firm_rules.specs.Round.{zipped}
 use Rattle.firm_rules.specs.declared.rounds.Choice.TheVariants.{On, Wait}
 use Rattle.firm_rules.specs.declared.parts.Task.{Task}
@@ -32,30 +33,19 @@ read-at (y ∷ xs) (suc place) x read d = read-at xs place x read d
 
 module _ (name : List ℕ) (entries : List (List ℕ × Task)) (place : ℕ) (task : Task)
     (read : Some task ≡ slice_get (values_of entries) place) where
-  pub evicted-stays : is_on name task.machine ≡ false → (d : Task)
-      → (values_of (set_value_at entries place task)
+  -- the task that is written there once the machine is gone, and what it counts for
+  pub evicted-written : (after : Task) → after ≡ evicted name task → (d : Task)
+      → (values_of (set_value_at entries place after)
       ≡ set (values_of entries) place (evicted name (slice_index_or (values_of entries) place d)))
-      × ◌≡◌ {A = ℕ} 0 (if is_on name (slice_index_or (values_of entries) place d).machine then 1 else 0)
-  evicted-stays apart d =
-      let same : slice_index_or (values_of entries) place d ≡ task = read-at (values_of entries) place task read d in (
-        values-written entries place task
-            ∙ ap (set (values_of entries) place)
-            (sym (ap (evicted name) same
-            ∙ ap (λ (b : Bool). cond b (record task { machine = None; waited = 0 }) task) apart)),
-        sym (ap (λ (t : Task). one_if (is_on name t.machine)) same ∙ ap one_if apart),
-      )
-
-  pub evicted-waits : is_on name task.machine ≡ true → (d : Task)
-      → (values_of (set_value_at entries place (record task { machine = None; waited = 0 }))
-      ≡ set (values_of entries) place (evicted name (slice_index_or (values_of entries) place d)))
-      × ◌≡◌ {A = ℕ} 1 (if is_on name (slice_index_or (values_of entries) place d).machine then 1 else 0)
-  evicted-waits there d =
-      let same : slice_index_or (values_of entries) place d ≡ task = read-at (values_of entries) place task read d in (
-        values-written entries place (record task { machine = None; waited = 0 })
-            ∙ ap (set (values_of entries) place)
-            (sym (ap (evicted name) same
-            ∙ ap (λ (b : Bool). cond b (record task { machine = None; waited = 0 }) task) there)),
-        sym (ap (λ (t : Task). one_if (is_on name t.machine)) same ∙ ap one_if there),
+      × (one_if (is_on name task.machine)
+      ≡ (if is_on name (slice_index_or (values_of entries) place d).machine then 1 else 0))
+      × (length after.preferred ≡ length (evicted name (slice_index_or (values_of entries) place d)).preferred)
+  evicted-written after is d =
+      let same : task ≡ slice_index_or (values_of entries) place d =
+      sym (read-at (values_of entries) place task read d) in (
+        values-written entries place after ∙ ap (set (values_of entries) place) (is ∙ ap (evicted name) same),
+        ap (λ (t : Task). one_if (is_on name t.machine)) same,
+        ap (λ (t : Task). length t.preferred) is ∙ ap (λ (t : Task). length (evicted name t).preferred) same,
       )
 
 -- a list written so far: the first places anew, the others as they were
@@ -109,7 +99,7 @@ written-all (x ∷ new) (y ∷ old) (suc place) same all =
 
 -- any task, for a place that is not there
 abbrev pub no_task : Task
-no_task = record { name = []; job = []; machine = None; waited = 0 }
+no_task = record { name = []; job = []; preferred = []; machine = None; waited = 0 }
 
 pub count_by-le-length : {X : Type 0} (p : X → Bool) (xs : List X) → count_by p xs ≤ length xs
 count_by-le-length p [] = omega arith
@@ -157,6 +147,27 @@ module _ (name : List ℕ) (old : List Task) where
           sum_by-take-le (λ (t : Task). one_if (ran t)) old (place + 1),
           count_by-le-length ran old,
         ),
+      )
+
+  -- the preferences that one more task has left
+  pub left-next : (now : List Task) (place left more : ℕ) → now ≡ written (map (evicted name) old) old place
+      → place < length old → left ≡ preference_count (take place (map (evicted name) old))
+      → more ≡ length (evicted name (slice_index_or now place no_task)).preferred
+      → left + more ≡ preference_count (take (place + 1) (map (evicted name) old))
+  left-next now place left more now-is below left-is more-is =
+      let target : List Task = map (evicted name) old in
+      let same : length target ≡ length old = length-map old (evicted name) in
+      let here : slice_index_or now place no_task ≡ slice_index_or old place no_task =
+      ap (λ (l : List Task). slice_index_or l place no_task) now-is
+      ∙ written-next target old place same below no_task in
+      omega (
+        arith,
+        left-is,
+        more-is ∙ ap (λ (t : Task). length (evicted name t).preferred) here
+            ∙ ap (λ (t : Task). length t.preferred)
+            (sym (get_or-map (evicted name) old place no_task (evicted name no_task) below)),
+        sum_by_more (λ (t : Task). length t.preferred) target place (evicted name no_task)
+            (omega (arith, same, below)),
       )
 
 -- any choice, for a place that is not there

@@ -1,6 +1,7 @@
 pub mod Names
 pub mod Limits
 pub mod Amounts
+pub mod Preferences
 pub mod Book
 pub mod ArenaUse
 pub mod Sound

@@ -2,24 +2,26 @@
 use Rattle.std.specs.Prelude.{◌≡◌, ℕ, zero, suc, not, ◌+◌, ◌-◌, ◌*◌, ◌/◌, ◌<◌, ◌≤◌, ◌==◌, ◌&&◌, ◌||◌, Bool, true, false}
 use Rattle.std.specs.Prelude.{nat_lt, nat_le, ⊤, List, [], ◌∷◌, ◌++◌, length, count_by, slice_index, Option, Some, None}
 use Rattle.std.specs.Prelude.{if◌then◌else◌}
-use Rattle.std.specs.List.{All, list_all}
+use Rattle.std.specs.List.{All, list_all, list_any}
 use Rattle.firm_rules.specs.declared.rounds.Choice.{Choice}
 use Rattle.firm_rules.specs.declared.rounds.Choice.TheVariants.{On, Wait}
 
--- what a task brings to a round: the place of the machine that it runs on, if it runs, what a wait costs apart from
--- churn, and the place of its job, which the network alone reads
+-- what a task brings to a round: the place of the machine that it runs on, if it runs, the places of the machines that
+-- it prefers, what a wait costs apart from churn, and the place of its job, which the network alone reads
 pub record Demand : Type 0 where
   pub home : Option ℕ
+  pub preferred : List ℕ
   pub delay : ℕ
   pub job : ℕ
 
 -- what a round is about: what each further task on a machine costs more than the one before, what it costs to take
--- a running task from its machine, the slots of each machine, the tasks in order of submission; and how many jobs there
--- are and the tenant's limit of nodes, which the network alone reads: no placement's legality, cost or order rests on
--- them
+-- a running task from its machine and to place a task with preferences on none of them, the slots of each machine, the
+-- tasks in order of submission; and how many jobs there are and the tenant's limit of nodes, which the network alone
+-- reads: no placement's legality, cost or order rests on them
 pub record Case : Type 0 where
   pub spread : ℕ
   pub churn : ℕ
+  pub remote : ℕ
   pub slots : List ℕ
   pub jobs : ℕ
   pub limit : ℕ
@@ -85,9 +87,19 @@ leaves None choice = false
 leaves (Some home) (On j) = not (home == j)
 leaves (Some home) Wait = true
 
--- what the choice costs the task itself: churn where it is taken from its machine, and its delay where it waits
+-- whether the task prefers this machine
+abbrev pub prefers : Demand → ℕ → Bool
+prefers task j = list_any (λ k. k == j) task.preferred
+
+-- whether this machine is remote for the task: it has preferences, this is none of them, and it does not run there
+abbrev pub is_remote : Demand → ℕ → Bool
+is_remote task j = nat_lt 0 (length task.preferred) && not (prefers task j) && not (runs_at task.home j)
+
+-- what the choice costs the task itself: churn where it is taken from its machine, its delay where it waits, and the
+-- tenant's `remote` where it is placed on a machine that is remote for it
 abbrev pub task_cost : Case → Demand → Choice → ℕ
-task_cost case task (On j) = if leaves task.home (On j) then case.churn else 0
+task_cost case task (On j) =
+    (if leaves task.home (On j) then case.churn else 0) + (if is_remote task j then case.remote else 0)
 task_cost case task Wait = task.delay + (if leaves task.home Wait then case.churn else 0)
 
 -- what their choices cost these tasks

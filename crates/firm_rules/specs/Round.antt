@@ -62,9 +62,13 @@ abbrev pub TheRoundIsTheFirst : Type 0
 TheRoundIsTheFirst = (case : Case) → IsTheRound case (round_placement case)
 
 -- the place of the machine of this name
+abbrev pub place_of : TenantRows → List ℕ → ℕ
+place_of rows name = position_or_len (bytes_eq name) (machine_names rows)
+
+-- the place of the machine that a task runs on, if it runs
 abbrev pub machine_place : TenantRows → Option (List ℕ) → Option ℕ
 machine_place rows None = None
-machine_place rows (Some name) = Some (position_or_len (bytes_eq name) (machine_names rows))
+machine_place rows (Some name) = Some (place_of rows name)
 
 -- the place of a task's job
 abbrev pub job_place : TenantRows → Task → ℕ
@@ -79,6 +83,7 @@ abbrev pub demand_of : TenantRows → Task → Demand
 demand_of rows task =
     record {
       home = machine_place rows task.machine;
+      preferred = map (place_of rows) task.preferred;
       delay = weight_at rows (job_place rows task) + task.waited;
       job = job_place rows task;
     }
@@ -89,6 +94,7 @@ case_of rows =
     record {
       spread = rows.limits.spread;
       churn = rows.limits.churn;
+      remote = rows.limits.remote;
       slots = map (λ machine. machine.slots) rows.machines;
       jobs = length rows.jobs;
       limit = rows.limits.nodes;

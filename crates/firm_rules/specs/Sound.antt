@@ -1,20 +1,24 @@
 -- What holds of the rows of a tenant at all times.
-use Rattle.std.specs.Prelude.{◌≡◌, ◌≤◌, true, All, IfSome, bytes_eq}
+use Rattle.std.specs.Prelude.{◌≡◌, ◌≤◌, true, All, IfSome, length, bytes_eq}
 use Rattle.std.specs.List.{IsDistinct}
 use Rattle.firm_rules.specs.Names.{is_among}
+use Rattle.firm_rules.specs.Preferences.{most_preferences}
 use Rattle.firm_rules.specs.Book.{TenantRows, machine_names, job_names, task_names, running_on}
 use Rattle.firm_rules.specs.ArenaUse.{FitsLimits}
 
--- names differ in each list; each task's job is there, and so is the machine of each that runs; no machine runs more
--- tasks than it has slots; no task has waited for more than 1,000,000 rounds; the counts fit the limits; slots, weights
--- and the limits of nodes, arcs, spread and churn are in their ranges (the life, which no round reads, is in its range
--- by `Limits`)
+-- names differ in each list; each task's job is there, and so is the machine of each that runs; a task prefers at most 4
+-- machines, which differ and are there; no machine runs more tasks than it has slots; no task has waited for more than
+-- 1,000,000 rounds; the counts fit the limits; slots, weights and the limits of nodes, arcs, spread, churn and remote are
+-- in their ranges (the life, which no round reads, is in its range by `Limits`)
 pub record AreSound (rows : TenantRows) : Type 0 where
   pub machine_names_differ : IsDistinct bytes_eq (machine_names rows)
   pub job_names_differ : IsDistinct bytes_eq (job_names rows)
   pub task_names_differ : IsDistinct bytes_eq (task_names rows)
   pub jobs_there : All (λ task. is_among (job_names rows) task.job ≡ true) rows.tasks
   pub machines_there : All (λ task. IfSome task.machine (λ name. is_among (machine_names rows) name ≡ true)) rows.tasks
+  pub preferred_there : All (λ task. All (λ name. is_among (machine_names rows) name ≡ true) task.preferred) rows.tasks
+  pub preferred_few : All (λ task. length task.preferred ≤ most_preferences) rows.tasks
+  pub preferred_differ : All (λ task. IsDistinct bytes_eq task.preferred) rows.tasks
   pub room : All (λ machine. running_on rows machine.name ≤ machine.slots) rows.machines
   pub waited : All (λ task. task.waited ≤ 1000000) rows.tasks
   pub fits : FitsLimits rows
@@ -24,3 +28,4 @@ pub record AreSound (rows : TenantRows) : Type 0 where
   pub most_arcs : rows.limits.arcs ≤ 65536
   pub most_spread : rows.limits.spread ≤ 1000
   pub most_churn : rows.limits.churn ≤ 1000000
+  pub most_remote : rows.limits.remote ≤ 1000000

@@ -1,11 +1,12 @@
 //! Whether a placement is legal, what it costs, and which of two comes first. None of these calls takes memory.
 ghost use Rattle.std.specs.Prelude.{ℕ, ◌≡◌, ◌<◌, ◌*◌, ◌^◌, ◌≤◌, true, pos, nat_le, length, slice_index};
-ghost use Rattle.std.specs.Prelude.{bytes_eq};
-ghost use Rattle.std.specs.List.{list_all, position_or_len};
+ghost use Rattle.std.specs.Prelude.{bytes_eq, ◌==◌};
+ghost use Rattle.std.specs.List.{list_all, list_any, position_or_len};
 ghost use Rattle.firm_rules.specs.Book.{job_names};
 ghost use Rattle.firm_rules.specs.Placement.{numbers, total, load, is_place, is_legal, leaves, load_cost};
 ghost use Rattle.firm_rules.specs.Placement.{task_cost, tasks_cost, placement_cost, rank, comes_before};
-ghost use Rattle.firm_rules.specs.Round.{case_of, demand_of, machine_place, weight_at};
+ghost use Rattle.firm_rules.specs.Placement.{is_remote, runs_at};
+ghost use Rattle.firm_rules.specs.Round.{case_of, demand_of, machine_place, place_of, weight_at};
 
 use crate::names::Name;
 use crate::parts::Task;
@@ -28,7 +29,8 @@ pub fn legal<A: Allocator>(rows: &Rows<A>, placement: &[Choice]) -> bool
 }
 
 /// What a legal placement costs: for each machine what its load costs, for each task that waits its job's weight and
-/// the rounds that left it waiting, and churn for each running task that does not stay.
+/// the rounds that left it waiting, churn for each running task that does not stay, and `remote` for each placed task
+/// that has preferences and is neither on one of them nor stays.
 pub fn cost_of<A: Allocator>(rows: &Rows<A>, placement: &[Choice]) -> i64
     requires { is_legal (case_of rows.now) placement.now ≡ true }
     ensures { result ≡ pos (placement_cost (case_of rows.now) placement.now) }
@@ -153,9 +155,41 @@ fn cost_of_choice<A: Allocator>(rows: &Rows<A>, task: &Task, choice: Choice) -> 
         0
     };
     match choice {
+        Choice::On(place) if is_remote(rows, task, place as usize) => {
+            churn + rows.limits().remote()
+        }
         Choice::On(_) => churn,
         Choice::Wait => u64::from(weight_of(rows, task.job)) + u64::from(task.waited) + churn,
     }
+}
+
+// Whether the machine at the place is remote for the task.
+fn is_remote<A: Allocator>(rows: &Rows<A>, task: &Task, place: usize) -> bool
+    ensures { result ≡ is_remote (demand_of rows.now task.now) place }
+{
+    0 < task.preferred.len()
+        && !prefers_place(rows, task, place)
+        && !is_home(home_of(rows, task), place)
+}
+
+// Whether a task that runs at `home`, if it runs, runs at the place.
+fn is_home(home: Option<usize>, place: usize) -> bool
+    ensures { result ≡ runs_at home place }
+{
+    match home {
+        Some(own) => own == place,
+        None => false,
+    }
+}
+
+// Whether the task prefers the machine at the place.
+fn prefers_place<A: Allocator>(rows: &Rows<A>, task: &Task, place: usize) -> bool
+    ensures { result ≡ list_any (λ name. place_of rows.now name == place) task.now.preferred }
+{
+    task.preferred
+        .as_slice()
+        .iter()
+        .any(|name| place_of(rows, *name) == place)
 }
 
 // Whether the choice takes a running task from its machine.
@@ -174,9 +208,16 @@ fn home_of<A: Allocator>(rows: &Rows<A>, task: &Task) -> Option<usize>
     ensures { result ≡ machine_place rows.now task.now.machine }
 {
     match task.machine {
-        Some(name) => Some(rows.machine_place(name).unwrap_or(rows.machine_count())),
+        Some(name) => Some(place_of(rows, name)),
         None => None,
     }
+}
+
+// The place of the machine of this name; past the last, as defined, where no machine has it.
+fn place_of<A: Allocator>(rows: &Rows<A>, name: Name) -> usize
+    ensures { result ≡ place_of rows.now name }
+{
+    rows.machine_place(name).unwrap_or(rows.machine_count())
 }
 
 // The weight of the job of this name; 0, as defined, where no job has it.

@@ -1,5 +1,5 @@
 //! Rounds worked by hand.
-use crate::tests::{name, with_job, with_machine, with_task};
+use crate::tests::{name, preferring, with_job, with_machine, with_task};
 use crate::{
     Change, Changes, Choice, Limits, RecentCosts, Rows, Slots, Weight, changes_of, cost_of, legal,
     ranks_before,
@@ -9,8 +9,8 @@ use std::alloc::Global;
 use std::process::Abort;
 
 // Nothing here is answered by an error, so that no test has a branch for each of them.
-fn rows_of(rt: &impl Abort, alloc: Global, spread: u64, churn: u64) -> Rows {
-    let limits = Limits::check(8, 30, 100, spread, churn).expect(rt, "limits");
+fn rows_of(rt: &impl Abort, alloc: Global, spread: u64, churn: u64, remote: u64) -> Rows {
+    let limits = Limits::check(8, 30, 100, spread, churn, remote).expect(rt, "limits");
     Rows::new(alloc, limits)
 }
 
@@ -27,7 +27,12 @@ fn add_job(rt: &impl Abort, rows: &mut Rows, bytes: &[u8], weight: u64) {
 }
 
 fn add_task(rt: &impl Abort, rows: &mut Rows, job: &[u8], bytes: &[u8]) {
-    let added = with_task(rt, rows, name(rt, job), name(rt, bytes));
+    add_preferring(rt, rows, job, bytes, &[]);
+}
+
+fn add_preferring(rt: &impl Abort, rows: &mut Rows, job: &[u8], bytes: &[u8], machines: &[&[u8]]) {
+    let preferred = preferring(rt, machines);
+    let added = with_task(rt, rows, name(rt, job), name(rt, bytes), preferred);
     assert!(rt; added.is_ok());
 }
 
@@ -93,7 +98,7 @@ fn expect_changes(
 
 // One machine of two slots, and two tasks that cost 1 to leave waiting.
 fn shared(rt: &impl Abort, alloc: Global) -> Rows {
-    let mut rows = rows_of(rt, alloc, 10, 20);
+    let mut rows = rows_of(rt, alloc, 10, 20, 0);
     add_machine(rt, &mut rows, b"m1", 2);
     add_job(rt, &mut rows, b"j", 1);
     add_task(rt, &mut rows, b"j", b"x");
@@ -127,7 +132,7 @@ fn a_wait_grows_to_the_cost_of_a_load(rt: HostRuntime) {
 
 // A machine of one slot, a task that runs there, and one that costs more to leave waiting.
 fn contested(rt: &impl Abort, alloc: Global) -> Rows {
-    let mut rows = rows_of(rt, alloc, 0, 3);
+    let mut rows = rows_of(rt, alloc, 0, 3, 0);
     add_machine(rt, &mut rows, b"m1", 1);
     add_job(rt, &mut rows, b"low", 2);
     add_task(rt, &mut rows, b"low", b"l");
@@ -150,7 +155,7 @@ fn a_task_that_waits_for_more_preempts(rt: HostRuntime) {
 
 // Two tasks run on the first of two machines.
 fn crowded(rt: &impl Abort, alloc: Global, churn: u64) -> Rows {
-    let mut rows = rows_of(rt, alloc, 10, churn);
+    let mut rows = rows_of(rt, alloc, 10, churn, 0);
     add_machine(rt, &mut rows, b"m1", 2);
     add_job(rt, &mut rows, b"j", 50);
     add_task(rt, &mut rows, b"j", b"p");
@@ -200,6 +205,48 @@ fn the_own_machine_ranks_first(rt: HostRuntime) {
         ([On(1), On(1)], 10),
         ([On(0), On(0)], 10),
         ([On(0), On(1)], 0),
+    ];
+    expect_placements(&rt, &rows, &wanted);
+}
+
+// Two machines of one slot, and two tasks that prefer the second.
+fn preferring_one(rt: &impl Abort, alloc: Global, churn: u64, remote: u64) -> Rows {
+    let mut rows = rows_of(rt, alloc, 0, churn, remote);
+    add_machine(rt, &mut rows, b"m1", 1);
+    add_machine(rt, &mut rows, b"m2", 1);
+    add_job(rt, &mut rows, b"j", 20);
+    add_preferring(rt, &mut rows, b"j", b"x", &[b"m2"]);
+    add_preferring(rt, &mut rows, b"j", b"y", &[b"m2"]);
+    rows
+}
+
+#[test]
+fn a_task_pays_for_a_machine_that_it_does_not_prefer(rt: HostRuntime) {
+    let rows = preferring_one(&rt, rt.alloc(), 0, 7);
+    let wanted = [
+        ([On(0), On(1)], 7),
+        ([On(0), Wait], 27),
+        ([On(1), On(0)], 7),
+        ([On(1), Wait], 20),
+        ([Wait, On(0)], 27),
+        ([Wait, On(1)], 20),
+        ([Wait, Wait], 40),
+    ];
+    expect_placements(&rt, &rows, &wanted);
+}
+
+#[test]
+fn a_task_that_stays_does_not_pay(rt: HostRuntime) {
+    let mut rows = preferring_one(&rt, rt.alloc(), 3, 7);
+    settle(&rt, &mut rows, &[On(0), On(1)]);
+    let wanted = [
+        ([On(0), On(1)], 0),
+        ([On(0), Wait], 23),
+        ([On(1), On(0)], 13),
+        ([On(1), Wait], 26),
+        ([Wait, On(1)], 23),
+        ([Wait, On(0)], 33),
+        ([Wait, Wait], 46),
     ];
     expect_placements(&rt, &rows, &wanted);
 }

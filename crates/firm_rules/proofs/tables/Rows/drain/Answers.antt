@@ -10,22 +10,22 @@ pub invariant_of-self : goal.invariant_of-self
 invariant_of-self g c =
     (tables-without_machine c.self.invariant c.self.view_is c.args.place c.shift_remove_index.ensures.entries
     c.shift_remove_index.ensures.unique (sym c.in-Some.is ∙ c.shift_remove_index.ensures.entry) c.requires.there
-    c.evict-evicted.ensures.names c.evict-evicted.ensures.tasks (c.from.ensures ∙ c.get.ensures.value)
-    (c.from-2.ensures ∙ c.evict-evicted.ensures.count)).tables
+    c.evict-departure.ensures.names c.evict-departure.ensures.tasks (c.from.ensures ∙ c.get.ensures.value)
+    c.evict-departure.ensures.preferences (c.from-2.ensures ∙ c.evict-departure.ensures.count)).tables
 
 pub returns-clause-rows : goal.returns-clause-rows
 returns-clause-rows g c =
     (tables-without_machine c.self.invariant c.self.view_is c.args.place c.shift_remove_index.ensures.entries
     c.shift_remove_index.ensures.unique (sym c.in-Some.is ∙ c.shift_remove_index.ensures.entry) c.requires.there
-    c.evict-evicted.ensures.names c.evict-evicted.ensures.tasks (c.from.ensures ∙ c.get.ensures.value)
-    (c.from-2.ensures ∙ c.evict-evicted.ensures.count)).view
+    c.evict-departure.ensures.names c.evict-departure.ensures.tasks (c.from.ensures ∙ c.get.ensures.value)
+    c.evict-departure.ensures.preferences (c.from-2.ensures ∙ c.evict-departure.ensures.count)).view
 
 pub returns-clause-sound : goal.returns-clause-sound
 returns-clause-sound g c =
     (tables-without_machine c.self.invariant c.self.view_is c.args.place c.shift_remove_index.ensures.entries
     c.shift_remove_index.ensures.unique (sym c.in-Some.is ∙ c.shift_remove_index.ensures.entry) c.requires.there
-    c.evict-evicted.ensures.names c.evict-evicted.ensures.tasks (c.from.ensures ∙ c.get.ensures.value)
-    (c.from-2.ensures ∙ c.evict-evicted.ensures.count)).tables.sound
+    c.evict-departure.ensures.names c.evict-departure.ensures.tasks (c.from.ensures ∙ c.get.ensures.value)
+    c.evict-departure.ensures.preferences (c.from-2.ensures ∙ c.evict-departure.ensures.count)).tables.sound
 
 pub overflow_sub-self : goal.overflow_sub-self
 overflow_sub-self g c = omega (
@@ -39,8 +39,8 @@ pub overflow_sub-self-2 : goal.overflow_sub-self-2
 overflow_sub-self-2 g c = omega (
   arith,
   c.from-2.ensures,
-  (running-drained c.self.invariant c.self.view_is c.in-Some.machine.name c.evict-evicted.result
-      c.evict-evicted.ensures.count),
+  (running-drained c.self.invariant c.self.view_is c.in-Some.machine.name c.evict-departure.result.evicted
+      c.evict-departure.ensures.count),
 )
 
 pub returns-clause-machines : goal.returns-clause-machines
@@ -51,7 +51,7 @@ returns-clause-machines g c =
 
 pub returns-clause-evicted : goal.returns-clause-evicted
 returns-clause-evicted g c =
-    c.evict-evicted.ensures.count
+    c.evict-departure.ensures.count
     ∙ ap (λ (rows : TenantRows). running_on rows c.in-Some.machine.name) c.self.view_is
     ∙ ap (running_on c.args.self.now)
     (read-name c.self.invariant c.self.view_is c.args.place c.in-Some.field-0-0 c.in-Some.machine

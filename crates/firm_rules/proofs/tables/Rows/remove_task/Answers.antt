@@ -1,20 +1,23 @@
-use Rattle.std.proofs.Common.{◌≡◌, Bool, true, false, List, ℕ, remove, refl, sym, ap, ◌∙◌, arith}
-use Rattle.std.specs.Int.{from_bool}
+use Rattle.std.proofs.Common.{List, ℕ, remove, sym, ap, ◌∙◌, arith}
 use Rattle.std.specs.Map.{values_of}
 use Rattle.indexmap.proofs.SetLemmas.{map-remove}
 use Rattle.firm_rules.specs.Book.{TenantRows}
 use Rattle.firm_rules.specs.declared.parts.Task.{Task}
-use Rattle.firm_rules.proofs.SoundRows.{one_if}
-use Rattle.firm_rules.proofs.TableLemmas.{tables-without_task, running-at}
+use Rattle.firm_rules.proofs.SoundRows.{one_if, one_if-from_bool}
+use Rattle.firm_rules.proofs.TableLemmas.{tables-without_task, running-at, preferences-at}
 use Rattle.firm_rules.proofs.tables.Rows.remove_task.Goals as goal
-
--- a truth value as a number
-one_if-from_bool : (b : Bool) → from_bool b ≡ one_if b
-one_if-from_bool true = refl
-one_if-from_bool false = refl
 
 pub overflow_sub-self : goal.overflow_sub-self
 overflow_sub-self g c =
+    omega (
+      arith,
+      c.len.ensures.value,
+      preferences-at c.self.invariant c.self.view_is c.args.place c.in-Some.field-0-0 c.in-Some.task
+          (sym c.in-Some.is ∙ c.shift_remove_index.ensures.entry) c.requires.there,
+    )
+
+pub overflow_sub-self-2 : goal.overflow_sub-self-2
+overflow_sub-self-2 g c =
     omega (
       arith,
       c.from.ensures ∙ one_if-from_bool c.is_some.result ∙ ap one_if c.is_some.ensures,
@@ -26,19 +29,19 @@ pub invariant_of-self : goal.invariant_of-self
 invariant_of-self g c =
     (tables-without_task c.self.invariant c.self.view_is c.args.place c.shift_remove_index.ensures.entries
     c.shift_remove_index.ensures.unique (sym c.in-Some.is ∙ c.shift_remove_index.ensures.entry) c.requires.there
-    (c.from.ensures ∙ one_if-from_bool c.is_some.result ∙ ap one_if c.is_some.ensures)).tables
+    c.len.ensures.value (c.from.ensures ∙ one_if-from_bool c.is_some.result ∙ ap one_if c.is_some.ensures)).tables
 
 pub returns-clause-rows : goal.returns-clause-rows
 returns-clause-rows g c =
     (tables-without_task c.self.invariant c.self.view_is c.args.place c.shift_remove_index.ensures.entries
     c.shift_remove_index.ensures.unique (sym c.in-Some.is ∙ c.shift_remove_index.ensures.entry) c.requires.there
-    (c.from.ensures ∙ one_if-from_bool c.is_some.result ∙ ap one_if c.is_some.ensures)).view
+    c.len.ensures.value (c.from.ensures ∙ one_if-from_bool c.is_some.result ∙ ap one_if c.is_some.ensures)).view
 
 pub returns-clause-sound : goal.returns-clause-sound
 returns-clause-sound g c =
     (tables-without_task c.self.invariant c.self.view_is c.args.place c.shift_remove_index.ensures.entries
     c.shift_remove_index.ensures.unique (sym c.in-Some.is ∙ c.shift_remove_index.ensures.entry) c.requires.there
-    (c.from.ensures ∙ one_if-from_bool c.is_some.result ∙ ap one_if c.is_some.ensures)).tables.sound
+    c.len.ensures.value (c.from.ensures ∙ one_if-from_bool c.is_some.result ∙ ap one_if c.is_some.ensures)).tables.sound
 
 pub returns-clause-tasks : goal.returns-clause-tasks
 returns-clause-tasks g c =
