@@ -1,7 +1,7 @@
 -- The definitions, computed at worked examples.
-use Rattle.std.proofs.Common.{◌≡◌, ℕ, List, [], ◌∷◌, ◌++◌, Some, None, Ok, Err, refl, codes}
+use Rattle.std.proofs.Common.{◌≡◌, ℕ, List, [], ◌∷◌, ◌++◌, Some, None, refl, codes}
 use Rattle.std.specs.Prelude.{replicate}
-use Rattle.firm_rules.specs.declared.commands.Command.TheVariants.{AddMachine, Drain, Done, Show, Faulty}
+use Rattle.firm_rules.specs.declared.commands.Command.TheVariants.{AddMachine, AddTask, Drain, Show, Faulty}
 use Rattle.firm_rules.specs.declared.commands.LineFault.TheVariants.{BadCommand, BadName, BadNumber}
 use Rattle.firm_text.specs.Inputs.{line_of}
 use Rattle.firm_text.specs.Lines.{lines, words}
@@ -56,6 +56,21 @@ too_long = refl
 
 a_machine : line_of (codes "a machine m1 2") ≡ For (codes "a") (AddMachine (codes "m1") 2)
 a_machine = refl
+
+no_preference : line_of (codes "a task j x") ≡ For (codes "a") (AddTask (codes "j") (codes "x") [])
+no_preference = refl
+
+-- a machine that is named twice counts once
+two_preferences : line_of (codes "a task j x m2 m1 m2")
+    ≡ For (codes "a") (AddTask (codes "j") (codes "x") (codes "m2" ∷ codes "m1" ∷ []))
+two_preferences = refl
+
+-- and five names of machines are too many words, whatever they are
+five_preferences : line_of (codes "a task j x m m m m M") ≡ For (codes "a") (Faulty BadCommand)
+five_preferences = refl
+
+a_preference_at_fault : line_of (codes "a task j x m M") ≡ For (codes "a") (Faulty BadName)
+a_preference_at_fault = refl
 
 a_drain : line_of (codes "a drain m1") ≡ For (codes "a") (Drain (codes "m1"))
 a_drain = refl

@@ -1,18 +1,20 @@
 -- Lines of the operator, computed at worked examples.
-use Rattle.std.proofs.Common.{◌≡◌, List, ◌++◌, ◌∷◌, [], refl, codes}
+use Rattle.std.proofs.Common.{◌≡◌, ◌++◌, refl, codes}
 use Rattle.std.specs.Prelude.{replicate}
 use Rattle.firm_rules.specs.Limits.{TenantLimits}
 use Rattle.firm_text.specs.Inputs.{line_of}
-use Rattle.firm_text.specs.declared.inputs.Line.{Line}
 use Rattle.firm_text.specs.declared.inputs.Line.TheVariants.{Nothing, Long, Nameless, Operator}
 use Rattle.firm_text.specs.declared.operator.OperatorLine.TheVariants.{Admit, Retire, Faulty}
 use Rattle.firm_text.specs.declared.operator.OperatorRefusal.TheVariants.{BadCommand, BadRow, BadName, BadNumber}
 
 abbrev small : TenantLimits
-small = record { nodes = 2; arcs = 0; life = 5; spread = 0; churn = 0 }
+small = record { nodes = 2; arcs = 0; life = 5; spread = 0; churn = 0; remote = 0 }
 
 an_admission : line_of (codes "+ admit b,2,0,5,0,0") ≡ Operator (Admit (codes "b") small)
 an_admission = refl
+
+seven_fields : line_of (codes "+ admit b,2,0,5,0,0,0") ≡ Operator (Admit (codes "b") small)
+seven_fields = refl
 
 a_retirement : line_of (codes " + retire  b ") ≡ Operator (Retire (codes "b"))
 a_retirement = refl
