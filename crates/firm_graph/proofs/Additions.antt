@@ -2,7 +2,8 @@
 use Rattle.std.proofs.Common.{◌≡◌, ℕ, zero, suc, replicate, get_or, bytes_eq, ◌+◌, ◌^◌, ◌<◌, ◌≤◌, true, Option, Some}
 use Rattle.std.proofs.Common.{None, IfSome, List, [], ◌∷◌, ◌++◌, map, length, arith, refl, sym, ap, ap₂, ◌∙◌, subst}
 use Rattle.std.proofs.Common.{length-append}
-use Rattle.std.specs.List.{sum_by, position, position_or_len, slice_get}
+use Rattle.std.proofs.lemmas.List.Elements.{All-head, All-tail}
+use Rattle.std.specs.List.{All, sum_by, position, position_or_len, slice_get}
 use Rattle.std.specs.Prelude.{slice_index_or}
 use Rattle.std.proofs.lemmas.List.{map-append, length-replicate, get_or-map}
 use Rattle.std.proofs.lemmas.List.Sums.{sum_by_push, sum_by-cons}
@@ -15,7 +16,8 @@ use Rattle.firm_graph.proofs.Said.{grown}
 use Rattle.firm_net.specs.Net.{Net, IsNode, added_of, node_count, arc_count, empty_net}
 use Rattle.firm_graph.proofs.Found.{job-there}
 use Rattle.firm_net.specs.declared.row.NodeId.{NodeId}
-use Rattle.firm_rules.specs.Book.{TenantRows, opening_rows, machine_names, job_names, with_machine, with_job, with_task}
+use Rattle.firm_rules.specs.Book.{TenantRows, opening_rows, machine_names, job_names, with_machine, with_job}
+use Rattle.firm_rules.specs.Book.{new_task, with_task}
 use Rattle.firm_rules.specs.Names.{is_among}
 use Rattle.firm_rules.specs.ArenaUse.{arena_nodes, arena_arcs}
 use Rattle.firm_rules.specs.Sound.{AreSound}
@@ -27,8 +29,9 @@ use Rattle.firm_graph.specs.Parts.{MachineParts}
 use Rattle.firm_graph.specs.declared.parts.JobParts.{JobParts}
 use Rattle.firm_graph.specs.declared.parts.TaskParts.{TaskParts}
 use Rattle.firm_graph.specs.Graph.{Graph, Mirrors, machine_spans, slot_spans, job_spans, task_spans, Target, target_of}
-use Rattle.firm_graph.specs.Graph.{home_node, node_under, weight_under, machine_nodes, job_nodes}
-use Rattle.firm_graph.proofs.Totals.{slots-count, nodes-counted, arcs-counted, flat_sum-push, nodes-total, spans-total, tasks-same, sum-one}
+use Rattle.firm_graph.specs.Network.{away}
+use Rattle.firm_graph.specs.Graph.{preferred_spans, home_node, node_under, weight_under, machine_nodes, job_nodes}
+use Rattle.firm_graph.proofs.Totals.{preferred-count, slots-count, nodes-counted, arcs-counted, flat_sum-push, nodes-total, spans-total, tasks-same, sum-one}
 use Rattle.firm_graph.proofs.Lookups.{position-is, node_under-at, weight_under-at, is_among-push, node_under-push, weight_under-push}
 
 length-map : {A B : Type 0} (f : A → B) (xs : List A) → length (map f xs) ≡ length xs
@@ -69,6 +72,7 @@ job-target g net parts name weight task e there =
     ap₂ (λ (n : NodeId) (w : ℕ). let t : Target = record {
       home = home_node (machine_names g.rows) (machine_nodes g) g.hub task.machine;
       owner = n;
+      preferred = map (node_under (machine_names g.rows) (machine_nodes g) g.hub) task.preferred;
       delay = w +
           task.waited;
     } in t)
@@ -110,6 +114,7 @@ job-added g net after parts name weight is sound node arc room =
     refl (omega arith) refl room
     (record {
       slots = is.slots;
+      preferred = is.preferred;
       machines = is.machines;
       jobs = omega (arith, is.jobs, length-append g.jobs (parts ∷ []), length-append g.rows.jobs (job ∷ []));
       tasks = is.tasks;
@@ -126,10 +131,10 @@ room-left i now n a e is fits =
     (omega (arith, nodes-counted i is, is.node_room, here.0), omega (arith, arcs-counted i is, is.arc_room, here.1))
 
 -- the graph with a waiting task added last
-abbrev pub task_added : Graph → Net → TaskParts → List ℕ → List ℕ → Graph
-task_added g net parts job name =
+abbrev pub task_added : Graph → Net → TaskParts → List ℕ → List ℕ → List (List ℕ) → Graph
+task_added g net parts job name preferred =
     record {
-      rows = with_task g.rows job name;
+      rows = with_task g.rows job name preferred;
       net = net;
       hub = g.hub;
       sink = g.sink;
@@ -139,23 +144,42 @@ task_added g net parts job name =
       asked = g.asked + 1;
     }
 
-pub task-added : (g : Graph) (n1 n2 n3 n4 : Net) (parts : TaskParts) (job name : List ℕ) (owner : NodeId) (weight : ℕ)
+-- the nodes of the machines of some names
+abbrev pub nodes_under : Graph → List (List ℕ) → List NodeId
+nodes_under g names = map (node_under (machine_names g.rows) (machine_nodes g) g.hub) names
+
+pub task-added : (g : Graph) (n1 n2 n3 n4 n5 : Net) (parts : TaskParts) (job name : List ℕ)
+    (preferred : List (List ℕ)) (owner : NodeId) (far weight : ℕ)
     → Mirrors g
     → IsEdit g.net n1 [] (parts.node ∷ []) [] []
-    → IsEdit n1 n2 [] [] [] (record { arc = parts.arcs.wide; tail = parts.node; head = g.hub; cap = 1; cost = 0 } ∷ [])
+    → IsEdit n1 n2 [] [] [] (record { arc = parts.arcs.wide; tail = parts.node; head = g.hub; cap = 1; cost = far }
+    ∷ [])
     → IsEdit n2 n3 [] [] [] (record { arc = parts.arcs.stay; tail = parts.node; head = g.hub; cap = 0; cost = 0 } ∷ [])
     → IsEdit n3 n4 [] [] [] (record { arc = parts.arcs.wait; tail = parts.node; head = owner; cap = 1; cost = weight }
     ∷ [])
+    → IsEdit n4 n5 [] [] [] (preferred_spans parts.node 0 (nodes_under g preferred) parts.arcs.preferred)
     → owner ≡ node_under (job_names g.rows) (job_nodes g) g.hub job → weight ≡ weight_under g.rows.jobs job
-    → g.asked < 2 ^ 40 → Mirrors (task_added g n4 parts job name)
-task-added g n1 n2 n3 n4 parts job name owner weight is node wide stay wait owner_is weight_is room =
-    let new : Graph = task_added g n4 parts job name in
-    let task : Task = record { name = name; job = job; machine = None; waited = 0 } in
+    → far ≡ away g.rows.limits.remote preferred → length parts.arcs.preferred ≡ length preferred
+    → length preferred ≤ 4
+    → g.asked < 2 ^ 40 → Mirrors (task_added g n5 parts job name preferred)
+task-added g n1 n2 n3 n4 n5 parts job name preferred owner far weight is node wide stay wait near owner_is weight_is
+    far_is paired few room =
+    let new : Graph = task_added g n5 parts job name preferred in
+    let task : Task = new_task job name preferred in
     let cost : weight ≡ weight_under g.rows.jobs job + 0 + 0 = omega (arith, weight_is) in
-    let s1 : Span = record { arc = parts.arcs.wide; tail = parts.node; head = g.hub; cap = 1; cost = 0 } in
+    let way : far ≡ 0 + away g.rows.limits.remote preferred = omega (arith, far_is) in
+    let s1 : Span = record { arc = parts.arcs.wide; tail = parts.node; head = g.hub; cap = 1; cost = far } in
     let s2 : Span = record { arc = parts.arcs.stay; tail = parts.node; head = g.hub; cap = 0; cost = 0 } in
     let s3 : Span = record { arc = parts.arcs.wait; tail = parts.node; head = owner; cap = 1; cost = weight } in
-    let s4 : Span = record {
+    let ss : List Span = preferred_spans parts.node 0 (nodes_under g preferred) parts.arcs.preferred in
+    let t1 : Span = record {
+      arc = parts.arcs.wide;
+      tail = parts.node;
+      head = g.hub;
+      cap = 1;
+      cost = 0 + away g.rows.limits.remote preferred;
+    } in
+    let t3 : Span = record {
       arc = parts.arcs.wait;
       tail = parts.node;
       head = node_under (job_names g.rows)
@@ -163,14 +187,22 @@ task-added g n1 n2 n3 n4 parts job name owner weight is node wide stay wait owne
       cap = 1;
       cost = weight_under g.rows.jobs job + 0 + 0;
     } in
-    let same : s3 ≡ s4 = ap₂ (λ (n : NodeId) (c : ℕ). let s : Span = record
+    let e1 : s1 ≡ t1 = ap (λ (c : ℕ). let s : Span = record
+    { arc = parts.arcs.wide; tail = parts.node; head = g.hub; cap = 1; cost = c } in s) way in
+    let e3 : s3 ≡ t3 = ap₂ (λ (n : NodeId) (c : ℕ). let s : Span = record
     { arc = parts.arcs.wait; tail = parts.node; head = n; cap = 1; cost = c } in s) owner_is cost in
     let to_wide = edit-then g.net n1 n2 (parts.node ∷ []) [] (s1 ∷ []) node wide in
     let to_stay = edit-then g.net n2 n3 (parts.node ∷ []) (s1 ∷ []) (s2 ∷ []) to_wide stay in
     let to_wait = edit-then g.net n3 n4 (parts.node ∷ []) (s1 ∷ s2 ∷ []) (s3 ∷ []) to_stay wait in
-    let whole : IsEdit g.net n4 [] (parts.node ∷ []) [] (s1 ∷ s2 ∷ s4 ∷ []) =
-    subst (λ (s : Span). IsEdit g.net n4 [] (parts.node ∷ []) [] (s1 ∷ s2 ∷ s ∷ [])) same to_wait in
-    grown g new parts.node (s1 ∷ s2 ∷ s4 ∷ []) is whole
+    let to_near = edit-then g.net n4 n5 (parts.node ∷ []) (s1 ∷ s2 ∷ s3 ∷ []) ss to_wait near in
+    let E : Span → Span → Type 0 = λ (a b : Span). IsEdit g.net n5 [] (parts.node ∷ []) [] (a ∷ s2 ∷ b ∷ ss) in
+    let whole : IsEdit g.net n5 [] (parts.node ∷ []) [] (t1 ∷ s2 ∷ t3 ∷ ss) =
+    subst (λ (s : Span). E t1 s) e3 (subst (λ (s : Span). E s s3) e1 to_near) in
+    let heads : length (nodes_under g preferred) ≡ length preferred =
+    length-map (node_under (machine_names g.rows) (machine_nodes g) g.hub) preferred in
+    let counted : length ss ≡ length (nodes_under g preferred) = preferred-count parts.node 0 (nodes_under g preferred)
+    parts.arcs.preferred (paired ∙ sym heads) in
+    grown g new parts.node (t1 ∷ s2 ∷ t3 ∷ ss) is whole
     (λ w. omega (
       arith,
       nodes-total w g,
@@ -181,11 +213,14 @@ task-added g n1 n2 n3 n4 parts job name owner weight is node wide stay wait owne
       arith,
       spans-total w g,
       spans-total w new,
-      flat_sum-push w (task_spans g.hub g.rows.limits.churn (target_of g)) g.rows.tasks g.tasks task parts is.tasks,
+      flat_sum-push w (task_spans g.hub g.rows.limits.churn g.rows.limits.remote (target_of g)) g.rows.tasks g.tasks
+          task parts is.tasks,
     ))
-    refl (omega arith) refl room
+    refl (omega (arith, counted, heads, few)) refl room
     (record {
       slots = is.slots;
+      preferred = AllZip-push (λ (t : Task) (p : TaskParts). length p.arcs.preferred ≡ length t.preferred) g.rows.tasks
+          g.tasks task parts is.preferred paired;
       machines = is.machines;
       jobs = is.jobs;
       tasks = omega (arith, is.tasks, length-append g.tasks (parts ∷ []), length-append g.rows.tasks (task ∷ []));
@@ -222,18 +257,35 @@ home-push g parts name slots (Some m) e there =
     (map-append (λ (p : MachineParts). p.node) g.machines (parts ∷ []))
     ∙ node_under-push (machine_names g.rows) (machine_nodes g) name parts.node g.hub m lengths there
 
+-- machines that are there are found as before
+preferred-push : (g : Graph) (parts : MachineParts) (name : List ℕ) (slots : ℕ) (preferred : List (List ℕ))
+    → length g.machines ≡ length g.rows.machines
+    → All (λ m. is_among (machine_names g.rows) m ≡ true) preferred
+    → map (node_under (machine_names (with_machine g.rows name slots))
+    (map (λ (p : MachineParts). p.node) (g.machines ++ parts ∷ [])) g.hub) preferred
+    ≡ nodes_under g preferred
+preferred-push g parts name slots [] e there = refl
+preferred-push g parts name slots (m ∷ preferred) e there =
+    let P : List ℕ → Type 0 = λ (n : List ℕ). is_among (machine_names g.rows) n ≡ true in
+    ap₂ (λ (n : NodeId) (l : List NodeId). n ∷ l)
+    (home-push g parts name slots (Some m) e (All-head P m preferred there))
+    (preferred-push g parts name slots preferred e (All-tail P m preferred there))
+
 machine-target : (g : Graph) (net : Net) (parts : MachineParts) (name : List ℕ) (slots : ℕ) (task : Task)
     → length g.machines ≡ length g.rows.machines
     → IfSome task.machine (λ m. is_among (machine_names g.rows) m ≡ true)
+    → All (λ m. is_among (machine_names g.rows) m ≡ true) task.preferred
     → target_of (machine_added g net parts name slots) task ≡ target_of g task
-machine-target g net parts name slots task e there =
-    ap (λ (n : NodeId). let t : Target = record {
+machine-target g net parts name slots task e there preferred =
+    ap₂ (λ (n : NodeId) (l : List NodeId). let t : Target = record {
       home = n;
       owner = node_under (job_names g.rows) (job_nodes g) g.hub task.job;
+      preferred = l;
       delay = weight_under
           g.rows.jobs task.job + task.waited;
     } in t)
     (home-push g parts name slots task.machine e there)
+    (preferred-push g parts name slots task.preferred e preferred)
 
 still-among : (names : List (List ℕ)) (name : List ℕ) (home : Option (List ℕ))
     → IfSome home (λ m. is_among names m ≡ true)
@@ -273,12 +325,13 @@ machine-added g n1 n2 n3 parts name slots is sound node through rest slots_is fe
           is.machines,
       tasks-same w g (target_of new) (target_of g)
           (λ k d below. machine-target g n3 parts name slots (slice_index_or g.rows.tasks k d) is.machines
-          (sound.machines_there k d below)),
+          (sound.machines_there k d below) (sound.preferred_there k d below)),
     ))
     refl (omega (arith, counted, slots_is, few)) refl room
     (record {
       slots = AllZip-push (λ (m : Machine) (p : MachineParts). length p.slots ≡ m.slots) g.rows.machines g.machines
           machine parts is.slots slots_is;
+      preferred = is.preferred;
       machines = omega (
         arith,
         is.machines,
@@ -337,6 +390,7 @@ opened n0 n1 n2 hub sink limits empty first second =
         );
       };
       slots = tt;
+      preferred = tt;
       machines = refl;
       jobs = refl;
       tasks = refl;
@@ -348,18 +402,25 @@ opened n0 n1 n2 hub sink limits empty first second =
       asked = omega arith;
     }
 
+-- the node of a name's own parts, read at the name's place
+pub node-read : {A : Type 0} (node : A → NodeId) (names : List (List ℕ)) (parts : List A) (other : NodeId)
+    (name : List ℕ) (place : ℕ) → position (bytes_eq name) names ≡ Some place → length parts ≡ length names → (d : A)
+    → node (get_or parts place d) ≡ node_under names (map node parts) other name
+node-read node names parts other name place e lengths d =
+    let at = position-is (bytes_eq name) names place e in
+    let same : length (map node parts) ≡ length names = length-map node parts ∙ lengths in
+    let below : place < length parts = omega (arith, at.1, lengths) in
+    sym (get_or-map node parts place d other below)
+    ∙ sym (ap (λ (k : ℕ). get_or (map node parts) k other) at.0)
+    ∙ sym (node_under-at names (map node parts) other name same)
+
 -- the owner of a job's tasks, and its weight, as the code reads them
 pub owner-read : (g : Graph) (name : List ℕ) (place : ℕ) → position (bytes_eq name) (job_names g.rows) ≡ Some place
     → length g.jobs ≡ length g.rows.jobs
     → (d : JobParts) → (get_or g.jobs place d).node ≡ node_under (job_names g.rows) (job_nodes g) g.hub name
 owner-read g name place e lengths d =
-    let at = position-is (bytes_eq name) (job_names g.rows) place e in
-    let same : length (job_nodes g) ≡ length (job_names g.rows) =
-    length-map (λ (p : JobParts). p.node) g.jobs ∙ lengths ∙ sym (length-map (λ (j : Job). j.name) g.rows.jobs) in
-    let below : place < length g.jobs = omega (arith, at.1, lengths, length-map (λ (j : Job). j.name) g.rows.jobs) in
-    sym (get_or-map (λ (p : JobParts). p.node) g.jobs place d g.hub below)
-    ∙ sym (ap (λ (k : ℕ). get_or (job_nodes g) k g.hub) at.0)
-    ∙ sym (node_under-at (job_names g.rows) (job_nodes g) g.hub name same)
+    node-read (λ (p : JobParts). p.node) (job_names g.rows) g.jobs g.hub name place e
+    (lengths ∙ sym (length-map (λ (j : Job). j.name) g.rows.jobs)) d
 
 pub weight-read : (rows : TenantRows) (name : List ℕ) (place : ℕ) (job : Job)
     → position (bytes_eq name) (job_names rows) ≡ Some place

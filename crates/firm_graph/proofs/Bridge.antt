@@ -1,5 +1,5 @@
 -- The network told by rows, one by one, is the network of their case.
-use Rattle.std.proofs.Common.{◌≡◌, ℕ, zero, suc, ◌+◌, ◌*◌, ◌<◌, Bool, true, false, cond, not, is_some, Option, Some}
+use Rattle.std.proofs.Common.{◌≡◌, ℕ, zero, suc, ◌+◌, ◌*◌, ◌<◌, Bool, true, false, cond, ltb, not, is_some, Option, Some}
 use Rattle.std.proofs.Common.{None, List, [], ◌∷◌, ◌++◌, map, length, get_or, bytes_eq, append_assoc, arith, refl, sym}
 use Rattle.std.proofs.Common.{ap, ap₂, ◌∙◌, ⊎_elim}
 use Rattle.std.specs.List.{position_or_len}
@@ -8,15 +8,16 @@ use Rattle.std.proofs.lemmas.Bool.{cases_Bool, cond-true, cond-false, not_from_t
 use Rattle.firm_paths.specs.Network.{Arc}
 use Rattle.firm_rules.specs.Book.{TenantRows, machine_names, job_names}
 use Rattle.firm_rules.specs.Placement.{Case, Demand}
-use Rattle.firm_rules.specs.Round.{case_of, machine_place, job_place, weight_at}
+use Rattle.firm_rules.specs.Round.{case_of, place_of, machine_place, job_place, weight_at, demand_of}
 use Rattle.firm_rules.specs.declared.parts.Machine.{Machine}
 use Rattle.firm_rules.specs.declared.parts.Job.{Job}
 use Rattle.firm_rules.specs.declared.parts.Task.{Task}
 use Rattle.firm_graph.specs.declared.network.Node.{Node}
 use Rattle.firm_graph.specs.declared.network.Node.TheVariants.{Sink, Hub, Machine as MachineAt, Owner, Task as TaskAt}
 use Rattle.firm_graph.specs.declared.network.Key.{Key}
-use Rattle.firm_graph.specs.declared.network.Key.TheVariants.{Through, Slot, Exit, Wide, Stay, Delay}
-use Rattle.firm_graph.specs.Network.{gather, arc, slots_of, demand, runs, stay_head, machine_arcs, job_arcs, task_arcs, network}
+use Rattle.firm_graph.specs.declared.network.Key.TheVariants.{Through, Slot, Exit, Wide, Stay, Delay, Prefer}
+use Rattle.firm_graph.specs.Network.{gather, arc, slots_of, demand, runs, stay_head, away, machine_arcs, job_arcs, task_arcs}
+use Rattle.firm_graph.specs.Network.{network}
 use Rattle.firm_graph.specs.Graph.{weight_under}
 
 abbrev pub bare : Key → Node → Node → ℕ → ℕ → Arc Node Key
@@ -39,15 +40,25 @@ abbrev pub head_of : List (List ℕ) → Option (List ℕ) → Node
 head_of names None = Hub
 head_of names (Some name) = MachineAt (position_or_len (bytes_eq name) names)
 
-abbrev pub task_rows : TenantRows → ℕ → List Task → List (Arc Node Key)
-task_rows rows i [] = []
-task_rows rows i (t ∷ rest) =
+-- a task's arcs to the machines that it prefers, the first of these its k-th
+abbrev pub preferred_rows : List (List ℕ) → ℕ → ℕ → ℕ → List (List ℕ) → List (Arc Node Key)
+preferred_rows names cost i k [] = []
+preferred_rows names cost i k (name ∷ rest) =
+    bare (Prefer i k) (TaskAt i) (MachineAt (position_or_len (bytes_eq name) names)) 1 cost
+    ∷ preferred_rows names cost i (k + 1) rest
+
+abbrev pub one_task_rows : TenantRows → ℕ → Task → List (Arc Node Key)
+one_task_rows rows i t =
     let leaving : ℕ = cond (is_some t.machine) rows.limits.churn 0 in
-    (bare (Wide i) (TaskAt i) Hub 1 leaving
+    bare (Wide i) (TaskAt i) Hub 1 (leaving + away rows.limits.remote t.preferred)
     ∷ bare (Stay i) (TaskAt i) (head_of (machine_names rows) t.machine) (cond (is_some t.machine) 1 0) 0
     ∷ bare (Delay i) (TaskAt i) (Owner (position_or_len (bytes_eq t.job) (job_names rows))) 1
     (weight_under rows.jobs t.job + t.waited + leaving)
-    ∷ []) ++ task_rows rows (i + 1) rest
+    ∷ preferred_rows (machine_names rows) leaving i 0 t.preferred
+
+abbrev pub task_rows : TenantRows → ℕ → List Task → List (Arc Node Key)
+task_rows rows i [] = []
+task_rows rows i (t ∷ rest) = one_task_rows rows i t ++ task_rows rows (i + 1) rest
 
 abbrev pub rows_network : TenantRows → List (Arc Node Key)
 rows_network rows =
@@ -82,6 +93,10 @@ gather_from f zero = refl
 gather_from {A} f (suc n) =
     ap₂ (λ (a b : List A). a ++ b) (gather_from f n) (ap f (let e : n ≡ 0 + n = omega arith in e)) ∙ sym
     (from_last f 0 n)
+
+length-map : {A B : Type 0} (f : A → B) (xs : List A) → length (map f xs) ≡ length xs
+length-map f [] = refl
+length-map f (x ∷ xs) = omega (arith, length-map f xs)
 
 module _ (rows : TenantRows) (low x : Key → ℕ) where
   abbrev c : Case
@@ -148,51 +163,72 @@ module _ (rows : TenantRows) (low x : Key → ℕ) where
   head_same None = refl
   head_same (Some name) = refl
 
-  abbrev demand_of : Task → Demand
-  demand_of t = record {
-    home = machine_place rows t.machine;
-    delay = weight_at rows (job_place rows t) + t.waited;
-    job
-        = job_place rows t;
-  }
+  preferred_same : (place : ℕ → ℕ) (cost i k : ℕ) (names : List (List ℕ)) →
+      ((j : ℕ) → j < length names → place (k + j) ≡ place_of rows (get_or names j []))
+      → map (fill low x) (preferred_rows (machine_names rows) cost i k names) ≡ from
+      (λ k. arc low x (Prefer i k) (TaskAt i) (MachineAt (place k)) 1 cost ∷ []) k (length names)
+  unfolding from
+  preferred_same place cost i k [] h = refl
+  preferred_same place cost i k (name ∷ names) h =
+      let own : place_of rows name ≡ place k = sym (h 0 (omega arith)) ∙ ap place
+      (let e : k + 0 ≡ k = omega arith in e) in
+      ap₂ (λ (m : ℕ) (l : List (Arc Node Key)). arc low x (Prefer i k) (TaskAt i) (MachineAt m) 1 cost ∷ l) own
+      (preferred_same place cost i (k + 1) names
+      (λ j below. ap place (let e : k + 1 + j ≡ k + suc j = omega arith in e) ∙ h (suc j) (omega (arith, below))))
+
+  -- the arcs of a task by what it brings to a round
+  abbrev by_demand : ℕ → Demand → List (Arc Node Key)
+  by_demand i q =
+      arc low x (Wide i) (TaskAt i) Hub 1 (cond (runs q.home) c.churn 0 + away c.remote q.preferred)
+      ∷ arc low x (Stay i) (TaskAt i) (stay_head q.home) (cond (runs q.home) 1 0) 0
+      ∷ arc low x (Delay i) (TaskAt i) (Owner q.job) 1 (q.delay + cond (runs q.home) c.churn 0)
+      ∷ gather (λ k. arc low x (Prefer i k) (TaskAt i) (MachineAt (get_or q.preferred k 0)) 1
+      (cond (runs q.home) c.churn 0) ∷ []) (length q.preferred)
+
+  one_same : (i : ℕ) (t : Task) → map (fill low x) (one_task_rows rows i t) ≡ by_demand i (demand_of rows t)
+  one_same i t =
+      let q : Demand = demand_of rows t in
+      let cost : ℕ = cond (runs q.home) c.churn 0 in
+      let mine : Bool → Node → ℕ → List (Arc Node Key) = λ (b : Bool) (n : Node) (w : ℕ).
+      arc low x (Wide i) (TaskAt i) Hub 1 (cond b c.churn 0 + away c.remote t.preferred)
+      ∷ arc low x (Stay i) (TaskAt i) n (cond b 1 0) 0
+      ∷ arc low x (Delay i) (TaskAt i) (Owner (job_place rows t)) 1 (w + t.waited + cond b c.churn 0)
+      ∷ map (fill low x) (preferred_rows (machine_names rows) (cond b c.churn 0) i 0 t.preferred) in
+      let to : ℕ → List (Arc Node Key) = λ (k : ℕ). arc low x (Prefer i k) (TaskAt i)
+      (MachineAt (get_or q.preferred k 0)) 1 cost ∷ [] in
+      let counted : length t.preferred ≡ length q.preferred = sym (length-map (place_of rows) t.preferred) in
+      let preferred : map (fill low x) (preferred_rows (machine_names rows) cost i 0 t.preferred) ≡ gather to
+      (length q.preferred) =
+      preferred_same (λ (k : ℕ). get_or q.preferred k 0) cost i 0 t.preferred
+      (λ j below. ap (λ (k : ℕ). get_or q.preferred k 0) (let e : 0 + j ≡ j = omega arith in e)
+      ∙ get_or-map (place_of rows) t.preferred j [] 0 below)
+      ∙ (sym (gather_from to (length t.preferred)) ∙ ap (gather to) counted) in
+      ap (λ (b : Bool). mine b (head_of (machine_names rows) t.machine) (weight_under rows.jobs t.job))
+      (runs_same t.machine)
+      ∙ (ap (λ (n : Node). mine (runs q.home) n (weight_under rows.jobs t.job)) (head_same t.machine)
+      ∙ (ap (λ (w : ℕ). mine (runs q.home) (stay_head q.home) w) (weight_same rows.jobs t.job)
+      ∙ ap₂ (λ (n : ℕ) (l : List (Arc Node Key)).
+      arc low x (Wide i) (TaskAt i) Hub 1 (cost + cond (ltb 0 n) c.remote 0)
+      ∷ arc low x (Stay i) (TaskAt i) (stay_head q.home) (cond (runs q.home) 1 0) 0
+      ∷ arc low x (Delay i) (TaskAt i) (Owner q.job) 1 (q.delay + cost) ∷ l) counted preferred))
 
   tasks_same : (i : ℕ) (ts : List Task) (d : Task) →
-      ((k : ℕ) → k < length ts → demand c (i + k) ≡ demand_of (get_or ts k d))
+      ((k : ℕ) → k < length ts → demand c (i + k) ≡ demand_of rows (get_or ts k d))
       → map (fill low x) (task_rows rows i ts) ≡ from (task_arcs c low x) i (length ts)
   unfolding from
   tasks_same i [] d h = refl
   tasks_same i (t ∷ ts) d h =
-      let own : demand_of t ≡ demand c i = sym (h 0 (omega arith)) ∙ ap (demand c)
+      let own : demand_of rows t ≡ demand c i = sym (h 0 (omega arith)) ∙ ap (demand c)
       (let e : i + 0 ≡ i = omega arith in e) in
-      let three : Demand → List (Arc Node Key) = λ (q : Demand).
-      arc low x (Wide i) (TaskAt i) Hub 1 (cond (runs q.home) c.churn 0)
-      ∷ arc low x (Stay i) (TaskAt i) (stay_head q.home) (cond (runs q.home) 1 0) 0
-      ∷ arc low x (Delay i) (TaskAt i) (Owner q.job) 1 (q.delay + cond (runs q.home) c.churn 0) ∷ [] in
-      let mine : Bool → Node → ℕ → List (Arc Node Key) = λ (b : Bool) (n : Node) (w : ℕ).
-      arc low x (Wide i) (TaskAt i) Hub 1 (cond b c.churn 0)
-      ∷ arc low x (Stay i) (TaskAt i) n (cond b 1 0) 0
-      ∷ arc low x (Delay i) (TaskAt i) (Owner (job_place rows t)) 1 (w + t.waited + cond b c.churn 0) ∷ [] in
-      let here : mine (is_some t.machine) (head_of (machine_names rows) t.machine) (weight_under rows.jobs t.job) ≡
-      three (demand c i) =
-      ap (λ (b : Bool). mine b (head_of (machine_names rows) t.machine) (weight_under rows.jobs t.job))
-      (runs_same t.machine)
-      ∙ (ap (λ (n : Node). mine (runs (machine_place rows t.machine)) n (weight_under rows.jobs t.job))
-      (head_same t.machine)
-      ∙ (ap (λ (w : ℕ). mine (runs (machine_place rows t.machine)) (stay_head (machine_place rows t.machine)) w)
-      (weight_same rows.jobs t.job)
-      ∙ ap three own)) in
-      ap₂ (λ (a b : List (Arc Node Key)). a ++ b) here
+      map-append (fill low x) (one_task_rows rows i t) (task_rows rows (i + 1) ts)
+      ∙ ap₂ (λ (a b : List (Arc Node Key)). a ++ b) (one_same i t ∙ ap (by_demand i) own)
       (tasks_same (i + 1) ts d (λ k l. ap (demand c) (let e : i + 1 + k ≡ i + suc k = omega arith in e) ∙ h (suc k)
       (omega (arith, l))))
-
-  length-map : {A B : Type 0} (f : A → B) (xs : List A) → length (map f xs) ≡ length xs
-  length-map f [] = refl
-  length-map f (x ∷ xs) = omega (arith, length-map f xs)
 
   pub network_is : map (fill low x) (rows_network rows) ≡ network c low x
   network_is =
       let no_machine : Machine = record { name = []; slots = 0 } in
-      let no_task : Task = record { name = []; job = []; machine = None; waited = 0 } in
+      let no_task : Task = record { name = []; job = []; preferred = []; machine = None; waited = 0 } in
       map-append (fill low x) (machine_rows rows.limits.spread 0 rows.machines)
       (job_rows rows.limits.nodes 0 rows.jobs ++ task_rows rows 0 rows.tasks)
       ∙ ap₂ (λ (a b : List (Arc Node Key)). a ++ b)
@@ -205,6 +241,7 @@ module _ (rows : TenantRows) (low x : Key → ℕ) where
       ∙ ap₂ (λ (a b : List (Arc Node Key)). a ++ b)
       (jobs_same 0 rows.jobs ∙ sym (gather_from (job_arcs c low x) (length rows.jobs)))
       (tasks_same 0 rows.tasks no_task (λ k l. ap (λ (z : ℕ). demand c z) (let e : 0 + k ≡ k = omega arith in e) ∙
-      get_or-map demand_of rows.tasks k no_task (record { home = None; delay = 0; job = 0 }) l)
+      get_or-map (demand_of rows) rows.tasks k no_task (record { home = None; preferred = []; delay = 0; job = 0 })
+      l)
       ∙ (sym (gather_from (task_arcs c low x) (length rows.tasks)) ∙ ap (gather (task_arcs c low x))
-      (sym (length-map demand_of rows.tasks)))))
+      (sym (length-map (demand_of rows) rows.tasks)))))

@@ -1,11 +1,12 @@
 -- The network of some rows has as many nodes and arcs as they take of the arena.
-use Rattle.std.proofs.Common.{◌≡◌, ℕ, zero, suc, ◌+◌, ◌*◌, List, [], ◌∷◌, ◌++◌, map, length, arith, refl, sym, ap, length-append}
+use Rattle.std.proofs.Common.{◌≡◌, ℕ, zero, suc, ◌+◌, ◌*◌, cond, is_some, List, [], ◌∷◌, ◌++◌, map, length, arith, refl, sym, ap, length-append}
 use Rattle.std.specs.List.{sum_by}
 use Rattle.std.proofs.lemmas.List.Sums.{sum_by-cons}
 use Rattle.firm_paths.specs.Network.{Arc}
-use Rattle.firm_rules.specs.Book.{TenantRows}
-use Rattle.firm_rules.specs.Placement.{Case, Demand}
-use Rattle.firm_rules.specs.Round.{case_of, machine_place, job_place, weight_at}
+use Rattle.firm_rules.specs.ArenaUse.{preference_count}
+use Rattle.firm_rules.specs.Book.{TenantRows, machine_names}
+use Rattle.firm_rules.specs.Placement.{Case}
+use Rattle.firm_rules.specs.Round.{case_of, demand_of}
 use Rattle.firm_rules.specs.declared.parts.Machine.{Machine}
 use Rattle.firm_rules.specs.declared.parts.Job.{Job}
 use Rattle.firm_rules.specs.declared.parts.Task.{Task}
@@ -13,7 +14,8 @@ use Rattle.firm_graph.specs.declared.network.Node.{Node}
 use Rattle.firm_graph.specs.declared.network.Node.TheVariants.{Machine as MachineAt, Owner as JobAt, Task as TaskAt}
 use Rattle.firm_graph.specs.declared.network.Key.{Key}
 use Rattle.firm_graph.specs.Network.{gather, task_nodes, IsCounted}
-use Rattle.firm_graph.proofs.Bridge.{slot_rows, machine_rows, job_rows, task_rows, rows_network, fill, network_is}
+use Rattle.firm_graph.proofs.Bridge.{slot_rows, machine_rows, job_rows, preferred_rows, task_rows, rows_network, fill}
+use Rattle.firm_graph.proofs.Bridge.{network_is}
 use Rattle.firm_graph.proofs.Shown.{gather-count}
 
 length-map : {A B : Type 0} (f : A → B) (xs : List A) → length (map f xs) ≡ length xs
@@ -41,9 +43,24 @@ jobs-count : (limit k : ℕ) (js : List Job) → length (job_rows limit k js) �
 jobs-count limit k [] = refl
 jobs-count limit k (j ∷ js) = omega (arith, jobs-count limit (k + 1) js)
 
-tasks-count : (rows : TenantRows) (i : ℕ) (ts : List Task) → length (task_rows rows i ts) ≡ 3 * length ts
+preferred-count : (names : List (List ℕ)) (cost i k : ℕ) (preferred : List (List ℕ))
+    → length (preferred_rows names cost i k preferred) ≡ length preferred
+preferred-count names cost i k [] = refl
+preferred-count names cost i k (name ∷ rest) = omega (arith, preferred-count names cost i (k + 1) rest)
+
+tasks-count : (rows : TenantRows) (i : ℕ) (ts : List Task)
+    → length (task_rows rows i ts) ≡ 3 * length ts + preference_count ts
 tasks-count rows i [] = refl
-tasks-count rows i (t ∷ ts) = omega (arith, tasks-count rows (i + 1) ts)
+tasks-count rows i (t ∷ ts) =
+    let cost : ℕ = cond (is_some t.machine) rows.limits.churn 0 in
+    let own : List (Arc Node Key) = preferred_rows (machine_names rows) cost i 0 t.preferred in
+    omega (
+      arith,
+      length-append own (task_rows rows (i + 1) ts),
+      preferred-count (machine_names rows) cost i 0 t.preferred,
+      tasks-count rows (i + 1) ts,
+      sum_by-cons (λ (task : Task). length task.preferred) t ts,
+    )
 
 pub counted : (rows : TenantRows) → IsCounted rows
 counted rows =
@@ -59,12 +76,7 @@ counted rows =
         gather-count JobAt c.jobs,
         gather-count TaskAt (length c.tasks),
         length-map (λ (m : Machine). m.slots) rows.machines,
-        length-map (λ (t : Task). let d : Demand = record {
-          home = machine_place rows t.machine;
-          delay = weight_at rows (job_place rows t) + t.waited;
-          job =
-              job_place rows t;
-        } in d) rows.tasks,
+        length-map (demand_of rows) rows.tasks,
       );
       arcs = λ low flow.
           omega (

@@ -28,9 +28,10 @@ use Rattle.firm_net.specs.Edits.{Span, spans_of}
 use Rattle.firm_graph.specs.declared.parts.JobParts.{JobParts}
 use Rattle.firm_graph.specs.declared.parts.TaskParts.{TaskParts}
 use Rattle.firm_graph.specs.Graph.{Graph, Mirrors, flat_zip, job_spans, task_spans, Target, target_of, node_under}
-use Rattle.firm_graph.specs.Graph.{graph_spans, graph_nodes, machine_nodes, job_nodes, task_nodes}
+use Rattle.firm_graph.specs.Network.{away}
+use Rattle.firm_graph.specs.Graph.{preferred_spans, graph_spans, graph_nodes, machine_nodes, job_nodes, task_nodes}
 use Rattle.firm_graph.proofs.Found.{ones, same_id-refl, node-there, sink-there, Contains-skip}
-use Rattle.firm_graph.proofs.Drops.{is_node, node-once}
+use Rattle.firm_graph.proofs.Drops.{is_node, node-once, four-sum}
 use Rattle.firm_graph.proofs.NetEdits.{sum-map, spans-sum}
 use Rattle.firm_graph.proofs.Totals.{nodes-total, spans-total}
 
@@ -81,20 +82,27 @@ jobs-out inside sink limit (j ∷ js) (p ∷ ps) e f some =
     (cases_Bool (inside p.node.id.place))
 
 -- a task inside whose job is outside lets one out
-tasks-out : (inside : ℕ → Bool) (hub : NodeId) (churn : ℕ) (target : Task → Target) (ts : List Task)
+tasks-out : (inside : ℕ → Bool) (hub : NodeId) (churn remote : ℕ) (target : Task → Target) (ts : List Task)
     (ps : List TaskParts) → length ps ≡ length ts
     → All (λ t. inside (target t).owner.id.place ≡ false) ts
-    → sum_by (λ p. in_set inside p.node) ps ≤ sum_by (out_weight inside) (flat_zip (task_spans hub churn target) ts ps)
-tasks-out inside hub churn target [] [] e h = omega arith
-tasks-out inside hub churn target [] (p ∷ ps) e h = absurd (omega arith)
-tasks-out inside hub churn target (t ∷ ts) [] e h = omega arith
-tasks-out inside hub churn target (t ∷ ts) (p ∷ ps) e h =
+    → sum_by (λ p. in_set inside p.node) ps ≤ sum_by (out_weight inside)
+    (flat_zip (task_spans hub churn remote target) ts ps)
+tasks-out inside hub churn remote target [] [] e h = omega arith
+tasks-out inside hub churn remote target [] (p ∷ ps) e h = absurd (omega arith)
+tasks-out inside hub churn remote target (t ∷ ts) [] e h = omega arith
+tasks-out inside hub churn remote target (t ∷ ts) (p ∷ ps) e h =
     let P : Task → Type 0 = λ (x : Task). inside (target x).owner.id.place ≡ false in
     let v : TaskParts → ℕ = λ (q : TaskParts). in_set inside q.node in
     let w : Span → ℕ = out_weight inside in
-    let more : List Span = flat_zip (task_spans hub churn target) ts ps in
+    let more : List Span = flat_zip (task_spans hub churn remote target) ts ps in
     let leaving : ℕ = cond (is_some t.machine) churn 0 in
-    let s1 : Span = record { arc = p.arcs.wide; tail = p.node; head = hub; cap = 1; cost = leaving } in
+    let s1 : Span = record {
+      arc = p.arcs.wide;
+      tail = p.node;
+      head = hub;
+      cap = 1;
+      cost = leaving + away remote t.preferred;
+    } in
     let s2 : Span = record {
       arc = p.arcs.stay;
       tail = p.node;
@@ -112,14 +120,13 @@ tasks-out inside hub churn target (t ∷ ts) (p ∷ ps) e h =
           (target t).delay + leaving;
     } in
     let own : w s3 ≡ v p = ap (λ (b : Bool). cond (inside p.node.id.place) (cond b 0 1) 0) (All-head P t ts h) in
+    let ss : List Span = preferred_spans p.node leaving (target t).preferred p.arcs.preferred in
     omega (
       arith,
-      sum_by-cons w s1 (s2 ∷ s3 ∷ more),
-      sum_by-cons w s2 (s3 ∷ more),
-      sum_by-cons w s3 more,
+      four-sum w s1 s2 s3 ss more,
       own,
       sum_by-cons v p ps,
-      tasks-out inside hub churn target ts ps (omega arith) (All-tail P t ts h),
+      tasks-out inside hub churn remote target ts ps (omega arith) (All-tail P t ts h),
     )
 
 -- a name that is there is looked up among the nodes
@@ -194,7 +201,7 @@ no-cut g order inside is sound same cut =
             whole,
             parts,
             sources,
-            tasks-out inside g.hub g.rows.limits.churn
+            tasks-out inside g.hub g.rows.limits.churn g.rows.limits.remote
                 (target_of g) g.rows.tasks g.tasks is.tasks outside,
           ))
       | inr some ↦

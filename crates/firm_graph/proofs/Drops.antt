@@ -1,8 +1,8 @@
 -- What a graph is once a row was removed from it, and what its net holds on the way.
 use Rattle.std.proofs.Common.{◌≡◌, ℕ, zero, suc, ◌+◌, ◌*◌, ◌<◌, ◌≤◌, true, false, cond, is_some, ◌⊎◌, inl, inr, ⊎_elim}
-use Rattle.std.proofs.Common.{Option, Some, None, IsSome, List, [], ◌∷◌, ◌++◌, length, get_or, drop, bytes_eq, arith}
+use Rattle.std.proofs.Common.{Option, Some, None, IsSome, List, [], ◌∷◌, ◌++◌, map, length, get_or, drop, bytes_eq, arith}
 use Rattle.std.proofs.Common.{refl, sym, ap, ◌∙◌, subst, drop-cons}
-use Rattle.std.specs.List.{sum_by, All, Contains, remove}
+use Rattle.std.specs.List.{sum_by, All, AllZip, Contains, remove}
 use Rattle.std.proofs.lemmas.Bool.{cases_Bool, cond-true, cond-false}
 use Rattle.std.proofs.lemmas.List.Sums.{sum_by-cons, sum_by-append, sum_by-remove}
 use Rattle.std.proofs.lemmas.List.Edits.{length-remove}
@@ -29,7 +29,8 @@ use Rattle.firm_graph.specs.declared.parts.JobParts.{JobParts}
 use Rattle.firm_graph.specs.declared.parts.TaskParts.{TaskParts}
 use Rattle.firm_graph.specs.Graph.{Graph, Mirrors, flat_zip, machine_spans, slot_spans, job_spans, task_spans, Target}
 use Rattle.firm_graph.specs.Graph.{target_of, home_node, node_under, graph_nodes, graph_spans, machine_nodes, job_nodes}
-use Rattle.firm_graph.specs.Graph.{task_nodes}
+use Rattle.firm_graph.specs.Graph.{preferred_spans, task_nodes}
+use Rattle.firm_graph.specs.Network.{away}
 use Rattle.firm_graph.proofs.Entries.{sum-slot}
 use Rattle.firm_arena.specs.Sums.{sum-without}
 use Rattle.firm_graph.proofs.NetEdits.{nodes-sum, spans-sum, span_weight, sum-map, arc-below}
@@ -75,6 +76,27 @@ holds-unlinked base old new ns s ss h edits =
       node_room = edit.node_room ∙ h.node_room;
       arc_room = edit.arc_room ∙ h.arc_room;
       added = omega (arith, edit.added, h.added);
+    }
+
+-- what an edit makes of a net that holds so much, wherever the net came from
+pub holds-through : (base old new : Net) (ns : List NodeId) (ss ts : List Span) → Holds base old ns ss
+    → (Holds old old ns ss → Holds old new ns ts) → Holds base new ns ts
+holds-through base old new ns ss ts h edit =
+    let after = edit (record {
+      net = h.net;
+      nodes = h.nodes;
+      spans = h.spans;
+      node_room = refl;
+      arc_room = refl;
+      added = omega arith;
+    }) in
+    record {
+      net = after.net;
+      nodes = after.nodes;
+      spans = after.spans;
+      node_room = after.node_room ∙ h.node_room;
+      arc_room = after.arc_room ∙ h.arc_room;
+      added = omega (arith, after.added, h.added);
     }
 
 -- an id is that of one entry at most
@@ -199,20 +221,74 @@ jobs-weight w sink limit (j ∷ js) (p ∷ ps) b c =
       own,
     )
 
-tasks-weight : (w : NodeId → ℕ) (hub : NodeId) (churn : ℕ) (target : Task → Target) (ts : List Task)
+-- three arcs and further ones
+pub four-sum : (w : Span → ℕ) (s1 s2 s3 : Span) (ss rest : List Span)
+    → sum_by w (s1 ∷ s2 ∷ s3 ∷ ss ++ rest) ≡ w s1 + (w s2 + (w s3 + (sum_by w ss + sum_by w rest)))
+four-sum w s1 s2 s3 ss rest =
+    omega (
+      arith,
+      sum_by-cons w s1 (s2 ∷ s3 ∷ ss ++ rest),
+      sum_by-cons w s2 (s3 ∷ ss ++ rest),
+      sum_by-cons w s3 (ss ++ rest),
+      sum_by-append w ss rest,
+    )
+
+-- names that are looked up weigh nothing where the nodes don't
+under-none : (w : NodeId → ℕ) (names : List (List ℕ)) (nodes : List NodeId) (other : NodeId) (asked : List (List ℕ))
+    → w other ≡ 0 → sum_by w nodes ≡ 0 → sum_by w (map (node_under names nodes other) asked) ≡ 0
+under-none w names nodes other [] a b = refl
+under-none w names nodes other (name ∷ asked) a b =
+    omega (
+      arith,
+      sum_by-cons w (node_under names nodes other name) (map (node_under names nodes other) asked),
+      under-weight w names nodes other name,
+      under-none w names nodes other asked a b,
+      a,
+      b,
+    )
+
+preferred-weight : (w : NodeId → ℕ) (node : NodeId) (cost : ℕ) (heads : List NodeId) (arcs : List ArcId) → w node ≡ 0
+    → sum_by w heads ≡ 0 → sum_by (end_weight w) (preferred_spans node cost heads arcs) ≡ 0
+preferred-weight w node cost [] arcs a b = refl
+preferred-weight w node cost (head ∷ heads) [] a b = refl
+preferred-weight w node cost (head ∷ heads) (arc ∷ arcs) a b =
+    let own : w head ≡ 0 = omega (arith, b, sum_by-cons w head heads) in
+    let rest : sum_by w heads ≡ 0 = omega (arith, b, sum_by-cons w head heads) in
+    omega (
+      arith,
+      a,
+      own,
+      sum_by-cons (end_weight w) (record { arc = arc; tail = node; head = head; cap = 1; cost = cost })
+          (preferred_spans node cost heads arcs),
+      preferred-weight w node cost heads arcs a rest,
+    )
+
+-- no end of a task's arcs weighs anything beside its own node
+record IsLight (w : NodeId → ℕ) (target : Target) : Type 0 where
+  home : w target.home ≡ 0
+  owner : w target.owner ≡ 0
+  preferred : sum_by w target.preferred ≡ 0
+
+tasks-weight : (w : NodeId → ℕ) (hub : NodeId) (churn remote : ℕ) (target : Task → Target) (ts : List Task)
     (ps : List TaskParts) → w hub ≡ 0
-    → ((t : Task) → (w (target t).home ≡ 0) × (w (target t).owner ≡ 0))
-    → sum_by (λ p. w p.node) ps ≡ 0 → sum_by (end_weight w) (flat_zip (task_spans hub churn target) ts ps) ≡ 0
-tasks-weight w hub churn target [] ps a t c = refl
-tasks-weight w hub churn target (x ∷ ts) [] a t c = refl
-tasks-weight w hub churn target (x ∷ ts) (p ∷ ps) a t c =
+    → ((t : Task) → IsLight w (target t))
+    → sum_by (λ p. w p.node) ps ≡ 0 → sum_by (end_weight w) (flat_zip (task_spans hub churn remote target) ts ps) ≡ 0
+tasks-weight w hub churn remote target [] ps a t c = refl
+tasks-weight w hub churn remote target (x ∷ ts) [] a t c = refl
+tasks-weight w hub churn remote target (x ∷ ts) (p ∷ ps) a t c =
     let v : TaskParts → ℕ = λ (q : TaskParts). w q.node in
     let own : w p.node ≡ 0 = omega (arith, c, sum_by-cons v p ps) in
     let rest : sum_by v ps ≡ 0 = omega (arith, c, sum_by-cons v p ps) in
-    let more : List Span = flat_zip (task_spans hub churn target) ts ps in
+    let more : List Span = flat_zip (task_spans hub churn remote target) ts ps in
     let runs = is_some x.machine in
     let leaving : ℕ = cond runs churn 0 in
-    let s1 : Span = record { arc = p.arcs.wide; tail = p.node; head = hub; cap = 1; cost = leaving } in
+    let s1 : Span = record {
+      arc = p.arcs.wide;
+      tail = p.node;
+      head = hub;
+      cap = 1;
+      cost = leaving + away remote x.preferred;
+    } in
     let s2 : Span = record { arc = p.arcs.stay; tail = p.node; head = (target x).home; cap = cond runs 1 0; cost = 0 }
     in
     let s3 : Span = record {
@@ -223,15 +299,16 @@ tasks-weight w hub churn target (x ∷ ts) (p ∷ ps) a t c =
       cost =
           (target x).delay + leaving;
     } in
+    let ss : List Span = preferred_spans p.node leaving (target x).preferred p.arcs.preferred in
     omega (
       arith,
-      sum_by-cons (end_weight w) s1 (s2 ∷ s3 ∷ more),
-      sum_by-cons (end_weight w) s2 (s3 ∷ more),
-      sum_by-cons (end_weight w) s3 more,
-      tasks-weight w hub churn target ts ps a t rest,
+      four-sum (end_weight w) s1 s2 s3 ss more,
+      preferred-weight w p.node leaving (target x).preferred p.arcs.preferred own (t x).preferred,
+      tasks-weight w hub churn remote target ts ps a t rest,
       own,
-      (t x).0,
-      (t x).1,
+      a,
+      (t x).home,
+      (t x).owner,
     )
 
 pub ends-free : (w : NodeId → ℕ) (g : Graph) → sum_by w (graph_nodes g) ≡ 0 → sum_by (end_weight w) (graph_spans g) ≡ 0
@@ -242,31 +319,32 @@ ends-free w g none =
     let machines : sum_by (λ p. w p.node) g.machines ≡ 0 = omega (arith, none, parts) in
     let jobs : sum_by (λ p. w p.node) g.jobs ≡ 0 = omega (arith, none, parts) in
     let tasks : sum_by (λ p. w p.node) g.tasks ≡ 0 = omega (arith, none, parts) in
-    let targets : (t : Task) → (w (target_of g t).home ≡ 0) × (w (target_of g t).owner ≡ 0) =
-    λ t. (
-      omega (
+    let machines_free : sum_by w (machine_nodes g) ≡ 0 = omega
+    (arith, machines, sum-map w (λ (p : MachineParts). p.node) g.machines) in
+    let targets : (t : Task) → IsLight w (target_of g t) =
+    λ t. record {
+      home = omega (
         arith,
         hub,
-        machines,
+        machines_free,
         home-weight w (machine_names g.rows) (machine_nodes g) g.hub t.machine,
-        sum-map w
-            (λ (p : MachineParts). p.node) g.machines,
-      ),
-      omega (
+      );
+      owner = omega (
         arith,
         hub,
         jobs,
         under-weight w (job_names g.rows) (job_nodes g) g.hub t.job,
-        sum-map w
-            (λ (p : JobParts). p.node) g.jobs,
-      ),
-    ) in
+        sum-map w (λ (p : JobParts). p.node) g.jobs,
+      );
+      preferred = under-none w (machine_names g.rows) (machine_nodes g) g.hub t.preferred hub machines_free;
+    } in
     omega (
       arith,
       spans-total (end_weight w) g,
       machines-weight w g.hub g.sink g.rows.limits.spread g.rows.machines g.machines hub sink machines,
       jobs-weight w g.sink g.rows.limits.nodes g.rows.jobs g.jobs sink jobs,
-      tasks-weight w g.hub g.rows.limits.churn (target_of g) g.rows.tasks g.tasks hub targets tasks,
+      tasks-weight w g.hub g.rows.limits.churn g.rows.limits.remote (target_of g) g.rows.tasks g.tasks hub targets
+          tasks,
     )
 
 -- a net whose arcs have no end at a node lists none there
@@ -346,6 +424,23 @@ All-remove P [] (suc i) h = h
 All-remove P (x ∷ xs) zero h = All-tail P x xs h
 All-remove P (x ∷ xs) (suc i) h = All-cons P x (remove xs i) (All-head P x xs h) (All-remove P xs i (All-tail P x xs h))
 
+pub AllZip-remove : {A B : Type 0} (R : A → B → Type 0) (xs : List A) (ys : List B) (i : ℕ) → AllZip R xs ys
+    → AllZip R (remove xs i) (remove ys i)
+AllZip-remove R [] [] zero h = h
+AllZip-remove R [] [] (suc i) h = h
+AllZip-remove R [] (y ∷ ys) i h = absurd h
+AllZip-remove R (x ∷ xs) [] i h = absurd h
+AllZip-remove R (x ∷ xs) (y ∷ ys) zero h = h.1
+AllZip-remove R (x ∷ xs) (y ∷ ys) (suc i) h = (h.0, AllZip-remove R xs ys i h.1)
+
+pub AllZip-at : {A B : Type 0} (R : A → B → Type 0) (xs : List A) (ys : List B) (i : ℕ) (d : A) (e : B) → AllZip R xs ys
+    → i < length ys → R (get_or xs i d) (get_or ys i e)
+AllZip-at R [] [] i d e h below = absurd (omega arith)
+AllZip-at R [] (y ∷ ys) i d e h below = absurd h
+AllZip-at R (x ∷ xs) [] i d e h below = absurd h
+AllZip-at R (x ∷ xs) (y ∷ ys) zero d e h below = h.0
+AllZip-at R (x ∷ xs) (y ∷ ys) (suc i) d e h below = AllZip-at R xs ys i d e h.1 (omega arith)
+
 -- the graph without the task at a place
 abbrev pub task_dropped : Graph → Net → ℕ → Graph
 task_dropped g net place =
@@ -363,6 +458,10 @@ task_dropped g net place =
 abbrev pub task_at : Graph → ℕ → Task
 task_at g place = get_or g.rows.tasks place no_task
 
+-- what it costs to take a task from its machine
+abbrev pub leaving_of : Graph → ℕ → ℕ
+leaving_of g place = cond (is_some (task_at g place).machine) g.rows.limits.churn 0
+
 abbrev pub wide_of : Graph → ℕ → TaskParts → Span
 wide_of g place parts =
     record {
@@ -370,8 +469,7 @@ wide_of g place parts =
       tail = parts.node;
       head = g.hub;
       cap = 1;
-      cost = cond
-          (is_some (task_at g place).machine) g.rows.limits.churn 0;
+      cost = leaving_of g place + away g.rows.limits.remote (task_at g place).preferred;
     }
 
 abbrev pub stay_of : Graph → ℕ → TaskParts → Span
@@ -395,27 +493,40 @@ wait_of g place parts =
       cost = (target_of g (task_at g place)).delay + cond (is_some (task_at g place).machine) g.rows.limits.churn 0;
     }
 
+abbrev pub preferred_of : Graph → ℕ → TaskParts → List Span
+preferred_of g place parts =
+    preferred_spans parts.node (leaving_of g place) (target_of g (task_at g place)).preferred parts.arcs.preferred
+
+-- a task's arcs, one by one
+pub task-sum : (g : Graph) (w : Span → ℕ) (place : ℕ) (parts : TaskParts)
+    → sum_by w (task_spans g.hub g.rows.limits.churn g.rows.limits.remote (target_of g) (task_at g place) parts)
+    ≡ w (wide_of g place parts) + (w (stay_of g place parts) + (w (wait_of g place parts) + sum_by w
+    (preferred_of g place parts)))
+task-sum g w place parts =
+    let s1 : Span = wide_of g place parts in
+    let s2 : Span = stay_of g place parts in
+    let s3 : Span = wait_of g place parts in
+    let ss : List Span = preferred_of g place parts in
+    omega (arith, sum_by-cons w s1 (s2 ∷ s3 ∷ ss), sum_by-cons w s2 (s3 ∷ ss), sum_by-cons w s3 ss)
+
 pub task-start : (g : Graph) (net : Net) (place : ℕ) (parts : TaskParts) → Mirrors g → place < length g.tasks
     → parts ≡ get_or g.tasks place parts
     → Holds g.net g.net (graph_nodes g) (wide_of g place parts ∷ stay_of g place parts ∷ wait_of g place parts ∷
-    graph_spans (task_dropped g net place))
+    preferred_of g place parts ++ graph_spans (task_dropped g net place))
 task-start g net place parts is below at =
-    let f = task_spans g.hub g.rows.limits.churn (target_of g) in
+    let f = task_spans g.hub g.rows.limits.churn g.rows.limits.remote (target_of g) in
     let rest : List Span = graph_spans (task_dropped g net place) in
     let s1 : Span = wide_of g place parts in
     let s2 : Span = stay_of g place parts in
     let s3 : Span = wait_of g place parts in
+    let ss : List Span = preferred_of g place parts in
     let here : place < length g.rows.tasks = omega (arith, below, is.tasks) in
-    holds-start g is (s1 ∷ s2 ∷ s3 ∷ rest)
+    holds-start g is (s1 ∷ s2 ∷ s3 ∷ ss ++ rest)
     (record {
       weighs = λ w. omega (
         arith,
-        sum_by-cons w s1 (s2 ∷ s3 ∷ rest),
-        sum_by-cons w s2 (s3 ∷ rest),
-        sum_by-cons w s3 rest,
-        sum_by-cons w s1 (s2 ∷ s3 ∷ []),
-        sum_by-cons w s2 (s3 ∷ []),
-        sum-one w s3,
+        four-sum w s1 s2 s3 ss rest,
+        task-sum g w place parts,
         spans-total w g,
         spans-total w (task_dropped g net place),
         flat_sum-remove w f g.rows.tasks g.tasks place no_task parts here is.tasks,
@@ -445,6 +556,8 @@ task-dropped g before after place parts is below at h edit =
     shrunk g (task_dropped g after place) before parts.node is h edit (task-nodes g after place parts below at) refl refl
     (record {
       slots = is.slots;
+      preferred = AllZip-remove (λ (t : Task) (p : TaskParts). length p.arcs.preferred ≡ length t.preferred)
+          g.rows.tasks g.tasks place is.preferred;
       machines = is.machines;
       jobs = is.jobs;
       tasks = omega (arith, is.tasks, length-remove g.tasks place below, length-remove g.rows.tasks place here);
@@ -464,21 +577,47 @@ task-listed g place parts below at =
     Contains-skip (g.hub ∷ g.sink ∷ machine_nodes g) (job_nodes g ++ task_nodes g) n
     (Contains-skip (job_nodes g) (task_nodes g) n (place, listed, own))
 
--- what the net holds once the three arcs of a task were removed
-pub task-unlinked : (g : Graph) (n1 n2 n3 : Net) (place : ℕ) (parts : TaskParts) → Mirrors g → place < length g.tasks
+-- what an edit leaves of a net that holds a task's arcs to the machines that it prefers
+abbrev pub LeavesRest : Net → Net → List ArcId → Type 0
+LeavesRest old new arcs = (ns : List NodeId) (ss : List Span) (node : NodeId) (cost : ℕ) (heads : List NodeId)
+    → length heads ≡ length arcs → Holds old old ns (preferred_spans node cost heads arcs ++ ss) → Holds old new ns ss
+
+-- a task has an arc for each machine that it prefers
+pub preferred-paired : (g : Graph) (place : ℕ) (parts : TaskParts) → Mirrors g → place < length g.tasks
     → parts ≡ get_or g.tasks place parts
+    → length parts.arcs.preferred ≡ length (task_at g place).preferred
+preferred-paired g place parts is below at =
+    let R : Task → TaskParts → Type 0 = λ (t : Task) (p : TaskParts). length p.arcs.preferred ≡ length t.preferred in
+    ap (λ (p : TaskParts). length p.arcs.preferred) at
+    ∙ AllZip-at R g.rows.tasks g.tasks place no_task parts is.preferred below
+
+pub heads-counted : (g : Graph) (place : ℕ) (parts : TaskParts) → Mirrors g → place < length g.tasks
+    → parts ≡ get_or g.tasks place parts
+    → length (target_of g (task_at g place)).preferred ≡ length parts.arcs.preferred
+heads-counted g place parts is below at =
+    length-map (task_at g place).preferred (node_under (machine_names g.rows) (machine_nodes g) g.hub)
+    ∙ sym (preferred-paired g place parts is below at)
+
+-- what the net holds once the arcs of a task were removed
+pub task-unlinked : (g : Graph) (n1 n2 n3 n4 : Net) (place : ℕ) (parts : TaskParts) → Mirrors g
+    → place < length g.tasks → parts ≡ get_or g.tasks place parts
     → ((row : Row) → row_at g.net parts.arcs.wide ≡ Some row → IsEdit g.net n1 [] [] (span_of parts.arcs.wide row ∷ [])
     [])
     → ((row : Row) → row_at n1 parts.arcs.stay ≡ Some row → IsEdit n1 n2 [] [] (span_of parts.arcs.stay row ∷ []) [])
     → ((row : Row) → row_at n2 parts.arcs.wait ≡ Some row → IsEdit n2 n3 [] [] (span_of parts.arcs.wait row ∷ []) [])
-    → Holds g.net n3 (graph_nodes g) (graph_spans (task_dropped g g.net place))
-task-unlinked g n1 n2 n3 place parts is below at one two three =
+    → LeavesRest n3 n4 parts.arcs.preferred
+    → Holds g.net n4 (graph_nodes g) (graph_spans (task_dropped g g.net place))
+task-unlinked g n1 n2 n3 n4 place parts is below at one two three four =
+    let ns : List NodeId = graph_nodes g in
     let rest : List Span = graph_spans (task_dropped g g.net place) in
-    holds-unlinked g.net n2 n3 (graph_nodes g) (wait_of g place parts) rest
-    (holds-unlinked g.net n1 n2 (graph_nodes g) (stay_of g place parts) (wait_of g place parts ∷ rest)
-    (holds-unlinked g.net g.net n1 (graph_nodes g) (wide_of g place parts)
-    (stay_of g place parts ∷ wait_of g place parts ∷ rest)
-    (task-start g g.net place parts is below at) one) two) three
+    let ss : List Span = preferred_of g place parts in
+    let heads : List NodeId = (target_of g (task_at g place)).preferred in
+    holds-through g.net n3 n4 ns (ss ++ rest) rest
+    (holds-unlinked g.net n2 n3 ns (wait_of g place parts) (ss ++ rest)
+    (holds-unlinked g.net n1 n2 ns (stay_of g place parts) (wait_of g place parts ∷ ss ++ rest)
+    (holds-unlinked g.net g.net n1 ns (wide_of g place parts) (stay_of g place parts ∷ wait_of g place parts ∷ ss ++
+    rest) (task-start g g.net place parts is below at) one) two) three)
+    (four ns rest parts.node (leaving_of g place) heads (heads-counted g place parts is below at))
 
 pub task-free : (g : Graph) (now : Net) (place : ℕ) (parts : TaskParts) → place < length g.tasks
     → parts ≡ get_or g.tasks place parts

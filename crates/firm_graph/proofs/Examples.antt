@@ -7,21 +7,25 @@ use Rattle.firm_rules.specs.declared.parts.Task.{Task}
 use Rattle.firm_graph.specs.declared.network.Node.{Node}
 use Rattle.firm_graph.specs.declared.network.Node.TheVariants.{Sink, Hub, Machine as MachineAt, Owner, Task as TaskAt}
 use Rattle.firm_graph.specs.declared.network.Key.{Key}
-use Rattle.firm_graph.specs.declared.network.Key.TheVariants.{Through, Slot, Exit, Wide, Stay, Delay}
+use Rattle.firm_graph.specs.declared.network.Key.TheVariants.{Through, Slot, Exit, Wide, Stay, Delay, Prefer}
 use Rattle.firm_graph.specs.Network.{network}
 
 -- two machines of two slots, a job of weight 10, and these tasks
 rows_of : List Task → TenantRows
 rows_of tasks =
     record {
-      limits = record { nodes = 9; arcs = 24; life = 100; spread = 1; churn = 2 };
+      limits = record { nodes = 9; arcs = 24; life = 100; spread = 1; churn = 2; remote = 7 };
       machines = record { name = codes "m1"; slots = 2 } ∷ record { name = codes "m2"; slots = 2 } ∷ [];
       jobs = record { name = codes "j"; weight = 10 } ∷ [];
       tasks = tasks;
     }
 
+preferring : List ℕ → List (List ℕ) → Option (List ℕ) → Task
+preferring name preferred machine =
+    record { name = name; job = codes "j"; preferred = preferred; machine = machine; waited = 0 }
+
 task : List ℕ → Option (List ℕ) → Task
-task name machine = record { name = name; job = codes "j"; machine = machine; waited = 0 }
+task name machine = preferring name [] machine
 
 arc : Key → Node → Node → ℕ → ℕ → Arc Node Key
 arc key tail head cap cost = record { key = key; tail = tail; head = head; low = 0; cap = cap; cost = cost; flow = 0 }
@@ -45,7 +49,7 @@ two_waiting : network_of (task (codes "a") None ∷ task (codes "b") None ∷ []
     ∷ arc (Stay 1) (TaskAt 1) Hub 0 0
     ∷ arc (Delay 1) (TaskAt 1) (Owner 0) 1 10
     ∷ []
-unfolding rows_of task arc network_of
+unfolding rows_of preferring task arc network_of
 two_waiting = refl
 
 -- before the second round each of them runs on a machine of its own, and a third waits; the arcs of the tasks
@@ -61,5 +65,21 @@ two_running : drop 7 (network_of (task (codes "a") (Some (codes "m1")) ∷ task 
     ∷ arc (Stay 2) (TaskAt 2) Hub 0 0
     ∷ arc (Delay 2) (TaskAt 2) (Owner 0) 1 10
     ∷ []
-unfolding rows_of task arc network_of
+unfolding rows_of preferring task arc network_of
 two_running = refl
+
+-- a task that waits prefers the second machine, and one that runs on the second prefers both; the arcs of the tasks
+two_preferring : drop 7 (network_of (preferring (codes "a") (codes "m2" ∷ []) None
+    ∷ preferring (codes "b") (codes "m2" ∷ codes "m1" ∷ []) (Some (codes "m2")) ∷ []))
+    ≡ arc (Wide 0) (TaskAt 0) Hub 1 7
+    ∷ arc (Stay 0) (TaskAt 0) Hub 0 0
+    ∷ arc (Delay 0) (TaskAt 0) (Owner 0) 1 10
+    ∷ arc (Prefer 0 0) (TaskAt 0) (MachineAt 1) 1 0
+    ∷ arc (Wide 1) (TaskAt 1) Hub 1 9
+    ∷ arc (Stay 1) (TaskAt 1) (MachineAt 1) 1 0
+    ∷ arc (Delay 1) (TaskAt 1) (Owner 0) 1 12
+    ∷ arc (Prefer 1 0) (TaskAt 1) (MachineAt 1) 1 2
+    ∷ arc (Prefer 1 1) (TaskAt 1) (MachineAt 0) 1 2
+    ∷ []
+unfolding rows_of preferring arc network_of
+two_preferring = refl

@@ -1,15 +1,18 @@
 -- Steps of a loop that changes the elements of a list in turn.
-use Rattle.std.proofs.Common.{◌≡◌, ℕ, zero, suc, ◌+◌, ◌<◌, ◌≤◌, true, false, ⊎_elim, Option, None, List, [], ◌∷◌, map}
-use Rattle.std.proofs.Common.{length, get_or, arith, refl, sym, ap, ap₂, ◌∙◌}
+use Rattle.std.proofs.Common.{◌≡◌, ℕ, zero, suc, ◌+◌, ◌<◌, ◌≤◌, Bool, true, false, not, ⊎_elim, Option, None, List, [], ◌∷◌, map}
+use Rattle.std.proofs.Common.{length, get_or, bytes_eq, arith, refl, sym, ap, ap₂, ◌∙◌, subst}
 use Rattle.std.specs.List.{All}
 use Rattle.std.proofs.lemmas.Bool.{cond-true, cond-false, cases_Bool}
-use Rattle.std.proofs.lemmas.List.Elements.{All-nil, All-cons}
-use Rattle.firm_rules.specs.Book.{TenantRows, is_on, evicted}
+use Rattle.std.proofs.lemmas.List.{get_or-map, length-map}
+use Rattle.std.proofs.lemmas.List.Elements.{All-nil, All-cons, filter_passes}
+use Rattle.firm_rules.specs.Book.{TenantRows, is_on, forgetting, evicted}
+use Rattle.firm_rules.specs.Preferences.{without_preference}
 use Rattle.firm_rules.specs.Round.{task_after, rows_after, zipped}
 use Rattle.firm_rules.specs.declared.parts.Task.{Task}
 use Rattle.firm_rules.specs.declared.rounds.Choice.{Choice}
 use Rattle.firm_rules.specs.declared.rounds.Choice.TheVariants.{On, Wait}
-use Rattle.firm_graph.specs.Steps.{update_at, placed, with_task_at, changed_first, evicted_first, settled_first, no_task, task_at}
+use Rattle.firm_graph.specs.Steps.{update_at, placed, with_task_at, changed_first, settled_first, no_task, task_at}
+use Rattle.firm_graph.specs.Steps.{forgetting_rows, thrown_out, thrown_out_first}
 
 module _ {X : Type 0} (f : ℕ → X → X) where
   pub length-first : (i n : ℕ) (xs : List X) → length (changed_first f i n xs) ≡ length xs
@@ -77,36 +80,88 @@ first-zipped {A} f h i (suc n) (x ∷ xs) (c ∷ cs) d e all at =
     (first-zipped f h (i + 1) n xs cs d (omega arith) (omega arith)
     (λ k below. ap h (let z : i + 1 + k ≡ i + suc k = omega arith in z) ∙ at (suc k) (omega (arith, below))))
 
+-- a task that forgot a machine is where it was, and of the same job
+pub record HasForgotten (rows old : TenantRows) (place : ℕ) : Type 0 where
+  pub below : place < length rows.tasks
+  pub machine_is : (name : List ℕ) → is_on name (task_at rows place).machine ≡ is_on name (task_at old place).machine
+  pub job_is : (task_at rows place).job ≡ (task_at old place).job
+  pub jobs : rows.jobs ≡ old.jobs
+  pub limits : rows.limits ≡ old.limits
+
+pub forgotten-at : (rows old : TenantRows) (name : List ℕ) (place : ℕ) → rows ≡ forgetting_rows old name
+    → place < length old.tasks → HasForgotten rows old place
+forgotten-at rows old name place e below =
+    let read : task_at rows place ≡ forgetting name (task_at old place) =
+    ap (λ (r : TenantRows). task_at r place) e
+    ∙ get_or-map (forgetting name) old.tasks place no_task no_task below in
+    record {
+      below = omega (arith, below, ap (λ (r : TenantRows). length r.tasks) e, length-map old.tasks (forgetting name));
+      machine_is = λ other. ap (λ (t : Task). is_on other t.machine) read;
+      job_is = ap (λ (t : Task). t.job) read;
+      jobs = ap (λ (r : TenantRows). r.jobs) e;
+      limits = ap (λ (r : TenantRows). r.limits) e;
+    }
+
 -- the rows, in a step of the loop that throws tasks out
-pub evict-yes : (rows : TenantRows) (name : List ℕ) (n : ℕ) → n < length rows.tasks
+pub throw-yes : (rows : TenantRows) (name : List ℕ) (n : ℕ) → n < length rows.tasks
     → is_on name (task_at rows n).machine ≡ true
-    → with_task_at (evicted_first rows name n) n None 0 ≡ evicted_first rows name (n + 1)
-evict-yes rows name n below t =
+    → with_task_at (thrown_out_first rows name n) n None 0 ≡ thrown_out_first rows name (n + 1)
+throw-yes rows name n below t =
     ap (λ (l : List Task). let s : TenantRows = record rows { tasks = l } in s)
-    (first-more (λ (_ : ℕ). evicted name) n rows.tasks no_task (placed None 0) below
+    (first-more (λ (_ : ℕ). thrown_out name) n rows.tasks no_task (placed None 0) below
     (sym (cond-true (is_on name (task_at rows n).machine) (placed None 0 (task_at rows n)) (task_at rows n) t)))
 
-pub evict-no : (rows : TenantRows) (name : List ℕ) (n : ℕ) → n < length rows.tasks
+pub throw-no : (rows : TenantRows) (name : List ℕ) (n : ℕ) → n < length rows.tasks
     → is_on name (task_at rows n).machine ≡ false
-    → evicted_first rows name (n + 1) ≡ evicted_first rows name n
-evict-no rows name n below f =
+    → thrown_out_first rows name (n + 1) ≡ thrown_out_first rows name n
+throw-no rows name n below f =
     ap (λ (l : List Task). let s : TenantRows = record rows { tasks = l } in s)
-    (first-stays (λ (_ : ℕ). evicted name) n rows.tasks no_task below
+    (first-stays (λ (_ : ℕ). thrown_out name) n rows.tasks no_task below
     (cond-false (is_on name (task_at rows n).machine) (placed None 0 (task_at rows n)) (task_at rows n) f))
 
-pub evict-end : (rows : TenantRows) (name : List ℕ) (n : ℕ) → length rows.tasks ≤ n
-    → evicted_first rows name n ≡ record rows { tasks = map (evicted name) rows.tasks }
-evict-end rows name n all =
-    ap (λ (l : List Task). let s : TenantRows = record rows { tasks = l } in s)
-    (first-all (evicted name) 0 n rows.tasks all)
+forgotten-thrown : (name : List ℕ) (tasks : List Task)
+    → map (thrown_out name) (map (forgetting name) tasks) ≡ map (evicted name) tasks
+forgotten-thrown name [] = refl
+forgotten-thrown name (t ∷ tasks) = ap (λ (l : List Task). evicted name t ∷ l) (forgotten-thrown name tasks)
 
--- no task runs on a machine whose tasks were thrown out
-thrown-out : (name : List ℕ) (task : Task) → is_on name (evicted name task).machine ≡ false
-thrown-out name task = ⊎_elim
+-- tasks that forget a machine, and are then thrown out of it, are evicted
+pub throw-end : (rows : TenantRows) (name : List ℕ) (n : ℕ) → length rows.tasks ≤ n
+    → thrown_out_first (forgetting_rows rows name) name n ≡ record rows { tasks = map (evicted name) rows.tasks }
+throw-end rows name n all =
+    ap (λ (l : List Task). let s : TenantRows = record rows { tasks = l } in s)
+    (first-all (thrown_out name) 0 n (map (forgetting name) rows.tasks)
+    (omega (arith, all, length-map rows.tasks (forgetting name)))
+    ∙ forgotten-thrown name rows.tasks)
+
+-- no task runs on a machine whose tasks were evicted, or prefers it
+evicted-off : (name : List ℕ) (task : Task) → is_on name (evicted name task).machine ≡ false
+evicted-off name task = ⊎_elim
     (λ (t : is_on name task.machine ≡ true). ap (λ (x : Task). is_on name x.machine)
-    (cond-true (is_on name task.machine) (placed None 0 task) task t))
+    (cond-true (is_on name task.machine) (placed None 0 (forgetting name task)) (forgetting name task) t))
     (λ (f : is_on name task.machine ≡ false). ap (λ (x : Task). is_on name x.machine)
-    (cond-false (is_on name task.machine) (placed None 0 task) task f) ∙ f)
+    (cond-false (is_on name task.machine) (placed None 0 (forgetting name task)) (forgetting name task) f) ∙ f)
+    (cases_Bool (is_on name task.machine))
+
+forgotten : (name : List ℕ) (preferred : List (List ℕ))
+    → All (λ m. bytes_eq name m ≡ false) (without_preference name preferred)
+forgotten name preferred k d below =
+    not_true (bytes_eq name (get_or (without_preference name preferred) k d))
+    (filter_passes (λ other. not (bytes_eq name other)) preferred k d below)
+  where
+    not_true : (b : Bool) → not b ≡ true → b ≡ false
+    not_true true h = let clash : false ≡ true = h in absurd cc
+    not_true false h = refl
+
+evicted-loose : (name : List ℕ) (task : Task) → All (λ m. bytes_eq name m ≡ false) (evicted name task).preferred
+evicted-loose name task =
+    let P : Task → Type 0 = λ (x : Task). All (λ m. bytes_eq name m ≡ false) x.preferred in
+    ⊎_elim
+    (λ (t : is_on name task.machine ≡ true). subst P
+    (sym (cond-true (is_on name task.machine) (placed None 0 (forgetting name task)) (forgetting name task) t))
+    (forgotten name task.preferred))
+    (λ (f : is_on name task.machine ≡ false). subst P
+    (sym (cond-false (is_on name task.machine) (placed None 0 (forgetting name task)) (forgetting name task) f))
+    (forgotten name task.preferred))
     (cases_Bool (is_on name task.machine))
 
 pub all-out : (name : List ℕ) (tasks : List Task)
@@ -114,7 +169,14 @@ pub all-out : (name : List ℕ) (tasks : List Task)
 all-out name [] = All-nil (λ (t : Task). is_on name t.machine ≡ false)
 all-out name (t ∷ tasks) =
     All-cons (λ (x : Task). is_on name x.machine ≡ false) (evicted name t) (map (evicted name) tasks)
-    (thrown-out name t) (all-out name tasks)
+    (evicted-off name t) (all-out name tasks)
+
+pub all-loose : (name : List ℕ) (tasks : List Task)
+    → All (λ task. All (λ m. bytes_eq name m ≡ false) task.preferred) (map (evicted name) tasks)
+all-loose name [] = All-nil (λ (t : Task). All (λ m. bytes_eq name m ≡ false) t.preferred)
+all-loose name (t ∷ tasks) =
+    All-cons (λ (x : Task). All (λ m. bytes_eq name m ≡ false) x.preferred) (evicted name t) (map (evicted name) tasks)
+    (evicted-loose name t) (all-loose name tasks)
 
 -- the rows, in a step of the loop that settles a round
 pub settle-step : (rows : TenantRows) (choices : List Choice) (n : ℕ) (choice : Choice) (home : Option (List ℕ))

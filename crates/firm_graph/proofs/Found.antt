@@ -2,7 +2,7 @@
 use Rattle.std.proofs.Common.{◌≡◌, ◌≢◌, ℕ, suc, ◌+◌, ◌<◌, ◌≤◌, ◌==◌, ◌&&◌, Bool, true, false, cond, inl, inr, Option}
 use Rattle.std.proofs.Common.{Some, None, IsSome, List, [], ◌∷◌, ◌++◌, length-append, length, get_or, arith, refl, sym}
 use Rattle.std.proofs.Common.{ap, ap₂, ◌∙◌, subst}
-use Rattle.std.specs.List.{sum_by, Contains}
+use Rattle.std.specs.List.{sum_by, All, Contains}
 use Rattle.std.proofs.lemmas.List.Sums.{get_or-le-sum_by}
 use Rattle.std.proofs.lemmas.Bool.{cases_eq, eqb-true, eq-eqb}
 use Rattle.firm_arena.specs.Arena.{Arena, entries_from, entries, find}
@@ -15,7 +15,7 @@ use Rattle.firm_arena.specs.Changes.{find-held_own}
 use Rattle.firm_net.specs.Edits.{Span, span_of, nodes_of, spans_of, AsOften}
 use Rattle.firm_graph.specs.Graph.{Graph, Mirrors, graph_nodes, machine_nodes, job_nodes, task_nodes}
 use Rattle.firm_graph.specs.declared.parts.JobParts.{JobParts}
-use Rattle.std.proofs.lemmas.List.{get_or-map, length-map, get_or_append_left}
+use Rattle.std.proofs.lemmas.List.{get_or-map, get_or_default, length-map, get_or_append_left}
 use Rattle.firm_graph.proofs.Entries.{sum-slot}
 use Rattle.firm_graph.proofs.NetEdits.{node_weight, span_weight, nodes-sum, spans-sum}
 
@@ -254,3 +254,12 @@ job-there g place d is below =
     node-there g.net (graph_nodes g) n is.nodes
     (Contains-skip (g.hub ∷ g.sink ∷ machine_nodes g) (job_nodes g ++ task_nodes g) n
     (Contains-front (job_nodes g) (task_nodes g) n (place, listed, own)))
+
+-- the nodes of the machines are there
+pub machines-there : (g : Graph) → Mirrors g → All (IsNode g.net) (machine_nodes g)
+machines-there g is k d below =
+    let n : NodeId = get_or (machine_nodes g) k d in
+    node-there g.net (graph_nodes g) n is.nodes
+    (Contains-skip (g.hub ∷ g.sink ∷ []) (machine_nodes g ++ (job_nodes g ++ task_nodes g)) n
+    (Contains-front (machine_nodes g) (job_nodes g ++ task_nodes g) n
+    (k, below, get_or_default (machine_nodes g) k n d below)))

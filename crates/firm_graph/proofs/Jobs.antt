@@ -81,6 +81,7 @@ module _ (g : Graph) (net : Net) (place : ℕ) (name : List ℕ) (parts : JobPar
       ap₂ (λ (n : NodeId) (w : ℕ). let t : Target = record {
         home = home_node (machine_names g.rows) (machine_nodes g) g.hub task.machine;
         owner = n;
+        preferred = map (node_under (machine_names g.rows) (machine_nodes g) g.hub) task.preferred;
         delay = w +
             task.waited;
       } in t) owner weight
@@ -143,6 +144,7 @@ module _ (g : Graph) (net : Net) (place : ℕ) (name : List ℕ) (parts : JobPar
       shrunk g (job_dropped g net place) before parts.node is h edit job-nodes refl refl
       (record {
         slots = is.slots;
+        preferred = is.preferred;
         machines = is.machines;
         jobs = omega (arith, is.jobs, length-remove g.jobs place below, length-remove g.rows.jobs place here);
         tasks = is.tasks;

@@ -1,3 +1,4 @@
+pub mod Fronts
 pub mod Entries
 pub mod NetEdits
 pub mod Found
@@ -7,6 +8,7 @@ pub mod Lookups
 pub mod Additions
 pub mod Drops
 pub mod Places
+pub mod Near
 pub mod Reflows
 pub mod Bridge
 pub mod Networks
@@ -19,5 +21,6 @@ pub mod Names
 pub mod Cuts
 pub mod Shown
 pub mod Turns
+pub mod Forgets
 pub mod Counts
 pub mod Examples

@@ -6,6 +6,7 @@ use Rattle.std.specs.List.{sum_by, All, AllZip, Contains, remove, position, posi
 use Rattle.std.specs.Prelude.{slice_index_or}
 use Rattle.std.proofs.lemmas.Bool.{cases_Bool, cond-false}
 use Rattle.std.proofs.lemmas.List.{get_or-map, length-map}
+use Rattle.std.proofs.lemmas.List.Elements.{All-head, All-tail}
 use Rattle.std.proofs.lemmas.List.Sums.{sum_by-append, sum_by-remove, passes_at_first}
 use Rattle.std.proofs.lemmas.List.Edits.{length-remove}
 use Rattle.std.proofs.lemmas.Slice.Eq.{bytes_eq-Decides}
@@ -27,7 +28,8 @@ use Rattle.firm_graph.proofs.Found.{Contains-skip, Contains-front}
 use Rattle.firm_graph.proofs.Said.{shrunk}
 use Rattle.firm_graph.proofs.Totals.{nodes-total, spans-total, tasks-same}
 use Rattle.firm_graph.proofs.Lookups.{position-is}
-use Rattle.firm_graph.proofs.Drops.{holds-start, holds-unlinked, flat_sum-remove, free, IsFree}
+use Rattle.firm_graph.proofs.Drops.{holds-start, holds-unlinked, holds-through, flat_sum-remove, AllZip-remove, free}
+use Rattle.firm_graph.proofs.Drops.{IsFree}
 
 or-true : (a b : Bool) → a ≡ true → a || b ≡ true
 or-true a b e = ap (λ (x : Bool). x || b) e
@@ -113,14 +115,18 @@ home-elsewhere g place name (Some m) e at off =
     ∙ node_under-remove (machine_names g.rows) (machine_nodes g) place g.hub m lengths n.1
     (ap (λ (x : List ℕ). bytes_eq m x) n.0 ∙ bytes_eq-swap name m off)
 
-AllZip-remove : {A B : Type 0} (R : A → B → Type 0) (xs : List A) (ys : List B) (i : ℕ) → AllZip R xs ys
-    → AllZip R (remove xs i) (remove ys i)
-AllZip-remove R [] [] zero h = h
-AllZip-remove R [] [] (suc i) h = h
-AllZip-remove R [] (y ∷ ys) i h = absurd h
-AllZip-remove R (x ∷ xs) [] i h = absurd h
-AllZip-remove R (x ∷ xs) (y ∷ ys) zero h = h.1
-AllZip-remove R (x ∷ xs) (y ∷ ys) (suc i) h = (h.0, AllZip-remove R xs ys i h.1)
+preferred-elsewhere : (g : Graph) (place : ℕ) (name : List ℕ) (preferred : List (List ℕ))
+    → length g.machines ≡ length g.rows.machines
+    → position (bytes_eq name) (machine_names g.rows) ≡ Some place → All (λ m. bytes_eq name m ≡ false) preferred
+    → map (node_under (machine_names (machine_gone g.rows place))
+    (map (λ (p : MachineParts). p.node) (remove g.machines place)) g.hub) preferred
+    ≡ map (node_under (machine_names g.rows) (machine_nodes g) g.hub) preferred
+preferred-elsewhere g place name [] e at off = refl
+preferred-elsewhere g place name (m ∷ preferred) e at off =
+    let P : List ℕ → Type 0 = λ (n : List ℕ). bytes_eq name n ≡ false in
+    ap₂ (λ (n : NodeId) (l : List NodeId). n ∷ l)
+    (home-elsewhere g place name (Some m) e at (All-head P m preferred off))
+    (preferred-elsewhere g place name preferred e at (All-tail P m preferred off))
 
 abbrev no_machine : Machine
 no_machine = record { name = []; slots = 0 }
@@ -139,20 +145,23 @@ through_of g place parts =
 module _ (g : Graph) (net : Net) (place : ℕ) (name : List ℕ) (parts : MachineParts) (is : Mirrors g)
     (below : place < length g.machines)
     (at : parts ≡ get_or g.machines place parts) (named : position (bytes_eq name) (machine_names g.rows) ≡ Some place)
-    (off : All (λ task. is_on name task.machine ≡ false) g.rows.tasks) where
+    (off : All (λ task. is_on name task.machine ≡ false) g.rows.tasks)
+    (loose : All (λ task. All (λ m. bytes_eq name m ≡ false) task.preferred) g.rows.tasks) where
   new : Graph
   new = machine_dropped g net place
 
   pub machine-target : All (λ task. target_of (machine_dropped g net place) task ≡ target_of g task) g.rows.tasks
   machine-target k d here =
       let task : Task = slice_index_or g.rows.tasks k d in
-      ap (λ (n : NodeId). let t : Target = record {
+      ap₂ (λ (n : NodeId) (l : List NodeId). let t : Target = record {
         home = n;
         owner = node_under (job_names g.rows) (job_nodes g) g.hub task.job;
+        preferred = l;
         delay = weight_under
             g.rows.jobs task.job + task.waited;
       } in t)
       (home-elsewhere g place name task.machine is.machines named (off k d here))
+      (preferred-elsewhere g place name task.preferred is.machines named (loose k d here))
 
   pub machine-start : Holds g.net g.net (graph_nodes g)
       (through_of g place parts ∷ slot_spans parts.node g.sink g.rows.limits.spread 0 parts.slots ++ graph_spans
@@ -211,6 +220,7 @@ module _ (g : Graph) (net : Net) (place : ℕ) (name : List ℕ) (parts : Machin
       (record {
         slots = AllZip-remove (λ (m : Machine) (p : MachineParts). length p.slots ≡ m.slots) g.rows.machines g.machines
             place is.slots;
+        preferred = is.preferred;
         machines = omega (
           arith,
           is.machines,
@@ -230,24 +240,7 @@ module _ (g : Graph) (net : Net) (place : ℕ) (name : List ℕ) (parts : Machin
       → Holds g.net n2 (graph_nodes g) (graph_spans (machine_dropped g net place))
   machine-unlinked n1 n2 one rest =
       let slots : List Span = slot_spans parts.node g.sink g.rows.limits.spread 0 parts.slots in
-      let first = holds-unlinked g.net g.net n1 (graph_nodes g) (through_of g place parts)
-      (slots ++ graph_spans (machine_dropped g net place)) machine-start one in
-      let second = rest (graph_nodes g) (graph_spans (machine_dropped g net place)) parts.node g.sink
-      g.rows.limits.spread
-      (record {
-        net = first.net;
-        nodes = first.nodes;
-        spans = first.spans;
-        node_room = refl;
-        arc_room = refl;
-        added =
-            omega arith;
-      }) in
-      record {
-        net = second.net;
-        nodes = second.nodes;
-        spans = second.spans;
-        node_room = second.node_room ∙ first.node_room;
-        arc_room = second.arc_room ∙ first.arc_room;
-        added = omega (arith, second.added, first.added);
-      }
+      let left : List Span = graph_spans (machine_dropped g net place) in
+      holds-through g.net n1 n2 (graph_nodes g) (slots ++ left) left
+      (holds-unlinked g.net g.net n1 (graph_nodes g) (through_of g place parts) (slots ++ left) machine-start one)
+      (rest (graph_nodes g) left parts.node g.sink g.rows.limits.spread)

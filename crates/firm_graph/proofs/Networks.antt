@@ -1,6 +1,6 @@
 -- What the rows make under the graph's ids is the network of the rows.
 use Rattle.std.proofs.Common.{◌≡◌, ℕ, suc, ◌+◌, ◌*◌, ◌<◌, cond, is_some, Option, Some, None, List, [], ◌∷◌, ◌++◌, map}
-use Rattle.std.proofs.Common.{length, get_or, bytes_eq, arith, refl, sym, ap, ap₂, ◌∙◌}
+use Rattle.std.proofs.Common.{length, get_or, bytes_eq, arith, refl, sym, ap, ap₂, ◌∙◌, subst}
 use Rattle.std.specs.List.{AllZip, position_or_len}
 use Rattle.std.proofs.lemmas.List.{map-append, get_or-map}
 use Rattle.firm_net.specs.declared.row.NodeId.{NodeId}
@@ -15,13 +15,15 @@ use Rattle.firm_graph.specs.Parts.{MachineParts}
 use Rattle.firm_graph.specs.declared.parts.JobParts.{JobParts}
 use Rattle.firm_graph.specs.declared.parts.TaskParts.{TaskParts}
 use Rattle.firm_graph.specs.Graph.{Graph, Mirrors, flat_zip, slot_spans, machine_spans, job_spans, task_spans, Target}
-use Rattle.firm_graph.specs.Graph.{target_of, home_node, weight_under, graph_spans, machine_nodes, job_nodes}
+use Rattle.firm_graph.specs.Graph.{preferred_spans, node_under, target_of, home_node, weight_under, graph_spans, machine_nodes, job_nodes}
 use Rattle.firm_graph.specs.declared.network.Node.{Node}
 use Rattle.firm_graph.specs.declared.network.Node.TheVariants.{Sink, Hub, Machine as MachineAt, Owner as JobAt, Task as TaskAt}
 use Rattle.firm_graph.specs.declared.network.Key.{Key}
-use Rattle.firm_graph.specs.declared.network.Key.TheVariants.{Through, Slot, Exit, Wide, Stay, Delay}
+use Rattle.firm_graph.specs.declared.network.Key.TheVariants.{Through, Slot, Exit, Wide, Stay, Delay, Prefer}
 use Rattle.firm_graph.specs.Ids.{node_id, arc_id, no_arc, no_machine, no_arcs}
-use Rattle.firm_graph.proofs.Bridge.{bare, slot_rows, machine_rows, job_rows, task_rows, head_of, rows_network}
+use Rattle.firm_graph.specs.Network.{away}
+use Rattle.firm_graph.proofs.Bridge.{bare, slot_rows, machine_rows, job_rows, preferred_rows, one_task_rows, task_rows}
+use Rattle.firm_graph.proofs.Bridge.{head_of, rows_network}
 use Rattle.firm_graph.proofs.Lookups.{node_under-at}
 
 length-map : {A B : Type 0} (f : A → B) (xs : List A) → length (map f xs) ≡ length xs
@@ -108,75 +110,122 @@ jobs-shown name id limit k d (j ∷ js) (p ∷ ps) e h =
     { arc = b; tail = n; head = name Sink; cap = limit; cost = 0 } in s) (sym exit) (sym node))
     (jobs-shown name id limit (k + 1) d js ps (omega arith) later)
 
-tasks-shown : (name : Node → NodeId) (id : Key → ArcId) (rows : TenantRows) (target : Task → Target) (i : ℕ)
-    (d : TaskParts) (ts : List Task) (ps : List TaskParts)
-    → length ps ≡ length ts
-    → ((t : Task) → target t ≡ record {
+preferred-shown : (name : Node → NodeId) (id : Key → ArcId) (names : List (List ℕ)) (cost i k : ℕ) (node : NodeId)
+    (preferred : List (List ℕ)) (arcs : List ArcId) → length arcs ≡ length preferred → node ≡ name (TaskAt i)
+    → ((j : ℕ) → j < length arcs → get_or arcs j no_arc ≡ id (Prefer i (k + j)))
+    → map (shown name id) (preferred_rows names cost i k preferred)
+    ≡ preferred_spans node cost (map (λ m. name (MachineAt (position_or_len (bytes_eq m) names))) preferred) arcs
+preferred-shown name id names cost i k node [] arcs e n h = refl
+preferred-shown name id names cost i k node (m ∷ preferred) [] e n h = absurd (omega arith)
+preferred-shown name id names cost i k node (m ∷ preferred) (a ∷ arcs) e n h =
+    let head : NodeId = name (MachineAt (position_or_len (bytes_eq m) names)) in
+    let own : a ≡ id (Prefer i k) = h 0 (omega arith) ∙ ap (λ (q : ℕ). id (Prefer i q))
+    (let z : k + 0 ≡ k = omega arith in z) in
+    let later : (j : ℕ) → j < length arcs → get_or arcs j no_arc ≡ id (Prefer i (k + 1 + j)) =
+    λ j below. h (suc j) (omega (arith, below)) ∙ ap (λ (q : ℕ). id (Prefer i q))
+    (let z : k + suc j ≡ k + 1 + j = omega arith in z) in
+    ap₂ (λ (s : Span) (l : List Span). s ∷ l)
+    (ap₂ (λ (b : ArcId) (t : NodeId). let s : Span = record
+    { arc = b; tail = t; head = head; cap = 1; cost = cost } in s) (sym own) (sym n))
+    (preferred-shown name id names cost i (k + 1) node preferred arcs (omega arith) n later)
+
+-- the parts of a task carry the network's ids
+record AreTaskIds (name : Node → NodeId) (id : Key → ArcId) (i : ℕ) (p : TaskParts) : Type 0 where
+  node : p.node ≡ name (TaskAt i)
+  wide : p.arcs.wide ≡ id (Wide i)
+  stay : p.arcs.stay ≡ id (Stay i)
+  wait : p.arcs.wait ≡ id (Delay i)
+  preferred : (k : ℕ) → k < length p.arcs.preferred → get_or p.arcs.preferred k no_arc ≡ id (Prefer i k)
+
+-- where a task's arcs lead, by the network's ids
+abbrev target_by : (Node → NodeId) → TenantRows → Task → Target
+target_by name rows t =
+    record {
       home = name (head_of (machine_names rows) t.machine);
-      owner = name
-          (JobAt (position_or_len (bytes_eq t.job) (job_names rows)));
+      owner = name (JobAt (position_or_len (bytes_eq t.job) (job_names rows)));
+      preferred = map (λ m. name (MachineAt (position_or_len (bytes_eq m) (machine_names rows)))) t.preferred;
       delay = weight_under rows.jobs t.job + t.waited;
-    })
-    → ((k : ℕ) → k < length ps → ((get_or ps k d).node ≡ name (TaskAt (i + k))) ×
-    ((get_or ps k d).arcs.wide ≡ id (Wide (i + k)))
-    × ((get_or ps k d).arcs.stay ≡ id (Stay (i + k))) × ((get_or ps k d).arcs.wait ≡ id (Delay (i + k))))
-    → map (shown name id) (task_rows rows i ts) ≡ flat_zip (task_spans (name Hub) rows.limits.churn target) ts ps
-tasks-shown name id rows target i d [] ps e t h = refl
-tasks-shown name id rows target i d (x ∷ ts) [] e t h = absurd (omega arith)
-tasks-shown name id rows target i d (x ∷ ts) (p ∷ ps) e t h =
-    let here : i + 0 ≡ i = omega arith in
-    let own = h 0 (omega arith) in
-    let node : p.node ≡ name (TaskAt i) = own.0 ∙ ap (λ (n : ℕ). name (TaskAt n)) here in
-    let wide : p.arcs.wide ≡ id (Wide i) = own.1 ∙ ap (λ (n : ℕ). id (Wide n)) here in
-    let stay : p.arcs.stay ≡ id (Stay i) = own.2 ∙ ap (λ (n : ℕ). id (Stay n)) here in
-    let wait : p.arcs.wait ≡ id (Delay i) = own.3 ∙ ap (λ (n : ℕ). id (Delay n)) here in
+    }
+
+one-shown : (name : Node → NodeId) (id : Key → ArcId) (rows : TenantRows) (target : Task → Target) (i : ℕ) (x : Task)
+    (p : TaskParts) → length p.arcs.preferred ≡ length x.preferred → target x ≡ target_by name rows x
+    → AreTaskIds name id i p
+    → map (shown name id) (one_task_rows rows i x)
+    ≡ task_spans (name Hub) rows.limits.churn rows.limits.remote target x p
+one-shown name id rows target i x p e t own =
     let leaving : ℕ = cond (is_some x.machine) rows.limits.churn 0 in
-    let later : (k : ℕ) → k < length ps → ((get_or ps k d).node ≡ name (TaskAt (i + 1 + k))) ×
-    ((get_or ps k d).arcs.wide ≡ id (Wide (i + 1 + k)))
-    × ((get_or ps k d).arcs.stay ≡ id (Stay (i + 1 + k))) × ((get_or ps k d).arcs.wait ≡ id (Delay (i + 1 + k))) =
-    λ k below.
-    let q : i + suc k ≡ i + 1 + k = omega arith in
-    let r = h (suc k) (omega (arith, below)) in (
-      r.0 ∙ ap (λ (n : ℕ). name (TaskAt n)) q,
-      r.1 ∙ ap (λ (n : ℕ). id (Wide n)) q,
-      r.2 ∙ ap (λ (n : ℕ). id (Stay n)) q,
-      r.3 ∙ ap (λ (n : ℕ). id (Delay n)) q,
-    ) in
-    let s1 : shown name id (bare (Wide i) (TaskAt i) Hub 1 leaving) ≡ record
-    { arc = p.arcs.wide; tail = p.node; head = name Hub; cap = 1; cost = leaving } =
-    ap₂ (λ (b : ArcId) (n : NodeId). let s : Span = record
-    { arc = b; tail = n; head = name Hub; cap = 1; cost = leaving } in s) (sym wide) (sym node) in
-    let s2 : shown name id (bare (Stay i) (TaskAt i) (head_of (machine_names rows) x.machine)
-    (cond (is_some x.machine) 1 0) 0)
-    ≡ record { arc = p.arcs.stay; tail = p.node; head = (target x).home; cap = cond (is_some x.machine) 1 0; cost = 0 }
-    =
-    ap₂ (λ (b : ArcId) (n : NodeId). let s : Span = record {
-      arc = b;
-      tail = n;
-      head = name (head_of (machine_names rows) x.machine);
+    let made : TaskParts → Target → List Span = λ (q : TaskParts) (to : Target).
+    record {
+      arc = q.arcs.wide;
+      tail = q.node;
+      head = name Hub;
+      cap = 1;
+      cost = leaving + away rows.limits.remote x.preferred;
+    }
+    ∷ record { arc = q.arcs.stay; tail = q.node; head = to.home; cap = cond (is_some x.machine) 1 0; cost = 0 }
+    ∷ record { arc = q.arcs.wait; tail = q.node; head = to.owner; cap = 1; cost = to.delay + leaving }
+    ∷ preferred_spans p.node leaving to.preferred p.arcs.preferred in
+    let ids : TaskParts = record {
+      node = name (TaskAt i);
+      arcs = record { wide = id (Wide i); stay = id (Stay i); wait = id (Delay i); preferred = [] };
+    } in
+    let mine : TaskParts = record {
+      node = p.node;
+      arcs = record { wide = p.arcs.wide; stay = p.arcs.stay; wait = p.arcs.wait; preferred = [] };
+    } in
+    let same : mine ≡ ids =
+    ap₂ (λ (n : NodeId) (a : ArcId). let q : TaskParts = record {
+      node = n;
+      arcs = record { wide = a; stay = p.arcs.stay; wait = p.arcs.wait; preferred = [] };
+    } in q) own.node own.wide
+    ∙ ap₂ (λ (a b : ArcId). let q : TaskParts = record {
+      node = name (TaskAt i);
+      arcs = record { wide = id (Wide i); stay = a; wait = b; preferred = [] };
+    } in q) own.stay own.wait in
+    let to : Target = target_by name rows x in
+    ap (λ (l : List Span).
+    record {
+      arc = id (Wide i);
+      tail = name (TaskAt i);
+      head = name Hub;
+      cap = 1;
+      cost = leaving + away rows.limits.remote x.preferred;
+    }
+    ∷ record {
+      arc = id (Stay i);
+      tail = name (TaskAt i);
+      head = to.home;
       cap = cond (is_some x.machine) 1 0;
       cost = 0;
-    } in s) (sym stay) (sym node)
-    ∙ ap (λ (g : Target). let s : Span = record
-    { arc = p.arcs.stay; tail = p.node; head = g.home; cap = cond (is_some x.machine) 1 0; cost = 0 } in s) (sym (t x))
-    in
-    let s3 : shown name id (bare (Delay i) (TaskAt i) (JobAt (position_or_len (bytes_eq x.job) (job_names rows))) 1
-    (weight_under rows.jobs x.job + x.waited + leaving))
-    ≡ record { arc = p.arcs.wait; tail = p.node; head = (target x).owner; cap = 1; cost = (target x).delay + leaving } =
-    ap₂ (λ (b : ArcId) (n : NodeId). let s : Span = record {
-      arc = b;
-      tail = n;
-      head = name (JobAt (position_or_len (bytes_eq x.job) (job_names rows)));
-      cap = 1;
-      cost =
-          weight_under rows.jobs x.job + x.waited + leaving;
-    } in s) (sym wait) (sym node)
-    ∙ ap (λ (g : Target). let s : Span = record
-    { arc = p.arcs.wait; tail = p.node; head = g.owner; cap = 1; cost = g.delay + leaving } in s) (sym (t x)) in
-    ap₂ (λ (a : Span) (l : List Span). a ∷ l) s1
-    (ap₂ (λ (a : Span) (l : List Span). a ∷ l) s2
-    (ap₂ (λ (a : Span) (l : List Span). a ∷ l) s3
-    (tasks-shown name id rows target (i + 1) d ts ps (omega arith) t later)))
+    }
+    ∷ record { arc = id (Delay i); tail = name (TaskAt i); head = to.owner; cap = 1; cost = to.delay + leaving } ∷ l)
+    (preferred-shown name id (machine_names rows) leaving i 0 p.node x.preferred p.arcs.preferred e own.node
+    (λ j below. own.preferred j below ∙ ap (λ (q : ℕ). id (Prefer i q)) (let z : j ≡ 0 + j = omega arith in z)))
+    ∙ ap (λ (q : TaskParts). made q to) (sym same)
+    ∙ ap (made mine) (sym t)
+
+tasks-shown : (name : Node → NodeId) (id : Key → ArcId) (rows : TenantRows) (target : Task → Target) (i : ℕ)
+    (d : TaskParts) (ts : List Task) (ps : List TaskParts)
+    → AllZip (λ task parts. length parts.arcs.preferred ≡ length task.preferred) ts ps
+    → ((t : Task) → target t ≡ target_by name rows t)
+    → ((k : ℕ) → k < length ps → AreTaskIds name id (i + k) (get_or ps k d))
+    → map (shown name id) (task_rows rows i ts)
+    ≡ flat_zip (task_spans (name Hub) rows.limits.churn rows.limits.remote target) ts ps
+tasks-shown name id rows target i d [] ps e t h = refl
+tasks-shown name id rows target i d (x ∷ ts) [] e t h = absurd e
+tasks-shown name id rows target i d (x ∷ ts) (p ∷ ps) e t h =
+    let own : AreTaskIds name id i p = subst (λ (n : ℕ). AreTaskIds name id n p)
+    (let z : i + 0 ≡ i = omega arith in z) (h 0 (omega arith)) in
+    let later : (k : ℕ) → k < length ps → AreTaskIds name id (i + 1 + k) (get_or ps k d) =
+    λ k below. subst (λ (n : ℕ). AreTaskIds name id n (get_or ps k d))
+    (let z : i + suc k ≡ i + 1 + k = omega arith in z) (h (suc k) (omega (arith, below))) in
+    map-append (shown name id) (one_task_rows rows i x) (task_rows rows (i + 1) ts)
+    ∙ ap₂ (λ (a b : List Span). a ++ b) (one-shown name id rows target i x p e.0 (t x) own)
+    (tasks-shown name id rows target (i + 1) d ts ps e.1 t later)
+
+map-same : {A B : Type 0} (f g : A → B) → ((x : A) → f x ≡ g x) → (xs : List A) → map f xs ≡ map g xs
+map-same f g e [] = refl
+map-same {A} {B} f g e (x ∷ xs) = ap₂ (λ (y : B) (l : List B). y ∷ l) (e x) (map-same f g e xs)
 
 home-named : (g : Graph) (home : Option (List ℕ)) → length g.machines ≡ length g.rows.machines
     → home_node (machine_names g.rows) (machine_nodes g) g.hub home ≡ node_id g (head_of (machine_names g.rows) home)
@@ -211,28 +260,39 @@ graph-shown g is =
       sym (get_or-map (λ (p : JobParts). p.node) g.jobs i none g.hub below) ∙ ap (λ (n : ℕ). name (JobAt n)) (at i),
       ap (λ (n : ℕ). id (Exit n)) (at i),
     )) in
-    let targets : (t : Task) → target_of g t ≡ record {
-      home = name (head_of (machine_names g.rows) t.machine);
-      owner = name
-          (JobAt (position_or_len (bytes_eq t.job) (job_names g.rows)));
-      delay = weight_under g.rows.jobs t.job +
-          t.waited;
-    } =
-    λ t. ap₂ (λ (a b : NodeId). let x : Target = record
-    { home = a; owner = b; delay = weight_under g.rows.jobs t.job + t.waited } in x)
+    let machine_lengths : length (machine_nodes g) ≡ length (machine_names g.rows) =
+    length-map (λ (p : MachineParts). p.node) g.machines ∙ is.machines ∙ sym
+    (length-map (λ (j : Machine). j.name) g.rows.machines) in
+    let targets : (t : Task) → target_of g t ≡ target_by name g.rows t =
+    λ t. ap₂ (λ (a b : NodeId). let x : Target = record {
+      home = a;
+      owner = b;
+      preferred = map (node_under (machine_names g.rows) (machine_nodes g) g.hub) t.preferred;
+      delay = weight_under g.rows.jobs t.job + t.waited;
+    } in x)
     (home-named g t.machine is.machines)
     (node_under-at (job_names g.rows) (job_nodes g) g.hub t.job
-    (length-map (λ (p : JobParts). p.node) g.jobs ∙ is.jobs ∙ sym (length-map (λ (j : Job). j.name) g.rows.jobs))) in
+    (length-map (λ (p : JobParts). p.node) g.jobs ∙ is.jobs ∙ sym (length-map (λ (j : Job). j.name) g.rows.jobs)))
+    ∙ ap (λ (l : List NodeId). let x : Target = record {
+      home = name (head_of (machine_names g.rows) t.machine);
+      owner = name (JobAt (position_or_len (bytes_eq t.job) (job_names g.rows)));
+      preferred = l;
+      delay = weight_under g.rows.jobs t.job + t.waited;
+    } in x)
+    (map-same (node_under (machine_names g.rows) (machine_nodes g) g.hub)
+    (λ m. name (MachineAt (position_or_len (bytes_eq m) (machine_names g.rows))))
+    (λ m. node_under-at (machine_names g.rows) (machine_nodes g) g.hub m machine_lengths) t.preferred) in
     let tasks : map show (task_rows g.rows 0 g.rows.tasks) ≡ flat_zip
-    (task_spans g.hub g.rows.limits.churn (target_of g)) g.rows.tasks g.tasks =
-    tasks-shown name id g.rows (target_of g) 0 nothing g.rows.tasks g.tasks is.tasks targets
-    (λ i below. (
-      sym (get_or-map (λ (p : TaskParts). p.node) g.tasks i nothing g.hub below) ∙ ap (λ (n : ℕ). name (TaskAt n))
-          (at i),
-      ap (λ (n : ℕ). id (Wide n)) (at i),
-      ap (λ (n : ℕ). id (Stay n)) (at i),
-      ap (λ (n : ℕ). id (Delay n)) (at i),
-    )) in
+    (task_spans g.hub g.rows.limits.churn g.rows.limits.remote (target_of g)) g.rows.tasks g.tasks =
+    tasks-shown name id g.rows (target_of g) 0 nothing g.rows.tasks g.tasks is.preferred targets
+    (λ i below. record {
+      node = sym (get_or-map (λ (p : TaskParts). p.node) g.tasks i nothing g.hub below) ∙ ap
+          (λ (n : ℕ). name (TaskAt n)) (at i);
+      wide = ap (λ (n : ℕ). id (Wide n)) (at i);
+      stay = ap (λ (n : ℕ). id (Stay n)) (at i);
+      wait = ap (λ (n : ℕ). id (Delay n)) (at i);
+      preferred = λ k b. ap (λ (n : ℕ). id (Prefer n k)) (at i);
+    }) in
     map-append show (machine_rows g.rows.limits.spread 0 g.rows.machines)
     (job_rows g.rows.limits.nodes 0 g.rows.jobs ++ task_rows g.rows 0 g.rows.tasks)
     ∙ ap₂ (λ (a b : List Span). a ++ b) machines

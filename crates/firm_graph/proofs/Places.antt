@@ -2,7 +2,7 @@
 use Rattle.std.proofs.Common.{◌≡◌, ◌≢◌, ℕ, zero, suc, ◌+◌, ◌<◌, ◌≤◌, true, false, cond, is_some, ⊎_elim, Option, Some}
 use Rattle.std.proofs.Common.{None, List, [], ◌∷◌, ◌++◌, length, get_or, bytes_eq, arith, refl, sym, ap, ap₂, ◌∙◌}
 use Rattle.std.proofs.Common.{subst}
-use Rattle.std.specs.List.{sum_by, All, Contains, remove}
+use Rattle.std.specs.List.{sum_by, All, AllZip, Contains, remove}
 use Rattle.std.proofs.lemmas.Bool.{cases_Bool, cond-true, cond-false}
 use Rattle.std.proofs.lemmas.List.Sums.{sum_by-cons, sum_by-append, sum_by-remove}
 use Rattle.std.proofs.lemmas.List.Elements.{All-head, All-tail, All-cons}
@@ -18,12 +18,13 @@ use Rattle.firm_graph.specs.Steps.{Holds}
 use Rattle.firm_graph.specs.Parts.{MachineParts}
 use Rattle.firm_graph.specs.declared.parts.TaskParts.{TaskParts}
 use Rattle.firm_graph.specs.Graph.{Graph, Mirrors, flat_zip, task_spans, target_of, home_node, node_under, weight_under}
-use Rattle.firm_graph.specs.Graph.{graph_nodes, graph_spans, machine_nodes, job_nodes, task_nodes}
+use Rattle.firm_graph.specs.Network.{away}
+use Rattle.firm_graph.specs.Graph.{preferred_spans, graph_nodes, graph_spans, machine_nodes, job_nodes, task_nodes}
 use Rattle.firm_graph.proofs.NetEdits.{sum-map}
 use Rattle.firm_graph.proofs.Found.{ones, same_id-refl, node-there, Contains-front}
 use Rattle.firm_graph.proofs.Totals.{nodes-total, spans-total, sum-one}
 use Rattle.firm_graph.proofs.Drops.{holds-row, task-start, task_dropped, task_at, wide_of, stay_of, wait_of, is_node}
-use Rattle.firm_graph.proofs.Drops.{node-once, home-weight}
+use Rattle.firm_graph.proofs.Drops.{preferred_of, leaving_of, four-sum, heads-counted, node-once, home-weight}
 
 pub length-updated : {X : Type 0} (xs : List X) (place : ℕ) (f : X → X) → length (update_at xs place f) ≡ length xs
 length-updated [] place f = refl
@@ -76,49 +77,44 @@ holds-changed base old new ns s t ss h edit none =
       added = omega (arith, none, h.added);
     }
 
-pub holds-swap : (base now : Net) (ns : List NodeId) (s t : Span) (ss : List Span) → Holds base now ns (s ∷ t ∷ ss)
-    → Holds base now ns (t ∷ s ∷ ss)
-holds-swap base now ns s t ss h =
+-- the same arcs in another order
+pub holds-same : (base now : Net) (ns : List NodeId) (ss ts : List Span) → Holds base now ns ss
+    → ((w : Span → ℕ) → sum_by w ss ≡ sum_by w ts) → Holds base now ns ts
+holds-same base now ns ss ts h same =
     record {
       net = h.net;
       nodes = h.nodes;
-      spans = record {
-        weighs = λ w. omega (
-          arith,
-          h.spans.weighs w,
-          sum_by-cons w s (t ∷ ss),
-          sum_by-cons w t ss,
-          sum_by-cons w t (s ∷ ss),
-          sum_by-cons w s ss,
-        );
-      };
+      spans = record { weighs = λ w. h.spans.weighs w ∙ same w };
       node_room = h.node_room;
       arc_room = h.arc_room;
       added = h.added;
     }
 
+pub holds-swap : (base now : Net) (ns : List NodeId) (s t : Span) (ss : List Span) → Holds base now ns (s ∷ t ∷ ss)
+    → Holds base now ns (t ∷ s ∷ ss)
+holds-swap base now ns s t ss h =
+    holds-same base now ns (s ∷ t ∷ ss) (t ∷ s ∷ ss) h
+    (λ w. omega (
+      arith,
+      sum_by-cons w s (t ∷ ss),
+      sum_by-cons w t ss,
+      sum_by-cons w t (s ∷ ss),
+      sum_by-cons w s ss,
+    ))
+
 pub holds-back : (base now : Net) (ns : List NodeId) (s t u : Span) (ss : List Span)
     → Holds base now ns (s ∷ t ∷ u ∷ ss) → Holds base now ns (u ∷ s ∷ t ∷ ss)
 holds-back base now ns s t u ss h =
-    record {
-      net = h.net;
-      nodes = h.nodes;
-      spans = record {
-        weighs = λ w. omega (
-          arith,
-          h.spans.weighs w,
-          sum_by-cons w s (t ∷ u ∷ ss),
-          sum_by-cons w t (u ∷ ss),
-          sum_by-cons w u ss,
-          sum_by-cons w u (s ∷ t ∷ ss),
-          sum_by-cons w s (t ∷ ss),
-          sum_by-cons w t ss,
-        );
-      };
-      node_room = h.node_room;
-      arc_room = h.arc_room;
-      added = h.added;
-    }
+    holds-same base now ns (s ∷ t ∷ u ∷ ss) (u ∷ s ∷ t ∷ ss) h
+    (λ w. omega (
+      arith,
+      sum_by-cons w s (t ∷ u ∷ ss),
+      sum_by-cons w t (u ∷ ss),
+      sum_by-cons w u ss,
+      sum_by-cons w u (s ∷ t ∷ ss),
+      sum_by-cons w s (t ∷ ss),
+      sum_by-cons w t ss,
+    ))
 
 -- an arc's numbers, and its head, said anew
 abbrev pub rated : ℕ → ℕ → Span → Span
@@ -237,15 +233,14 @@ task_placed g net place home waited =
       asked = g.asked;
     }
 
-abbrev pub wide_to : Graph → Option (List ℕ) → TaskParts → Span
-wide_to g home parts =
+abbrev pub wide_to : Graph → ℕ → Option (List ℕ) → TaskParts → Span
+wide_to g place home parts =
     record {
       arc = parts.arcs.wide;
       tail = parts.node;
       head = g.hub;
       cap = 1;
-      cost = cond (is_some home)
-          g.rows.limits.churn 0;
+      cost = cond (is_some home) g.rows.limits.churn 0 + away g.rows.limits.remote (task_at g place).preferred;
     }
 
 abbrev pub stay_to : Graph → Option (List ℕ) → TaskParts → Span
@@ -269,21 +264,35 @@ wait_to g place home waited parts =
       cost = weight_under g.rows.jobs (task_at g place).job + waited + cond (is_some home) g.rows.limits.churn 0;
     }
 
+abbrev pub preferred_to : Graph → ℕ → Option (List ℕ) → TaskParts → List Span
+preferred_to g place home parts =
+    preferred_spans parts.node (cond (is_some home) g.rows.limits.churn 0) (target_of g (task_at g place)).preferred
+    parts.arcs.preferred
+
+AllZip-updated : {A B : Type 0} (R : A → B → Type 0) (xs : List A) (ys : List B) (i : ℕ) (f : A → A) → AllZip R xs ys
+    → ((x : A) (y : B) → R x y → R (f x) y) → AllZip R (update_at xs i f) ys
+AllZip-updated R [] ys i f h step = h
+AllZip-updated R (x ∷ xs) [] i f h step = absurd h
+AllZip-updated R (x ∷ xs) (y ∷ ys) zero f h step = (step x y h.0, h.1)
+AllZip-updated R (x ∷ xs) (y ∷ ys) (suc i) f h step = (h.0, AllZip-updated R xs ys i f h.1 step)
+
 pub task-placed : (g : Graph) (after : Net) (place : ℕ) (parts : TaskParts) (home : Option (List ℕ)) (waited : ℕ)
     → Mirrors g
     → place < length g.tasks → parts ≡ get_or g.tasks place parts
-    → Holds g.net after (graph_nodes g) (wide_to g home parts ∷ stay_to g home parts ∷ wait_to g place home waited
-    parts ∷ graph_spans (task_dropped g g.net place))
+    → Holds g.net after (graph_nodes g) (wide_to g place home parts ∷ stay_to g home parts ∷ wait_to g place home
+    waited parts ∷ preferred_to g place home parts ++ graph_spans (task_dropped g g.net place))
     → Mirrors (task_placed g after place home waited)
 task-placed g after place parts home waited is below at h =
     let new : Graph = task_placed g after place home waited in
-    let f = task_spans g.hub g.rows.limits.churn (target_of g) in
+    let f = task_spans g.hub g.rows.limits.churn g.rows.limits.remote (target_of g) in
     let rest : List Span = graph_spans (task_dropped g g.net place) in
-    let s1 : Span = wide_to g home parts in
+    let s1 : Span = wide_to g place home parts in
     let s2 : Span = stay_to g home parts in
     let s3 : Span = wait_to g place home waited parts in
+    let ss : List Span = preferred_to g place home parts in
     let here : place < length g.rows.tasks = omega (arith, below, is.tasks) in
     let said : Task → Task = placed home waited in
+    let R : Task → TaskParts → Type 0 = λ (t : Task) (p : TaskParts). length p.arcs.preferred ≡ length t.preferred in
     record {
       net = h.net;
       nodes = h.nodes;
@@ -291,12 +300,10 @@ task-placed g after place parts home waited is below at h =
         weighs = λ w. omega (
           arith,
           h.spans.weighs w,
-          sum_by-cons w s1 (s2 ∷ s3 ∷ rest),
-          sum_by-cons w s2 (s3 ∷ rest),
-          sum_by-cons w s3 rest,
-          sum_by-cons w s1 (s2 ∷ s3 ∷ []),
-          sum_by-cons w s2 (s3 ∷ []),
-          sum-one w s3,
+          four-sum w s1 s2 s3 ss rest,
+          sum_by-cons w s1 (s2 ∷ s3 ∷ ss),
+          sum_by-cons w s2 (s3 ∷ ss),
+          sum_by-cons w s3 ss,
           spans-total w new,
           spans-total w (task_dropped g g.net place),
           flat_sum-update w f said g.rows.tasks g.tasks place no_task parts here is.tasks,
@@ -304,6 +311,7 @@ task-placed g after place parts home waited is below at h =
         );
       };
       slots = is.slots;
+      preferred = AllZip-updated R g.rows.tasks g.tasks place said is.preferred (λ t p e. e);
       machines = is.machines;
       jobs = is.jobs;
       tasks = omega (arith, is.tasks, length-updated g.rows.tasks place said);
@@ -324,90 +332,116 @@ Leads old new arc head = (row : Row) → row_at old arc ≡ Some row
     → IsEdit old new [] [] (span_of arc row ∷ [])
     (record { arc = arc; tail = row.tail; head = head; cap = row.cap; cost = row.cost } ∷ [])
 
--- what the net holds at each step of the change
-abbrev pub rest_of : Graph → ℕ → List Span
-rest_of g place = graph_spans (task_dropped g g.net place)
+-- what an edit says that changes the costs of a task's arcs to the machines that it prefers
+abbrev pub RatesPreferred : Net → Net → List ArcId → ℕ → Type 0
+RatesPreferred old new arcs cost = (base : Net) (ns : List NodeId) (ss : List Span) (node : NodeId) (was : ℕ)
+    (heads : List NodeId) → length heads ≡ length arcs
+    → Holds base old ns (preferred_spans node was heads arcs ++ ss)
+    → Holds base new ns (preferred_spans node cost heads arcs ++ ss)
 
-pub step-1 : (g : Graph) (place : ℕ) (parts : TaskParts) (n1 : Net) (leaving : ℕ) → Mirrors g
+-- what the net holds at each step of the change
+abbrev pub rest_of : Graph → ℕ → TaskParts → List Span
+rest_of g place parts = preferred_of g place parts ++ graph_spans (task_dropped g g.net place)
+
+pub step-1 : (g : Graph) (place : ℕ) (parts : TaskParts) (n1 : Net) (cost : ℕ) → Mirrors g
     → place < length g.tasks → parts ≡ get_or g.tasks place parts
-    → Rates g.net n1 parts.arcs.wide 1 leaving → added_of n1 ≤ added_of g.net
-    → Holds g.net n1 (graph_nodes g) (stay_of g place parts ∷ rated 1 leaving (wide_of g place parts) ∷ wait_of g place
-    parts ∷ rest_of g place)
-step-1 g place parts n1 leaving is below at edit none =
-    holds-swap g.net n1 (graph_nodes g) (rated 1 leaving (wide_of g place parts)) (stay_of g place parts)
-    (wait_of g place parts ∷ rest_of g place)
+    → Rates g.net n1 parts.arcs.wide 1 cost → added_of n1 ≤ added_of g.net
+    → Holds g.net n1 (graph_nodes g) (stay_of g place parts ∷ rated 1 cost (wide_of g place parts) ∷ wait_of g place
+    parts ∷ rest_of g place parts)
+step-1 g place parts n1 cost is below at edit none =
+    holds-swap g.net n1 (graph_nodes g) (rated 1 cost (wide_of g place parts)) (stay_of g place parts)
+    (wait_of g place parts ∷ rest_of g place parts)
     (holds-rated g.net g.net n1 (graph_nodes g) (wide_of g place parts)
-    (stay_of g place parts ∷ wait_of g place parts ∷ rest_of g place) 1 leaving
+    (stay_of g place parts ∷ wait_of g place parts ∷ rest_of g place parts) 1 cost
     (task-start g g.net place parts is below at) edit none)
 
-pub step-2 : (g : Graph) (place : ℕ) (parts : TaskParts) (n1 n2 : Net) (leaving cap : ℕ)
-    → Holds g.net n1 (graph_nodes g) (stay_of g place parts ∷ rated 1 leaving (wide_of g place parts) ∷ wait_of g place
-    parts ∷ rest_of g place)
+pub step-2 : (g : Graph) (place : ℕ) (parts : TaskParts) (n1 n2 : Net) (cost cap : ℕ)
+    → Holds g.net n1 (graph_nodes g) (stay_of g place parts ∷ rated 1 cost (wide_of g place parts) ∷ wait_of g place
+    parts ∷ rest_of g place parts)
     → Rates n1 n2 parts.arcs.stay cap 0 → added_of n2 ≤ added_of n1
-    → Holds g.net n2 (graph_nodes g) (rated cap 0 (stay_of g place parts) ∷ rated 1 leaving (wide_of g place parts) ∷
-    wait_of g place parts ∷ rest_of g place)
-step-2 g place parts n1 n2 leaving cap h edit none =
+    → Holds g.net n2 (graph_nodes g) (rated cap 0 (stay_of g place parts) ∷ rated 1 cost (wide_of g place parts) ∷
+    wait_of g place parts ∷ rest_of g place parts)
+step-2 g place parts n1 n2 cost cap h edit none =
     holds-rated g.net n1 n2 (graph_nodes g) (stay_of g place parts)
-    (rated 1 leaving (wide_of g place parts) ∷ wait_of g place parts ∷ rest_of g place) cap 0 h edit none
+    (rated 1 cost (wide_of g place parts) ∷ wait_of g place parts ∷ rest_of g place parts) cap 0 h edit none
 
-pub step-3 : (g : Graph) (place : ℕ) (parts : TaskParts) (n2 n3 : Net) (leaving cap : ℕ) (node : NodeId)
-    → Holds g.net n2 (graph_nodes g) (rated cap 0 (stay_of g place parts) ∷ rated 1 leaving (wide_of g place parts) ∷
-    wait_of g place parts ∷ rest_of g place)
+pub step-3 : (g : Graph) (place : ℕ) (parts : TaskParts) (n2 n3 : Net) (cost cap : ℕ) (node : NodeId)
+    → Holds g.net n2 (graph_nodes g) (rated cap 0 (stay_of g place parts) ∷ rated 1 cost (wide_of g place parts) ∷
+    wait_of g place parts ∷ rest_of g place parts)
     → Leads n2 n3 parts.arcs.stay node → added_of n3 ≤ added_of n2
     → Holds g.net n3 (graph_nodes g) (wait_of g place parts ∷ led node (rated cap 0 (stay_of g place parts)) ∷ rated 1
-    leaving (wide_of g place parts) ∷ rest_of g place)
-step-3 g place parts n2 n3 leaving cap node h edit none =
+    cost (wide_of g place parts) ∷ rest_of g place parts)
+step-3 g place parts n2 n3 cost cap node h edit none =
     holds-back g.net n3 (graph_nodes g) (led node (rated cap 0 (stay_of g place parts)))
-    (rated 1 leaving (wide_of g place parts)) (wait_of g place parts) (rest_of g place)
+    (rated 1 cost (wide_of g place parts)) (wait_of g place parts) (rest_of g place parts)
     (holds-led g.net n2 n3 (graph_nodes g) (rated cap 0 (stay_of g place parts))
-    (rated 1 leaving (wide_of g place parts) ∷ wait_of g place parts ∷ rest_of g place) node h edit none)
+    (rated 1 cost (wide_of g place parts) ∷ wait_of g place parts ∷ rest_of g place parts) node h edit none)
 
-pub step-4 : (g : Graph) (place : ℕ) (parts : TaskParts) (n3 n4 : Net) (home : Option (List ℕ)) (node : NodeId)
-    (waited leaving cap weight : ℕ)
+pub step-4 : (g : Graph) (place : ℕ) (parts : TaskParts) (n3 n4 : Net) (node : NodeId) (cost cap delay : ℕ)
     → Holds g.net n3 (graph_nodes g) (wait_of g place parts ∷ led node (rated cap 0 (stay_of g place parts)) ∷ rated 1
-    leaving (wide_of g place parts) ∷ rest_of g place)
-    → Rates n3 n4 parts.arcs.wait 1 (weight + waited + leaving) → added_of n4 ≤ added_of n3
+    cost (wide_of g place parts) ∷ rest_of g place parts)
+    → Rates n3 n4 parts.arcs.wait 1 delay → added_of n4 ≤ added_of n3
+    → Holds g.net n4 (graph_nodes g) (preferred_of g place parts ++ rated 1 delay (wait_of g place parts) ∷ led node
+    (rated cap 0 (stay_of g place parts)) ∷ rated 1 cost (wide_of g place parts) ∷ graph_spans
+    (task_dropped g g.net place))
+step-4 g place parts n3 n4 node cost cap delay h edit none =
+    let s1 : Span = rated 1 cost (wide_of g place parts) in
+    let s2 : Span = led node (rated cap 0 (stay_of g place parts)) in
+    let s3 : Span = rated 1 delay (wait_of g place parts) in
+    let ss : List Span = preferred_of g place parts in
+    let rest : List Span = graph_spans (task_dropped g g.net place) in
+    holds-same g.net n4 (graph_nodes g) (s3 ∷ s2 ∷ s1 ∷ ss ++ rest) (ss ++ s3 ∷ s2 ∷ s1 ∷ rest)
+    (holds-rated g.net n3 n4 (graph_nodes g) (wait_of g place parts) (s2 ∷ s1 ∷ rest_of g place parts) 1 delay h edit
+    none)
+    (λ w. omega (
+      arith,
+      four-sum w s3 s2 s1 ss rest,
+      sum_by-append w ss (s3 ∷ s2 ∷ s1 ∷ rest),
+      four-sum w s3 s2 s1 [] rest,
+    ))
+
+pub step-5 : (g : Graph) (place : ℕ) (parts : TaskParts) (n4 n5 : Net) (home : Option (List ℕ)) (node : NodeId)
+    (waited leaving far cap weight : ℕ) → Mirrors g → place < length g.tasks → parts ≡ get_or g.tasks place parts
+    → Holds g.net n4 (graph_nodes g) (preferred_of g place parts ++ rated 1 (weight + waited + leaving)
+    (wait_of g place parts) ∷ led node (rated cap 0 (stay_of g place parts)) ∷ rated 1 (leaving + far)
+    (wide_of g place parts) ∷ graph_spans (task_dropped g g.net place))
+    → RatesPreferred n4 n5 parts.arcs.preferred leaving
     → node ≡ home_node (machine_names g.rows) (machine_nodes g) g.hub home
     → leaving ≡ cond (is_some home) g.rows.limits.churn 0 → cap ≡ cond (is_some home) 1 0
     → weight ≡ weight_under g.rows.jobs (task_at g place).job
-    → Holds g.net n4 (graph_nodes g) (wide_to g home parts ∷ stay_to g home parts ∷ wait_to g place home waited parts ∷
-    rest_of g place)
-step-4 g place parts n3 n4 home node waited leaving cap weight h edit none node_is leaving_is cap_is weight_is =
-    let was = holds-rated g.net n3 n4 (graph_nodes g) (wait_of g place parts)
-    (led node (rated cap 0 (stay_of g place parts)) ∷ rated 1 leaving (wide_of g place parts) ∷ rest_of g place) 1
-    (weight + waited + leaving) h edit none in
-    let s1 : Span = rated 1 leaving (wide_of g place parts) in
+    → far ≡ away g.rows.limits.remote (task_at g place).preferred
+    → Holds g.net n5 (graph_nodes g) (wide_to g place home parts ∷ stay_to g home parts ∷ wait_to g place home waited
+    parts ∷ preferred_to g place home parts ++ graph_spans (task_dropped g g.net place))
+step-5 g place parts n4 n5 home node waited leaving far cap weight is below at h edit node_is leaving_is cap_is
+    weight_is far_is =
+    let s1 : Span = rated 1 (leaving + far) (wide_of g place parts) in
     let s2 : Span = led node (rated cap 0 (stay_of g place parts)) in
     let s3 : Span = rated 1 (weight + waited + leaving) (wait_of g place parts) in
-    let t1 : Span = wide_to g home parts in
+    let heads : List NodeId = (target_of g (task_at g place)).preferred in
+    let rest : List Span = graph_spans (task_dropped g g.net place) in
+    let ss : List Span = preferred_spans parts.node leaving heads parts.arcs.preferred in
+    let was : Holds g.net n5 (graph_nodes g) (ss ++ s3 ∷ s2 ∷ s1 ∷ rest) =
+    edit g.net (graph_nodes g) (s3 ∷ s2 ∷ s1 ∷ rest) parts.node (leaving_of g place) heads
+    (heads-counted g place parts is below at) h in
+    let t1 : Span = wide_to g place home parts in
     let t2 : Span = stay_to g home parts in
     let t3 : Span = wait_to g place home waited parts in
-    let rest : List Span = rest_of g place in
-    let e1 : s1 ≡ t1 = ap (λ (c : ℕ). rated 1 c (wide_of g place parts)) leaving_is in
+    let ts : List Span = preferred_to g place home parts in
+    let e1 : s1 ≡ t1 = ap₂ (λ (a b : ℕ). rated 1 (a + b) (wide_of g place parts)) leaving_is far_is in
     let e2 : s2 ≡ t2 = ap₂ (λ (n : NodeId) (c : ℕ). led n (rated c 0 (stay_of g place parts))) node_is cap_is in
     let e3 : s3 ≡ t3 = ap₂ (λ (a b : ℕ). rated 1 (a + waited + b) (wait_of g place parts)) weight_is leaving_is in
-    record {
-      net = was.net;
-      nodes = was.nodes;
-      spans = record {
-        weighs = λ w. omega (
-          arith,
-          was.spans.weighs w,
-          ap w e1,
-          ap w e2,
-          ap w e3,
-          sum_by-cons w s3 (s2 ∷ s1 ∷ rest),
-          sum_by-cons w s2 (s1 ∷ rest),
-          sum_by-cons w s1 rest,
-          sum_by-cons w t1 (t2 ∷ t3 ∷ rest),
-          sum_by-cons w t2 (t3 ∷ rest),
-          sum_by-cons w t3 rest,
-        );
-      };
-      node_room = was.node_room;
-      arc_room = was.arc_room;
-      added = was.added;
-    }
+    let es : ss ≡ ts = ap (λ (c : ℕ). preferred_spans parts.node c heads parts.arcs.preferred) leaving_is in
+    holds-same g.net n5 (graph_nodes g) (ss ++ s3 ∷ s2 ∷ s1 ∷ rest) (t1 ∷ t2 ∷ t3 ∷ ts ++ rest) was
+    (λ w. omega (
+      arith,
+      ap w e1,
+      ap w e2,
+      ap w e3,
+      ap (λ (l : List Span). sum_by w l) es,
+      sum_by-append w ss (s3 ∷ s2 ∷ s1 ∷ rest),
+      four-sum w s3 s2 s1 [] rest,
+      four-sum w t1 t2 t3 ts rest,
+    ))
 
 pub placed-said : (g : Graph) (net : Net) (place : ℕ) (home : Option (List ℕ)) (waited : ℕ) (rows : TenantRows)
     → rows ≡ with_task_at g.rows place home waited

@@ -40,6 +40,7 @@ reflowed g net is sound same =
             cleared-spans w g.net ∙ is.spans.weighs w;
       };
       slots = is.slots;
+      preferred = is.preferred;
       machines = is.machines;
       jobs = is.jobs;
       tasks = is.tasks;

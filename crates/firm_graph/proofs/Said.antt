@@ -29,6 +29,7 @@ said g rows machines jobs tasks a b c d is =
 -- each row has its parts
 pub record Paired (g : Graph) : Type 0 where
   pub slots : AllZip (λ machine parts. length parts.slots ≡ machine.slots) g.rows.machines g.machines
+  pub preferred : AllZip (λ task parts. length parts.arcs.preferred ≡ length task.preferred) g.rows.tasks g.tasks
   pub machines : length g.machines ≡ length g.rows.machines
   pub jobs : length g.jobs ≡ length g.rows.jobs
   pub tasks : length g.tasks ≡ length g.rows.tasks
@@ -45,6 +46,7 @@ grown g new node own is edit nodes spans limits few counted room paired =
       nodes = record { weighs = λ w. omega (arith, edit.nodes w, is.nodes.weighs w, nodes w, sum-one w node) };
       spans = record { weighs = λ w. omega (arith, edit.spans w, is.spans.weighs w, spans w) };
       slots = paired.slots;
+      preferred = paired.preferred;
       machines = paired.machines;
       jobs = paired.jobs;
       tasks = paired.tasks;
@@ -65,6 +67,7 @@ shrunk g new before node is h edit nodes limits counted paired =
       nodes = record { weighs = λ w. omega (arith, edit.nodes w, sum-one w node, h.nodes.weighs w, nodes w) };
       spans = record { weighs = λ w. omega (arith, edit.spans w, h.spans.weighs w) };
       slots = paired.slots;
+      preferred = paired.preferred;
       machines = paired.machines;
       jobs = paired.jobs;
       tasks = paired.tasks;

@@ -2,7 +2,7 @@
 use Rattle.std.proofs.Common.{◌≡◌, ℕ, zero, suc, ◌+◌, ◌*◌, ◌<◌, ◌≤◌, ◌==◌, Bool, true, false, not, cond, ◌||◌, inl, inr}
 use Rattle.std.proofs.Common.{⊎_elim, Option, Some, None, IfSome, List, [], ◌∷◌, ◌++◌, map, length, get_or, bytes_eq}
 use Rattle.std.proofs.Common.{arith, refl, sym, ap, ap₂, ◌∙◌, subst, length-append}
-use Rattle.std.specs.List.{sum_by, Contains, position_or_len, list_any}
+use Rattle.std.specs.List.{sum_by, All, Contains, position_or_len, list_any}
 use Rattle.std.specs.List.Sorted.{IsPermutation}
 use Rattle.std.specs.Option.{option_map}
 use Rattle.std.proofs.lemmas.Bool.{cases_Bool, cases_eq, cases_lt, eqb-true, eq-eqb}
@@ -21,7 +21,7 @@ use Rattle.firm_paths.specs.NetArcs.{arcs_of}
 use Rattle.firm_rules.specs.Book.{machine_names, job_names}
 use Rattle.firm_rules.specs.Names.{is_among}
 use Rattle.firm_rules.specs.Placement.{Case, Demand}
-use Rattle.firm_rules.specs.Round.{machine_place, job_place, weight_at}
+use Rattle.firm_rules.specs.Round.{place_of, machine_place, job_place, demand_of}
 use Rattle.firm_rules.specs.declared.parts.Machine.{Machine}
 use Rattle.firm_rules.specs.declared.parts.Job.{Job}
 use Rattle.firm_rules.specs.declared.parts.Task.{Task}
@@ -31,8 +31,9 @@ use Rattle.firm_graph.specs.declared.parts.TaskParts.{TaskParts}
 use Rattle.firm_graph.specs.declared.network.Node.{Node}
 use Rattle.firm_graph.specs.declared.network.Node.TheVariants.{Sink, Hub, Machine as MachineAt, Owner as JobAt, Task as TaskAt}
 use Rattle.firm_graph.specs.declared.network.Key.{Key}
-use Rattle.firm_graph.specs.declared.network.Key.TheVariants.{Through, Slot, Exit, Wide, Stay, Delay}
-use Rattle.firm_graph.specs.Network.{gather, arc, slots_of, demand, runs, stay_head, machine_arcs, job_arcs, task_arcs}
+use Rattle.firm_graph.specs.declared.network.Key.TheVariants.{Through, Slot, Exit, Wide, Stay, Delay, Prefer}
+use Rattle.firm_graph.specs.Network.{gather, arc, slots_of, demand, runs, stay_head, preferred_at, leaving, away}
+use Rattle.firm_graph.specs.Network.{machine_arcs, job_arcs, preferred_arcs, task_arcs}
 use Rattle.firm_graph.specs.Network.{network, nodes, task_nodes as case_tasks, IsNodeOf, IsKeyOf, IsSound}
 use Rattle.firm_graph.specs.View.{View, Shows, IsAtRest, lows, flows, low_of_row, flow_of_row, named, spot_of}
 use Rattle.firm_graph.specs.Graph.{Graph, IsGraph, Mirrors, graph_nodes, machine_nodes, job_nodes, task_nodes}
@@ -42,7 +43,7 @@ use Rattle.firm_graph.proofs.Entries.{sum-slot}
 use Rattle.firm_graph.proofs.NetEdits.{sum-map, nodes-sum, spans-sum}
 use Rattle.firm_graph.proofs.Found.{ones, ones-true, same_id, same_id-refl, same_id-true, node-there, node-weighs}
 use Rattle.firm_graph.proofs.Found.{Contains-skip, Contains-front}
-use Rattle.firm_graph.proofs.Drops.{once-from}
+use Rattle.firm_graph.proofs.Drops.{once-from, preferred-paired}
 use Rattle.firm_graph.proofs.Cuts.{two}
 use Rattle.firm_graph.proofs.Bridge.{from, gather_from, fill, rows_network, network_is}
 use Rattle.firm_graph.proofs.Networks.{shown, graph-shown}
@@ -277,14 +278,16 @@ module _ (c : Case) (low x : Key → ℕ) where
       }
 
   abbrev wide_arc : ℕ → Arc Node Key
-  wide_arc i = arc low x (Wide i) (TaskAt i) Hub 1 (cond (runs (demand c i).home) c.churn 0)
+  wide_arc i = arc low x (Wide i) (TaskAt i) Hub 1 (leaving c i + away c.remote (demand c i).preferred)
 
   abbrev stay_arc : ℕ → Arc Node Key
   stay_arc i = arc low x (Stay i) (TaskAt i) (stay_head (demand c i).home) (cond (runs (demand c i).home) 1 0) 0
 
   abbrev delay_arc : ℕ → Arc Node Key
-  delay_arc i = arc low x (Delay i) (TaskAt i) (JobAt (demand c i).job) 1
-      ((demand c i).delay + cond (runs (demand c i).home) c.churn 0)
+  delay_arc i = arc low x (Delay i) (TaskAt i) (JobAt (demand c i).job) 1 ((demand c i).delay + leaving c i)
+
+  abbrev preferred_arc : ℕ → ℕ → Arc Node Key
+  preferred_arc i k = arc low x (Prefer i k) (TaskAt i) (MachineAt (preferred_at c i k)) 1 (leaving c i)
 
   key-listed : (key : Key) → IsKeyOf c key → HasArc c low x key
   key-listed (Through j) h =
@@ -306,11 +309,20 @@ module _ (c : Case) (low x : Key → ℕ) where
             (Contains-front jobs tasks a (contains-gather (job_arcs c low x) c.jobs k a h (first-of a [])));
         keyed = refl;
       }
-  key-listed (Wide i) h = of-task i (wide_arc i) (Wide i) h (first-of (wide_arc i) (stay_arc i ∷ delay_arc i ∷ [])) refl
-  key-listed (Stay i) h = of-task i (stay_arc i) (Stay i) h (second-of (wide_arc i) (stay_arc i) (delay_arc i ∷ []))
-      refl
-  key-listed (Delay i) h = of-task i (delay_arc i) (Delay i) h (third-of (wide_arc i) (stay_arc i) (delay_arc i) [])
-      refl
+  key-listed (Wide i) h =
+      of-task i (wide_arc i) (Wide i) h
+      (first-of (wide_arc i) (stay_arc i ∷ delay_arc i ∷ preferred_arcs c low x i)) refl
+  key-listed (Stay i) h =
+      of-task i (stay_arc i) (Stay i) h
+      (second-of (wide_arc i) (stay_arc i) (delay_arc i ∷ preferred_arcs c low x i)) refl
+  key-listed (Delay i) h =
+      of-task i (delay_arc i) (Delay i) h
+      (third-of (wide_arc i) (stay_arc i) (delay_arc i) (preferred_arcs c low x i)) refl
+  key-listed (Prefer i k) h =
+      let a : Arc Node Key = preferred_arc i k in
+      of-task i a (Prefer i k) h.0
+      (Contains-skip (wide_arc i ∷ stay_arc i ∷ delay_arc i ∷ []) (preferred_arcs c low x i) a
+      (contains-gather (λ k. preferred_arc i k ∷ []) (length (demand c i).preferred) k a h.1 (first-of a []))) refl
 
 module _ (g : Graph) (is : IsGraph g) where
   abbrev v : View
@@ -327,12 +339,7 @@ module _ (g : Graph) (is : IsGraph g) where
 
   abbrev task_count : length v.case.tasks ≡ length (task_nodes g)
   task_count =
-      length-map (λ (t : Task). let d : Demand = record {
-        home = machine_place g.rows t.machine;
-        delay = weight_at g.rows (job_place g.rows t) + t.waited;
-        job =
-            job_place g.rows t;
-      } in d) g.rows.tasks
+      length-map (demand_of g.rows) g.rows.tasks
       ∙ sym is.mirrors.tasks ∙ sym (length-map (λ (p : TaskParts). p.node) g.tasks)
 
   pub task-count : length v.case.tasks ≡ length (task_nodes g)
@@ -472,19 +479,12 @@ module _ (g : Graph) (is : IsGraph g) where
       sym one.keyed ∙ ap (λ (r : Arc Node Key). r.key) its ∙ other.keyed
 
   -- each task's job is there, and so is its machine
-  abbrev demand_of : Task → Demand
-  demand_of t = record {
-    home = machine_place g.rows t.machine;
-    delay = weight_at g.rows (job_place g.rows t) +
-        t.waited;
-    job = job_place g.rows t;
-  }
-
   read-demand : (i : ℕ) → i < length v.case.tasks → (i < length g.rows.tasks) ×
-      (demand v.case i ≡ demand_of (get_or g.rows.tasks i no_task))
+      (demand v.case i ≡ demand_of g.rows (get_or g.rows.tasks i no_task))
   read-demand i below =
-      let here : i < length g.rows.tasks = omega (arith, below, length-map demand_of g.rows.tasks) in
-      (here, get_or-map demand_of g.rows.tasks i no_task (record { home = None; delay = 0; job = 0 }) here)
+      let here : i < length g.rows.tasks = omega (arith, below, length-map (demand_of g.rows) g.rows.tasks) in
+      (here, get_or-map (demand_of g.rows) g.rows.tasks i no_task
+      (record { home = None; preferred = []; delay = 0; job = 0 }) here)
 
   job-below : (i : ℕ) → i < length v.case.tasks → (demand v.case i).job < v.case.jobs
   job-below i below =
@@ -515,11 +515,35 @@ module _ (g : Graph) (is : IsGraph g) where
       subst (λ (d : Demand). IsNodeOf v.case (stay_head d.home)) (sym r.1)
       (home-below (get_or g.rows.tasks i no_task).machine (is.sound.machines_there i no_task r.0))
 
+  preferred-below : (task : Task) (k : ℕ) → k < length task.preferred
+      → All (λ name. is_among (machine_names g.rows) name ≡ true) task.preferred
+      → get_or (map (place_of g.rows) task.preferred) k 0 < length v.case.slots
+  preferred-below task k below there =
+      omega (
+        arith,
+        get_or-map (place_of g.rows) task.preferred k [] 0 below,
+        among-below (machine_names g.rows) (get_or task.preferred k []) (there k [] below),
+        length-map (λ (m : Machine). m.name) g.rows.machines,
+        length-map (λ (m : Machine). m.slots) g.rows.machines,
+      )
+
+  preferred-there : (i k : ℕ) → i < length v.case.tasks → k < length (demand v.case i).preferred
+      → preferred_at v.case i k < length v.case.slots
+  preferred-there i k below_i below_k =
+      let r = read-demand i below_i in
+      let task : Task = get_or g.rows.tasks i no_task in
+      let names : (demand v.case i).preferred ≡ map (place_of g.rows) task.preferred = ap (λ (d : Demand). d.preferred)
+      r.1 in
+      let below : k < length task.preferred = omega
+      (arith, below_k, ap (λ (l : List ℕ). length l) names, length-map (place_of g.rows) task.preferred) in
+      subst (λ (l : List ℕ). get_or l k 0 < length v.case.slots) (sym names)
+      (preferred-below task k below (is.sound.preferred_there i no_task r.0))
+
   pub case-sound : IsSound v.case
   case-sound = record {
     jobs_in = job-below;
     limit_fits = omega
-        (arith, is.sound.fits.nodes, length-map demand_of g.rows.tasks);
+        (arith, is.sound.fits.nodes, length-map (demand_of g.rows) g.rows.tasks);
   }
 
   pub graph-shows : Shows (view_of g)
@@ -534,7 +558,21 @@ module _ (g : Graph) (is : IsGraph g) where
         arcs_apart = arcs-apart;
         sound = case-sound;
         homes = home-there;
+        preferred = preferred-there;
       }
+
+-- a task has as many arcs to machines that it prefers as it brings preferences to a round
+pub preferences-counted : (g : Graph) (place : ℕ) (parts : TaskParts) → Mirrors g → place < length g.rows.tasks
+    → parts ≡ get_or g.tasks place parts
+    → length parts.arcs.preferred ≡ length (demand (view_of g).case place).preferred
+preferences-counted g place parts is below at =
+    let task : Task = get_or g.rows.tasks place no_task in
+    let none : Demand = record { home = None; preferred = []; delay = 0; job = 0 } in
+    let brought : demand (view_of g).case place ≡ demand_of g.rows task = get_or-map (demand_of g.rows) g.rows.tasks
+    place no_task none below in
+    preferred-paired g place parts is (omega (arith, below, is.tasks)) at
+    ∙ sym (length-map (place_of g.rows) task.preferred)
+    ∙ ap (λ (d : Demand). length d.preferred) (sym brought)
 
 -- an arc of a net whose flow was cleared has neither lower bound nor flow
 at-rest : (net : Net) (a : ArcId) → (low_of_row (row_at (without_flow net) a) ≡ 0) ×

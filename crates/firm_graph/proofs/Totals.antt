@@ -1,5 +1,6 @@
 -- What the nodes and arcs of a graph weigh, part by part.
-use Rattle.std.proofs.Common.{◌≡◌, ℕ, ◌+◌, ◌*◌, List, [], ◌∷◌, ◌++◌, map, length, arith, refl, sym, ap, ap₂, ◌∙◌, length-append}
+use Rattle.std.proofs.Common.{◌≡◌, ℕ, ◌+◌, ◌*◌, cond, is_some, List, [], ◌∷◌, ◌++◌, map, length, arith, refl, sym, ap, ap₂, ◌∙◌}
+use Rattle.std.proofs.Common.{length-append}
 use Rattle.std.specs.List.{sum_by, All, AllZip}
 use Rattle.std.specs.Prelude.{slice_index_or}
 use Rattle.std.proofs.lemmas.List.Sums.{sum_by-cons, sum_by-append}
@@ -8,7 +9,8 @@ use Rattle.firm_arena.specs.Arena.{entries}
 use Rattle.firm_net.specs.Net.{node_count, arc_count}
 use Rattle.firm_net.specs.declared.row.NodeId.{NodeId}
 use Rattle.firm_net.specs.declared.row.ArcId.{ArcId}
-use Rattle.firm_rules.specs.ArenaUse.{arena_nodes, arena_arcs}
+use Rattle.firm_rules.specs.Book.{machine_names}
+use Rattle.firm_rules.specs.ArenaUse.{arena_nodes, arena_arcs, preference_count}
 use Rattle.firm_rules.specs.declared.parts.Machine.{Machine}
 use Rattle.firm_rules.specs.declared.parts.Job.{Job}
 use Rattle.firm_rules.specs.declared.parts.Task.{Task}
@@ -17,7 +19,7 @@ use Rattle.firm_graph.specs.Parts.{MachineParts}
 use Rattle.firm_graph.specs.declared.parts.JobParts.{JobParts}
 use Rattle.firm_graph.specs.declared.parts.TaskParts.{TaskParts}
 use Rattle.firm_graph.specs.Graph.{Graph, Mirrors, flat_zip, machine_spans, slot_spans, job_spans, task_spans, Target}
-use Rattle.firm_graph.specs.Graph.{target_of, graph_nodes, graph_spans, machine_nodes, job_nodes, task_nodes}
+use Rattle.firm_graph.specs.Graph.{preferred_spans, node_under, target_of, graph_nodes, graph_spans, machine_nodes, job_nodes, task_nodes}
 use Rattle.firm_arena.specs.Laws.{length-entries_from}
 use Rattle.firm_graph.proofs.NetEdits.{sum-map}
 
@@ -77,14 +79,14 @@ abbrev pub jobs_total : (Span → ℕ) → Graph → ℕ
 jobs_total w g = sum_by w (flat_zip (job_spans g.sink g.rows.limits.nodes) g.rows.jobs g.jobs)
 
 abbrev pub tasks_total : (Span → ℕ) → Graph → (Task → Target) → ℕ
-tasks_total w g target = sum_by w (flat_zip (task_spans g.hub g.rows.limits.churn target) g.rows.tasks g.tasks)
+tasks_total w g target = sum_by w (flat_zip (task_spans g.hub g.rows.limits.churn g.rows.limits.remote target) g.rows.tasks g.tasks)
 
 pub spans-total : (w : Span → ℕ) (g : Graph)
     → sum_by w (graph_spans g) ≡ machines_total w g + (jobs_total w g + tasks_total w g (target_of g))
 spans-total w g =
     let machines : List Span = flat_zip (machine_spans g.hub g.sink g.rows.limits.spread) g.rows.machines g.machines in
     let jobs : List Span = flat_zip (job_spans g.sink g.rows.limits.nodes) g.rows.jobs g.jobs in
-    let tasks : List Span = flat_zip (task_spans g.hub g.rows.limits.churn (target_of g)) g.rows.tasks g.tasks in
+    let tasks : List Span = flat_zip (task_spans g.hub g.rows.limits.churn g.rows.limits.remote (target_of g)) g.rows.tasks g.tasks in
     omega (arith, sum_by-append w machines (jobs ++ tasks), sum_by-append w jobs tasks)
 
 -- the arcs of tasks are the same where their targets are
@@ -93,15 +95,16 @@ pub tasks-same : (w : Span → ℕ) (g : Graph) (one other : Task → Target)
     → tasks_total w g one ≡ tasks_total w g other
 tasks-same w g one other same =
     ap (λ (l : List Span). sum_by w l)
-    (flat_zip-same (task_spans g.hub g.rows.limits.churn one) (task_spans g.hub g.rows.limits.churn other) g.rows.tasks
+    (flat_zip-same (task_spans g.hub g.rows.limits.churn g.rows.limits.remote one) (task_spans g.hub g.rows.limits.churn g.rows.limits.remote other) g.rows.tasks
     g.tasks
-    (λ k d below parts. same_target g.hub g.rows.limits.churn one other (slice_index_or g.rows.tasks k d) parts
+    (λ k d below parts. same_target g.hub g.rows.limits.churn g.rows.limits.remote one other (slice_index_or g.rows.tasks k d) parts
     (same k d below)))
   where
-    same_target : (hub : NodeId) (churn : ℕ) (one other : Task → Target) (task : Task) (parts : TaskParts) → one task ≡
+    same_target : (hub : NodeId) (churn remote : ℕ) (one other : Task → Target) (task : Task) (parts : TaskParts) → one task ≡
         other task
-        → task_spans hub churn one task parts ≡ task_spans hub churn other task parts
-    same_target hub churn one other task parts e = ap (λ (t : Target). task_spans hub churn (λ _. t) task parts) e
+        → task_spans hub churn remote one task parts ≡ task_spans hub churn remote other task parts
+    same_target hub churn remote one other task parts e =
+        ap (λ (t : Target). task_spans hub churn remote (λ _. t) task parts) e
 
 -- how much there is
 pub sum-ones : {X : Type 0} (xs : List X) → sum_by (λ _. 1) xs ≡ length xs
@@ -149,14 +152,31 @@ jobs-count sink limit (j ∷ js) (p ∷ ps) e =
     let shorter : length ps ≡ length js = omega arith in
     omega (arith, jobs-count sink limit js ps shorter)
 
-tasks-count : (hub : NodeId) (churn : ℕ) (target : Task → Target) (ts : List Task) (ps : List TaskParts)
-    → length ps ≡ length ts
-    → length (flat_zip (task_spans hub churn target) ts ps) ≡ 3 * length ts
-tasks-count hub churn target [] ps e = refl
-tasks-count hub churn target (t ∷ ts) [] e = absurd (omega arith)
-tasks-count hub churn target (t ∷ ts) (p ∷ ps) e =
-    let shorter : length ps ≡ length ts = omega arith in
-    omega (arith, tasks-count hub churn target ts ps shorter)
+pub preferred-count : (node : NodeId) (cost : ℕ) (heads : List NodeId) (arcs : List ArcId) → length arcs ≡ length heads
+    → length (preferred_spans node cost heads arcs) ≡ length heads
+preferred-count node cost [] arcs e = refl
+preferred-count node cost (head ∷ heads) [] e = absurd (omega arith)
+preferred-count node cost (head ∷ heads) (arc ∷ arcs) e =
+    let shorter : length arcs ≡ length heads = omega arith in
+    omega (arith, preferred-count node cost heads arcs shorter)
+
+tasks-count : (hub : NodeId) (churn remote : ℕ) (target : Task → Target) (ts : List Task) (ps : List TaskParts)
+    → AllZip (λ task parts. length parts.arcs.preferred ≡ length task.preferred) ts ps
+    → ((t : Task) → length (target t).preferred ≡ length t.preferred)
+    → length (flat_zip (task_spans hub churn remote target) ts ps) ≡ 3 * length ts + preference_count ts
+tasks-count hub churn remote target [] ps h each = refl
+tasks-count hub churn remote target (t ∷ ts) [] h each = absurd h
+tasks-count hub churn remote target (t ∷ ts) (p ∷ ps) h each =
+    let cost : ℕ = cond (is_some t.machine) churn 0 in
+    let own : List Span = preferred_spans p.node cost (target t).preferred p.arcs.preferred in
+    omega (
+      arith,
+      length-append own (flat_zip (task_spans hub churn remote target) ts ps),
+      preferred-count p.node cost (target t).preferred p.arcs.preferred (h.0 ∙ sym (each t)),
+      each t,
+      tasks-count hub churn remote target ts ps h.1 each,
+      sum_by-cons (λ (task : Task). length task.preferred) t ts,
+    )
 
 -- the net holds as many nodes and arcs as the rows use
 pub nodes-counted : (g : Graph) → Mirrors g → node_count g.net ≡ arena_nodes g.rows
@@ -180,7 +200,7 @@ pub arcs-counted : (g : Graph) → Mirrors g → arc_count g.net ≡ arena_arcs 
 arcs-counted g is =
     let machines : List Span = flat_zip (machine_spans g.hub g.sink g.rows.limits.spread) g.rows.machines g.machines in
     let jobs : List Span = flat_zip (job_spans g.sink g.rows.limits.nodes) g.rows.jobs g.jobs in
-    let tasks : List Span = flat_zip (task_spans g.hub g.rows.limits.churn (target_of g)) g.rows.tasks g.tasks in
+    let tasks : List Span = flat_zip (task_spans g.hub g.rows.limits.churn g.rows.limits.remote (target_of g)) g.rows.tasks g.tasks in
     omega (
       arith,
       often-length (spans_of g.net) (graph_spans g) is.spans,
@@ -190,5 +210,6 @@ arcs-counted g is =
       length-append jobs tasks,
       machines-count g.hub g.sink g.rows.limits.spread g.rows.machines g.machines is.slots,
       jobs-count g.sink g.rows.limits.nodes g.rows.jobs g.jobs is.jobs,
-      tasks-count g.hub g.rows.limits.churn (target_of g) g.rows.tasks g.tasks is.tasks,
+      tasks-count g.hub g.rows.limits.churn g.rows.limits.remote (target_of g) g.rows.tasks g.tasks is.preferred
+          (λ t. length-map (node_under (machine_names g.rows) (machine_nodes g) g.hub) t.preferred),
     )

@@ -9,7 +9,7 @@ use Rattle.std.proofs.lemmas.Slice.Eq.{bytes_eq-Decides}
 use Rattle.firm_net.specs.Row.{Row}
 use Rattle.firm_net.specs.Net.{Net, IsNode, row_at}
 use Rattle.firm_net.specs.declared.row.NodeId.{NodeId}
-use Rattle.firm_rules.specs.Book.{TenantRows, machine_names, is_on, evicted}
+use Rattle.firm_rules.specs.Book.{TenantRows, machine_names, is_on}
 use Rattle.firm_rules.specs.Round.{task_after}
 use Rattle.firm_rules.specs.declared.parts.Task.{Task}
 use Rattle.firm_rules.specs.declared.parts.Machine.{Machine}
@@ -20,11 +20,12 @@ use Rattle.firm_graph.specs.Parts.{MachineParts}
 use Rattle.firm_graph.specs.declared.parts.TaskParts.{TaskParts}
 use Rattle.firm_graph.specs.declared.parts.Stand.{Stand}
 use Rattle.firm_graph.specs.Graph.{Graph, Mirrors, graph_nodes, home_node, node_under, machine_nodes}
-use Rattle.firm_graph.specs.Steps.{IsPlacing, Stands, Holds, moved, with_task_at, evicted_first, settled_first, no_task, task_at}
+use Rattle.firm_graph.specs.Steps.{IsPlacing, Stands, Holds, moved, with_task_at, thrown_out, thrown_out_first}
+use Rattle.firm_graph.specs.Steps.{forgetting_rows, settled_first, no_task, task_at}
 use Rattle.firm_graph.proofs.Machines.{bytes_eq-swap}
 use Rattle.firm_graph.proofs.Drops.{holds-row}
 use Rattle.firm_graph.proofs.Places.{home-there, home-other}
-use Rattle.firm_graph.proofs.Firsts.{first-read, evict-yes, settle-step}
+use Rattle.firm_graph.proofs.Firsts.{first-read, forgotten-at, throw-yes, settle-step}
 
 -- the home of a task is there, and is not the tail of the arc that is led to it
 pub leads-home : (g : Graph) (place : ℕ) (parts : TaskParts) (home : Option (List ℕ)) (net : Net) (head : NodeId)
@@ -52,34 +53,34 @@ parts-at {X} xs ys place d e below =
 -- the step of a loop that throws a task out
 pub evict-next : (g : Graph) (rows : TenantRows) (name : List ℕ) (place : ℕ) (parts : TaskParts) (stand : Stand)
     (before after : Net)
-    → g.rows ≡ rows → g.hub ≡ stand.node → stand.runs ≡ false → stand.waited ≡ 0 → place < length rows.tasks
-    → place < length g.tasks
+    → g.rows ≡ forgetting_rows rows name → g.hub ≡ stand.node → stand.runs ≡ false → stand.waited ≡ 0
+    → place < length rows.tasks → place < length g.tasks
     → parts ≡ get_or g.tasks place parts → is_on name (task_at rows place).machine ≡ true
-    → Mirrors (moved g (evicted_first g.rows name place) before)
+    → Mirrors (moved g (thrown_out_first g.rows name place) before)
     → ((h : Graph) (home : Option (List ℕ)) → IsPlacing h before rows parts place stand home → Mirrors
     (moved h (with_task_at h.rows place home stand.waited) after))
-    → Mirrors (moved g (evicted_first g.rows name (place + 1)) after)
+    → Mirrors (moved g (thrown_out_first g.rows name (place + 1)) after)
 evict-next g rows name place parts stand before after rows_is hub_is runs_is waited_is here below at on mirrors step =
-    let old : Graph = moved g (evicted_first g.rows name place) before in
-    let there : place < length g.rows.tasks = omega (arith, here, ap (λ (r : TenantRows). length r.tasks) rows_is) in
-    let read : task_at old.rows place ≡ task_at rows place = first-read (λ (_ : ℕ). evicted name) 0 place g.rows.tasks
-    no_task ∙ ap (λ (r : TenantRows). task_at r place) rows_is in
+    let old : Graph = moved g (thrown_out_first g.rows name place) before in
+    let h = forgotten-at g.rows rows name place rows_is here in
+    let read : task_at old.rows place ≡ task_at g.rows place = first-read (λ (_ : ℕ). thrown_out name) 0 place
+    g.rows.tasks no_task in
     let made = step old None (record {
       mirrors = mirrors;
       over = refl;
       below = below;
       its_parts = at;
-      its_job = ap (λ (t : Task). t.job) read;
-      jobs = ap (λ (r : TenantRows). r.jobs) rows_is;
-      limits = ap (λ (r : TenantRows). r.limits) rows_is;
+      its_job = ap (λ (t : Task). t.job) read ∙ h.job_is;
+      jobs = h.jobs;
+      limits = h.limits;
       node = sym hub_is;
       runs = runs_is;
     }) in
-    let zero_waited : Mirrors (moved g (with_task_at (evicted_first g.rows name place) place None 0) after) =
-    subst (λ (n : ℕ). Mirrors (moved g (with_task_at (evicted_first g.rows name place) place None n) after)) waited_is
+    let zero_waited : Mirrors (moved g (with_task_at (thrown_out_first g.rows name place) place None 0) after) =
+    subst (λ (n : ℕ). Mirrors (moved g (with_task_at (thrown_out_first g.rows name place) place None n) after)) waited_is
     made in
     subst (λ (r : TenantRows). Mirrors (moved g r after))
-    (evict-yes g.rows name place there (ap (λ (r : TenantRows). is_on name (task_at r place).machine) rows_is ∙ on))
+    (throw-yes g.rows name place h.below (h.machine_is name ∙ on))
     zero_waited
 
 -- the step of a loop that settles a task

@@ -14,6 +14,7 @@ use Rattle.firm_rules.specs.declared.parts.Job.{Job}
 use Rattle.firm_rules.specs.declared.parts.Task.{Task}
 use Rattle.firm_net.specs.Edits.{Span, nodes_of, spans_of, AsOften}
 use Rattle.firm_graph.specs.Parts.{MachineParts}
+use Rattle.firm_graph.specs.Network.{away}
 use Rattle.firm_graph.specs.declared.parts.JobParts.{JobParts}
 use Rattle.firm_graph.specs.declared.parts.TaskParts.{TaskParts}
 
@@ -56,18 +57,32 @@ job_spans sink limit job parts = record { arc = parts.exit; tail = parts.node; h
 pub record Target : Type 0 where
   pub home : NodeId
   pub owner : NodeId
+  pub preferred : List NodeId
   pub delay : ℕ
 
+-- the arcs of a task to the nodes of the machines that it prefers, one by one
+abbrev pub preferred_spans : NodeId → ℕ → List NodeId → List ArcId → List Span
+preferred_spans node cost [] arcs = []
+preferred_spans node cost (head ∷ heads) [] = []
+preferred_spans node cost (head ∷ heads) (arc ∷ arcs) =
+    record { arc = arc; tail = node; head = head; cap = 1; cost = cost } ∷ preferred_spans node cost heads arcs
+
 -- the arcs of a task
-abbrev pub task_spans : NodeId → ℕ → (Task → Target) → Task → TaskParts → List Span
-task_spans hub churn target task parts =
+abbrev pub task_spans : NodeId → ℕ → ℕ → (Task → Target) → Task → TaskParts → List Span
+task_spans hub churn remote target task parts =
     let runs = is_some task.machine in
     let leaving : ℕ = if runs then churn else 0 in
     let to : Target = target task in
-    record { arc = parts.arcs.wide; tail = parts.node; head = hub; cap = 1; cost = leaving }
+    record {
+      arc = parts.arcs.wide;
+      tail = parts.node;
+      head = hub;
+      cap = 1;
+      cost = leaving + away remote task.preferred;
+    }
     ∷ record { arc = parts.arcs.stay; tail = parts.node; head = to.home; cap = if runs then 1 else 0; cost = 0 }
     ∷ record { arc = parts.arcs.wait; tail = parts.node; head = to.owner; cap = 1; cost = to.delay + leaving }
-    ∷ []
+    ∷ preferred_spans parts.node leaving to.preferred parts.arcs.preferred
 
 -- the node under a name; `other` where none has it
 abbrev pub node_under : List (List ℕ) → List NodeId → NodeId → List ℕ → NodeId
@@ -100,6 +115,7 @@ target_of g task =
     record {
       home = home_node (machine_names g.rows) (machine_nodes g) g.hub task.machine;
       owner = node_under (job_names g.rows) (job_nodes g) g.hub task.job;
+      preferred = map (node_under (machine_names g.rows) (machine_nodes g) g.hub) task.preferred;
       delay = weight_under g.rows.jobs task.job + task.waited;
     }
 
@@ -112,7 +128,7 @@ abbrev pub graph_spans : Graph → List Span
 graph_spans g =
     flat_zip (machine_spans g.hub g.sink g.rows.limits.spread) g.rows.machines g.machines
     ++ (flat_zip (job_spans g.sink g.rows.limits.nodes) g.rows.jobs g.jobs
-    ++ flat_zip (task_spans g.hub g.rows.limits.churn (target_of g)) g.rows.tasks g.tasks)
+    ++ flat_zip (task_spans g.hub g.rows.limits.churn g.rows.limits.remote (target_of g)) g.rows.tasks g.tasks)
 
 -- the net holds the nodes and arcs that the rows make, and nothing else
 pub record Mirrors (g : Graph) : Type 0 where
@@ -120,6 +136,7 @@ pub record Mirrors (g : Graph) : Type 0 where
   pub nodes : AsOften (nodes_of g.net) (graph_nodes g)
   pub spans : AsOften (spans_of g.net) (graph_spans g)
   pub slots : AllZip (λ machine parts. length parts.slots ≡ machine.slots) g.rows.machines g.machines
+  pub preferred : AllZip (λ task parts. length parts.arcs.preferred ≡ length task.preferred) g.rows.tasks g.tasks
   pub machines : length g.machines ≡ length g.rows.machines
   pub jobs : length g.jobs ≡ length g.rows.jobs
   pub tasks : length g.tasks ≡ length g.rows.tasks

@@ -8,7 +8,7 @@ use Rattle.firm_graph.specs.declared.parts.TaskArcs.{TaskArcs}
 use Rattle.firm_graph.specs.declared.network.Node.{Node}
 use Rattle.firm_graph.specs.declared.network.Node.TheVariants.{Sink, Hub, Machine, Owner, Task}
 use Rattle.firm_graph.specs.declared.network.Key.{Key}
-use Rattle.firm_graph.specs.declared.network.Key.TheVariants.{Through, Slot, Exit, Wide, Stay, Delay}
+use Rattle.firm_graph.specs.declared.network.Key.TheVariants.{Through, Slot, Exit, Wide, Stay, Delay, Prefer}
 use Rattle.firm_graph.specs.View.{View, Shows}
 use Rattle.firm_graph.specs.Graph.{Graph, IsGraph, machine_nodes, job_nodes, task_nodes}
 
@@ -28,7 +28,7 @@ abbrev pub no_machine : Graph → MachineParts
 no_machine g = record { node = g.hub; through = no_arc; slots = [] }
 
 abbrev pub no_arcs : TaskArcs
-no_arcs = record { wide = no_arc; stay = no_arc; wait = no_arc }
+no_arcs = record { wide = no_arc; stay = no_arc; wait = no_arc; preferred = [] }
 
 -- the arc of the net for an arc of the network
 abbrev pub arc_id : Graph → Key → ArcId
@@ -38,6 +38,8 @@ arc_id g (Exit k) = (slice_index_or g.jobs k (record { node = g.hub; exit = no_a
 arc_id g (Wide i) = (slice_index_or g.tasks i (record { node = g.hub; arcs = no_arcs })).arcs.wide
 arc_id g (Stay i) = (slice_index_or g.tasks i (record { node = g.hub; arcs = no_arcs })).arcs.stay
 arc_id g (Delay i) = (slice_index_or g.tasks i (record { node = g.hub; arcs = no_arcs })).arcs.wait
+arc_id g (Prefer i k) =
+    slice_index_or (slice_index_or g.tasks i (record { node = g.hub; arcs = no_arcs })).arcs.preferred k no_arc
 
 -- what the net of a graph shows: the network of the case of its rows, under the graph's ids
 abbrev pub view_of : Graph → View

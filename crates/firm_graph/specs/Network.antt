@@ -1,6 +1,6 @@
 -- The network of a case: its nodes and its arcs as lists, told by places.
 use Rattle.std.specs.Prelude.{◌≡◌, ℕ, zero, suc, ◌+◌, ◌*◌, ◌<◌, ◌≤◌, Bool, true, false, ⊤, List, [], ◌∷◌, ◌++◌, length}
-use Rattle.std.specs.Prelude.{slice_index, slice_index_or, if◌then◌else◌, Option, Some, None}
+use Rattle.std.specs.Prelude.{nat_lt, slice_index, slice_index_or, if◌then◌else◌, Option, Some, None}
 use Rattle.firm_paths.specs.Network.{Arc}
 use Rattle.firm_rules.specs.Book.{TenantRows}
 use Rattle.firm_rules.specs.ArenaUse.{arena_nodes, arena_arcs}
@@ -9,7 +9,7 @@ use Rattle.firm_rules.specs.Round.{case_of}
 use Rattle.firm_graph.specs.declared.network.Node.{Node}
 use Rattle.firm_graph.specs.declared.network.Node.TheVariants.{Sink, Hub, Machine, Owner, Task}
 use Rattle.firm_graph.specs.declared.network.Key.{Key}
-use Rattle.firm_graph.specs.declared.network.Key.TheVariants.{Through, Slot, Exit, Wide, Stay, Delay}
+use Rattle.firm_graph.specs.declared.network.Key.TheVariants.{Through, Slot, Exit, Wide, Stay, Delay, Prefer}
 
 -- the lists of `f 0`, `f 1` and so on below `n`, end to end
 abbrev pub gather : {A : Type 0} → (ℕ → List A) → ℕ → List A
@@ -27,7 +27,7 @@ slots_of c j = slice_index c.slots j
 
 -- what the task at a place brings to a round
 abbrev pub demand : Case → ℕ → Demand
-demand c i = slice_index_or c.tasks i (record { home = None; delay = 0; job = 0 })
+demand c i = slice_index_or c.tasks i (record { home = None; preferred = []; delay = 0; job = 0 })
 
 -- a task with a machine runs
 abbrev pub runs : Option ℕ → Bool
@@ -50,15 +50,32 @@ machine_arcs c low flow j =
 abbrev pub job_arcs : Case → (Key → ℕ) → (Key → ℕ) → ℕ → List (Arc Node Key)
 job_arcs c low flow k = arc low flow (Exit k) (Owner k) Sink c.limit 0 ∷ []
 
--- the arcs of a task: to the hub, to its machine, and to its job; what takes a running task from its machine costs
--- churn
+-- the place of the machine that is a task's k-th preference, counted from 0
+abbrev pub preferred_at : Case → ℕ → ℕ → ℕ
+preferred_at c i k = slice_index_or (demand c i).preferred k 0
+
+-- what it costs to take a task from its machine: churn where it runs
+abbrev pub leaving : Case → ℕ → ℕ
+leaving c i = if runs (demand c i).home then c.churn else 0
+
+-- what the way by the hub costs beside that: `remote` where there are preferences
+abbrev pub away : {A : Type 0} → ℕ → List A → ℕ
+away remote preferred = if nat_lt 0 (length preferred) then remote else 0
+
+-- the arcs of a task to the machines that it prefers
+abbrev pub preferred_arcs : Case → (Key → ℕ) → (Key → ℕ) → ℕ → List (Arc Node Key)
+preferred_arcs c low flow i =
+    gather (λ k. arc low flow (Prefer i k) (Task i) (Machine (preferred_at c i k)) 1 (leaving c i) ∷ [])
+    (length (demand c i).preferred)
+
+-- the arcs of a task: to the hub, to its machine, to its job, and to each machine that it prefers; what takes a running
+-- task from its machine costs churn, and a task with preferences comes by the hub for `remote` more
 abbrev pub task_arcs : Case → (Key → ℕ) → (Key → ℕ) → ℕ → List (Arc Node Key)
 task_arcs c low flow i =
-    arc low flow (Wide i) (Task i) Hub 1 (if runs (demand c i).home then c.churn else 0)
+    arc low flow (Wide i) (Task i) Hub 1 (leaving c i + away c.remote (demand c i).preferred)
     ∷ arc low flow (Stay i) (Task i) (stay_head (demand c i).home) (if runs (demand c i).home then 1 else 0) 0
-    ∷ arc low flow (Delay i) (Task i) (Owner (demand c i).job) 1
-    ((demand c i).delay + (if runs (demand c i).home then c.churn else 0))
-    ∷ []
+    ∷ arc low flow (Delay i) (Task i) (Owner (demand c i).job) 1 ((demand c i).delay + leaving c i)
+    ∷ preferred_arcs c low flow i
 
 -- the arcs of the network, with these lower bounds and flows
 abbrev pub network : Case → (Key → ℕ) → (Key → ℕ) → List (Arc Node Key)
@@ -92,6 +109,7 @@ IsKeyOf c (Exit k) = k < c.jobs
 IsKeyOf c (Wide i) = i < length c.tasks
 IsKeyOf c (Stay i) = i < length c.tasks
 IsKeyOf c (Delay i) = i < length c.tasks
+IsKeyOf c (Prefer i k) = (i < length c.tasks) × (k < length (demand c i).preferred)
 
 -- each task's job is there, and a job is allowed as many tasks as there are
 pub record IsSound (c : Case) : Type 0 where

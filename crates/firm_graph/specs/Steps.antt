@@ -1,19 +1,20 @@
 -- Rows and graphs on the way from one to the next. No public clause cites this module.
-use Rattle.std.specs.Prelude.{◌≡◌, ℕ, zero, suc, ◌+◌, ◌<◌, ◌≤◌, List, [], ◌∷◌, length, slice_index_or, Option, None}
-use Rattle.std.specs.Prelude.{is_some}
+use Rattle.std.specs.Prelude.{◌≡◌, ℕ, zero, suc, ◌+◌, ◌<◌, ◌≤◌, List, [], ◌∷◌, length, map, slice_index_or, Option, None}
+use Rattle.std.specs.Prelude.{is_some, if◌then◌else◌}
 use Rattle.std.specs.List.{remove}
 use Rattle.firm_arena.specs.Arena.{capacity_of}
 use Rattle.firm_net.specs.Net.{Net, IsNet, added_of}
 use Rattle.firm_net.specs.Edits.{Span, nodes_of, spans_of, AsOften}
 use Rattle.firm_net.specs.declared.row.NodeId.{NodeId}
-use Rattle.firm_rules.specs.Book.{TenantRows, machine_names, evicted}
+use Rattle.firm_net.specs.declared.row.ArcId.{ArcId}
+use Rattle.firm_rules.specs.Book.{TenantRows, machine_names, is_on, forgetting}
 use Rattle.firm_rules.specs.Round.{task_after}
 use Rattle.firm_rules.specs.declared.rounds.Choice.{Choice}
 use Rattle.firm_rules.specs.declared.rounds.Choice.TheVariants.{Wait}
 use Rattle.firm_rules.specs.declared.parts.Task.{Task}
 use Rattle.firm_graph.specs.declared.parts.TaskParts.{TaskParts}
 use Rattle.firm_graph.specs.declared.parts.Stand.{Stand}
-use Rattle.firm_graph.specs.Graph.{Graph, Mirrors, home_node, machine_nodes}
+use Rattle.firm_graph.specs.Graph.{Graph, Mirrors, preferred_spans, home_node, machine_nodes}
 
 -- the list with the element at a place changed
 abbrev pub update_at : {X : Type 0} → List X → ℕ → (X → X) → List X
@@ -39,15 +40,27 @@ task_gone rows place = record rows { tasks = remove rows.tasks place }
 
 -- the task, where it runs and how many rounds left it waiting said anew
 abbrev pub placed : Option (List ℕ) → ℕ → Task → Task
-placed machine waited task = record { name = task.name; job = task.job; machine = machine; waited = waited }
+placed machine waited task = record task { machine = machine; waited = waited }
 
 -- the rows with the task at a place said anew
 abbrev pub with_task_at : TenantRows → ℕ → Option (List ℕ) → ℕ → TenantRows
 with_task_at rows place machine waited = record rows { tasks = update_at rows.tasks place (placed machine waited) }
 
+-- the rows, the first so many tasks of which prefer the machine of this name no longer
+abbrev pub forgetting_first : TenantRows → List ℕ → ℕ → TenantRows
+forgetting_first rows name n = record rows { tasks = changed_first (λ _. forgetting name) 0 n rows.tasks }
+
+-- the rows, no task of which prefers the machine of this name
+abbrev pub forgetting_rows : TenantRows → List ℕ → TenantRows
+forgetting_rows rows name = record rows { tasks = map (forgetting name) rows.tasks }
+
+-- a task that waits if it ran on the machine of this name, and was then left waiting by no round
+abbrev pub thrown_out : List ℕ → Task → Task
+thrown_out name task = if is_on name task.machine then placed None 0 task else task
+
 -- the rows, the first so many tasks of which were thrown out of the machine
-abbrev pub evicted_first : TenantRows → List ℕ → ℕ → TenantRows
-evicted_first rows name n = record rows { tasks = changed_first (λ _. evicted name) 0 n rows.tasks }
+abbrev pub thrown_out_first : TenantRows → List ℕ → ℕ → TenantRows
+thrown_out_first rows name n = record rows { tasks = changed_first (λ _. thrown_out name) 0 n rows.tasks }
 
 -- the rows, the first so many tasks of which are as a round leaves them
 abbrev pub settled_first : TenantRows → List Choice → ℕ → TenantRows
@@ -56,10 +69,28 @@ settled_first rows choices n =
     record rows { tasks = changed_first settled 0 n rows.tasks }
 
 abbrev pub no_task : Task
-no_task = record { name = []; job = []; machine = None; waited = 0 }
+no_task = record { name = []; job = []; preferred = []; machine = None; waited = 0 }
 
 abbrev pub task_at : TenantRows → ℕ → Task
 task_at rows place = slice_index_or rows.tasks place no_task
+
+-- the rows, the task at a place of which prefers the machine of this name no longer
+abbrev pub with_forgetting_at : TenantRows → ℕ → List ℕ → TenantRows
+with_forgetting_at rows place name = record rows { tasks = update_at rows.tasks place (forgetting name) }
+
+-- the graph with another net, other rows, and other arcs of the tasks
+abbrev pub refitted : Graph → TenantRows → Net → List TaskParts → Graph
+refitted g rows net tasks = record g { rows = rows; net = net; tasks = tasks }
+
+-- the graph stands over this net, its rows have the limits of these, and its task at a place, which is theirs, has these
+-- parts
+pub record IsFitting (g : Graph) (net : Net) (rows : TenantRows) (parts : TaskParts) (place : ℕ) : Type 0 where
+  pub mirrors : Mirrors g
+  pub over : g.net ≡ net
+  pub below : place < length g.tasks
+  pub its_parts : parts ≡ slice_index_or g.tasks place parts
+  pub its_row : task_at g.rows place ≡ task_at rows place
+  pub limits : g.rows.limits ≡ rows.limits
 
 -- the graph with another net and other rows
 abbrev pub moved : Graph → TenantRows → Net → Graph
@@ -86,6 +117,18 @@ pub record Stands (rows : TenantRows) (nodes : List NodeId) (hub : NodeId) (task
   pub node : stand.node ≡ home_node (machine_names rows) nodes hub (task_after rows task choice).machine
   pub runs : stand.runs ≡ is_some (task_after rows task choice).machine
   pub waited : stand.waited ≡ (task_after rows task choice).waited
+
+-- an arc of a task to a machine that it prefers
+abbrev pub near : NodeId → NodeId → ℕ → ArcId → Span
+near node head cost arc = record { arc = arc; tail = node; head = head; cap = 1; cost = cost }
+
+-- a task's arcs to the machines that it prefers, the first so many at another cost
+abbrev pub mixed_spans : NodeId → ℕ → ℕ → ℕ → List NodeId → List ArcId → List Span
+mixed_spans node new old zero heads arcs = preferred_spans node old heads arcs
+mixed_spans node new old (suc n) [] arcs = []
+mixed_spans node new old (suc n) (head ∷ heads) [] = []
+mixed_spans node new old (suc n) (head ∷ heads) (arc ∷ arcs) =
+    near node head new arc ∷ mixed_spans node new old n heads arcs
 
 -- the net holds these nodes and arcs, on the way from another that had as much room
 pub record Holds (base now : Net) (ns : List NodeId) (ss : List Span) : Type 0 where

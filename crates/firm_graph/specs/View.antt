@@ -10,7 +10,8 @@ use Rattle.firm_paths.specs.NetArcs.{arcs_of}
 use Rattle.firm_rules.specs.Placement.{Case}
 use Rattle.firm_graph.specs.declared.network.Node.{Node}
 use Rattle.firm_graph.specs.declared.network.Key.{Key}
-use Rattle.firm_graph.specs.Network.{network, demand, stay_head, IsNodeOf, IsKeyOf, IsSound}
+use Rattle.firm_graph.specs.Network.{network, demand, stay_head, preferred_at, IsNodeOf, IsKeyOf}
+use Rattle.firm_graph.specs.Network.{IsSound}
 
 -- a case, a net, and the net's ids of the nodes and arcs of the network of the case
 pub record View : Type 0 where
@@ -54,7 +55,7 @@ named v a =
     }
 
 -- the net's nodes and arcs are those of the network and no others, each arc once, different nodes and arcs have
--- different ids, and the case is sound
+-- different ids, the case is sound, and the machine that a task runs on is there, and so are those that it prefers
 pub record Shows (v : View) : Type 0 where
   pub net : IsNet v.net
   pub arcs : IsPermutation (arcs_of v.net) (map (named v) (network v.case (lows v) (flows v)))
@@ -65,6 +66,8 @@ pub record Shows (v : View) : Type 0 where
   pub arcs_apart : (a b : Key) → IsKeyOf v.case a → IsKeyOf v.case b → v.arc a ≡ v.arc b → a ≡ b
   pub sound : IsSound v.case
   pub homes : (i : ℕ) → i < length v.case.tasks → IsNodeOf v.case (stay_head (demand v.case i).home)
+  pub preferred : (i k : ℕ) → i < length v.case.tasks → k < length (demand v.case i).preferred
+      → preferred_at v.case i k < length v.case.slots
 
 -- the net's arcs are those of the network, each once, and none has a lower bound or flow
 abbrev pub IsAtRest : View → Type 0

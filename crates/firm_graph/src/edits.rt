@@ -1,17 +1,23 @@
 //! Edits of a net, each with what it takes away and brings.
 ghost use Rattle.std.specs.Prelude.{◌≡◌, ◌≢◌, ◌+◌, ◌^◌, ◌<◌, ◌≤◌, None, Some, [], ◌∷◌, ◌++◌, vec_len, vec_capacity};
-ghost use Rattle.std.specs.Prelude.{length};
+ghost use Rattle.std.specs.Prelude.{length, map, true, nat_lt, if◌then◌else◌, All, Contains};
 ghost use Rattle.firm_arena.specs.Arena.{capacity_of};
 ghost use Rattle.firm_net.specs.Row.{Row};
 ghost use Rattle.firm_net.specs.Net.{IsNet, IsNode, lists_at, row_at, out_list, in_list, added_of, node_count};
 ghost use Rattle.firm_net.specs.Net.{arc_count};
 ghost use Rattle.std.specs.Prelude.{ℕ, List};
+ghost use Rattle.firm_net.specs.Net.{Net as NetRow};
 ghost use Rattle.firm_net.specs.declared.row.NodeId.{NodeId as NodeIdRow};
-ghost use Rattle.firm_graph.specs.Graph.{slot_spans};
+ghost use Rattle.firm_rules.specs.Book.{machine_names};
+ghost use Rattle.firm_rules.specs.Names.{is_among};
+ghost use Rattle.firm_graph.specs.Graph.{slot_spans, preferred_spans, node_under};
 ghost use Rattle.firm_net.specs.Edits.{Span, IsEdit, span_of};
 ghost use Rattle.firm_graph.specs.Steps.{Holds};
 
+use crate::parts::MachineIds;
+use crate::preferred::PreferredArcs;
 use firm_net::{ArcId, ArcRow, Net, NodeId};
+use firm_rules::{Limits, Name, Rows};
 
 /// Adds a node to a net with room for it.
 pub(crate) fn put_node(net: &mut Net) -> NodeId
@@ -144,5 +150,88 @@ pub(crate) fn unlink_slots(net: &mut Net, slots: &[ArcId])
 {
     for arc in slots {
         unlink(net, *arc);
+    }
+}
+
+/// Adds an arc that costs nothing to the machine of each of these names.
+pub(crate) fn link_preferred(
+    net: &mut Net,
+    node: NodeId,
+    rows: &Rows,
+    machines: &[MachineIds],
+    names: &[Name],
+) -> PreferredArcs
+    requires net { IsNet net.old }
+    requires node { IsNode net.old node }
+    requires machines { length machines.now ≡ length rows.now.machines }
+    requires heads { All (λ head. IsNode net.old head × (node ≢ head)) (map (λ parts. parts.node) machines.now) }
+    requires there { All (λ name. is_among (machine_names rows.now) name ≡ true) names.now }
+    requires few { length names.now ≤ 4 }
+    requires room { arc_count net.old + length names.now ≤ capacity_of net.old.arcs }
+    requires stamps { added_of net.old + 4 < 2 ^ 62 }
+    ensures edit { (hub : NodeIdRow) → IsEdit net.old net.new [] [] [] (preferred_spans node 0
+        (map (node_under (machine_names rows.now) (map (λ parts. parts.node) machines.now) hub) names.now) result) }
+    ensures count { length result ≡ length names.now }
+{
+    let mut arcs = PreferredArcs::new();
+    for name in names {
+        let arc = link(net, node, machine_node(rows, machines, *name), 1, 0);
+        arcs.add(arc);
+    }
+    arcs
+}
+
+// The node of the machine of a name.
+fn machine_node(rows: &Rows, machines: &[MachineIds], name: Name) -> NodeId
+    requires there { is_among (machine_names rows.now) name ≡ true }
+    requires machines { length machines.now ≡ length rows.now.machines }
+    ensures node { (hub : NodeIdRow) → result
+        ≡ node_under (machine_names rows.now) (map (λ parts. parts.node) machines.now) hub name }
+    ensures listed { Contains (map (λ parts. parts.node) machines.now) result }
+{
+    let Some(place) = rows.machine_place(name) else {
+        unreachable!()
+    };
+    let parts = &machines[place];
+    parts.node
+}
+
+/// Removes the arcs of a task to the machines that it prefers.
+pub(crate) fn unlink_preferred(net: &mut Net, arcs: PreferredArcs)
+    requires net { IsNet net.old }
+    ensures net { IsNet net.new }
+    ensures left { (ns : List NodeIdRow) (ss : List Span) (node : NodeIdRow) (cost : ℕ) (heads : List NodeIdRow)
+        → length heads ≡ length arcs
+        → Holds net.old net.old ns (preferred_spans node cost heads arcs ++ ss) → Holds net.old net.new ns ss }
+{
+    for place in 0..arcs.len() {
+        unlink(net, arcs.at(place));
+    }
+}
+
+/// Gives the arcs of a task to the machines that it prefers another cost, and no flow.
+pub(crate) fn rate_preferred(net: &mut Net, arcs: PreferredArcs, cost: u32)
+    requires cost { cost ≤ 3000000 }
+    requires net { IsNet net.old }
+    ensures rated { (base : NetRow) (ns : List NodeIdRow) (ss : List Span) (node : NodeIdRow) (old : ℕ)
+        (heads : List NodeIdRow) → length heads ≡ length arcs
+        → Holds base net.old ns (preferred_spans node old heads arcs ++ ss)
+        → Holds base net.new ns (preferred_spans node cost heads arcs ++ ss) }
+    ensures net { IsNet net.new }
+{
+    for place in 0..arcs.len() {
+        rate(net, arcs.at(place), 1, cost);
+    }
+}
+
+/// What the way by the hub costs a task with so many preferences, beside churn.
+pub(crate) fn away_cost(limits: Limits, preferences: usize) -> u32
+    ensures value { result ≡ (if nat_lt 0 preferences then limits.remote else 0) }
+    ensures most { result ≤ 1000000 }
+{
+    if preferences > 0 {
+        limits.remote() as u32
+    } else {
+        0
     }
 }

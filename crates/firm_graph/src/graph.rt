@@ -1,6 +1,6 @@
 //! The network of a tenant.
 ghost use Rattle.std.specs.Prelude.{◌≡◌, ◌+◌, ◌^◌, ◌<◌, ◌≤◌, ◌↔◌, false, true, [], IfOk, OnOk, OnErr, IsTrue, ℕ};
-ghost use Rattle.std.specs.Prelude.{length, map, pos};
+ghost use Rattle.std.specs.Prelude.{length, map, pos, slice_index_or};
 ghost use Rattle.std.specs.List.{All};
 ghost use Rattle.firm_net.specs.Net.{CountsAre, arc_count, without_flow, CanPush, SameOtherRows, row_at, with_row};
 ghost use Rattle.firm_net.specs.Net.{with_unit};
@@ -18,20 +18,21 @@ ghost use Rattle.firm_rules.specs.Placement.{is_legal};
 ghost use Rattle.firm_rules.specs.Round.{case_of, rows_after};
 ghost use Rattle.firm_graph.specs.Graph.{IsGraph, LackNodes, LackArcs};
 ghost use Rattle.firm_graph.specs.Ids.{view_of};
-ghost use Rattle.firm_graph.specs.Network.{task_nodes};
+ghost use Rattle.firm_graph.specs.Network.{task_nodes, demand};
 ghost use Rattle.firm_graph.specs.View.{Shows, IsAtRest, IsSameCase, CanHold, with_low, spot_of};
 ghost use Rattle.firm_graph.specs.declared.network.Node.TheVariants.{Sink, Hub};
-ghost use Rattle.firm_graph.specs.declared.network.Key.TheVariants.{Through, Wide, Stay, Delay};
+ghost use Rattle.firm_graph.specs.declared.network.Key.TheVariants.{Through, Wide, Stay, Delay, Prefer};
 
-use crate::edits::{drop_node, link, link_slots, push_reserved, put_node, unlink, unlink_slots};
+use crate::edits::{away_cost, drop_node, link, link_preferred, link_slots, push_reserved, put_node};
+use crate::edits::{unlink, unlink_preferred, unlink_slots};
 use crate::growth::{grow_jobs, grow_machines, grow_tasks};
-use crate::moves::{evict_tasks, settle_tasks};
+use crate::moves::{evict_tasks, forget_machine, settle_tasks};
 use crate::order::SearchOrder;
 use crate::parts::{GraphRefusal, JobParts, MachineIds, TaskArcs, TaskParts};
 use firm_flow::{in_any_order, solve};
 use firm_net::{ArcId, Net, NodeId, Way};
 use firm_paths::{Prices, Scratch};
-use firm_rules::{Choice, Limits, Name, Rows, Slots, Weight, legality_is_judged};
+use firm_rules::{Choice, Limits, Name, Preferred, Rows, Slots, Weight, legality_is_judged};
 use std::alloc::{AllocError, Global};
 use std::marker::Model;
 
@@ -136,20 +137,29 @@ impl Graph {
         Ok(())
     }
 
-    /// Adds a waiting task of the job last. `Nodes` exactly where its node does not fit the limits, else `Arcs` exactly
-    /// where its three arcs do not, else `Memory` only where memory is refused. A refusal changes nothing.
-    pub fn add_task(&mut self, job: Name, name: Name) -> Result<(), GraphRefusal>
+    /// Adds a waiting task of the job last, with the machines that it prefers. `Nodes` exactly where its node does not
+    /// fit the limits, else `Arcs` exactly where its arcs do not, three and one for each preference, else `Memory` only
+    /// where memory is refused. A refusal changes nothing.
+    pub fn add_task(
+        &mut self,
+        job: Name,
+        name: Name,
+        preferred: Preferred,
+    ) -> Result<(), GraphRefusal>
         requires job_there { is_among (job_names self.old.rows) job ≡ true }
         requires new_name { is_among (task_names self.old.rows) name ≡ false }
+        requires machines_there { All (λ machine. is_among (machine_names self.old.rows) machine ≡ true) preferred }
         requires asked { self.old.asked < 2 ^ 40 }
-        ensures ok { OnOk result (self.new.rows ≡ with_task self.old.rows job name) }
+        ensures ok { OnOk result (self.new.rows ≡ with_task self.old.rows job name preferred) }
         ensures counted { OnOk result (self.new.asked ≡ self.old.asked + 1) }
-        ensures nodes { (result ≡ Err GraphRefusal.Nodes) ↔ LackNodes (with_task self.old.rows job name) }
-        ensures arcs { (result ≡ Err GraphRefusal.Arcs) ↔ LackArcs (with_task self.old.rows job name) }
+        ensures nodes { (result ≡ Err GraphRefusal.Nodes) ↔ LackNodes (with_task self.old.rows job name preferred) }
+        ensures arcs { (result ≡ Err GraphRefusal.Arcs) ↔ LackArcs (with_task self.old.rows job name preferred) }
         ensures unchanged { OnErr result (self.new ≡ self.old) }
         ensures graph { IsGraph self.new }
     {
-        self.find_room(1, 3)?;
+        let count = preferred.len();
+        self.find_room(1, 3 + count as u32)?;
+        let limits = self.rows.limits();
         let Some(place) = self.rows.job_place(job) else {
             unreachable!()
         };
@@ -163,15 +173,23 @@ impl Graph {
             &mut self.rows,
             job,
             name,
+            preferred,
         ) else {
             return Err(GraphRefusal::Memory);
         };
         let owner = self.jobs[place].node;
         let node = put_node(&mut self.net);
-        let wide = link(&mut self.net, node, self.hub, 1, 0);
+        let wide = link(&mut self.net, node, self.hub, 1, away_cost(limits, count));
         let stay = link(&mut self.net, node, self.hub, 0, 0);
         let wait = link(&mut self.net, node, owner, 1, row.weight.get());
-        let arcs = TaskArcs { wide, stay, wait };
+        let names = preferred.as_slice();
+        let preferred = link_preferred(&mut self.net, node, &self.rows, &self.machines, names);
+        let arcs = TaskArcs {
+            wide,
+            stay,
+            wait,
+            preferred,
+        };
         push_reserved(&mut self.sources, node);
         push_reserved(&mut self.tasks, TaskParts { node, arcs });
         self.asked += 1;
@@ -234,6 +252,7 @@ impl Graph {
         unlink(&mut self.net, parts.arcs.wide);
         unlink(&mut self.net, parts.arcs.stay);
         unlink(&mut self.net, parts.arcs.wait);
+        unlink_preferred(&mut self.net, parts.arcs.preferred);
         drop_node(&mut self.net, parts.node);
     }
 
@@ -341,6 +360,9 @@ impl Graph {
         ensures wide { result.wide ≡ (view_of self.now).arc (Wide place) }
         ensures stay { result.stay ≡ (view_of self.now).arc (Stay place) }
         ensures wait { result.wait ≡ (view_of self.now).arc (Delay place) }
+        ensures preferences { length result.preferred ≡ length (demand (view_of self.now).case place).preferred }
+        ensures preferred { (k : ℕ) (other : ArcId) → k < length result.preferred
+            → slice_index_or result.preferred k other ≡ (view_of self.now).arc (Prefer place k) }
         ensures graph { IsGraph self.now }
     {
         self.tasks[place].arcs
@@ -372,7 +394,8 @@ impl Graph {
         drop_node(&mut self.net, parts.node);
     }
 
-    /// Removes a machine. The tasks that run on it wait again, and how many they are is the answer.
+    /// Removes a machine. The tasks that run on it wait again, and how many they are is the answer. No task prefers it any
+    /// longer.
     pub fn drop_machine(&mut self, name: Name) -> u32
         requires there { is_among (machine_names self.old.rows) name ≡ true }
         ensures rows { self.new.rows ≡ without_machine self.old.rows name }
@@ -383,6 +406,7 @@ impl Graph {
         let Some(place) = self.rows.machine_place(name) else {
             unreachable!()
         };
+        forget_machine(&mut self.net, &self.rows, &mut self.tasks, name);
         evict_tasks(&mut self.net, &self.rows, &self.tasks, self.hub, name);
         let evicted = self.rows.drain(place);
         let parts = self.machines.remove(place);
@@ -392,7 +416,8 @@ impl Graph {
         evicted
     }
 
-    /// Makes the rows those after a round of these choices, one for each task, and moves the tasks' stay arcs.
+    /// Makes the rows those after a round of these choices, one for each task, and moves the tasks' stay arcs. The arcs of
+    /// a task that starts, or no longer runs, cost what they then do.
     pub fn settle(&mut self, choices: &[Choice])
         requires legal { is_legal (case_of self.old.rows) choices.now ≡ true }
         ensures rows { self.new.rows ≡ rows_after self.old.rows choices.now }

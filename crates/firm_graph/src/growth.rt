@@ -1,6 +1,6 @@
 //! All the memory that an added row takes. No net is at hand here, so that each growth comes before its first change;
 //! any allocator will do, so that a test can refuse each growth in turn.
-ghost use Rattle.std.specs.Prelude.{◌≡◌, ◌+◌, ◌<◌, ◌≤◌, false, true, [], IfOk, OnOk, OnErr, vec_len, vec_capacity};
+ghost use Rattle.std.specs.Prelude.{◌≡◌, ◌+◌, ◌<◌, ◌≤◌, false, true, [], IfOk, OnOk, OnErr, All, vec_len, vec_capacity};
 ghost use Rattle.firm_rules.specs.ArenaUse.{FitsLimits};
 ghost use Rattle.firm_rules.specs.Book.{machine_names, job_names, task_names, with_machine, with_job, with_task};
 ghost use Rattle.firm_rules.specs.Names.{is_among};
@@ -9,7 +9,7 @@ ghost use Rattle.firm_rules.specs.Sound.{AreSound};
 use crate::order::SearchOrder;
 use crate::parts::{JobParts, MachineIds, TaskParts};
 use firm_net::{ArcId, NodeId};
-use firm_rules::{Name, Rows, Slots, Weight};
+use firm_rules::{Name, Preferred, Rows, Slots, Weight};
 use std::alloc::{AllocError, Allocator};
 
 /// Adds the row of a job, with room for its parts. The error comes for lack of memory alone, and leaves all as it was.
@@ -40,24 +40,26 @@ pub(crate) fn grow_tasks<A: Allocator>(
     rows: &mut Rows<A>,
     job: Name,
     name: Name,
+    preferred: Preferred,
 ) -> Result<(), AllocError>
     requires job_there { is_among (job_names rows.old) job ≡ true }
     requires new_name { is_among (task_names rows.old) name ≡ false }
-    requires fits { FitsLimits (with_task rows.old job name) }
+    requires machines_there { All (λ machine. is_among (machine_names rows.old) machine ≡ true) preferred }
+    requires fits { FitsLimits (with_task rows.old job name preferred) }
     ensures parts { parts.new.items ≡ parts.old.items }
     ensures sources { sources.new.items ≡ sources.old.items }
     ensures room { OnOk result (vec_len parts.new < vec_capacity parts.new) }
     ensures source_room { OnOk result (vec_len sources.new < vec_capacity sources.new) }
     ensures order_room { OnOk result (vec_len parts.new + 1 ≤ order.new.room) }
     ensures order_kept { order.old.room ≤ order.new.room }
-    ensures ok { OnOk result (rows.new ≡ with_task rows.old job name) }
+    ensures ok { OnOk result (rows.new ≡ with_task rows.old job name preferred) }
     ensures err { OnErr result (rows.new ≡ rows.old) }
     ensures sound { OnOk result (AreSound rows.new) }
 {
     parts.reserve(1)?;
     sources.reserve(1)?;
     order.reserve(parts.len() + 1)?;
-    rows.add_task(job, name)
+    rows.add_task(job, name, preferred)
 }
 
 /// Adds the row of a machine, with room for its parts, and gives a list with room for its slots. The error comes for

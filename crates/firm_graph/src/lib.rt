@@ -9,6 +9,7 @@ mod moves;
 mod network;
 mod order;
 mod parts;
+mod preferred;
 #[cfg(test)]
 mod tests;
 
@@ -16,3 +17,4 @@ pub use graph::Graph;
 pub use laws::{every_graph_shows, networks_are_counted};
 pub use network::{Key, Node};
 pub use parts::{GraphRefusal, TaskArcs};
+pub use preferred::PreferredArcs;

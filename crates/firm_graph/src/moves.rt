@@ -1,13 +1,15 @@
 //! The arcs of tasks that start, move, or are thrown out of their machine.
 ghost use Rattle.std.specs.Prelude.{◌≡◌, ◌≤◌, ◌<◌, ◌+◌, length, slice_index_or, min, List, ℕ, Option, None, Some};
-ghost use Rattle.std.specs.Prelude.{if◌then◌else◌, map, All};
+ghost use Rattle.std.specs.Prelude.{if◌then◌else◌, map, All, position, bytes_eq, slice_set};
+ghost use Rattle.std.specs.List.{AllZip};
 ghost use Rattle.firm_rules.specs.Book.{is_on, evicted};
 ghost use Rattle.firm_rules.specs.Placement.{IsPlace};
 ghost use Rattle.firm_rules.specs.Round.{rows_after};
 ghost use Rattle.firm_graph.specs.Graph.{Graph as GraphRow, Mirrors, weight_under};
-ghost use Rattle.firm_graph.specs.Steps.{IsPlacing, Stands, moved, with_task_at, evicted_first, task_at};
+ghost use Rattle.firm_graph.specs.Steps.{IsPlacing, IsFitting, Stands, moved, refitted, with_task_at, task_at};
+ghost use Rattle.firm_graph.specs.Steps.{with_forgetting_at, forgetting_rows, thrown_out_first};
 
-use crate::edits::{lead, rate};
+use crate::edits::{away_cost, lead, rate, rate_preferred, unlink};
 use crate::parts::{MachineIds, Stand, TaskParts};
 use firm_net::{Net, NodeId};
 use firm_rules::{Choice, Name, Rows};
@@ -19,20 +21,68 @@ pub(crate) fn place_task(net: &mut Net, rows: &Rows, parts: TaskParts, place: us
     ensures placed { (g : GraphRow) (home : Option (List ℕ)) → IsPlacing g net.old rows.now parts place stand home
         → Mirrors (moved g (with_task_at g.rows place home stand.waited) net.new) }
 {
-    let leaving = where_runs(stand.runs, rows.limits().churn() as u32);
+    let limits = rows.limits();
+    let leaving = where_runs(stand.runs, limits.churn() as u32);
+    let away = away_cost(limits, parts.arcs.preferred.len());
     let weight = weight_of(rows, place);
-    rate(net, parts.arcs.wide, 1, leaving);
+    rate(net, parts.arcs.wide, 1, leaving + away);
     rate(net, parts.arcs.stay, where_runs(stand.runs, 1), 0);
     lead(net, parts.arcs.stay, stand.node);
     rate(net, parts.arcs.wait, 1, weight + stand.waited + leaving);
+    rate_preferred(net, parts.arcs.preferred, leaving);
 }
 
-/// Gives the arcs of the tasks that run on the machine of a name those of tasks that wait.
+/// Takes the arcs to the machine of a name out of the preferences of all tasks.
+pub(crate) fn forget_machine(net: &mut Net, rows: &Rows, tasks: &mut [TaskParts], name: Name)
+    requires tasks { length tasks.old ≡ length rows.now.tasks }
+    requires preferred { AllZip (λ task parts. length parts.arcs.preferred ≡ length task.preferred) rows.now.tasks
+        tasks.old }
+    ensures nodes { map (λ parts. parts.node) tasks.new ≡ map (λ parts. parts.node) tasks.old }
+    ensures forgotten { (g : GraphRow) → Mirrors g → g.net ≡ net.old → g.rows ≡ rows.now → g.tasks ≡ tasks.old
+        → Mirrors (refitted g (forgetting_rows g.rows name) net.new tasks.new) }
+{
+    for place in 0..tasks.len() {
+        tasks[place] = forget_at(net, rows, tasks[place], place, name);
+    }
+}
+
+// Takes the arc to the machine of a name, if there is one, out of the preferences of the task at a place.
+fn forget_at(net: &mut Net, rows: &Rows, mut parts: TaskParts, place: usize, name: Name) -> TaskParts
+    requires place { place < length rows.now.tasks }
+    requires preferred { length parts.arcs.preferred ≡ length (task_at rows.now place).preferred }
+    ensures node { result.node ≡ parts.node }
+    ensures step { (g : GraphRow) → IsFitting g net.old rows.now parts place
+        → Mirrors (refitted g (with_forgetting_at g.rows place name) net.new (slice_set g.tasks place result)) }
+{
+    let Some(task) = rows.task_at(place) else {
+        unreachable!()
+    };
+    let Some(preference) = place_among(task.preferred.as_slice(), name) else {
+        return parts;
+    };
+    unlink(net, parts.arcs.preferred.at(preference));
+    parts.arcs.preferred.remove(preference);
+    let limits = rows.limits();
+    let leaving = where_runs(task.machine.is_some(), limits.churn() as u32);
+    let away = away_cost(limits, parts.arcs.preferred.len());
+    rate(net, parts.arcs.wide, 1, leaving + away);
+    parts
+}
+
+// The place of a name among others, if it is one of them.
+fn place_among(names: &[Name], name: Name) -> Option<usize>
+    ensures { result ≡ position (bytes_eq name) names.now }
+{
+    names.iter().position(|other| name == *other)
+}
+
+/// Gives the arcs of the tasks that run on the machine of a name, which no task prefers any longer, those of tasks that
+/// wait.
 pub(crate) fn evict_tasks(net: &mut Net, rows: &Rows, tasks: &[TaskParts], hub: NodeId, name: Name)
     requires tasks { length tasks.now ≡ length rows.now.tasks }
-    ensures evicted { (g : GraphRow) → Mirrors g → g.net ≡ net.old → g.rows ≡ rows.now → g.tasks ≡ tasks.now
-        → g.hub ≡ hub
-        → Mirrors (moved g (record g.rows { tasks = map (evicted name) g.rows.tasks }) net.new) }
+    ensures evicted { (g : GraphRow) → Mirrors g → g.net ≡ net.old → g.rows ≡ forgetting_rows rows.now name
+        → g.tasks ≡ tasks.now → g.hub ≡ hub
+        → Mirrors (moved g (record rows.now { tasks = map (evicted name) rows.now.tasks }) net.new) }
 {
     for (place, parts) in tasks.iter().enumerate() {
         evict_task(net, rows, *parts, place, hub, name);
@@ -42,10 +92,10 @@ pub(crate) fn evict_tasks(net: &mut Net, rows: &Rows, tasks: &[TaskParts], hub: 
 // Gives the arcs of the task at a place those of one that waits if it runs on the machine of a name.
 fn evict_task(net: &mut Net, rows: &Rows, parts: TaskParts, place: usize, hub: NodeId, name: Name)
     requires place { place < length rows.now.tasks }
-    ensures step { (g : GraphRow) → Mirrors (moved g (evicted_first g.rows name place) net.old) → g.rows ≡ rows.now
-        → g.hub ≡ hub
+    ensures step { (g : GraphRow) → Mirrors (moved g (thrown_out_first g.rows name place) net.old)
+        → g.rows ≡ forgetting_rows rows.now name → g.hub ≡ hub
         → place < length g.tasks → parts ≡ slice_index_or g.tasks place parts
-        → Mirrors (moved g (evicted_first g.rows name (place + 1)) net.new) }
+        → Mirrors (moved g (thrown_out_first g.rows name (place + 1)) net.new) }
 {
     if !runs_on(rows, place, name) {
         return;

@@ -30,4 +30,6 @@ pub enum Key {
     Stay(u32),
     /// From the task at a place to its job: the task waits.
     Delay(u32),
+    /// From the task at a place to a machine that it prefers: which of its preferences, counted from 0.
+    Prefer(u32, u32),
 }

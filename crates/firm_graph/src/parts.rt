@@ -1,4 +1,5 @@
 //! The nodes and arcs of a machine, of a job and of a task.
+use crate::preferred::PreferredArcs;
 use firm_net::{ArcId, NodeId};
 use std::marker::Model;
 
@@ -22,6 +23,8 @@ pub struct TaskArcs {
     pub stay: ArcId,
     /// To the node of the task's job.
     pub wait: ArcId,
+    /// To the machines that the task prefers, in the order of its row.
+    pub preferred: PreferredArcs,
 }
 
 /// The node of a task and its arcs.

@@ -1,8 +1,8 @@
 use Rattle.std.proofs.Common.{◌≡◌, ◌<◌, ℕ, true, false, length, arith, refl, ap, sym, ◌∙◌, subst}
 use Rattle.firm_rules.specs.Book.{TenantRows, is_on}
 use Rattle.firm_graph.specs.Graph.{Mirrors}
-use Rattle.firm_graph.specs.Steps.{moved, task_at}
-use Rattle.firm_graph.proofs.Firsts.{evict-no}
+use Rattle.firm_graph.specs.Steps.{moved, task_at, thrown_out_first}
+use Rattle.firm_graph.proofs.Firsts.{throw-no, forgotten-at}
 use Rattle.firm_graph.proofs.Turns.{evict-next}
 use Rattle.firm_graph.proofs.moves.evict_task.Goals as goal
 
@@ -10,13 +10,11 @@ pub returns-then-not-runs_on : goal.returns-then-not-runs_on
 returns-then-not-runs_on c = record {
   step = λ g mirrors rows_is hub_is below at.
       let place : ℕ = c.args.place in
-      let off : is_on c.args.name (task_at c.args.rows.now place).machine ≡ false = sym c.runs_on.ensures ∙
-      c.if-not-runs_on.true in
-      let there : place < length g.rows.tasks = omega
-      (arith, c.requires.place, ap (λ (r : TenantRows). length r.tasks) rows_is) in
-      subst (λ (r : TenantRows). Mirrors (moved g r c.args.net.now))
-      (sym (evict-no g.rows c.args.name place there
-      (ap (λ (r : TenantRows). is_on c.args.name (task_at r place).machine) rows_is ∙ off))) mirrors;
+      let h = forgotten-at g.rows c.args.rows.now c.args.name place rows_is c.requires.place in
+      let off : is_on c.args.name (task_at g.rows place).machine ≡ false = h.machine_is c.args.name ∙ sym
+      c.runs_on.ensures ∙ c.if-not-runs_on.true in
+      subst (λ (r : TenantRows). Mirrors (moved g r c.args.net.now)) (sym (throw-no g.rows c.args.name place h.below off))
+      mirrors;
 }
 
 pub returns : goal.returns

@@ -1,10 +1,10 @@
 use Rattle.std.proofs.Common.{◌≡◌}
 use Rattle.firm_graph.specs.Graph.{Graph, Mirrors}
-use Rattle.firm_graph.specs.Steps.{moved, evicted_first}
+use Rattle.firm_graph.specs.Steps.{moved, forgetting_rows, thrown_out_first}
 use Rattle.firm_graph.proofs.moves.evict_tasks.Given as goal
 
 abbrev pub invariant-loop-place : goal.invariant-loop-place
 invariant-loop-place l = record {
-  so_far : (g : Graph) → Mirrors g → g.net ≡ l.initial.net → g.rows ≡ l.rows → g.tasks ≡ l.tasks → g.hub ≡ l.hub
-      → Mirrors (moved g (evicted_first g.rows l.name l.place) l.net);
+  so_far : (g : Graph) → Mirrors g → g.net ≡ l.initial.net → g.rows ≡ forgetting_rows l.rows l.name → g.tasks ≡ l.tasks
+      → g.hub ≡ l.hub → Mirrors (moved g (thrown_out_first g.rows l.name l.place) l.net);
 }

@@ -1,4 +1,4 @@
-use Rattle.std.proofs.Common.{◌≡◌, ◌<◌, List, length, arith, ap, subst}
+use Rattle.std.proofs.Common.{◌≡◌, ◌<◌, List, length, get_or, arith, ap, sym, ◌∙◌, subst}
 use Rattle.std.proofs.lemmas.List.{get_or_default}
 use Rattle.firm_rules.specs.Book.{TenantRows}
 use Rattle.firm_rules.specs.declared.rounds.Choice.TheVariants.{Wait}
@@ -6,7 +6,7 @@ use Rattle.firm_graph.specs.declared.parts.TaskParts.{TaskParts}
 use Rattle.firm_graph.specs.Graph.{Mirrors}
 use Rattle.firm_graph.specs.Steps.{moved}
 use Rattle.firm_graph.proofs.Firsts.{settle-end}
-use Rattle.firm_graph.proofs.Turns.{settle-next, parts-at}
+use Rattle.firm_graph.proofs.Turns.{settle-next}
 use Rattle.firm_graph.proofs.moves.settle_tasks.Goals as goal
 
 pub loop-place-preserved : goal.loop-place-preserved
@@ -17,9 +17,12 @@ loop-place-preserved c = record {
       let listed : c.loop-place.place < length c.args.tasks.now = omega (arith, here, c.requires.tasks) in
       let below : c.loop-place.place < length g.tasks = omega
       (arith, listed, ap (λ (l : List TaskParts). length l) tasks_is) in
-      settle-next g c.args.rows.now c.args.machines.now c.args.hub c.args.choices.now c.loop-place.place _ _
+      settle-next g c.args.rows.now c.args.machines.now c.args.hub c.args.choices.now c.loop-place.place _
+      c.index-tasks-place.result
       c.stand_of-stand.result c.loop-place.net c.place_task.new.net
-      rows_is machines_is hub_is here below (parts-at g.tasks c.args.tasks.now c.loop-place.place _ tasks_is listed)
+      rows_is machines_is hub_is here below 
+      (c.index-tasks-place.is ∙ ap (λ (l : List TaskParts). get_or l c.loop-place.place c.index-tasks-place.result)
+      (sym tasks_is))
       (get_or_default c.args.choices.now c.loop-place.place Wait _ c.loop-place-test.true)
       c.stand_of-stand.ensures.stands
       (c.loop-place.invariant.so_far g mirrors net_is rows_is machines_is tasks_is hub_is) c.place_task.ensures.placed;

@@ -2,43 +2,38 @@ use Rattle.std.proofs.Common.{◌<◌, length, map, arith, ap, sym, ◌∙◌, L
 use Rattle.std.specs.List.{remove}
 use Rattle.indexmap.proofs.SetLemmas.{map-remove}
 use Rattle.firm_net.specs.declared.row.NodeId.{NodeId}
-use Rattle.firm_graph.specs.Graph.{Graph, Mirrors}
+use Rattle.firm_graph.specs.Graph.{Graph, Mirrors, graph_nodes, graph_spans}
 use Rattle.firm_graph.specs.Inside.{graph_of}
 use Rattle.firm_graph.specs.declared.parts.TaskParts.{TaskParts}
-use Rattle.firm_graph.proofs.Drops.{task-dropped, task_dropped, task-unlinked, task-free}
+use Rattle.firm_graph.specs.Steps.{Holds}
+use Rattle.firm_graph.proofs.Drops.{IsFree, task-dropped, task_dropped, task-unlinked, task-free}
 use Rattle.firm_graph.proofs.Said.{said}
 use Rattle.firm_graph.proofs.Names.{task-rows}
 use Rattle.firm_graph.proofs.graph.Graph.drop_task.Goals as goal
 
+unlinked : (c : goal.After-drop_node-arg-2-1)
+    → Holds c.self.inside.net c.unlink_preferred.new.net (graph_nodes (graph_of c.self.inside))
+    (graph_spans (task_dropped (graph_of c.self.inside) c.self.inside.net c.in-Some.place))
+unlinked c =
+    task-unlinked (graph_of c.self.inside) c.unlink.new.net c.unlink-2.new.net c.unlink-3.new.net
+    c.unlink_preferred.new.net c.in-Some.place c.remove-parts.result c.self.invariant.graph.mirrors
+    (omega (arith, c.in-Some.ensures.below, c.self.invariant.graph.mirrors.tasks)) c.remove-parts.ensures.value
+    c.unlink.ensures.edit c.unlink-2.ensures.edit c.unlink-3.ensures.edit c.unlink_preferred.ensures.left
+
+freed : (c : goal.After-drop_node-arg-2-1) → IsFree c.unlink_preferred.new.net c.remove-parts.result.node
+freed c =
+    task-free (graph_of c.self.inside) c.unlink_preferred.new.net c.in-Some.place c.remove-parts.result
+    (omega (arith, c.in-Some.ensures.below, c.self.invariant.graph.mirrors.tasks)) c.remove-parts.ensures.value
+    (unlinked c)
+
 pub drop_node-requires-clause-there : goal.drop_node-requires-clause-there
-drop_node-requires-clause-there c =
-    let g : Graph = graph_of c.self.inside in
-    let below : c.in-Some.place < length g.tasks = omega
-    (arith, c.in-Some.ensures.below, c.self.invariant.graph.mirrors.tasks) in
-    (task-free g c.unlink-3.new.net c.in-Some.place c.remove-parts.result below c.remove-parts.ensures.value
-    (task-unlinked g c.unlink.new.net c.unlink-2.new.net c.unlink-3.new.net c.in-Some.place c.remove-parts.result
-    c.self.invariant.graph.mirrors below c.remove-parts.ensures.value
-    c.unlink.ensures.edit c.unlink-2.ensures.edit c.unlink-3.ensures.edit)).there
+drop_node-requires-clause-there c = (freed c).there
 
 pub drop_node-requires-clause-out : goal.drop_node-requires-clause-out
-drop_node-requires-clause-out c =
-    let g : Graph = graph_of c.self.inside in
-    let below : c.in-Some.place < length g.tasks = omega
-    (arith, c.in-Some.ensures.below, c.self.invariant.graph.mirrors.tasks) in
-    (task-free g c.unlink-3.new.net c.in-Some.place c.remove-parts.result below c.remove-parts.ensures.value
-    (task-unlinked g c.unlink.new.net c.unlink-2.new.net c.unlink-3.new.net c.in-Some.place c.remove-parts.result
-    c.self.invariant.graph.mirrors below c.remove-parts.ensures.value
-    c.unlink.ensures.edit c.unlink-2.ensures.edit c.unlink-3.ensures.edit)).out
+drop_node-requires-clause-out c = (freed c).out
 
 pub drop_node-requires-clause-into : goal.drop_node-requires-clause-into
-drop_node-requires-clause-into c =
-    let g : Graph = graph_of c.self.inside in
-    let below : c.in-Some.place < length g.tasks = omega
-    (arith, c.in-Some.ensures.below, c.self.invariant.graph.mirrors.tasks) in
-    (task-free g c.unlink-3.new.net c.in-Some.place c.remove-parts.result below c.remove-parts.ensures.value
-    (task-unlinked g c.unlink.new.net c.unlink-2.new.net c.unlink-3.new.net c.in-Some.place c.remove-parts.result
-    c.self.invariant.graph.mirrors below c.remove-parts.ensures.value
-    c.unlink.ensures.edit c.unlink-2.ensures.edit c.unlink-3.ensures.edit)).into
+drop_node-requires-clause-into c = (freed c).into
 
 kept : (c : goal.After-drop_node)
     → Mirrors (record {
@@ -61,11 +56,11 @@ kept c =
     c.remove-parts.new.self.items
     (task-rows c.remove_task.new.self g.rows _ c.in-Some.place c.remove_task.ensures.rows
     c.remove_task.ensures.tasks) refl refl c.remove-parts.ensures.items
-    (task-dropped g c.unlink-3.new.net c.drop_node.new.net c.in-Some.place c.remove-parts.result
+    (task-dropped g c.unlink_preferred.new.net c.drop_node.new.net c.in-Some.place c.remove-parts.result
     c.self.invariant.graph.mirrors below c.remove-parts.ensures.value
-    (task-unlinked g c.unlink.new.net c.unlink-2.new.net c.unlink-3.new.net c.in-Some.place c.remove-parts.result
-    c.self.invariant.graph.mirrors below c.remove-parts.ensures.value
-    c.unlink.ensures.edit c.unlink-2.ensures.edit c.unlink-3.ensures.edit)
+    (task-unlinked g c.unlink.new.net c.unlink-2.new.net c.unlink-3.new.net c.unlink_preferred.new.net c.in-Some.place
+    c.remove-parts.result c.self.invariant.graph.mirrors below c.remove-parts.ensures.value c.unlink.ensures.edit
+    c.unlink-2.ensures.edit c.unlink-3.ensures.edit c.unlink_preferred.ensures.left)
     c.drop_node.ensures.edit)
 
 pub invariant_of-self : goal.invariant_of-self

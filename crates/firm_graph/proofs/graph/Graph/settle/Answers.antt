@@ -1,11 +1,10 @@
 use Rattle.std.proofs.Common.{◌≡◌, ◌+◌, ℕ, true, List, length, arith, sym, subst}
 use Rattle.std.specs.List.{All}
 use Rattle.std.proofs.lemmas.List.{length-map}
-use Rattle.firm_rules.specs.Placement.{Demand, IsLegal, IsPlace, is_legal}
-use Rattle.firm_rules.specs.Round.{case_of, machine_place, job_place, weight_at}
+use Rattle.firm_rules.specs.Placement.{IsLegal, IsPlace, is_legal}
+use Rattle.firm_rules.specs.Round.{case_of, demand_of}
 use Rattle.firm_rules.specs.Book.{TenantRows}
 use Rattle.firm_rules.specs.declared.parts.Machine.{Machine}
-use Rattle.firm_rules.specs.declared.parts.Task.{Task}
 use Rattle.firm_rules.specs.declared.rounds.Choice.{Choice}
 use Rattle.firm_graph.specs.Graph.{Graph}
 use Rattle.firm_graph.specs.Inside.{graph_of}
@@ -13,17 +12,7 @@ use Rattle.firm_graph.proofs.graph.Graph.settle.Goals as goal
 
 one-each : (rows : TenantRows) (choices : List Choice) → IsLegal (case_of rows) choices
     → length choices ≡ length rows.tasks
-one-each rows choices legal =
-    omega (
-      arith,
-      legal.one_each,
-      length-map rows.tasks (λ (t : Task). let d : Demand = record {
-        home = machine_place rows t.machine;
-        delay = weight_at rows (job_place rows t) + t.waited;
-        job = job_place
-            rows t;
-      } in d),
-    )
+one-each rows choices legal = omega (arith, legal.one_each, length-map rows.tasks (demand_of rows))
 
 in-places : (rows : TenantRows) (choices : List Choice) → IsLegal (case_of rows) choices
     → All (IsPlace (length rows.machines)) choices

@@ -1,0 +1,70 @@
+use Rattle.std.proofs.Common.{◌≡◌, ◌+◌, ◌≤◌, ◌<◌, ℕ, List, [], length, map, take, arith, ap, sym, ◌∙◌, ◌∷◌, subst, length-append}
+use Rattle.std.proofs.lemmas.List.{length-map, get_or_default}
+use Rattle.firm_net.specs.Net.{IsNode}
+use Rattle.firm_net.specs.Edits.{IsEdit}
+use Rattle.firm_net.specs.declared.row.NodeId.{NodeId}
+use Rattle.firm_net.specs.declared.row.ArcId.{ArcId}
+use Rattle.firm_rules.specs.Book.{machine_names}
+use Rattle.firm_graph.specs.Parts.{MachineParts}
+use Rattle.firm_graph.specs.Graph.{node_under, preferred_spans}
+use Rattle.firm_graph.proofs.Near.{link-step, take-whole, spans-counted}
+use Rattle.firm_graph.proofs.edits.link_preferred.Goals as goal
+
+pub link-arc-requires-clause-room : goal.link-arc-requires-clause-room
+link-arc-requires-clause-room c =
+    let heads : List NodeId = map (node_under (machine_names c.args.rows.now)
+    (map (λ (p : MachineParts). p.node) c.args.machines.now) c.args.node)
+    (take c.loop-name.name-index c.args.names.now) in
+    omega (
+      arith,
+      c.requires.room,
+      (c.loop-name.invariant.edit c.args.node).counted_arcs,
+      (c.loop-name.invariant.edit c.args.node).arc_room,
+      spans-counted c.args.node 0 heads c.loop-name.arcs,
+      c.loop-name.invariant.so_far,
+      c.loop-name-test.true,
+    )
+
+pub link-arc-requires-clause-stamps : goal.link-arc-requires-clause-stamps
+link-arc-requires-clause-stamps c =
+    let heads : List NodeId = map (node_under (machine_names c.args.rows.now)
+    (map (λ (p : MachineParts). p.node) c.args.machines.now) c.args.node)
+    (take c.loop-name.name-index c.args.names.now) in
+    omega (
+      arith,
+      c.requires.stamps,
+      c.requires.few,
+      (c.loop-name.invariant.edit c.args.node).added,
+      spans-counted c.args.node 0 heads c.loop-name.arcs,
+      c.loop-name.invariant.so_far,
+      c.loop-name-test.true,
+    )
+
+pub loop-name-preserved : goal.loop-name-preserved
+loop-name-preserved c = record {
+  edit = λ hub.
+      link-step c.args.net.now c.loop-name.net c.link-arc.new.net c.args.node
+      (node_under (machine_names c.args.rows.now) (map (λ (p : MachineParts). p.node) c.args.machines.now) hub)
+      c.args.names.now c.loop-name.name-index c.name-item.result c.machine_node.result c.loop-name.arcs c.add.new.self
+      c.link-arc.result c.loop-name-test.true c.name-item.is (c.machine_node.ensures.node hub)
+      c.loop-name.invariant.so_far c.add.ensures (c.loop-name.invariant.edit hub) c.link-arc.ensures.edit;
+  so_far = omega (
+    arith,
+    ap (λ (l : List ArcId). length l) c.add.ensures,
+    length-append c.loop-name.arcs (c.link-arc.result ∷ []),
+    c.loop-name.invariant.so_far,
+  );
+  node = c.link-arc.ensures.nodes c.args.node c.loop-name.invariant.node;
+  heads = λ k d below.
+      let was = c.loop-name.invariant.heads k d below in
+      (c.link-arc.ensures.nodes _ was.0, was.1);
+}
+
+pub returns-clause-edit : goal.returns-clause-edit
+returns-clause-edit c =
+    λ hub.
+    let under : List ℕ → NodeId = node_under (machine_names c.args.rows.now)
+    (map (λ (p : MachineParts). p.node) c.args.machines.now) hub in
+    subst (λ (l : List (List ℕ)). IsEdit c.args.net.now c.loop-name.net [] [] []
+    (preferred_spans c.args.node 0 (map under l) c.loop-name.arcs))
+    (take-whole c.args.names.now c.loop-name.name-index c.loop-name-test.false) (c.loop-name.invariant.edit hub)
