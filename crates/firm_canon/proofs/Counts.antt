@@ -1,16 +1,24 @@
 -- Searches made one after another add up.
 use Rattle.std.proofs.Common.{◌≡◌, ℕ, ◌+◌, ◌-◌, ◌*◌, ◌^◌, ◌<◌, ◌≤◌, Bool, true, false, length, get_or, refl, arith}
-use Rattle.std.proofs.Common.{subst, ◌∙◌, ⊎_elim}
-use Rattle.std.proofs.lemmas.Bool.{cases_lt}
+use Rattle.std.proofs.Common.{ap, subst, ◌∙◌, ⊎_elim}
+use Rattle.std.specs.Prelude.{count_by, nat_lt, ◌==◌, ◌&&◌, ◌||◌, List, [], ◌∷◌, cond, map, suc, sum_by}
+use Rattle.std.specs.List.{list_any}
+use Rattle.std.proofs.lemmas.Bool.{cases_lt, cases_eq, cond-true, cond-false, lt-ltb, le-ltb, eq-eqb, ne_eqb}
 use Rattle.std.proofs.Math.Nat.{mul-add}
-use Rattle.firm_rules.specs.ArenaUse.{arena_arcs}
+use Rattle.firm_rules.specs.ArenaUse.{arena_arcs, preference_count}
+use Rattle.firm_rules.specs.Placement.{Case, Demand, total}
+use Rattle.firm_rules.specs.Round.{case_of, demand_of, place_of}
+use Rattle.firm_rules.specs.declared.parts.Task.{Task}
+use Rattle.firm_graph.specs.Network.{demand}
+use Rattle.firm_canon.proofs.Totals.{total_front}
+use Rattle.std.proofs.lemmas.List.{length-map}
 use Rattle.firm_rules.specs.Book.{TenantRows}
 use Rattle.firm_paths.specs.Workspace.{Workspace, HasSearched}
 use Rattle.firm_canon.specs.Counts.{HasSearchedUpTo}
 use Rattle.firm_canon.specs.inner.Cuts.{HasSought, cut_count, cuts_of, one_if}
 use Rattle.firm_canon.specs.declared.cuts.Cuts.{Cuts}
 use Rattle.firm_canon.specs.declared.cuts.MachineCuts.{MachineCuts}
-use Rattle.std.proofs.lemmas.List.Sums.{sum_by-le}
+use Rattle.std.proofs.lemmas.List.Sums.{sum_by-le, sum_by-cons}
 use Rattle.firm_graph.specs.Graph.{Graph}
 
 -- no search was made
@@ -166,3 +174,106 @@ pub sought_since : (one two : Graph) → two.rows ≡ one.rows → (old now new 
 sought_since one two same old now new first then most some others found before between after left right =
     sought_more old now new first then most some others found (arena_arcs one.rows) before between after left
     (subst (λ (rows : TenantRows). HasSought now new then others (arena_arcs rows) between after) same right)
+
+-- how many of the places are below this one
+abbrev pub below : List ℕ → ℕ → ℕ
+below places n = count_by (λ place. nat_lt place n) places
+
+pub below_more : (places : List ℕ) (n : ℕ)
+    → below places n + one_if (list_any (λ place. place == n) places) ≤ below places (n + 1)
+below_more [] n = omega arith
+below_more (x ∷ xs) n =
+    let here : ℕ → ℕ → ℕ = λ (m z : ℕ). cond (nat_lt z m) 1 0 in
+    let rest : below xs n + one_if (list_any (λ place. place == n) xs) ≤ below xs (n + 1) = below_more xs n in
+    let now : below (x ∷ xs) n ≡ here n x + below xs n = sum_by-cons (here n) x xs in
+    let then : below (x ∷ xs) (n + 1) ≡ here (n + 1) x + below xs (n + 1) = sum_by-cons (here (n + 1)) x xs in
+    let some : Bool = list_any (λ place. place == n) xs in
+    ⊎_elim
+    (λ (e : x ≡ n).
+    omega (
+      arith,
+      rest,
+      now,
+      then,
+      ap (λ (b : Bool). one_if (b || some)) (eq-eqb x n e),
+      cond-false {A = ℕ} (nat_lt x n) 1 0 (le-ltb x n (omega (arith, e))),
+      cond-true {A = ℕ} (nat_lt x (n + 1)) 1 0 (lt-ltb x (n + 1) (omega (arith, e))),
+    ))
+    (λ (ne : x ≡ n → ⊥).
+    let off : one_if (list_any (λ place. place == n) (x ∷ xs)) ≡ one_if some =
+    ap (λ (b : Bool). one_if (b || some)) (ne_eqb x n ne) in
+    ⊎_elim
+    (λ (l : x < n).
+    omega (
+      arith,
+      rest,
+      now,
+      then,
+      off,
+      cond-true {A = ℕ} (nat_lt x n) 1 0 (lt-ltb x n l),
+      cond-true {A = ℕ} (nat_lt x (n + 1)) 1 0 (lt-ltb x (n + 1) (omega (arith, l))),
+    ))
+    (λ (g : n ≤ x).
+    omega (arith, rest, now, then, off, cond-false {A = ℕ} (nat_lt x n) 1 0 (le-ltb x n g)))
+    (cases_lt x n))
+    (cases_eq x n)
+
+pub below_all : (places : List ℕ) (n : ℕ) → below places n ≤ length places
+below_all [] n = omega arith
+below_all (x ∷ xs) n =
+    let sides : (b : Bool) → cond b 1 0 ≤ 1 =
+    λ b. elim b as (λ b. cond b 1 0 ≤ 1) [ true ↦ omega arith | false ↦ omega arith ] in
+    omega (
+      arith,
+      sum_by-cons (λ (z : ℕ). cond (nat_lt z n) 1 0) x xs,
+      below_all xs n,
+      sides (nat_lt x n),
+    )
+
+pub one_or : (a b : Bool) → b ≡ true → one_if (a || b) ≡ 1
+one_or true b e = refl
+one_or false b e = ap one_if e
+
+pub one_more : (a b h : Bool) → h ≡ true → one_if a ≤ one_if ((a && h) || b)
+one_more true b h e = omega (arith, ap (λ (z : Bool). one_if (z || b)) e)
+one_more false b h e = omega arith
+
+-- a sum over a list, by place
+listed_total : {A B : Type 0} (f : A → B) (g : B → ℕ) (d : B) (xs : List A)
+    → total (λ i. g (get_or (map f xs) i d)) (length xs) ≡ sum_by (λ x. g (f x)) xs
+listed_total {A} {B} f g d [] = refl
+listed_total {A} {B} f g d (x ∷ xs) = omega (
+  arith,
+  total_front (λ (i : ℕ). g (get_or (map f (x ∷ xs)) i d)) (length xs),
+  listed_total f g d xs,
+  sum_by-cons (λ (y : A). g (f y)) x xs,
+)
+
+-- how many preferences the tasks before this one have
+abbrev pub preferred_before : Case → ℕ → ℕ
+preferred_before c n = total (λ i. length (demand c i).preferred) n
+
+pub preferred_next : (c : Case) (n : ℕ)
+    → preferred_before c (n + 1) ≡ preferred_before c n + length (demand c n).preferred
+preferred_next c n = ap (preferred_before c) (next n)
+  where
+    next : (n : ℕ) → n + 1 ≡ suc n
+    next n = omega arith
+
+-- all tasks have as many as their rows
+pub preferences_counted : (rows : TenantRows)
+    → preferred_before (case_of rows) (length rows.tasks) ≡ preference_count rows.tasks
+preferences_counted rows =
+    listed_total (demand_of rows) (λ (d : Demand). length d.preferred) _ rows.tasks
+    ∙ sums_same (λ (t : Task). length (map (place_of rows) t.preferred)) (λ (t : Task). length t.preferred) rows.tasks
+    (λ t. length-map t.preferred (place_of rows))
+  where
+    sums_same : {A : Type 0} (f g : A → ℕ) (xs : List A) → ((x : A) → f x ≡ g x) → sum_by f xs ≡ sum_by g xs
+    sums_same {A} f g [] h = refl
+    sums_same {A} f g (x ∷ xs) h = omega (
+      arith,
+      sum_by-cons f x xs,
+      sum_by-cons g x xs,
+      h x,
+      sums_same f g xs h,
+    )

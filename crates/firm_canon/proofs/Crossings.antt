@@ -11,7 +11,7 @@ use Rattle.firm_rules.specs.Placement.{Case}
 use Rattle.firm_graph.specs.declared.network.Node.{Node}
 use Rattle.firm_graph.specs.declared.network.Node.TheVariants.{Sink}
 use Rattle.firm_graph.specs.declared.network.Key.{Key}
-use Rattle.firm_graph.specs.declared.network.Key.TheVariants.{Through, Slot, Exit, Wide, Stay, Delay}
+use Rattle.firm_graph.specs.declared.network.Key.TheVariants.{Through, Slot, Exit, Wide, Stay, Delay, Prefer}
 use Rattle.firm_graph.specs.Network.{network, task_nodes, arc}
 use Rattle.firm_graph.specs.View.{View, IsSameCase, flows, spot_of}
 use Rattle.firm_net.specs.declared.row.NodeId.{NodeId}
@@ -139,6 +139,7 @@ closed_too c low x y price inside closed agrees =
       wides = λ i l. carry (Wide i) _ _ _ _ (old.wides i l) (same.wides i l);
       stays = λ i l. carry (Stay i) _ _ _ _ (old.stays i l) (same.stays i l);
       delays = λ i l. carry (Delay i) _ _ _ _ (old.delays i l) (same.delays i l);
+      prefers = λ i k l m. carry (Prefer i k) _ _ _ _ (old.prefers i k l m) (same.prefers i k l m);
     })
 
 -- and where more is held
@@ -161,6 +162,7 @@ closed_above c low more x price inside above closed =
       wides = λ i l. lift (Wide i) _ _ _ _ (old.wides i l);
       stays = λ i l. lift (Stay i) _ _ _ _ (old.stays i l);
       delays = λ i l. lift (Delay i) _ _ _ _ (old.delays i l);
+      prefers = λ i k l m. lift (Prefer i k) _ _ _ _ (old.prefers i k l m);
     })
 
 -- A SET that is closed for the flow that the net shows seals its nodes off

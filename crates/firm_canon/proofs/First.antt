@@ -17,10 +17,11 @@ use Rattle.firm_rules.specs.Round.{IsRound}
 use Rattle.firm_graph.specs.declared.network.Node.{Node}
 use Rattle.firm_graph.specs.declared.network.Node.TheVariants.{Sink}
 use Rattle.firm_graph.specs.declared.network.Key.{Key}
-use Rattle.firm_graph.specs.declared.network.Key.TheVariants.{Through, Slot, Exit, Wide, Stay, Delay}
+use Rattle.firm_graph.specs.declared.network.Key.TheVariants.{Through, Slot, Exit, Wide, Stay, Delay, Prefer}
 use Rattle.firm_graph.specs.Network.{demand, network, task_nodes}
 use Rattle.firm_canon.proofs.Totals.{total-le, total-add, total_at}
-use Rattle.firm_canon.specs.inner.Placed.{pick, wide, stay, waits, spot, guests, placed}
+use Rattle.firm_canon.specs.inner.Placed.{pick, wide, stay, waits, prefer, spot, guests, placed}
+use Rattle.firm_canon.proofs.Nears.{prefer_none}
 use Rattle.firm_graph.specs.Network.{IsSound}
 use Rattle.firm_canon.proofs.Placed.{sum_network, cost_placed, balanced_placed}
 use Rattle.firm_canon.proofs.Parts.{parts, whole, within_placed}
@@ -49,7 +50,7 @@ grows F p r i z =
     (λ (e : pick (p ++ r) i ≡ pick p i). omega (arith, ap F e)) (pick_append p r i)
 
 abbrev pub guest_term : Case → ℕ → ℕ → Option Choice → ℕ
-guest_term c j i o = cond (eqb (spot o) j) (wide (demand c i).home o) 0
+guest_term c j i o = cond (eqb (spot o) j) (wide (demand c i) o) 0
 
 pub guest_none : (c : Case) (j i : ℕ) → guest_term c j i None ≡ 0
 guest_none c j i = elim (eqb 0 j) as (λ b. ◌≡◌ {A = ℕ} (cond b 0 0) 0) [ true ↦ refl | false ↦ refl ]
@@ -61,7 +62,7 @@ guests-le c p r j =
 
 -- a further guest counts
 pub guests_more : (c : Case) (p r : List Choice) (j : ℕ) → length p < length c.tasks
-    → wide (demand c (length p)).home (Some (On j)) ≡ 1
+    → wide (demand c (length p)) (Some (On j)) ≡ 1
     → guests c p j + 1 ≤ guests c (p ++ On j ∷ r) j
 guests_more c p r j l w =
     let t : ℕ = length c.tasks in
@@ -76,7 +77,7 @@ guests_more c p r j l w =
     subst (λ (z : ℕ). guest_term c j i (pick p z) ≡ 0) e (ap (guest_term c j i) (pick_past p) ∙ guest_none c j i) in
     let there : guest_term c j n (pick (p ++ On j ∷ r) n) ≡ 1 =
     ap (guest_term c j n) (pick_end p r (On j))
-    ∙ (cond-true {A = ℕ} (eqb j j) (wide (demand c n).home (Some (On j))) 0 (eq-eqb j j refl) ∙ w) in
+    ∙ (cond-true {A = ℕ} (eqb j j) (wide (demand c n) (Some (On j))) 0 (eq-eqb j j refl) ∙ w) in
     let moved : guest_term c j i (pick (p ++ On j ∷ r) i) ≡ 1 =
     subst (λ (z : ℕ). guest_term c j z (pick (p ++ On j ∷ r) z) ≡ 1) e there in
     omega (arith, here, moved, cond-true {A = ℕ} (eqb n i) 1 0 (eq-eqb n i e)))
@@ -94,9 +95,8 @@ guests_more c p r j l w =
       total_at (λ (i : ℕ). 1) t n l,
     )
 
-pub wide_none : (home : Option ℕ) → wide home None ≡ 0
-wide_none None = refl
-wide_none (Some h) = refl
+pub wide_none : (t : Demand) → wide t None ≡ 0
+wide_none t = refl
 
 pub stay_none : (home : Option ℕ) → stay home None ≡ 0
 stay_none None = refl
@@ -107,9 +107,10 @@ pub low-le : (c : Case) (p r : List Choice) (k : Key) → low_of c p k ≤ place
 low-le c p r (Through j) = guests-le c p r j
 low-le c p r (Slot j k) = omega arith
 low-le c p r (Exit k) = omega arith
-low-le c p r (Wide i) = grows (wide (demand c i).home) p r i (wide_none (demand c i).home)
+low-le c p r (Wide i) = grows (wide (demand c i)) p r i (wide_none (demand c i))
 low-le c p r (Stay i) = grows (stay (demand c i).home) p r i (stay_none (demand c i).home)
 low-le c p r (Delay i) = grows waits p r i refl
+low-le c p r (Prefer i k) = grows (prefer (demand c i) k) p r i (prefer_none (demand c i) k)
 
 before_none : (m : ℕ) (ts : List Demand) (q : List Choice) → before m ts q [] ≡ false
 before_none m [] q = refl
@@ -245,6 +246,10 @@ extend c p o x price stands place within none higher =
               (old_valid.delays i l).0,
               λ h. (old_valid.delays i l).1 (omega (arith, h, higher (Delay i))),
             );
+            prefers = λ i k l m. (
+              (old_valid.prefers i k l m).0,
+              λ h. (old_valid.prefers i k l m).1 (omega (arith, h, higher (Prefer i k))),
+            );
           });
       within = within;
       balanced = λ w. omega (
@@ -258,7 +263,7 @@ extend c p o x price stands place within none higher =
       least = λ q legal. omega (arith, cost_same, stands.least q legal);
       first = λ q legal cheap.
           let cheap_old : cost c q ≤ cost_of old carried = omega (arith, cost_same, cheap) in
-          before_push (length c.slots) (record { home = None; delay = 0; job = 0 })
+          before_push (length c.slots) (record { home = None; preferred = []; delay = 0; job = 0 })
           c.tasks q p o legal.places stands.places (stands.first q legal cheap_old)
           (λ b r e pl l. none b r (subst (λ (z : List Choice). IsLegal c z) e legal)
           (subst (λ (z : List Choice). cost c z ≤ cost_of old carried) e cheap_old) pl l);
@@ -275,6 +280,7 @@ finish c p x price stands e =
       at_wide = λ i l. (bounds.wides i l).0;
       at_stay = λ i l. (bounds.stays i l).0;
       at_delay = λ i l. (bounds.delays i l).0;
+      at_prefer = λ i k l m. (bounds.prefers i k l m).0;
     }) stands.within stands.balanced in
     record {
       legal = done.0;

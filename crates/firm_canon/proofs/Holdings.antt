@@ -1,24 +1,25 @@
 -- Lower bounds after the next task was held to its choice.
 use Rattle.std.proofs.Common.{◌≡◌, ◌≢◌, ℕ, ◌+◌, ◌<◌, ◌≤◌, Bool, true, false, cond, eqb, List, [], ◌∷◌, ◌++◌, length}
 use Rattle.std.proofs.Common.{Some}
-use Rattle.std.proofs.Common.{None, Option, refl, sym, ap, subst, ◌∙◌, arith, ⊎_elim}
-use Rattle.std.proofs.lemmas.Bool.{cond-true, cond-false, eq-eqb, ne_eqb}
+use Rattle.std.proofs.Common.{None, Option, refl, sym, ap, ap₂, subst, ◌∙◌, arith, ⊎_elim}
+use Rattle.std.proofs.lemmas.Bool.{cases_eq, cond-true, cond-false, eq-eqb, ne_eqb}
 use Rattle.firm_net.specs.Net.{Net, row_at}
 use Rattle.firm_net.specs.declared.row.ArcId.{ArcId}
 use Rattle.firm_net.specs.Laws.{same_arc_or_not}
 use Rattle.firm_rules.specs.declared.rounds.Choice.{Choice}
 use Rattle.firm_rules.specs.declared.rounds.Choice.TheVariants.{On, Wait}
-use Rattle.firm_rules.specs.Placement.{runs_at}
+use Rattle.firm_rules.specs.Placement.{Demand, runs_at, prefers}
 use Rattle.firm_graph.specs.declared.network.Key.{Key}
-use Rattle.firm_graph.specs.declared.network.Key.TheVariants.{Through, Slot, Exit, Wide, Stay, Delay}
+use Rattle.firm_graph.specs.declared.network.Key.TheVariants.{Through, Slot, Exit, Wide, Stay, Delay, Prefer}
 use Rattle.firm_graph.specs.Network.{demand}
-use Rattle.firm_canon.specs.inner.Placed.{wide, stay, waits}
+use Rattle.firm_canon.specs.inner.Placed.{wide, stay, waits, near, number, prefer}
 use Rattle.firm_net.specs.Row.{Row}
 use Rattle.firm_graph.specs.View.{View, Shows, IsSameCase, CanHold, lows, low_of_row, flow_of_row}
 use Rattle.firm_graph.specs.Network.{IsKeyOf}
 use Rattle.firm_canon.specs.inner.Choosing.{low_of, Keeps, IsChosen}
 use Rattle.firm_canon.proofs.First.{pick_past, wide_none, stay_none}
-use Rattle.firm_canon.proofs.Choose.{wide_one}
+use Rattle.firm_canon.proofs.Nears.{wide_is, near_is, own_wide, own_near, near_wide, far_near, own_stay, other_stay, wait_stay}
+use Rattle.firm_canon.proofs.Nears.{number_in, prefer_none}
 use Rattle.firm_canon.proofs.Prefixes.{added, kept_one}
 
 -- so much may be asked of an arc with so much flow
@@ -127,43 +128,29 @@ cond_other n i x ne = cond-false {A = ℕ} (eqb n i) x 0 (ne_eqb n i ne)
 cond_here : (n x : ℕ) → cond (eqb n n) x 0 ≡ x
 cond_here n x = cond-true {A = ℕ} (eqb n n) x 0 (eq-eqb n n refl)
 
-own_wide : (home : Option ℕ) (j : ℕ) → runs_at home j ≡ true → wide home (Some (On j)) ≡ 0
-own_wide None j e = absurd cc
-own_wide (Some h) j e = cond-true {A = ℕ} (eqb h j) 0 1 e
+-- a choice that puts nothing on the arcs of preferences
+none_near : (t : Demand) (n i k : ℕ) (o : Choice) → near t (Some o) ≡ 0 → cond (eqb n i) (prefer t k (Some o)) 0 ≡ 0
+none_near t n i k o e =
+    cond_none (eqb n i) (prefer t k (Some o)) (cond_none (eqb (number t (Some o)) k) (near t (Some o)) e)
 
-own_stay : (home : Option ℕ) (j : ℕ) → runs_at home j ≡ true → stay home (Some (On j)) ≡ 1
-own_stay None j e = absurd cc
-own_stay (Some h) j e = cond-true {A = ℕ} (eqb h j) 1 0 e
-
-other_stay : (home : Option ℕ) (j : ℕ) → runs_at home j ≡ false → stay home (Some (On j)) ≡ 0
-other_stay None j e = refl
-other_stay (Some h) j e = cond-false {A = ℕ} (eqb h j) 1 0 e
-
-wait_wide : (home : Option ℕ) → wide home (Some Wait) ≡ 0
-wait_wide None = refl
-wait_wide (Some h) = refl
-
-wait_stay : (home : Option ℕ) → stay home (Some Wait) ≡ 0
-wait_stay None = refl
-wait_stay (Some h) = refl
-
--- the three kinds of choice
+-- the four kinds of choice
 pub held_wait : (v new : View) (price : ℕ → ℕ) (p : List Choice) (id : ArcId) → Keeps v price p
     → length p < length v.case.tasks → IsChosen v p Wait
     → Shows new → IsSameCase v new → id ≡ v.arc (Delay (length p)) → IsHold v.net new.net id 1
     → Keeps new price (p ++ Wait ∷ [])
 held_wait v new price p id keeps l chosen shows same is held =
     let n : ℕ = length p in
-    let home : Option ℕ = (demand v.case n).home in
+    let t : Demand = demand v.case n in
     kept_hold v new price p Wait (Delay n) id keeps l chosen shows same l is held (ap waits (pick_past p))
     (cond_here n 1)
     (λ k. elim k as (λ k. (k ≡ Delay n → ⊥) → added v.case p Wait k ≡ 0) [
-      | Through j ↦ λ ne. cond_none (eqb 0 j) (wide home (Some Wait)) (wait_wide home)
+      | Through j ↦ λ ne. cond_none (eqb 0 j) (wide t (Some Wait)) refl
       | Slot j i ↦ λ ne. refl
       | Exit i ↦ λ ne. refl
-      | Wide i ↦ λ ne. cond_none (eqb n i) (wide home (Some Wait)) (wait_wide home)
-      | Stay i ↦ λ ne. cond_none (eqb n i) (stay home (Some Wait)) (wait_stay home)
+      | Wide i ↦ λ ne. cond_none (eqb n i) (wide t (Some Wait)) refl
+      | Stay i ↦ λ ne. cond_none (eqb n i) (stay t.home (Some Wait)) (wait_stay t.home)
       | Delay i ↦ λ ne. cond_other n i 1 (λ e. ne (ap Delay (sym e)))
+      | Prefer i k ↦ λ ne. none_near t n i k Wait refl
     ])
 
 pub held_own : (v new : View) (price : ℕ → ℕ) (p : List Choice) (o : ℕ) (id : ArcId) → Keeps v price p
@@ -173,56 +160,103 @@ pub held_own : (v new : View) (price : ℕ → ℕ) (p : List Choice) (o : ℕ) 
     → Keeps new price (p ++ On o ∷ [])
 held_own v new price p o id keeps l chosen own shows same is held =
     let n : ℕ = length p in
-    let home : Option ℕ = (demand v.case n).home in
+    let t : Demand = demand v.case n in
     kept_hold v new price p (On o) (Stay n) id keeps l chosen shows same l is held
-    (ap (stay home) (pick_past p) ∙ stay_none home) (cond_here n (stay home (Some (On o))) ∙ own_stay home o own)
+    (ap (stay t.home) (pick_past p) ∙ stay_none t.home)
+    (cond_here n (stay t.home (Some (On o))) ∙ own_stay t.home o own)
     (λ k. elim k as (λ k. (k ≡ Stay n → ⊥) → added v.case p (On o) k ≡ 0) [
-      | Through j ↦ λ ne. cond_none (eqb o j) (wide home (Some (On o))) (own_wide home o own)
+      | Through j ↦ λ ne. cond_none (eqb o j) (wide t (Some (On o))) (own_wide t o own)
       | Slot j i ↦ λ ne. refl
       | Exit i ↦ λ ne. refl
-      | Wide i ↦ λ ne. cond_none (eqb n i) (wide home (Some (On o))) (own_wide home o own)
-      | Stay i ↦ λ ne. cond_other n i (stay home (Some (On o))) (λ e. ne (ap Stay (sym e)))
+      | Wide i ↦ λ ne. cond_none (eqb n i) (wide t (Some (On o))) (own_wide t o own)
+      | Stay i ↦ λ ne. cond_other n i (stay t.home (Some (On o))) (λ e. ne (ap Stay (sym e)))
       | Delay i ↦ λ ne. cond_none (eqb n i) 0 refl
+      | Prefer i k ↦ λ ne. none_near t n i k (On o) (own_near t o own)
+    ])
+
+pub held_near : (v new : View) (price : ℕ → ℕ) (p : List Choice) (o : ℕ) (id : ArcId) → Keeps v price p
+    → length p < length v.case.tasks → IsChosen v p (On o)
+    → runs_at (demand v.case (length p)).home o ≡ false → prefers (demand v.case (length p)) o ≡ true
+    → Shows new → IsSameCase v new → id ≡ v.arc (Prefer (length p) (number (demand v.case (length p)) (Some (On o))))
+    → IsHold v.net new.net id 1
+    → Keeps new price (p ++ On o ∷ [])
+held_near v new price p o id keeps l chosen other close shows same is held =
+    let n : ℕ = length p in
+    let t : Demand = demand v.case n in
+    let e : ℕ = number t (Some (On o)) in
+    kept_hold v new price p (On o) (Prefer n e) id keeps l chosen shows same
+    (l, (number_in t.preferred o close).0) is held
+    (ap (prefer t e) (pick_past p) ∙ prefer_none t e)
+    (cond_here n (prefer t e (Some (On o))) ∙ (cond_here e (near t (Some (On o))) ∙ near_is t o other close))
+    (λ k. elim k as (λ k. (k ≡ Prefer n e → ⊥) → added v.case p (On o) k ≡ 0) [
+      | Through j ↦ λ ne. cond_none (eqb o j) (wide t (Some (On o))) (near_wide t o close)
+      | Slot j i ↦ λ ne. refl
+      | Exit i ↦ λ ne. refl
+      | Wide i ↦ λ ne. cond_none (eqb n i) (wide t (Some (On o))) (near_wide t o close)
+      | Stay i ↦ λ ne. cond_none (eqb n i) (stay t.home (Some (On o))) (other_stay t.home o other)
+      | Delay i ↦ λ ne. cond_none (eqb n i) 0 refl
+      | Prefer i k ↦ λ ne. ⊎_elim
+          (λ (q : n ≡ i). cond_none (eqb n i) (prefer t k (Some (On o)))
+          (cond_other e k (near t (Some (On o))) (λ r. ne (ap₂ Prefer (sym q) (sym r)))))
+          (λ (q : n ≡ i → ⊥). cond_other n i (prefer t k (Some (On o))) q) (cases_eq n i)
     ])
 
 pub held_other : (v mid new : View) (price : ℕ → ℕ) (p : List Choice) (o : ℕ) (id_one id_two : ArcId) (low : ℕ)
     → Keeps v price p → length p < length v.case.tasks → IsChosen v p (On o)
-    → runs_at (demand v.case (length p)).home o ≡ false
+    → runs_at (demand v.case (length p)).home o ≡ false → prefers (demand v.case (length p)) o ≡ false
     → Shows new → IsSameCase v new → id_one ≡ v.arc (Wide (length p)) → id_two ≡ v.arc (Through o)
     → IsHold v.net mid.net id_one 1 → IsHold mid.net new.net id_two (low + 1) → low ≡ lows v (Through o)
     → Keeps new price (p ++ On o ∷ [])
-held_other v mid new price p o id_one id_two low keeps l chosen other shows same is_one is_two first second low_is =
+held_other v mid new price p o id_one id_two low keeps l chosen other far shows same is_one is_two first second low_is =
     let n : ℕ = length p in
-    let home : Option ℕ = (demand v.case n).home in
+    let t : Demand = demand v.case n in
     kept_holds v mid new price p (On o) (Wide n) (Through o)
     id_one id_two low keeps l chosen shows same l chosen.place is_one is_two (λ e. absurd cc) first second low_is
-    (ap (wide home) (pick_past p) ∙ wide_none home) (cond_here n (wide home (Some (On o))) ∙ wide_one home o other)
-    (cond_here o (wide home (Some (On o))) ∙ wide_one home o other)
+    (ap (wide t) (pick_past p) ∙ wide_none t) (cond_here n (wide t (Some (On o))) ∙ wide_is t o other far)
+    (cond_here o (wide t (Some (On o))) ∙ wide_is t o other far)
     (λ k. elim k as (λ k. (k ≡ Wide n → ⊥) → (k ≡ Through o → ⊥) → added v.case p (On o) k ≡ 0) [
-      | Through j ↦ λ a b. cond_other o j (wide home (Some (On o))) (λ e. b (ap Through (sym e)))
+      | Through j ↦ λ a b. cond_other o j (wide t (Some (On o))) (λ e. b (ap Through (sym e)))
       | Slot j i ↦ λ a b. refl
       | Exit i ↦ λ a b. refl
-      | Wide i ↦ λ a b. cond_other n i (wide home (Some (On o))) (λ e. a (ap Wide (sym e)))
-      | Stay i ↦ λ a b. cond_none (eqb n i) (stay home (Some (On o))) (other_stay home o other)
+      | Wide i ↦ λ a b. cond_other n i (wide t (Some (On o))) (λ e. a (ap Wide (sym e)))
+      | Stay i ↦ λ a b. cond_none (eqb n i) (stay t.home (Some (On o))) (other_stay t.home o other)
       | Delay i ↦ λ a b. cond_none (eqb n i) 0 refl
+      | Prefer i k ↦ λ a b. none_near t n i k (On o) (far_near t o far)
     ])
 
 -- one task more may be held to come to the machine of the choice
 pub can_come : (v mid : View) (price : ℕ → ℕ) (p : List Choice) (o low : ℕ) (id : ArcId) → Keeps v price p
-    → IsChosen v p (On o) → runs_at (demand v.case (length p)).home o ≡ false → id ≡ v.arc (Through o)
-    → low ≡ lows v (Through o)
+    → IsChosen v p (On o) → runs_at (demand v.case (length p)).home o ≡ false
+    → prefers (demand v.case (length p)) o ≡ false → id ≡ v.arc (Through o) → low ≡ lows v (Through o)
     → ((b : ArcId) → flow_of_row (row_at mid.net b) ≡ flow_of_row (row_at v.net b))
     → CanHold (low + 1) (row_at mid.net id)
-can_come v mid price p o low id keeps chosen other is low_is flows_are =
-    let home : Option ℕ = (demand v.case (length p)).home in
+can_come v mid price p o low id keeps chosen other far is low_is flows_are =
+    let t : Demand = demand v.case (length p) in
     can_hold (low + 1) (row_at mid.net id) (omega arith)
     (omega (
       arith,
       chosen.room.at_through o chosen.place,
-      cond_here o (wide home (Some (On o))),
-      wide_one home o other,
+      cond_here o (wide t (Some (On o))),
+      wide_is t o other far,
       keeps.lows (Through o) chosen.place,
       low_is,
       flows_are id,
       ap (λ (i : ArcId). flow_of_row (row_at v.net i)) is,
+    ))
+
+-- a task may be held to come to the machine of the choice as it prefers it
+pub can_go : (v : View) (price : ℕ → ℕ) (p : List Choice) (o k : ℕ) (id : ArcId) → Keeps v price p
+    → IsChosen v p (On o) → runs_at (demand v.case (length p)).home o ≡ false
+    → prefers (demand v.case (length p)) o ≡ true → k ≡ number (demand v.case (length p)) (Some (On o))
+    → id ≡ v.arc (Prefer (length p) k) → CanHold 1 (row_at v.net id)
+can_go v price p o k id keeps chosen other close is id_is =
+    let t : Demand = demand v.case (length p) in
+    let e : ℕ = number t (Some (On o)) in
+    can_hold 1 (row_at v.net id) (omega arith)
+    (omega (
+      arith,
+      chosen.room.at_prefer e (number_in t.preferred o close).0,
+      cond_here e (near t (Some (On o))),
+      near_is t o other close,
+      ap (λ (i : ArcId). flow_of_row (row_at v.net i)) (id_is ∙ ap (λ (z : ℕ). v.arc (Prefer (length p) z)) is),
     ))

@@ -2,6 +2,7 @@ pub mod Counts
 pub mod Graphs
 pub mod Homes
 pub mod Totals
+pub mod Nears
 pub mod Placed
 pub mod Parts
 pub mod Read
@@ -13,6 +14,8 @@ pub mod Shown
 pub mod AsCheap
 pub mod Tries
 pub mod Choices
+pub mod Opens
+pub mod Passes
 pub mod Spent
 pub mod Prefixes
 pub mod Holdings

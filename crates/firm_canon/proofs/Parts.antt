@@ -1,5 +1,5 @@
 -- What holds of every arc of the network, arc by arc.
-use Rattle.std.proofs.Common.{◌≡◌, ℕ, zero, suc, ◌+◌, ◌*◌, ◌<◌, ◌≤◌, Bool, true, false, cond, eqb, ltb, List, [], ◌∷◌}
+use Rattle.std.proofs.Common.{◌≡◌, ℕ, zero, suc, ◌*◌, ◌<◌, ◌≤◌, Bool, true, false, cond, eqb, ltb, List, [], ◌∷◌}
 use Rattle.std.proofs.Common.{◌++◌, length, arith, sym, subst, ⊎_elim, Option, Some, None}
 use Rattle.std.specs.List.{All}
 use Rattle.std.proofs.lemmas.List.Elements.{All-head, All-tail, All-nil, All-cons, All-append}
@@ -12,14 +12,15 @@ use Rattle.firm_rules.specs.Placement.{Case, total, load}
 use Rattle.firm_rules.specs.Placement.{IsLegal}
 use Rattle.firm_graph.specs.Network.{runs}
 use Rattle.firm_graph.specs.declared.network.Node.{Node}
-use Rattle.firm_graph.specs.declared.network.Node.TheVariants.{Sink, Hub, Machine, Owner, Task}
+use Rattle.firm_graph.specs.declared.network.Node.TheVariants.{Sink, Hub, Machine, Owner}
 use Rattle.firm_graph.specs.declared.network.Key.{Key}
-use Rattle.firm_graph.specs.declared.network.Key.TheVariants.{Through, Slot, Exit, Wide, Stay, Delay}
-use Rattle.firm_graph.specs.Network.{gather, arc, slots_of, demand, stay_head, machine_arcs, job_arcs, task_arcs}
+use Rattle.firm_graph.specs.declared.network.Key.TheVariants.{Through, Slot, Exit, Wide, Stay, Delay, Prefer}
+use Rattle.firm_graph.specs.Network.{gather, arc, slots_of, demand, machine_arcs, job_arcs, task_arcs}
 use Rattle.firm_graph.specs.Network.{network}
-use Rattle.firm_canon.specs.inner.Placed.{pick, wide, stay, waits, placed}
+use Rattle.firm_canon.specs.inner.Placed.{pick, stay, waits, placed}
 use Rattle.firm_graph.specs.Network.{IsSound}
-use Rattle.firm_canon.proofs.Placed.{load_is}
+use Rattle.firm_canon.proofs.Nears.{wide_le_one, prefer_le_one}
+use Rattle.firm_canon.proofs.Placed.{load_is, wide_arc, stay_arc, delay_arc, prefer_arc, count_at}
 
 pub All-halves : {A : Type 0} (P : A → Type 0) (xs ys : List A) → All P (xs ++ ys) → All P xs × All P ys
 All-halves {A} P [] ys h = (All-nil P, h)
@@ -46,13 +47,10 @@ pub record OnParts (P : Arc Node Key → Type 0) (c : Case) (low x : Key → ℕ
   pub slot : (j k : ℕ) → j < length c.slots → k < slots_of c j
       → P (arc low x (Slot j k) (Machine j) Sink 1 (k * c.spread))
   pub exit : (k : ℕ) → k < c.jobs → P (arc low x (Exit k) (Owner k) Sink c.limit 0)
-  pub wides : (i : ℕ) → i < length c.tasks → P
-      (arc low x (Wide i) (Task i) Hub 1 (cond (runs (demand c i).home) c.churn 0))
-  pub stays : (i : ℕ) → i < length c.tasks → P
-      (arc low x (Stay i) (Task i) (stay_head (demand c i).home) (cond (runs (demand c i).home) 1 0) 0)
-  pub delays : (i : ℕ) → i < length c.tasks → P
-      (arc low x (Delay i) (Task i) (Owner (demand c i).job) 1
-      ((demand c i).delay + cond (runs (demand c i).home) c.churn 0))
+  pub wides : (i : ℕ) → i < length c.tasks → P (wide_arc c low x i)
+  pub stays : (i : ℕ) → i < length c.tasks → P (stay_arc c low x i)
+  pub delays : (i : ℕ) → i < length c.tasks → P (delay_arc c low x i)
+  pub prefers : (i k : ℕ) → i < length c.tasks → k < count_at c i → P (prefer_arc c low x i k)
 
 pub whole : (P : Arc Node Key → Type 0) (c : Case) (low x : Key → ℕ) → OnParts P c low x → All P (network c low x)
 whole P c low x h =
@@ -68,13 +66,14 @@ whole P c low x h =
     (All-gather P (job_arcs c low x) c.jobs (λ k l.
     All-cons P (arc low x (Exit k) (Owner k) Sink c.limit 0) [] (h.exit k l) (All-nil P)))
     (All-gather P (task_arcs c low x) (length c.tasks) (λ i l.
-    let wide : Arc Node Key = arc low x (Wide i) (Task i) Hub 1 (cond (runs (demand c i).home) c.churn 0) in
-    let stay : Arc Node Key = arc low x (Stay i) (Task i) (stay_head (demand c i).home)
-    (cond (runs (demand c i).home) 1 0) 0 in
-    let waits : Arc Node Key = arc low x (Delay i) (Task i) (Owner (demand c i).job) 1
-    ((demand c i).delay + cond (runs (demand c i).home) c.churn 0) in
-    All-cons P wide (stay ∷ waits ∷ []) (h.wides i l)
-    (All-cons P stay (waits ∷ []) (h.stays i l) (All-cons P waits [] (h.delays i l) (All-nil P))))))
+    let wide : Arc Node Key = wide_arc c low x i in
+    let stay : Arc Node Key = stay_arc c low x i in
+    let waits : Arc Node Key = delay_arc c low x i in
+    let rest : List (Arc Node Key) = gather (λ k. prefer_arc c low x i k ∷ []) (count_at c i) in
+    All-cons P wide (stay ∷ waits ∷ rest) (h.wides i l)
+    (All-cons P stay (waits ∷ rest) (h.stays i l) (All-cons P waits rest (h.delays i l)
+    (All-gather P (λ (k : ℕ). prefer_arc c low x i k ∷ []) (count_at c i) (λ k m.
+    All-cons P (prefer_arc c low x i k) [] (h.prefers i k l m) (All-nil P))))))))
 
 pub parts : (P : Arc Node Key → Type 0) (c : Case) (low x : Key → ℕ) → All P (network c low x) → OnParts P c low x
 parts P c low x h =
@@ -98,12 +97,18 @@ parts P c low x h =
           0 (arc low x (Slot j k) (Machine j) Sink 1 (k * c.spread)) (omega arith);
       exit = λ k l. All-gather_at P (job_arcs c low x) c.jobs k two.0 l 0 (arc low x (Exit k) (Owner k) Sink c.limit 0)
           (omega arith);
-      wides = λ i l. task i l 0 (arc low x (Wide i) (Task i) Hub 1 (cond (runs (demand c i).home) c.churn 0))
-          (omega arith);
-      stays = λ i l. task i l 1 (arc low x (Wide i) (Task i) Hub 1 (cond (runs (demand c i).home) c.churn 0))
-          (omega arith);
-      delays = λ i l. task i l 2 (arc low x (Wide i) (Task i) Hub 1 (cond (runs (demand c i).home) c.churn 0))
-          (omega arith);
+      wides = λ i l. task i l 0 (wide_arc c low x i) (omega arith);
+      stays = λ i l. task i l 1 (wide_arc c low x i) (omega arith);
+      delays = λ i l. task i l 2 (wide_arc c low x i) (omega arith);
+      prefers = λ i k l m. All-gather_at P (λ (k : ℕ). prefer_arc c low x i k ∷ []) (count_at c i) k
+          (All-tail P (delay_arc c low x i) (gather (λ k. prefer_arc c low x i k ∷ []) (count_at c i))
+          (All-tail P (stay_arc c low x i)
+          (delay_arc c low x i ∷ gather (λ k. prefer_arc c low x i k ∷ []) (count_at c i))
+          (All-tail P (wide_arc c low x i)
+          (stay_arc c low x i ∷ delay_arc c low x i ∷ gather (λ k. prefer_arc c low x i k ∷ []) (count_at c i))
+          (task i l))))
+          m
+          0 (prefer_arc c low x i k) (omega arith);
     }
 
 guest_le_load : (home : Option ℕ) (o : Option Choice) → stay home o ≤ cond (runs home) 1 0
@@ -113,15 +118,6 @@ guest_le_load None (Some Wait) = omega arith
 guest_le_load (Some h) (Some Wait) = omega arith
 guest_le_load None (Some (On j)) = omega arith
 guest_le_load (Some h) (Some (On j)) = elim (eqb h j) as (λ b. cond b 1 0 ≤ 1)
-    [ true ↦ omega arith | false ↦ omega arith ]
-
-wide_le_one : (home : Option ℕ) (o : Option Choice) → wide home o ≤ 1
-wide_le_one None None = omega arith
-wide_le_one (Some h) None = omega arith
-wide_le_one None (Some Wait) = omega arith
-wide_le_one (Some h) (Some Wait) = omega arith
-wide_le_one None (Some (On j)) = omega arith
-wide_le_one (Some h) (Some (On j)) = elim (eqb h j) as (λ b. cond b 0 1 ≤ 1)
     [ true ↦ omega arith | false ↦ omega arith ]
 
 waits_le_one : (o : Option Choice) → waits o ≤ 1
@@ -154,7 +150,8 @@ within_placed c q low x sound legal above =
               (λ i l. cond_le (eqb (demand c i).job k) (waits (pick q i)) 1 (waits_le_one (pick q i))),
         ),
       );
-      wides = λ i l. (above (Wide i), wide_le_one (demand c i).home (pick q i));
+      wides = λ i l. (above (Wide i), wide_le_one (demand c i) (pick q i));
       stays = λ i l. (above (Stay i), guest_le_load (demand c i).home (pick q i));
       delays = λ i l. (above (Delay i), waits_le_one (pick q i));
+      prefers = λ i k l m. (above (Prefer i k), prefer_le_one (demand c i) k (pick q i));
     })

@@ -14,7 +14,7 @@ use Rattle.firm_graph.specs.declared.network.Key.{Key}
 use Rattle.firm_graph.specs.declared.network.Key.TheVariants.{Through, Exit, Wide, Stay, Delay}
 use Rattle.firm_graph.specs.Network.{network, demand, stay_head, IsKeyOf}
 use Rattle.firm_graph.specs.View.{View, flows, spot_of}
-use Rattle.firm_canon.specs.inner.Placed.{wide, stay, waits, guests}
+use Rattle.firm_canon.specs.inner.Placed.{wide, stay, waits, guests, aside}
 use Rattle.firm_canon.specs.inner.Turns.{IsTightAt, IsLooseAt, IsCutOff, IsBlocked}
 use Rattle.firm_canon.specs.inner.Choosing.{low_of, Keeps, best, IsAsCheap, IsSpentBeside}
 use Rattle.firm_canon.specs.inner.Cuts.{StaysAtNoCost, IsSealed, IsMost, IsOwnWay, AreCuts, is_known, cut_start}
@@ -64,9 +64,13 @@ module _ (v : View) (price : ℕ → ℕ) (p : List Choice) (keeps : Keeps v pri
   abbrev job : ℕ
   job = (demand v.case n).job
 
+  -- its unit goes to no machine as the task prefers it
+  abbrev IsElsewhere : Type 0
+  IsElsewhere = aside v.case (flows v) n ≡ 0
+
   -- nothing holds the next task yet
   free_wide : low (Wide n) ≡ 0
-  free_wide = ap (wide (demand v.case n).home) (pick_past p) ∙ wide_none (demand v.case n).home
+  free_wide = ap (wide (demand v.case n)) (pick_past p) ∙ wide_none (demand v.case n)
 
   free_stay : low (Stay n) ≡ 0
   free_stay = ap (stay (demand v.case n).home) (pick_past p) ∙ stay_none (demand v.case n).home
@@ -233,11 +237,12 @@ module _ (v : View) (price : ℕ → ℕ) (p : List Choice) (keeps : Keeps v pri
 
   -- the nodes of the cut that a search for the own machine finds
   pub own_sealed : (own : ℕ) (unit stay : ArcId) (cut : Cut) → (demand v.case n).home ≡ Some own
-      → flows v (Stay n) ≡ 0 → stay ≡ v.arc (Stay n) → IsOwnWay v n own unit cut → IsTightAt v.net price unit
+      → IsElsewhere → flows v (Stay n) ≡ 0 → stay ≡ v.arc (Stay n) → IsOwnWay v n own unit cut → IsTightAt v.net price unit
       → IsCutOff v.net price stay (stay ∷ []) → IsSealed v price p (cut_start cut) (cut_end cut)
   unfolding arc_at
-  own_sealed own unit stay cut home none is way tight cut_off =
-      let sends : flows v (Wide n) + flows v (Stay n) + flows v (Delay n) ≡ 1 = sends_one v price p n keeps next in
+  own_sealed own unit stay cut home elsewhere none is way tight cut_off =
+      let sends : flows v (Wide n) + flows v (Stay n) + flows v (Delay n) + aside v.case (flows v) n ≡ 1 =
+      sends_one v price p n keeps next in
       let row : IsRowOfKey v p (Stay n) = row_of_key v price p (Stay n) keeps next in
       let found : IsKeyedCut v price p (Stay n ∷ []) (Stay n) =
       keyed_cut v price p (Stay n ∷ []) (Stay n) row.row keeps (one_key v.case (Stay n) next) row.is
@@ -254,12 +259,12 @@ module _ (v : View) (price : ℕ → ℕ) (p : List Choice) (keeps : Keeps v pri
       (λ (waits_now : (flows v (Wide n) ≡ 0) × (unit ≡ v.arc (Delay n)) × (cut ≡ MachineFromSink own)).
       subst (λ (z : Cut). IsSealed v price p (cut_start z) (cut_end z)) (sym waits_now.2)
       (seals v price p (Machine own) Sink found.inside keeps holds
-      (lacks_sink found.inside closed found.lacks_tail (omega (arith, sends, waits_now.0, none))
+      (lacks_sink found.inside closed found.lacks_tail (omega (arith, sends, waits_now.0, none, elsewhere))
       (subst (IsTightAt v.net price) waits_now.1 tight)) closed))
       way
 
   module _ (y : Key → ℕ) (flow : IsAsCheap v.case p (best v p) y) where
-    sends : y (Wide n) + y (Stay n) + y (Delay n) ≡ 1
+    sends : y (Wide n) + y (Stay n) + y (Delay n) + aside v.case y n ≡ 1
     sends = task_sends v.case low y n next flow.balanced
 
     same_at : (start end : Node) (is : IsSealed v price p start end) → OnParts (Agrees is.inside y) v.case low (flows v)
@@ -300,9 +305,9 @@ module _ (v : View) (price : ℕ → ℕ) (p : List Choice) (keeps : Keeps v pri
       omega (arith, ((same_at y flow Hub Sink is).wides n next).1 is.holds_start f))
       (cases_Bool (is.inside (Task n)))
 
-  own_known : (own : ℕ) (unit : ArcId) (cut : Cut) → (demand v.case n).home ≡ Some own → flows v (Stay n) ≡ 0
-      → IsOwnWay v n own unit cut → IsSealed v price p (cut_start cut) (cut_end cut) → IsMost v p (Stay n)
-  own_known own unit cut home none way sealed y flow =
+  own_known : (own : ℕ) (unit : ArcId) (cut : Cut) → (demand v.case n).home ≡ Some own → IsElsewhere
+      → flows v (Stay n) ≡ 0 → IsOwnWay v n own unit cut → IsSealed v price p (cut_start cut) (cut_end cut) → IsMost v p (Stay n)
+  own_known own unit cut home elsewhere none way sealed y flow =
       ⊎_elim
       (λ (by_hub : (1 ≤ flows v (Wide n)) × (unit ≡ v.arc (Wide n)) × (cut ≡ MachineFromHub own)).
       let is : IsSealed v price p (Machine own) Hub =
@@ -327,15 +332,15 @@ module _ (v : View) (price : ℕ → ℕ) (p : List Choice) (keeps : Keeps v pri
               arith,
               sends y flow,
               waits_too y flow (Machine own) is
-                  (omega (arith, none, waits_now.0, sends_one v price p n keeps next)) t,
+                  (omega (arith, none, waits_now.0, elsewhere, sends_one v price p n keeps next)) t,
             )),
       ))
       way
 
   -- and where the unit goes elsewhere at a gain
-  pub own_loose : (own : ℕ) (unit : ArcId) (cut : Cut) → flows v (Stay n) ≡ 0 → IsOwnWay v n own unit cut
-      → IsLooseAt v.net price unit → IsMost v p (Stay n)
-  own_loose own unit cut none way loose y flow =
+  pub own_loose : (own : ℕ) (unit : ArcId) (cut : Cut) → IsElsewhere → flows v (Stay n) ≡ 0
+      → IsOwnWay v n own unit cut → IsLooseAt v.net price unit → IsMost v p (Stay n)
+  own_loose own unit cut elsewhere none way loose y flow =
       ⊎_elim
       (λ (by_hub : (1 ≤ flows v (Wide n)) × (unit ≡ v.arc (Wide n)) × (cut ≡ MachineFromHub own)).
       omega (
@@ -349,6 +354,7 @@ module _ (v : View) (price : ℕ → ℕ) (p : List Choice) (keeps : Keeps v pri
         arith,
         sends y flow,
         sends_one v price p n keeps next,
+        elsewhere,
         none,
         waits_now.0,
         loose_unit y flow (Delay n) next (subst (IsLooseAt v.net price) waits_now.1 loose),
@@ -366,7 +372,7 @@ module _ (v : View) (price : ℕ → ℕ) (p : List Choice) (keeps : Keeps v pri
       )
 
   -- what was not opened for want of a way carries no more
-  blocked_most : (key : Key) (arc : ArcId) → IsKeyOf v.case key → arc ≡ v.arc key
+  pub blocked_most : (key : Key) (arc : ArcId) → IsKeyOf v.case key → arc ≡ v.arc key
       → IsBlocked v.net price arc (arc ∷ []) → IsMost v p key
   blocked_most key arc own is blocked y flow =
       no_more_at v price p y (key ∷ []) key keeps (one_key v.case key own) own
@@ -382,10 +388,11 @@ module _ (v : View) (price : ℕ → ℕ) (p : List Choice) (keeps : Keeps v pri
       (λ (blocked : IsBlocked v.net price arc (arc ∷ [])). blocked_most (Wide n) arc next is blocked) lost
 
   pub own_lost : (own : ℕ) (unit arc : ArcId) (cut : Cut) → arc ≡ v.arc (Stay n) → (demand v.case n).home ≡ Some own
-      → flows v (Stay n) ≡ 0 → IsOwnWay v n own unit cut → (cuts : Cuts) → AreCuts v price p cuts
+      → IsElsewhere → flows v (Stay n) ≡ 0 → IsOwnWay v n own unit cut → (cuts : Cuts) → AreCuts v price p cuts
       → (is_known cuts cut ≡ true) ⊎ IsBlocked v.net price arc (arc ∷ []) → IsMost v p (Stay n)
-  own_lost own unit arc cut is home none way cuts are lost =
-      ⊎_elim (λ (known : is_known cuts cut ≡ true). own_known own unit cut home none way (are.sealed cut known))
+  own_lost own unit arc cut is home elsewhere none way cuts are lost =
+      ⊎_elim (λ (known : is_known cuts cut ≡ true). own_known own unit cut home elsewhere none way
+      (are.sealed cut known))
       (λ (blocked : IsBlocked v.net price arc (arc ∷ [])). blocked_most (Stay n) arc next is blocked) lost
 
   pub machine_lost : (j : ℕ) (arc wide : ArcId) → j < length v.case.slots → arc ≡ v.arc (Through j)

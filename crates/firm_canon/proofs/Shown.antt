@@ -1,5 +1,5 @@
 -- What is known of a net that shows a network is known of the network, and back.
-use Rattle.std.proofs.Common.{◌≡◌, cond, ℕ, zero, suc, ◌+◌, ◌*◌, ◌<◌, ◌≤◌, Bool, List, [], ◌∷◌, ◌++◌, length, get_or}
+use Rattle.std.proofs.Common.{◌≡◌, ℕ, zero, suc, ◌*◌, ◌<◌, ◌≤◌, Bool, List, [], ◌∷◌, ◌++◌, length, get_or}
 use Rattle.std.proofs.Common.{Some, refl, sym, ap, ap₂, ◌∙◌, arith, inl, inr, ◌⊎◌, ⊎_elim}
 use Rattle.std.specs.Prelude.{map, Contains}
 use Rattle.std.specs.List.{All, sum_by}
@@ -23,14 +23,14 @@ use Rattle.firm_rules.specs.Placement.{Case}
 use Rattle.firm_graph.specs.declared.network.Node.{Node}
 use Rattle.firm_graph.specs.declared.network.Node.TheVariants.{Sink, Hub, Machine, Owner, Task}
 use Rattle.firm_graph.specs.declared.network.Key.{Key}
-use Rattle.firm_graph.specs.declared.network.Key.TheVariants.{Through, Slot, Exit, Wide, Stay, Delay}
-use Rattle.firm_graph.specs.Network.{gather, arc, slots_of, demand, stay_head, machine_arcs, job_arcs, task_arcs}
-use Rattle.firm_graph.specs.Network.{network, task_nodes}
+use Rattle.firm_graph.specs.declared.network.Key.TheVariants.{Through, Slot, Exit, Wide, Stay, Delay, Prefer}
+use Rattle.firm_graph.specs.Network.{gather, arc, slots_of, demand, preferred_at, stay_head, machine_arcs, job_arcs}
+use Rattle.firm_graph.specs.Network.{task_arcs, network, task_nodes}
 use Rattle.firm_graph.specs.Network.{IsSound}
-use Rattle.firm_graph.specs.Network.{runs}
 use Rattle.firm_graph.specs.View.{View, Shows, lows, flows, spot_of, named}
 use Rattle.firm_graph.specs.Network.{IsNodeOf, IsKeyOf}
 use Rattle.firm_canon.specs.inner.Turns.{IsWhole}
+use Rattle.firm_canon.proofs.Placed.{wide_arc, stay_arc, delay_arc, prefer_arc, count_at}
 use Rattle.firm_canon.proofs.Parts.{parts, whole, All-gather}
 
 All-unmap : {A B : Type 0} (f : A → B) (P : B → Type 0) (xs : List A) → All P (map f xs) → All (λ x. P (f x)) xs
@@ -94,7 +94,11 @@ network_same c low low' x x' e f =
     ap₂ (λ (a : Arc Node Key) (b : List (Arc Node Key)). a ∷ b) (same (Wide i) (Task i) Hub 1 _ l)
     (ap₂ (λ (a : Arc Node Key) (b : List (Arc Node Key)). a ∷ b)
     (same (Stay i) (Task i) (stay_head (demand c i).home) _ 0 l)
-    (ap (λ (a : Arc Node Key). a ∷ []) (same (Delay i) (Task i) (Owner (demand c i).job) 1 _ l))))))
+    (ap₂ (λ (a : Arc Node Key) (b : List (Arc Node Key)). a ∷ b)
+    (same (Delay i) (Task i) (Owner (demand c i).job) 1 _ l)
+    (gather_same (λ (k : ℕ). prefer_arc c low x i k ∷ []) (λ (k : ℕ). prefer_arc c low' x' i k ∷ []) (count_at c i)
+    (λ k m. ap (λ (a : Arc Node Key). a ∷ [])
+    (same (Prefer i k) (Task i) (Machine (preferred_at c i k)) 1 _ (l, m)))))))))
 
 -- each arc of the network has a key and ends of the case
 pub record IsProper (c : Case) (a : Arc Node Key) : Type 0 where
@@ -104,8 +108,9 @@ pub record IsProper (c : Case) (a : Arc Node Key) : Type 0 where
 
 pub proper : (c : Case) (low x : Key → ℕ) → IsSound c
     → ((i : ℕ) → i < length c.tasks → IsNodeOf c (stay_head (demand c i).home))
+    → ((i k : ℕ) → i < length c.tasks → k < count_at c i → preferred_at c i k < length c.slots)
     → All (IsProper c) (network c low x)
-proper c low x sound homes =
+proper c low x sound homes preferred =
     whole (IsProper c) c low x (record {
       through = λ j l. record { key = l; tail = tt; head = l };
       slot = λ j k l r. record { key = (l, r); tail = l; head = tt };
@@ -113,6 +118,7 @@ proper c low x sound homes =
       wides = λ i l. record { key = l; tail = l; head = tt };
       stays = λ i l. record { key = l; tail = l; head = homes i l };
       delays = λ i l. record { key = l; tail = l; head = sound.jobs_in i l };
+      prefers = λ i k l m. record { key = (l, m); tail = l; head = preferred i k l m };
     })
 
 module _ (v : View) (shows : Shows v) where
@@ -143,7 +149,7 @@ module _ (v : View) (shows : Shows v) where
     to_keyed (IsValidAt price) net.valid,
     to_keyed (λ (a : Arc ℕ ArcId). (a.low ≤ a.flow) × (a.flow ≤ a.cap)) net.within,
     λ w.
-        let ends = proper v.case (lows v) (flows v) shows.sound shows.homes in
+        let ends = proper v.case (lows v) (flows v) shows.sound shows.homes shows.preferred in
         let g : ℕ → ℕ = λ (z : ℕ). w (shows.role z) in
         let heads : sum_by (λ (a : Arc ℕ ArcId). g a.head * a.flow) (arcs_of v.net)
         ≡ sum_by (λ (a : Arc Node Key). w a.head * a.flow) arcs =
@@ -219,7 +225,7 @@ module _ (v : View) (shows : Shows v) where
       → IsClosedBut (arcs_of v.net) price (Contains (map v.arc keys)) inside
       → IsClosedBut arcs (λ n. price (spot_of v n)) (Contains keys) (λ n. inside (spot_of v n))
   closed_keyed price keys inside all closed k d l =
-      let ends = proper v.case (lows v) (flows v) shows.sound shows.homes in
+      let ends = proper v.case (lows v) (flows v) shows.sound shows.homes shows.preferred in
       let a : Arc Node Key = get_or arcs k d in
       ⊎_elim
       (λ (b : Contains (map v.arc keys) (v.arc a.key)). inl (barred_key keys a.key all (ends k d l).key b))
@@ -242,11 +248,10 @@ unfoldable pub arc_at : (c : Case) (low x : Key → ℕ) → Key → Arc Node Ke
 arc_at c low x (Through j) = arc low x (Through j) Hub (Machine j) (slots_of c j) 0
 arc_at c low x (Slot j k) = arc low x (Slot j k) (Machine j) Sink 1 (k * c.spread)
 arc_at c low x (Exit k) = arc low x (Exit k) (Owner k) Sink c.limit 0
-arc_at c low x (Wide i) = arc low x (Wide i) (Task i) Hub 1 (cond (runs (demand c i).home) c.churn 0)
-arc_at c low x (Stay i) = arc low x (Stay i) (Task i) (stay_head (demand c i).home) (cond (runs (demand c i).home) 1 0)
-    0
-arc_at c low x (Delay i) = arc low x (Delay i) (Task i) (Owner (demand c i).job) 1
-    ((demand c i).delay + cond (runs (demand c i).home) c.churn 0)
+arc_at c low x (Wide i) = wide_arc c low x i
+arc_at c low x (Stay i) = stay_arc c low x i
+arc_at c low x (Delay i) = delay_arc c low x i
+arc_at c low x (Prefer i k) = prefer_arc c low x i k
 
 pub by_key : (c : Case) (low x : Key → ℕ) → All (λ a. a ≡ arc_at c low x a.key) (network c low x)
 unfolding arc_at
@@ -257,6 +262,7 @@ by_key c low x = whole (λ (a : Arc Node Key). a ≡ arc_at c low x a.key) c low
   wides = λ i l. refl;
   stays = λ i l. refl;
   delays = λ i l. refl;
+  prefers = λ i k l m. refl;
 })
 
 pub key_at : (c : Case) (low x : Key → ℕ) (k : Key) → (arc_at c low x k).key ≡ k
@@ -267,6 +273,7 @@ key_at c low x (Exit k) = refl
 key_at c low x (Wide i) = refl
 key_at c low x (Stay i) = refl
 key_at c low x (Delay i) = refl
+key_at c low x (Prefer i k) = refl
 
 pub flow_at : (c : Case) (low x : Key → ℕ) (k : Key) → (arc_at c low x k).flow ≡ x k
 unfolding arc_at
@@ -276,6 +283,7 @@ flow_at c low x (Exit k) = refl
 flow_at c low x (Wide i) = refl
 flow_at c low x (Stay i) = refl
 flow_at c low x (Delay i) = refl
+flow_at c low x (Prefer i k) = refl
 
 pub listed_at : (c : Case) (low x : Key → ℕ) (k : Key) → IsKeyOf c k → Contains (network c low x) (arc_at c low x k)
 unfolding arc_at
@@ -291,19 +299,17 @@ listed_at c low x (Stay i) l = (parts (Contains (network c low x)) c low x
     (All-contains_itself (network c low x))).stays i l
 listed_at c low x (Delay i) l = (parts (Contains (network c low x)) c low x
     (All-contains_itself (network c low x))).delays i l
+listed_at c low x (Prefer i k) l = (parts (Contains (network c low x)) c low x
+    (All-contains_itself (network c low x))).prefers i k l.0 l.1
 
-pub stay_arc : (c : Case) (low x : Key → ℕ) (n : ℕ) → arc_at c low x (Stay n)
-    ≡ record {
-      key = Stay n;
-      tail = Task n;
-      head = stay_head (demand c n).home;
-      low = low (Stay n);
-      cap = cond (runs (demand c n).home) 1 0;
-      cost = 0;
-      flow = x (Stay n);
-    }
+-- those of a task that lead to machines
+pub stay_at : (c : Case) (low x : Key → ℕ) (n : ℕ) → arc_at c low x (Stay n) ≡ stay_arc c low x n
 unfolding arc_at
-stay_arc c low x n = refl
+stay_at c low x n = refl
+
+pub prefer_at : (c : Case) (low x : Key → ℕ) (n k : ℕ) → arc_at c low x (Prefer n k) ≡ prefer_arc c low x n k
+unfolding arc_at
+prefer_at c low x n k = refl
 
 pub low_at : (c : Case) (low x : Key → ℕ) (k : Key) → (arc_at c low x k).low ≡ low k
 unfolding arc_at
@@ -313,3 +319,4 @@ low_at c low x (Exit k) = refl
 low_at c low x (Wide i) = refl
 low_at c low x (Stay i) = refl
 low_at c low x (Delay i) = refl
+low_at c low x (Prefer i k) = refl

@@ -9,7 +9,7 @@ use Rattle.firm_paths.specs.Network.{Arc}
 use Rattle.firm_flow.specs.Flow.{cost_of, carried}
 use Rattle.firm_rules.specs.declared.rounds.Choice.{Choice}
 use Rattle.firm_rules.specs.declared.rounds.Choice.TheVariants.{On}
-use Rattle.firm_rules.specs.Placement.{Case, runs_at}
+use Rattle.firm_rules.specs.Placement.{Case, runs_at, prefers}
 use Rattle.firm_graph.specs.declared.network.Node.{Node}
 use Rattle.firm_graph.specs.declared.network.Key.{Key}
 use Rattle.firm_graph.specs.declared.network.Key.TheVariants.{Through, Wide}
@@ -20,7 +20,7 @@ use Rattle.firm_canon.specs.inner.Turns.{IsBlocked}
 use Rattle.firm_canon.specs.inner.Choosing.{low_of, Keeps, Shut, best, IsSpent, IsSpentBeside}
 use Rattle.firm_canon.proofs.Parts.{OnParts, parts}
 use Rattle.firm_canon.proofs.First.{pick_end, guests-le, guests_more, carried_sum}
-use Rattle.firm_canon.proofs.Choose.{wide_one}
+use Rattle.firm_canon.proofs.Nears.{wide_is}
 use Rattle.firm_canon.proofs.Shown.{network_same}
 use Rattle.firm_canon.proofs.AsCheap.{Carries, own_flow, flow_placed, flow_before, no_more_at}
 use Rattle.firm_canon.proofs.Tries.{two_keys, view_is}
@@ -34,15 +34,15 @@ spent_on c p o most j spent = record {
 
 -- a task that is held to the hub makes good what it was asked for
 pub spent_held : (c : Case) (p : List Choice) (m most j : ℕ) → length p < length c.tasks
-    → runs_at (demand c (length p)).home m ≡ false → IsSpentBeside c p most j
+    → runs_at (demand c (length p)).home m ≡ false → prefers (demand c (length p)) m ≡ false → IsSpentBeside c p most j
     → IsSpent c (p ++ On m ∷ []) most j
-spent_held c p m most j l other spent = record {
+spent_held c p m most j l other far spent = record {
   no_more = λ x flow.
       let n : ℕ = length p in
       let at : OnParts Carries c (low_of c (p ++ On m ∷ [])) x =
       parts Carries c (low_of c (p ++ On m ∷ [])) x flow.within in
-      let held : wide (demand c n).home (pick (p ++ On m ∷ []) n) ≡ 1 =
-      ap (wide (demand c n).home) (pick_end p [] (On m)) ∙ wide_one (demand c n).home m other in
+      let held : wide (demand c n) (pick (p ++ On m ∷ []) n) ≡ 1 =
+      ap (wide (demand c n)) (pick_end p [] (On m)) ∙ wide_is (demand c n) m other far in
       omega (
         arith,
         spent.no_more x (flow_before c p (On m) most x flow) (omega (arith, held, (at.wides n l).0, (at.wides n l).1)),
@@ -73,17 +73,18 @@ spent_few v price p j keeps one spent = spent.no_more (flows v) (own_flow v pric
 
 -- and no least placement goes on by it
 pub spent_shut : (v : View) (price : ℕ → ℕ) (p : List Choice) (j : ℕ) → Keeps v price p → length p < length v.case.tasks
-    → runs_at (demand v.case (length p)).home j ≡ false → IsSpentBeside v.case p (best v p) j → Shut v p j
-spent_shut v price p j keeps l other spent = record {
+    → runs_at (demand v.case (length p)).home j ≡ false → prefers (demand v.case (length p)) j ≡ false
+    → IsSpentBeside v.case p (best v p) j → Shut v p j
+spent_shut v price p j keeps l other far spent = record {
   barred = λ r legal cheap.
       let n : ℕ = length p in
-      let w : wide (demand v.case n).home (pick (p ++ On j ∷ r) n) ≡ 1 =
-      ap (wide (demand v.case n).home) (pick_end p r (On j)) ∙ wide_one (demand v.case n).home j other in
+      let w : wide (demand v.case n) (pick (p ++ On j ∷ r) n) ≡ 1 =
+      ap (wide (demand v.case n)) (pick_end p r (On j)) ∙ wide_is (demand v.case n) j other far in
       omega (
         arith,
         spent.no_more (placed v.case (p ++ On j ∷ r))
             (flow_placed v.case p (On j ∷ r) (best v p) keeps.shows.sound legal cheap) w,
-        guests_more v.case p r j l (wide_one (demand v.case n).home j other),
+        guests_more v.case p r j l (wide_is (demand v.case n) j other far),
       );
 }
 

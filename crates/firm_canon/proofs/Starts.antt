@@ -17,7 +17,7 @@ use Rattle.firm_rules.specs.Round.{round_placement, TheRoundIsTheFirst}
 use Rattle.firm_graph.specs.declared.network.Node.{Node}
 use Rattle.firm_graph.specs.declared.network.Node.TheVariants.{Sink}
 use Rattle.firm_graph.specs.declared.network.Key.{Key}
-use Rattle.firm_graph.specs.declared.network.Key.TheVariants.{Through, Slot, Exit, Wide, Stay, Delay}
+use Rattle.firm_graph.specs.declared.network.Key.TheVariants.{Through, Slot, Exit, Wide, Stay, Delay, Prefer}
 use Rattle.firm_graph.specs.Network.{network, demand, task_nodes}
 use Rattle.firm_canon.specs.inner.Placed.{wide}
 use Rattle.firm_graph.specs.View.{View, Shows, IsSameCase, lows, flows, spot_of}
@@ -25,18 +25,20 @@ use Rattle.firm_graph.specs.Network.{IsKeyOf}
 use Rattle.firm_canon.specs.inner.Turns.{IsWhole}
 use Rattle.firm_canon.specs.inner.Choosing.{low_of, Keeps}
 use Rattle.firm_canon.proofs.Totals.{total_zero}
+use Rattle.firm_canon.proofs.Nears.{prefer_none}
 use Rattle.firm_canon.proofs.First.{start, finish, guest_none, wide_none, stay_none}
 use Rattle.firm_canon.proofs.Shown.{network_same, whole_keyed, to_keyed, arc_at, listed_at, low_at}
 
 -- nothing is held at the start
 none_held : (c : Case) (k : Key) → low_of c [] k ≡ 0
-none_held c (Through j) = total_zero (λ (i : ℕ). cond (eqb 0 j) (wide (demand c i).home None) 0) (length c.tasks)
+none_held c (Through j) = total_zero (λ (i : ℕ). cond (eqb 0 j) (wide (demand c i) None) 0) (length c.tasks)
     (λ i l. guest_none c j i)
 none_held c (Slot j k) = refl
 none_held c (Exit k) = refl
-none_held c (Wide i) = wide_none (demand c i).home
+none_held c (Wide i) = wide_none (demand c i)
 none_held c (Stay i) = stay_none (demand c i).home
 none_held c (Delay i) = refl
+none_held c (Prefer i k) = prefer_none (demand c i) k
 
 pub starts : FlowLaws → ConservedWhereBalanced → (v : View) (price : ℕ → ℕ) → Shows v
     → length v.case.tasks < v.case.limit

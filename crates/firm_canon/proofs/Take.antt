@@ -10,10 +10,12 @@ use Rattle.firm_rules.specs.Placement.{Case, total, rank}
 use Rattle.firm_rules.specs.Placement.{IsPlace}
 use Rattle.firm_graph.specs.declared.network.Node.{Node}
 use Rattle.firm_graph.specs.declared.network.Key.{Key}
-use Rattle.firm_graph.specs.declared.network.Key.TheVariants.{Through, Slot, Exit, Wide, Stay, Delay}
+use Rattle.firm_graph.specs.declared.network.Key.TheVariants.{Through, Slot, Exit, Wide, Stay, Delay, Prefer}
 use Rattle.firm_graph.specs.Network.{demand, network}
 use Rattle.firm_canon.proofs.Totals.{total-le, total-add, total_at}
-use Rattle.firm_canon.specs.inner.Placed.{pick, wide, stay, waits, guests}
+use Rattle.firm_canon.specs.inner.Placed.{pick, wide, stay, waits, prefer, guests}
+use Rattle.firm_canon.proofs.Nears.{prefer_none}
+use Rattle.firm_canon.proofs.Placed.{count_at}
 use Rattle.firm_canon.proofs.Parts.{parts, whole}
 use Rattle.firm_canon.specs.inner.Choosing.{low_of, Stands, Barred, HasRoom}
 use Rattle.firm_canon.proofs.First.{extend, pick_end, grows, guests-le, guest_term, guest_none, wide_none, stay_none}
@@ -71,9 +73,10 @@ pub low_grows : (c : Case) (p : List Choice) (o : Choice) (k : Key) → low_of c
 low_grows c p o (Through j) = guests-le c p (o ∷ []) j
 low_grows c p o (Slot j k) = omega arith
 low_grows c p o (Exit k) = omega arith
-low_grows c p o (Wide i) = grows (wide (demand c i).home) p (o ∷ []) i (wide_none (demand c i).home)
+low_grows c p o (Wide i) = grows (wide (demand c i)) p (o ∷ []) i (wide_none (demand c i))
 low_grows c p o (Stay i) = grows (stay (demand c i).home) p (o ∷ []) i (stay_none (demand c i).home)
 low_grows c p o (Delay i) = grows waits p (o ∷ []) i refl
+low_grows c p o (Prefer i k) = grows (prefer (demand c i) k) p (o ∷ []) i (prefer_none (demand c i) k)
 
 -- TAKING A CHOICE that the flow has room for and before which none is left
 pub take_choice : (c : Case) (p : List Choice) (o : Choice) (x : Key → ℕ) (price : Node → ℕ)
@@ -90,9 +93,9 @@ take_choice c p o x price stands l place room none =
       slot = λ j k h r. bounds.slot j k h r;
       exit = λ k h. bounds.exit k h;
       wides = λ i h. (
-        at_task (wide (demand c i).home) (λ (i : ℕ). x (Wide i)) p o i (wide_none (demand c i).home)
+        at_task (wide (demand c i)) (λ (i : ℕ). x (Wide i)) p o i (wide_none (demand c i))
             (bounds.wides i h).0
-            (λ e. subst (λ (k : ℕ). wide (demand c k).home (Some o) ≤ x (Wide k)) (sym e) room.at_wide),
+            (λ e. subst (λ (k : ℕ). wide (demand c k) (Some o) ≤ x (Wide k)) (sym e) room.at_wide),
         (bounds.wides i h).1,
       );
       stays = λ i h. (
@@ -105,6 +108,13 @@ take_choice c p o x price stands l place room none =
         at_task waits (λ (i : ℕ). x (Delay i)) p o i refl (bounds.delays i h).0
             (λ e. subst (λ (k : ℕ). waits (Some o) ≤ x (Delay k)) (sym e) room.at_delay),
         (bounds.delays i h).1,
+      );
+      prefers = λ i k h m. (
+        at_task (prefer (demand c i) k) (λ (i : ℕ). x (Prefer i k)) p o i (prefer_none (demand c i) k)
+            (bounds.prefers i k h m).0
+            (λ e. subst (λ (n : ℕ). k < count_at c n → prefer (demand c n) k (Some o) ≤ x (Prefer n k)) (sym e)
+            (room.at_prefer k) m),
+        (bounds.prefers i k h m).1,
       );
     }))
     (λ b r legal cheap place_b less. none b place_b less r legal cheap)

@@ -9,21 +9,39 @@ ghost use Rattle.firm_graph.specs.Ids.{view_of};
 ghost use Rattle.firm_graph.specs.Network.{demand};
 ghost use Rattle.firm_graph.specs.View.{Shows, flows};
 ghost use Rattle.firm_canon.specs.inner.Graphs.{IsSameGraph};
-ghost use Rattle.firm_canon.specs.inner.Placed.{guests};
-ghost use Rattle.firm_canon.specs.inner.Turns.{Turned, IsBlocked, IsCutOff};
+ghost use Rattle.firm_canon.specs.inner.Placed.{guests, aside};
+ghost use Rattle.firm_canon.specs.inner.Turns.{Turned, IsBlocked, IsStopped, IsCutOff};
 ghost use Rattle.firm_canon.specs.inner.Choosing.{Keeps, Tried, IsSpentBeside, best};
 ghost use Rattle.firm_canon.specs.inner.Cuts.{AreCuts, IsCutAmong, IsMost, IsOwnWay, HasSought, is_known, cut_count};
 ghost use Rattle.firm_canon.specs.inner.Cuts.{one_if};
 ghost use Rattle.firm_canon.specs.declared.cuts.Cut.{Cut as Name};
-ghost use Rattle.firm_graph.specs.declared.network.Key.TheVariants.{Through, Wide, Stay, Delay};
+ghost use Rattle.firm_graph.specs.declared.network.Key.TheVariants.{Through, Wide, Stay, Delay, Prefer};
 
 use crate::cuts::{Cut, Cuts};
-use crate::reads::{flow_on, stay_arc, through_arc, wait_arc, wide_arc};
+use crate::reads::{flow_on, prefer_arc, stay_arc, through_arc, wait_arc, wide_arc};
 use crate::turns::{is_open, is_tight_arc, turn};
 use firm_graph::Graph;
 use firm_net::ArcId;
 use firm_paths::{Prices, Scratch};
 use firm_rules::Choice;
+
+/// Sends one unit more along an arc, and back from its head to its tail at no cost, if there is such a way.
+fn send(graph: &mut Graph, prices: &Prices, scratch: &mut Scratch, arc: ArcId) -> bool
+    requires shows { Shows (view_of graph.old) }
+    requires made_for { (prices.now.limits ≡ limits_of graph.old.net) × (scratch.old.limits ≡ limits_of graph.old.net) }
+    requires there { IsArc graph.old.net arc }
+    ensures shows { Shows (view_of graph.new) }
+    ensures same { IsSameGraph graph.old graph.new }
+    ensures searched { HasSearchedUpTo scratch.old scratch.new 1 (arena_arcs graph.old.rows) }
+    ensures won { result ≡ true → Turned graph.old.net graph.new.net (price_of prices.now) arc (arc ∷ []) }
+    ensures blocked { result ≡ false → IsBlocked graph.old.net (price_of prices.now) arc (arc ∷ []) }
+    ensures unchanged { result ≡ false → graph.new ≡ graph.old }
+{
+    if !is_open(graph, prices, arc) {
+        return false;
+    }
+    turn(graph, prices, scratch, arc, &[arc])
+}
 
 /// Sends the next task to its own machine, if there is a way.
 pub(crate) fn more_stay(
@@ -39,14 +57,56 @@ pub(crate) fn more_stay(
     ensures searched { HasSearchedUpTo scratch.old scratch.new 1 (arena_arcs graph.old.rows) }
     ensures tried { Tried (view_of graph.old) (view_of graph.new) (price_of prices.now) chosen.now
         (Stay (length chosen.now) ∷ []) (Stay (length chosen.now)) result }
-    ensures blocked { result ≡ false → IsBlocked graph.old.net (price_of prices.now)
-        ((view_of graph.old).arc (Stay (length chosen.now))) ((view_of graph.old).arc (Stay (length chosen.now)) ∷ []) }
+    ensures blocked { result ≡ false → IsStopped (view_of graph.old) (price_of prices.now) (Stay (length chosen.now)) }
+    ensures unchanged { result ≡ false → graph.new ≡ graph.old }
 {
     let arc = stay_arc(graph, chosen.len());
-    if !is_open(graph, prices, arc) {
-        return false;
-    }
-    turn(graph, prices, scratch, arc, &[arc])
+    send(graph, prices, scratch, arc)
+}
+
+/// Sends the next task to the hub, if there is a way.
+pub(crate) fn more_wide(
+    graph: &mut Graph,
+    prices: &Prices,
+    scratch: &mut Scratch,
+    chosen: &[Choice],
+) -> bool
+    requires keeps { Keeps (view_of graph.old) (price_of prices.now) chosen.now }
+    requires next { length chosen.now < length (view_of graph.old).case.tasks }
+    requires made_for { (prices.now.limits ≡ limits_of graph.old.net) × (scratch.old.limits ≡ limits_of graph.old.net) }
+    ensures same { IsSameGraph graph.old graph.new }
+    ensures searched { HasSearchedUpTo scratch.old scratch.new 1 (arena_arcs graph.old.rows) }
+    ensures tried { Tried (view_of graph.old) (view_of graph.new) (price_of prices.now) chosen.now
+        (Wide (length chosen.now) ∷ []) (Wide (length chosen.now)) result }
+    ensures blocked { result ≡ false → IsStopped (view_of graph.old) (price_of prices.now) (Wide (length chosen.now)) }
+    ensures unchanged { result ≡ false → graph.new ≡ graph.old }
+{
+    let arc = wide_arc(graph, chosen.len());
+    send(graph, prices, scratch, arc)
+}
+
+/// Sends the next task to the machine of its preference of this number, if there is a way.
+pub(crate) fn more_prefer(
+    graph: &mut Graph,
+    prices: &Prices,
+    scratch: &mut Scratch,
+    chosen: &[Choice],
+    number: usize,
+) -> bool
+    requires keeps { Keeps (view_of graph.old) (price_of prices.now) chosen.now }
+    requires next { length chosen.now < length (view_of graph.old).case.tasks }
+    requires number { number < length (demand (view_of graph.old).case (length chosen.now)).preferred }
+    requires made_for { (prices.now.limits ≡ limits_of graph.old.net) × (scratch.old.limits ≡ limits_of graph.old.net) }
+    ensures same { IsSameGraph graph.old graph.new }
+    ensures searched { HasSearchedUpTo scratch.old scratch.new 1 (arena_arcs graph.old.rows) }
+    ensures tried { Tried (view_of graph.old) (view_of graph.new) (price_of prices.now) chosen.now
+        (Prefer (length chosen.now) number ∷ []) (Prefer (length chosen.now) number) result }
+    ensures blocked { result ≡ false
+        → IsStopped (view_of graph.old) (price_of prices.now) (Prefer (length chosen.now) number) }
+    ensures unchanged { result ≡ false → graph.new ≡ graph.old }
+{
+    let arc = prefer_arc(graph, chosen.len(), number);
+    send(graph, prices, scratch, arc)
 }
 
 /// Tries to send one unit more along an arc, and back from its head to its tail at no cost, unless a cut is known
@@ -117,6 +177,7 @@ pub(crate) fn seek_own(
     requires next { length chosen.now < length (view_of graph.old).case.tasks }
     requires home { (demand (view_of graph.old).case (length chosen.now)).home ≡ Some own }
     requires stay { flows (view_of graph.old) (Stay (length chosen.now)) ≡ 0 }
+    requires aside { aside (view_of graph.old).case (flows (view_of graph.old)) (length chosen.now) ≡ 0 }
     requires made_for { (prices.now.limits ≡ limits_of graph.old.net) × (scratch.old.limits ≡ limits_of graph.old.net) }
     requires cuts { AreCuts (view_of graph.old) (price_of prices.now) chosen.now cuts.old }
     ensures same { IsSameGraph graph.old graph.new }

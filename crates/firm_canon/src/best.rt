@@ -3,10 +3,11 @@ ghost use Rattle.std.specs.Prelude.{◌≡◌, ◌+◌, ◌*◌, ◌<◌, ◌≤
 ghost use Rattle.std.specs.Prelude.{vec_capacity};
 ghost use Rattle.firm_paths.specs.NetArcs.{limits_of};
 ghost use Rattle.firm_paths.specs.PriceTable.{price_of};
-ghost use Rattle.firm_rules.specs.ArenaUse.{arena_arcs};
+ghost use Rattle.firm_rules.specs.ArenaUse.{arena_arcs, preference_count};
 ghost use Rattle.firm_rules.specs.Round.{case_of, round_placement};
 ghost use Rattle.firm_canon.specs.Counts.{HasSearchedUpTo};
 ghost use Rattle.firm_graph.specs.Ids.{view_of};
+ghost use Rattle.firm_graph.specs.Network.{demand};
 ghost use Rattle.firm_canon.specs.inner.Graphs.{IsSameGraph};
 ghost use Rattle.firm_canon.specs.inner.Choosing.{Keeps, IsSpent, best};
 ghost use Rattle.firm_canon.specs.inner.Cuts.{AreCuts, HasSought, cut_count};
@@ -68,7 +69,8 @@ fn choose_next(
     requires made_for { (prices.now.limits ≡ limits_of graph.old.net) × (scratch.old.limits ≡ limits_of graph.old.net) }
     requires cuts { AreCuts (view_of graph.old) (price_of prices.now) chosen.old.items cuts.old }
     ensures same { IsSameGraph graph.old graph.new }
-    ensures searched { HasSought scratch.old scratch.new (length graph.old.rows.machines + 3) 2
+    ensures searched { HasSought scratch.old scratch.new (length graph.old.rows.machines + 3)
+        (2 + length (demand (view_of graph.old).case (length chosen.old.items)).preferred)
         (arena_arcs graph.old.rows) (cut_count cuts.old) (cut_count cuts.new) }
     ensures cuts { AreCuts (view_of graph.new) (price_of prices.now) chosen.new.items cuts.new }
     ensures keeps { Keeps (view_of graph.new) (price_of prices.now) chosen.new.items }
@@ -101,7 +103,8 @@ pub fn first_best(
     ensures searched { HasSearchedUpTo scratch.old scratch.new
         (length graph.old.rows.tasks * (length graph.old.rows.machines + 4)) (arena_arcs graph.old.rows) }
     ensures searched_few { HasSearchedUpTo scratch.old scratch.new
-        (3 * length graph.old.rows.tasks + 2 * length graph.old.rows.machines + 1) (arena_arcs graph.old.rows) }
+        (3 * length graph.old.rows.tasks + 2 * length graph.old.rows.machines + 1
+        + preference_count graph.old.rows.tasks) (arena_arcs graph.old.rows) }
     ensures refused { OnErr result ((graph.new ≡ graph.old) × (prices.new ≡ prices.old) × (scratch.new ≡ scratch.old)) }
 {
     the_round_is_the_first();

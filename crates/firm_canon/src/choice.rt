@@ -4,9 +4,9 @@ ghost use Rattle.std.specs.Prelude.{IfNone};
 ghost use Rattle.firm_paths.specs.NetArcs.{limits_of};
 ghost use Rattle.firm_paths.specs.PriceTable.{price_of};
 ghost use Rattle.firm_rules.specs.ArenaUse.{arena_arcs};
-ghost use Rattle.firm_rules.specs.Placement.{runs_at};
+ghost use Rattle.firm_rules.specs.Placement.{runs_at, prefers};
 ghost use Rattle.firm_graph.specs.Network.{demand};
-ghost use Rattle.firm_canon.specs.inner.Placed.{guests};
+ghost use Rattle.firm_canon.specs.inner.Placed.{guests, aside};
 ghost use Rattle.firm_graph.specs.View.{flows};
 ghost use Rattle.firm_graph.specs.Ids.{view_of};
 ghost use Rattle.firm_canon.specs.inner.Graphs.{IsSameGraph};
@@ -16,7 +16,10 @@ ghost use Rattle.firm_graph.specs.declared.network.Key.TheVariants.{Through, Wid
 
 use crate::attempts::{more_stay, seek_hub, seek_machine, seek_own};
 use crate::cuts::Cuts;
-use crate::reads::{flow_on, home_of, low_on, machine_count, stay_arc, through_arc, wide_arc};
+use crate::preferences::choose_preferring;
+use crate::reads::{
+    flow_on, home_of, low_on, machine_count, preferred_places, stay_arc, through_arc, wide_arc,
+};
 use firm_graph::Graph;
 use firm_paths::{Prices, Scratch};
 use firm_rules::Choice;
@@ -35,6 +38,7 @@ fn try_hub(
     requires made_for { (prices.now.limits ≡ limits_of graph.old.net) × (scratch.old.limits ≡ limits_of graph.old.net) }
     requires cuts { AreCuts (view_of graph.old) (price_of prices.now) chosen.now cuts.old }
     requires stay { flows (view_of graph.old) (Stay (length chosen.now)) ≡ 0 }
+    requires aside { aside (view_of graph.old).case (flows (view_of graph.old)) (length chosen.now) ≡ 0 }
     ensures same { IsSameGraph graph.old graph.new }
     ensures searched { HasSought scratch.old scratch.new 1 (one_if result) (arena_arcs graph.old.rows)
         (cut_count cuts.old) (cut_count cuts.new) }
@@ -44,7 +48,8 @@ fn try_hub(
     ensures yes { result ≡ true → 1 ≤ flows (view_of graph.new) (Wide (length chosen.now)) }
     ensures none { result ≡ false → flows (view_of graph.old) (Wide (length chosen.now)) ≡ 0 }
     ensures shut { result ≡ false → (j : ℕ) → runs_at (demand (view_of graph.old).case (length chosen.now)).home j
-        ≡ false → Shut (view_of graph.old) chosen.now j }
+        ≡ false → prefers (demand (view_of graph.old).case (length chosen.now)) j ≡ false
+        → Shut (view_of graph.old) chosen.now j }
     ensures unchanged { result ≡ false → graph.new ≡ graph.old }
 {
     if flow_on(graph.net(), wide_arc(graph, chosen.len())) > 0 {
@@ -68,6 +73,7 @@ fn try_own(
     requires made_for { (prices.now.limits ≡ limits_of graph.old.net) × (scratch.old.limits ≡ limits_of graph.old.net) }
     requires cuts { AreCuts (view_of graph.old) (price_of prices.now) chosen.now cuts.old }
     requires home { (demand (view_of graph.old).case (length chosen.now)).home ≡ Some own }
+    requires aside { aside (view_of graph.old).case (flows (view_of graph.old)) (length chosen.now) ≡ 0 }
     ensures same { IsSameGraph graph.old graph.new }
     ensures searched { HasSought scratch.old scratch.new 1 (one_if result) (arena_arcs graph.old.rows)
         (cut_count cuts.old) (cut_count cuts.new) }
@@ -97,7 +103,7 @@ pub(crate) fn is_home(home: Option<u32>, machine: u32) -> bool
 
 /// Tries one machine that is not the task's own.
 #[tactic(auto, using(crate::proofs::Counts::none_sought))]
-fn try_machine(
+pub(crate) fn try_machine(
     graph: &mut Graph,
     prices: &Prices,
     scratch: &mut Scratch,
@@ -132,7 +138,8 @@ fn try_machine(
     seek_machine(graph, prices, scratch, cuts, chosen, machine)
 }
 
-/// Finds the first machine, but the task's own, to which it can go by the hub. The machines before `from` are spent.
+/// Finds the first machine, but the task's own, to which a task without preferences can go by the hub. The machines
+/// before `from` are spent.
 fn find_machine(
     graph: &mut Graph,
     prices: &Prices,
@@ -145,6 +152,7 @@ fn find_machine(
     requires keeps { Keeps (view_of graph.old) (price_of prices.now) chosen.now }
     requires next { length chosen.now < length (view_of graph.old).case.tasks }
     requires home { home ≡ (demand (view_of graph.old).case (length chosen.now)).home }
+    requires plain { (demand (view_of graph.old).case (length chosen.now)).preferred ≡ [] }
     requires wide { flows (view_of graph.old) (Wide (length chosen.now)) ≡ 1 }
     requires from { from ≤ length (view_of graph.old).case.slots }
     requires spent { (j : ℕ) → j < from → IsSpent (view_of graph.old).case chosen.now
@@ -199,8 +207,8 @@ fn reach(home: Option<u32>, machine: u32, from: u32) -> u32
     own
 }
 
-/// Chooses among the next task's choices but its own machine, which it does not go to. The machines before `from` are
-/// spent, and stay so.
+/// Chooses among the choices of the next task, which has no preferences, but its own machine, which it does not go to.
+/// The machines before `from` are spent, and stay so.
 fn choose_other(
     graph: &mut Graph,
     prices: &Prices,
@@ -213,6 +221,7 @@ fn choose_other(
     requires keeps { Keeps (view_of graph.old) (price_of prices.now) chosen.now }
     requires next { length chosen.now < length (view_of graph.old).case.tasks }
     requires home { home ≡ (demand (view_of graph.old).case (length chosen.now)).home }
+    requires plain { (demand (view_of graph.old).case (length chosen.now)).preferred ≡ [] }
     requires own { (j : ℕ) → runs_at (demand (view_of graph.old).case (length chosen.now)).home j ≡ true
         → Shut (view_of graph.old) chosen.now j }
     requires stay { flows (view_of graph.old) (Stay (length chosen.now)) ≡ 0 }
@@ -246,6 +255,44 @@ fn choose_other(
     Choice::On(own)
 }
 
+/// Chooses for the next task, which has no preferences. The machines before `from` are spent, and stay so.
+fn choose_plain(
+    graph: &mut Graph,
+    prices: &Prices,
+    scratch: &mut Scratch,
+    cuts: &mut Cuts,
+    chosen: &[Choice],
+    home: Option<u32>,
+    from: &mut u32,
+) -> Choice
+    requires keeps { Keeps (view_of graph.old) (price_of prices.now) chosen.now }
+    requires next { length chosen.now < length (view_of graph.old).case.tasks }
+    requires home { home ≡ (demand (view_of graph.old).case (length chosen.now)).home }
+    requires plain { (demand (view_of graph.old).case (length chosen.now)).preferred ≡ [] }
+    requires from { from.old ≤ length (view_of graph.old).case.slots }
+    requires spent { (j : ℕ) → j < from.old → IsSpent (view_of graph.old).case chosen.now
+        (best (view_of graph.old) chosen.now) j }
+    requires made_for { (prices.now.limits ≡ limits_of graph.old.net) × (scratch.old.limits ≡ limits_of graph.old.net) }
+    requires cuts { AreCuts (view_of graph.old) (price_of prices.now) chosen.now cuts.old }
+    ensures same { IsSameGraph graph.old graph.new }
+    ensures searched { HasSought scratch.old scratch.new (length graph.old.rows.machines + 3) 2
+        (arena_arcs graph.old.rows) (cut_count cuts.old) (cut_count cuts.new) }
+    ensures cuts { AreCuts (view_of graph.new) (price_of prices.now) chosen.now cuts.new }
+    ensures keeps { Keeps (view_of graph.new) (price_of prices.now) chosen.now }
+    ensures chosen { IsChosen (view_of graph.new) chosen.now result }
+    ensures from { from.new ≤ length (view_of graph.new).case.slots }
+    ensures spent { (j : ℕ) → j < from.new → IsSpent (view_of graph.new).case (chosen.now ++ result ∷ [])
+        (best (view_of graph.new) chosen.now) j }
+{
+    let Some(own) = home else {
+        return choose_other(graph, prices, scratch, cuts, chosen, home, from);
+    };
+    if try_own(graph, prices, scratch, cuts, chosen, own) {
+        return Choice::On(own);
+    }
+    choose_other(graph, prices, scratch, cuts, chosen, home, from)
+}
+
 /// Chooses for the next task: the first of its choices with which a least placement goes on. The machines before `from`
 /// are spent, and stay so.
 pub(crate) fn choose(
@@ -264,7 +311,8 @@ pub(crate) fn choose(
     requires made_for { (prices.now.limits ≡ limits_of graph.old.net) × (scratch.old.limits ≡ limits_of graph.old.net) }
     requires cuts { AreCuts (view_of graph.old) (price_of prices.now) chosen.now cuts.old }
     ensures same { IsSameGraph graph.old graph.new }
-    ensures searched { HasSought scratch.old scratch.new (length graph.old.rows.machines + 3) 2
+    ensures searched { HasSought scratch.old scratch.new (length graph.old.rows.machines + 3)
+        (2 + length (demand (view_of graph.old).case (length chosen.now)).preferred)
         (arena_arcs graph.old.rows) (cut_count cuts.old) (cut_count cuts.new) }
     ensures cuts { AreCuts (view_of graph.new) (price_of prices.now) chosen.now cuts.new }
     ensures keeps { Keeps (view_of graph.new) (price_of prices.now) chosen.now }
@@ -273,12 +321,11 @@ pub(crate) fn choose(
     ensures spent { (j : ℕ) → j < from.new → IsSpent (view_of graph.new).case (chosen.now ++ result ∷ [])
         (best (view_of graph.new) chosen.now) j }
 {
-    let home = home_of(graph, chosen.len());
-    let Some(own) = home else {
-        return choose_other(graph, prices, scratch, cuts, chosen, home, from);
-    };
-    if try_own(graph, prices, scratch, cuts, chosen, own) {
-        return Choice::On(own);
+    let task = chosen.len();
+    let home = home_of(graph, task);
+    let places = preferred_places(graph, task);
+    if places.is_empty() {
+        return choose_plain(graph, prices, scratch, cuts, chosen, home, from);
     }
-    choose_other(graph, prices, scratch, cuts, chosen, home, from)
+    choose_preferring(graph, prices, scratch, cuts, chosen, home, &places, *from)
 }

@@ -1,15 +1,21 @@
 //! Lower bounds that hold the choices made.
-ghost use Rattle.std.specs.Prelude.{◌≡◌, ◌≢◌, ◌<◌, ◌∷◌, ◌++◌, [], length};
+ghost use Rattle.std.specs.Prelude.{◌≡◌, ◌≢◌, ◌<◌, ◌∷◌, ◌++◌, [], length, false};
 ghost use Rattle.firm_net.specs.Net.{row_at};
 ghost use Rattle.firm_net.specs.declared.row.ArcId.{ArcId as ArcName};
 ghost use Rattle.firm_paths.specs.PriceTable.{price_of};
 ghost use Rattle.firm_graph.specs.View.{Shows, CanHold, low_of_row, flow_of_row};
 ghost use Rattle.firm_graph.specs.Ids.{view_of};
+ghost use Rattle.firm_graph.specs.Network.{demand};
+ghost use Rattle.firm_rules.specs.Placement.{runs_at, prefers};
 ghost use Rattle.firm_canon.specs.inner.Graphs.{IsSameGraph};
 ghost use Rattle.firm_canon.specs.inner.Choosing.{Keeps, IsChosen, best};
+ghost use Rattle.firm_rules.specs.declared.rounds.Choice.TheVariants.{On};
 
 use crate::choice::is_home;
-use crate::reads::{home_of, low_on, stay_arc, through_arc, wait_arc, wide_arc};
+use crate::preferences::preference_for;
+use crate::reads::{
+    home_of, low_on, prefer_arc, preferred_places, stay_arc, through_arc, wait_arc, wide_arc,
+};
 use firm_graph::Graph;
 use firm_net::ArcId;
 use firm_paths::Prices;
@@ -30,6 +36,45 @@ fn hold_at(graph: &mut Graph, arc: ArcId, low: u32)
     }
 }
 
+/// Holds the next task to a machine to which it comes by the hub.
+fn hold_by_hub(graph: &mut Graph, prices: &Prices, chosen: &[Choice], machine: u32)
+    requires keeps { Keeps (view_of graph.old) (price_of prices.now) chosen.now }
+    requires next { length chosen.now < length (view_of graph.old).case.tasks }
+    requires chosen { IsChosen (view_of graph.old) chosen.now (On machine) }
+    requires other { runs_at (demand (view_of graph.old).case (length chosen.now)).home machine ≡ false }
+    requires far { prefers (demand (view_of graph.old).case (length chosen.now)) machine ≡ false }
+    ensures same { IsSameGraph graph.old graph.new }
+    ensures keeps { Keeps (view_of graph.new) (price_of prices.now) (chosen.now ++ On machine ∷ []) }
+    ensures best { best (view_of graph.new) (chosen.now ++ On machine ∷ []) ≡ best (view_of graph.old) chosen.now }
+{
+    let arc = through_arc(graph, machine);
+    let low = low_on(graph.net(), arc);
+    hold_at(graph, wide_arc(graph, chosen.len()), 1);
+    hold_at(graph, arc, low + 1);
+}
+
+/// Holds the next task to a machine.
+fn hold_machine(graph: &mut Graph, prices: &Prices, chosen: &[Choice], machine: u32)
+    requires keeps { Keeps (view_of graph.old) (price_of prices.now) chosen.now }
+    requires next { length chosen.now < length (view_of graph.old).case.tasks }
+    requires chosen { IsChosen (view_of graph.old) chosen.now (On machine) }
+    ensures same { IsSameGraph graph.old graph.new }
+    ensures keeps { Keeps (view_of graph.new) (price_of prices.now) (chosen.now ++ On machine ∷ []) }
+    ensures best { best (view_of graph.new) (chosen.now ++ On machine ∷ []) ≡ best (view_of graph.old) chosen.now }
+{
+    let task = chosen.len();
+    if is_home(home_of(graph, task), machine) {
+        hold_at(graph, stay_arc(graph, task), 1);
+        return;
+    }
+    let places = preferred_places(graph, task);
+    if let Some(number) = preference_for(&places, machine) {
+        hold_at(graph, prefer_arc(graph, task, number), 1);
+        return;
+    }
+    hold_by_hub(graph, prices, chosen, machine);
+}
+
 /// Holds the next task to its choice.
 pub(crate) fn hold_choice(graph: &mut Graph, prices: &Prices, chosen: &[Choice], choice: Choice)
     requires keeps { Keeps (view_of graph.old) (price_of prices.now) chosen.now }
@@ -39,18 +84,8 @@ pub(crate) fn hold_choice(graph: &mut Graph, prices: &Prices, chosen: &[Choice],
     ensures keeps { Keeps (view_of graph.new) (price_of prices.now) (chosen.now ++ choice ∷ []) }
     ensures best { best (view_of graph.new) (chosen.now ++ choice ∷ []) ≡ best (view_of graph.old) chosen.now }
 {
-    let task = chosen.len();
     match choice {
-        Choice::Wait => hold_at(graph, wait_arc(graph, task), 1),
-        Choice::On(machine) => {
-            if is_home(home_of(graph, task), machine) {
-                hold_at(graph, stay_arc(graph, task), 1);
-            } else {
-                let arc = through_arc(graph, machine);
-                let low = low_on(graph.net(), arc);
-                hold_at(graph, wide_arc(graph, task), 1);
-                hold_at(graph, arc, low + 1);
-            }
-        }
+        Choice::Wait => hold_at(graph, wait_arc(graph, chosen.len()), 1),
+        Choice::On(machine) => hold_machine(graph, prices, chosen, machine),
     }
 }

@@ -6,6 +6,7 @@ mod best;
 mod choice;
 mod cuts;
 mod holds;
+mod preferences;
 mod reads;
 #[cfg(test)]
 mod tests;

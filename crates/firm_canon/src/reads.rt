@@ -1,15 +1,23 @@
 //! What is read of a graph, by the places of its case.
-ghost use Rattle.std.specs.Prelude.{◌≡◌, ◌<◌, length};
+ghost use Rattle.std.specs.Prelude.{◌≡◌, ◌<◌, ◌≤◌, true, length, map, All};
 ghost use Rattle.firm_net.specs.Net.{IsArc, row_at, arc_count};
 ghost use Rattle.firm_rules.specs.ArenaUse.{arena_arcs};
+ghost use Rattle.firm_rules.specs.Book.{machine_names};
+ghost use Rattle.firm_rules.specs.Names.{is_among};
+ghost use Rattle.firm_rules.specs.Round.{place_of};
 ghost use Rattle.firm_graph.specs.Network.{demand};
 ghost use Rattle.firm_graph.specs.View.{flow_of_row, low_of_row};
 ghost use Rattle.firm_graph.specs.Ids.{view_of};
-ghost use Rattle.firm_graph.specs.declared.network.Key.TheVariants.{Through, Wide, Stay, Delay};
+ghost use Rattle.firm_graph.specs.declared.network.Key.TheVariants.{Through, Wide, Stay, Delay, Prefer};
 
+use arrayvec::ArrayVec;
 use firm_graph::{Graph, networks_are_counted};
 use firm_net::{ArcId, Net};
 use firm_paths::arcs_are_rows;
+use firm_rules::{Name, Rows};
+
+/// A task has no more preferences than that.
+const MOST_PREFERENCES: usize = 4;
 
 /// The net has as many arcs as the rows take of the arena.
 pub(crate) fn arcs_are_counted(graph: &Graph)
@@ -55,6 +63,36 @@ pub(crate) fn home_of(graph: &Graph, task: usize) -> Option<u32>
     Some(place as u32)
 }
 
+/// The places of the machines of these names, which are there.
+fn places_of(rows: &Rows, names: &[Name]) -> ArrayVec<u32, MOST_PREFERENCES>
+    requires few { length names.now ≤ 4 }
+    requires there { All (λ name. is_among (machine_names rows.now) name ≡ true) names.now }
+    ensures { result.items ≡ map (place_of rows.now) names.now }
+{
+    rows.limits();
+    let mut places = ArrayVec::new();
+    for name in names {
+        let Some(place) = rows.machine_place(*name) else {
+            unreachable!()
+        };
+        places.push(place as u32);
+    }
+    places
+}
+
+/// The places of the machines that the task at a place prefers, in the order of its row.
+pub(crate) fn preferred_places(graph: &Graph, task: usize) -> ArrayVec<u32, MOST_PREFERENCES>
+    requires { task < length (view_of graph.now).case.tasks }
+    ensures { result.items ≡ (demand (view_of graph.now).case task).preferred }
+{
+    let rows = graph.rows();
+    rows.limits();
+    let Some(row) = rows.task_at(task) else {
+        unreachable!()
+    };
+    places_of(rows, row.preferred.as_slice())
+}
+
 /// The arc from the task at a place to the hub.
 pub(crate) fn wide_arc(graph: &Graph, task: usize) -> ArcId
     requires { task < length (view_of graph.now).case.tasks }
@@ -77,6 +115,15 @@ pub(crate) fn wait_arc(graph: &Graph, task: usize) -> ArcId
     ensures { result ≡ (view_of graph.now).arc (Delay task) }
 {
     graph.task_arcs(task).wait
+}
+
+/// The arc from the task at a place to the machine of its preference of this number, counted from 0.
+pub(crate) fn prefer_arc(graph: &Graph, task: usize, number: usize) -> ArcId
+    requires task { task < length (view_of graph.now).case.tasks }
+    requires number { number < length (demand (view_of graph.now).case task).preferred }
+    ensures { result ≡ (view_of graph.now).arc (Prefer task number) }
+{
+    graph.task_arcs(task).preferred.at(number)
 }
 
 /// The arc from the hub to the machine at a place.

@@ -3,20 +3,22 @@ use Rattle.std.specs.Prelude.{◌≡◌, ◌≢◌, ℕ, ◌+◌, ◌<◌, ◌�
 use Rattle.std.specs.Prelude.{Some, cond, eqb}
 use Rattle.firm_rules.specs.declared.rounds.Choice.{Choice}
 use Rattle.firm_rules.specs.declared.rounds.Choice.TheVariants.{On}
-use Rattle.firm_rules.specs.Placement.{Case, rank}
+use Rattle.firm_rules.specs.Placement.{Case, rank, runs_at, prefers}
 use Rattle.firm_paths.specs.Network.{AreValid}
 use Rattle.firm_flow.specs.Flow.{IsWithinBounds, cost_of, carried}
 use Rattle.firm_flow.specs.Balance.{Balanced}
 use Rattle.firm_graph.specs.declared.network.Node.{Node}
 use Rattle.firm_graph.specs.declared.network.Node.TheVariants.{Sink}
 use Rattle.firm_graph.specs.declared.network.Key.{Key}
-use Rattle.firm_graph.specs.declared.network.Key.TheVariants.{Through, Slot, Exit, Wide, Stay, Delay}
+use Rattle.firm_graph.specs.declared.network.Key.TheVariants.{Through, Slot, Exit, Wide, Stay, Delay, Prefer}
 use Rattle.firm_graph.specs.Network.{network, task_nodes, demand}
 use Rattle.firm_rules.specs.Placement.{IsLegal, IsPlace, placement_cost as cost, comes_before as before}
 use Rattle.firm_graph.specs.View.{View, Shows, lows, flows, spot_of}
 use Rattle.firm_graph.specs.Network.{IsKeyOf}
 use Rattle.firm_canon.specs.inner.Laws.{FlowLaws}
-use Rattle.firm_canon.specs.inner.Placed.{pick, wide, stay, waits, spot, wide_at, stay_at, guests, placed}
+use Rattle.firm_canon.specs.inner.Placed.{pick, wide, stay, waits, prefer, spot, wide_at, stay_at, prefer_at}
+use Rattle.firm_canon.specs.inner.Placed.{number, guests, placed}
+use Rattle.firm_canon.specs.inner.Turns.{IsStopped}
 
 -- what the chosen prefix holds of the arcs
 abbrev pub low_of : Case → List Choice → Key → ℕ
@@ -26,6 +28,7 @@ low_of c p (Exit k) = 0
 low_of c p (Wide i) = wide_at c p i
 low_of c p (Stay i) = stay_at c p i
 low_of c p (Delay i) = waits (pick p i)
+low_of c p (Prefer i k) = prefer_at c p i k
 
 -- what the loop keeps, with the prefix `p` chosen, `x` on the arcs and `price` at the nodes
 pub record Stands (c : Case) (p : List Choice) (x : Key → ℕ) (price : Node → ℕ) : Type 0 where
@@ -73,11 +76,13 @@ pub record Shut (v : View) (p : List Choice) (j : ℕ) : Type 0 where
 
 -- what the next choice asks of the flow
 pub record HasRoom (c : Case) (p : List Choice) (o : Choice) (x : Key → ℕ) : Type 0 where
-  pub at_wide : wide (demand c (length p)).home (Some o) ≤ x (Wide (length p))
+  pub at_wide : wide (demand c (length p)) (Some o) ≤ x (Wide (length p))
   pub at_stay : stay (demand c (length p)).home (Some o) ≤ x (Stay (length p))
   pub at_delay : waits (Some o) ≤ x (Delay (length p))
+  pub at_prefer : (k : ℕ) → k < length (demand c (length p)).preferred
+      → prefer (demand c (length p)) k (Some o) ≤ x (Prefer (length p) k)
   pub at_through : (j : ℕ) → j < length c.slots
-      → guests c p j + cond (eqb (spot (Some o)) j) (wide (demand c (length p)).home (Some o)) 0 ≤ x (Through j)
+      → guests c p j + cond (eqb (spot (Some o)) j) (wide (demand c (length p)) (Some o)) 0 ≤ x (Through j)
 
 -- the flow has room for the choice, and no least placement goes on by a choice that ranks before it
 pub record IsChosen (v : View) (p : List Choice) (o : Choice) : Type 0 where
@@ -87,6 +92,15 @@ pub record IsChosen (v : View) (p : List Choice) (o : Choice) : Type 0 where
       → rank (length v.case.slots) (demand v.case (length p)).home b
       < rank (length v.case.slots) (demand v.case (length p)).home o
       → Barred v.case p (best v p) b
+
+-- which of its preferences brings the next task to the machine
+abbrev pub next_number : Case → List Choice → ℕ → ℕ
+next_number c p j = number (demand c (length p)) (Some (On j))
+
+-- the arc of that preference is empty, and no attempt can fill it
+pub record IsRefused (v : View) (price : ℕ → ℕ) (p : List Choice) (j : ℕ) : Type 0 where
+  pub none : flows v (Prefer (length p) (next_number v.case p j)) ≡ 0
+  pub blocked : IsStopped v price (Prefer (length p) (next_number v.case p j))
 
 -- a flow that does what the prefix holds, from the tasks to the sink, at no more than this cost
 pub record IsAsCheap (c : Case) (p : List Choice) (most : ℕ) (x : Key → ℕ) : Type 0 where
@@ -101,3 +115,10 @@ pub record IsSpent (c : Case) (p : List Choice) (most j : ℕ) : Type 0 where
 -- none that sends the next task to the hub does
 pub record IsSpentBeside (c : Case) (p : List Choice) (most j : ℕ) : Type 0 where
   pub no_more : (x : Key → ℕ) → IsAsCheap c p most x → x (Wide (length p)) ≡ 1 → x (Through j) ≤ guests c p j
+
+-- the next task can't come to machine `j`, unless it is its own: not as it prefers it, nor by the hub, if that was tried
+pub record IsPassed (v : View) (price : ℕ → ℕ) (p : List Choice) (tried : Bool) (j : ℕ) : Type 0 where
+  pub near : runs_at (demand v.case (length p)).home j ≡ false → prefers (demand v.case (length p)) j ≡ true
+      → IsRefused v price p j
+  pub far : runs_at (demand v.case (length p)).home j ≡ false → prefers (demand v.case (length p)) j ≡ false
+      → tried ≡ true → IsSpentBeside v.case p (best v p) j

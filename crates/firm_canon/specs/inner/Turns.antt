@@ -1,5 +1,5 @@
 -- A unit sent round a cycle of residual arcs of reduced cost 0. No public clause cites this module.
-use Rattle.std.specs.Prelude.{◌≡◌, ◌≢◌, ℕ, ◌+◌, ◌<◌, ◌≤◌, Bool, List, [], All, Contains, Some, map, ◌⊎◌}
+use Rattle.std.specs.Prelude.{◌≡◌, ◌≢◌, ℕ, ◌+◌, ◌<◌, ◌≤◌, Bool, List, [], ◌∷◌, All, Contains, Some, map, ◌⊎◌}
 use Rattle.firm_net.specs.Row.{Row}
 use Rattle.firm_net.specs.Net.{Net, row_at}
 use Rattle.firm_net.specs.declared.row.ArcId.{ArcId}
@@ -9,7 +9,8 @@ use Rattle.firm_paths.specs.Paths.{IsTightCut}
 use Rattle.firm_paths.specs.declared.search.Step.{Step}
 use Rattle.firm_flow.specs.Flow.{IsWithinBounds, cost_of, carried}
 use Rattle.firm_flow.specs.Balance.{Balanced, OnTheWay}
-use Rattle.firm_graph.specs.View.{low_of_row, flow_of_row}
+use Rattle.firm_graph.specs.declared.network.Key.{Key}
+use Rattle.firm_graph.specs.View.{View, low_of_row, flow_of_row}
 
 -- a flow within its bounds that is conserved, under valid prices
 pub record IsWhole (net : Net) (price : ℕ → ℕ) (sources : List ℕ) (sink : ℕ) : Type 0 where
@@ -65,3 +66,7 @@ IsBlocked net price arc barred =
     (row : Row) → row_at net arc ≡ Some row
     → (row.cap ≤ row.flow) ⊎ ((Tight price (arc_of arc row) → ⊥)
     ⊎ ((inside : ℕ → Bool) × IsTightCut net price barred row.head.id.place row.tail.id.place inside))
+
+-- the same of the arc of a key, which alone is barred from the way back
+abbrev pub IsStopped : View → (ℕ → ℕ) → Key → Type 0
+IsStopped v price key = IsBlocked v.net price (v.arc key) (v.arc key ∷ [])

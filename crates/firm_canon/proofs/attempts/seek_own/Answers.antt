@@ -32,7 +32,7 @@ is_tight_arc-requires-clause-there c =
 pub returns-then-not-is_tight_arc-clause-most : goal.returns-then-not-is_tight_arc-clause-most
 returns-then-not-is_tight_arc-clause-most c e =
     own_loose (view_of c.args.graph.now) (price_of c.args.prices.now) c.args.chosen.now c.requires.keeps
-    c.requires.next c.args.own c.own_way-cut.result.0 c.own_way-cut.result.1 c.requires.stay c.own_way-cut.ensures
+    c.requires.next c.args.own c.own_way-cut.result.0 c.own_way-cut.result.1 c.requires.aside c.requires.stay c.own_way-cut.ensures
     (c.if-not-is_tight_arc.ensures.loose refl)
 
 pub seek-requires-clause-there : goal.seek-requires-clause-there
@@ -50,7 +50,8 @@ pub returns-clause-most : goal.returns-clause-most
 returns-clause-most c e =
     own_lost (view_of c.args.graph.now) (price_of c.args.prices.now) c.args.chosen.now c.requires.keeps
     c.requires.next c.args.own c.own_way-cut.result.0 c.stay_arc-arc.result c.own_way-cut.result.1
-    c.stay_arc-arc.ensures c.requires.home c.requires.stay c.own_way-cut.ensures c.args.cuts.now c.requires.cuts
+    c.stay_arc-arc.ensures c.requires.home c.requires.aside c.requires.stay c.own_way-cut.ensures c.args.cuts.now
+    c.requires.cuts
     (c.seek.ensures.lost e)
 
 pub returns-clause-cuts : goal.returns-clause-cuts
@@ -65,7 +66,7 @@ returns-clause-cuts c =
     c.seek.ensures.same.case (returns-clause-tried c).same_best c.requires.cuts c.seek.ensures.length
     c.seek.ensures.known
     (λ found. own_sealed old price p c.requires.keeps c.requires.next c.args.own c.own_way-cut.result.0 stay cut
-    c.requires.home c.requires.stay c.stay_arc-arc.ensures c.own_way-cut.ensures
+    c.requires.home c.requires.aside c.requires.stay c.stay_arc-arc.ensures c.own_way-cut.ensures
     (c.if-not-is_tight_arc.ensures.tight refl) found)
 
 pub seek-requires-clause-among : goal.seek-requires-clause-among

@@ -10,7 +10,8 @@ use Rattle.firm_rules.specs.Placement.{Case}
 use Rattle.firm_graph.specs.View.{View, IsSameCase}
 use Rattle.firm_canon.specs.inner.Cuts.{cut_count}
 use Rattle.firm_canon.proofs.Counts.{none_made, more_since, sought, sought_within, sought_since, sought_of_all}
-use Rattle.firm_canon.proofs.Counts.{sought_in_all, few_cuts}
+use Rattle.firm_canon.proofs.Counts.{sought_in_all, few_cuts, preferred_before, preferred_next, preferences_counted}
+use Rattle.firm_graph.specs.Network.{demand}
 use Rattle.std.proofs.lemmas.Bool.{both_ways}
 use Rattle.std.proofs.lemmas.List.{length-map}
 use Rattle.firm_canon.proofs.Graphs.{same_self, same_on, same_rows, same_machines}
@@ -72,10 +73,16 @@ loop-task-preserved c =
       same = same_on old now c.choose_next.new.graph kept.same next.same;
       searched = sought_since old now (same_rows old now kept.same)
           c.start.new.scratch c.loop-task.scratch c.choose_next.new.scratch
-          (c.loop-task.task * most) (length now.rows.machines + 3) _ (2 * c.loop-task.task) 2 _ _ _ _
+          (c.loop-task.task * most) (length now.rows.machines + 3) _
+          (2 * c.loop-task.task + preferred_before (view_of old).case c.loop-task.task) _ _ _ _ _
           kept.searched next.searched
           (omega (arith, same_machines old now kept.same, mul-add most c.loop-task.task 1))
-          (omega arith);
+          (omega (
+            arith,
+            preferred_next (view_of old).case c.loop-task.task,
+            ap (λ (k : Case). length (demand k (length c.loop-task.chosen.items)).preferred) kept.same.case.case,
+            ap (λ (n : ℕ). length (demand (view_of old).case n).preferred) kept.so_far,
+          ));
       cuts = next.cuts;
       keeps = next.keeps;
       so_far = omega (arith, next.more, kept.so_far);
@@ -115,9 +122,16 @@ returns-clause-searched_few c =
     let same = c.start.ensures.same in
     let tasks : ℕ = length old.rows.tasks in
     let machines : ℕ = length old.rows.machines in
+    let done : c.loop-task.task ≡ tasks = omega (
+      arith,
+      c.loop-task-test.false,
+      c.loop-task.auto.task-end,
+      c.task_count-tasks.ensures.rows,
+    ) in
     let slots : length (view_of end).case.slots ≡ length end.rows.machines = length-map end.rows.machines _ in
     more_since old mid (same_rows old mid same)
-    c.args.scratch.now c.start.new.scratch c.loop-task.scratch tasks (2 * c.loop-task.task + (2 * machines + 1)) _
+    c.args.scratch.now c.start.new.scratch c.loop-task.scratch tasks
+    (2 * c.loop-task.task + preferred_before (view_of mid).case c.loop-task.task + (2 * machines + 1)) _
     c.start.ensures.searched
     (sought_in_all c.start.new.scratch c.loop-task.scratch _ _ _ _ (2 * machines + 1) c.loop-task.invariant.searched
     (omega (
@@ -128,7 +142,13 @@ returns-clause-searched_few c =
       same_machines mid end c.loop-task.invariant.same,
       same_machines old mid same,
     )))
-    (omega (arith, c.loop-task-test.false, c.loop-task.auto.task-end, c.task_count-tasks.ensures.rows))
+    (omega (
+      arith,
+      done,
+      preferences_counted old.rows,
+      ap (λ (n : ℕ). preferred_before (view_of mid).case n) done,
+      ap (λ (k : Case). preferred_before k tasks) same.case.case,
+    ))
 
 pub returns-clause-same : goal.returns-clause-same
 returns-clause-same c =

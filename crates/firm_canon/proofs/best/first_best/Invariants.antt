@@ -7,6 +7,7 @@ use Rattle.firm_graph.specs.Graph.{Graph}
 use Rattle.firm_canon.specs.inner.Graphs.{IsSameGraph}
 use Rattle.firm_canon.specs.inner.Choosing.{Keeps, IsSpent, best}
 use Rattle.firm_graph.specs.Ids.{view_of}
+use Rattle.firm_canon.proofs.Counts.{preferred_before}
 use Rattle.firm_canon.proofs.best.first_best.Given as goal
 
 abbrev pub invariant-loop-task : goal.invariant-loop-task
@@ -15,8 +16,8 @@ invariant-loop-task l =
     let now : Graph = l.graph in
     record {
       same : IsSameGraph old now;
-      searched : HasSought l.initial.scratch l.scratch (l.task * (length old.rows.machines + 3)) (2 * l.task)
-          (arena_arcs old.rows) 0 (cut_count l.cuts);
+      searched : HasSought l.initial.scratch l.scratch (l.task * (length old.rows.machines + 3))
+          (2 * l.task + preferred_before (view_of old).case l.task) (arena_arcs old.rows) 0 (cut_count l.cuts);
       cuts : AreCuts (view_of now) (price_of l.prices) l.chosen.items l.cuts;
       keeps : Keeps (view_of now) (price_of l.prices) l.chosen.items;
       so_far : length l.chosen.items ≡ l.task;

@@ -1,13 +1,15 @@
 use Rattle.std.proofs.Common.{◌≡◌, ◌+◌, ℕ, ◌<◌, ◌≤◌, List, Option, length}
-use Rattle.std.proofs.Common.{arith, refl, sym, ap, subst, ◌∙◌, false, ⊎_elim}
-use Rattle.firm_rules.specs.Placement.{Case, runs_at}
+use Rattle.std.proofs.Common.{arith, refl, sym, ap, subst, ◌∙◌, true, false, [], ⊎_elim}
+use Rattle.std.proofs.lemmas.Bool.{cases_Bool, both_ways}
+use Rattle.firm_rules.specs.Placement.{Case, runs_at, prefers}
 use Rattle.firm_rules.specs.declared.rounds.Choice.{Choice}
 use Rattle.firm_canon.proofs.Spent.{spent_on, spent_at, spent_held, beside_at}
 use Rattle.firm_paths.specs.PriceTable.{price_of}
 use Rattle.firm_graph.specs.Network.{demand}
-use Rattle.firm_graph.specs.View.{View}
-use Rattle.firm_canon.proofs.Choices.{never_blocked, never_alone, chose_own, chose_wait, next_at, home_at, comes_by_hub}
-use Rattle.firm_canon.proofs.Choices.{found, none_here}
+use Rattle.firm_graph.specs.View.{View, flows}
+use Rattle.firm_canon.proofs.Choices.{chose_own, chose_wait, next_at, home_at, comes_by_hub, found, none_here}
+use Rattle.firm_canon.proofs.Choices.{plain_far, plain_aside, plain_at}
+use Rattle.firm_canon.proofs.Opens.{never_left}
 use Rattle.firm_canon.specs.inner.Choosing.{IsChosen, best}
 use Rattle.firm_rules.specs.declared.rounds.Choice.TheVariants.{On, Wait}
 use Rattle.firm_graph.specs.Graph.{Graph}
@@ -18,13 +20,24 @@ use Rattle.firm_canon.proofs.Counts.{sought, sought_within, sought_since}
 use Rattle.firm_canon.proofs.Graphs.{same_on, same_rows, same_machines}
 use Rattle.firm_canon.proofs.choice.choose_other.Goals as goal
 
+pub try_hub-requires-clause-aside : goal.try_hub-requires-clause-aside
+try_hub-requires-clause-aside c =
+    plain_aside (view_of c.args.graph.now).case (flows (view_of c.args.graph.now)) (length c.args.chosen.now)
+    c.requires.plain
+
 pub returns-then-not-try_hub-clause-chosen : goal.returns-then-not-try_hub-clause-chosen
 returns-then-not-try_hub-clause-chosen c =
+    let old : View = view_of c.args.graph.now in
+    let n : ℕ = length c.args.chosen.now in
     let lost = c.if-not-try_hub.ensures in
     subst (λ (v : View). IsChosen v c.args.chosen.now Wait) (sym (ap view_of (lost.unchanged refl)))
-    (chose_wait (view_of c.args.graph.now) (price_of c.args.prices.now)
-    c.args.chosen.now c.requires.keeps c.requires.next (lost.none refl) c.requires.stay c.requires.own
-    (lost.shut refl))
+    (chose_wait old (price_of c.args.prices.now)
+    c.args.chosen.now c.requires.keeps c.requires.next (lost.none refl) c.requires.stay
+    (plain_aside old.case (flows old) n c.requires.plain)
+    (λ j l. ⊎_elim (λ (here : runs_at (demand old.case n).home j ≡ true). c.requires.own j here)
+    (λ (other : runs_at (demand old.case n).home j ≡ false).
+    lost.shut refl j other (plain_far (demand old.case n) c.requires.plain j))
+    (cases_Bool (runs_at (demand old.case n).home j))))
 
 pub find_machine-requires-clause-wide : goal.find_machine-requires-clause-wide
 find_machine-requires-clause-wide c =
@@ -40,7 +53,7 @@ returns-in-Some-clause-chosen c =
     found (view_of c.args.graph.now) (view_of c.try_hub.new.graph)
     (view_of c.find_machine.new.graph) (price_of c.args.prices.now) c.args.chosen.now
     c.args.home c.in-Some.machine hub.same.case find.same.case hub.best find.best find.keeps c.requires.next
-    c.requires.home
+    c.requires.home c.requires.plain
     find.wide c.requires.own (find.some.0, find.some.1, find.some.2, find.shut)
 
 pub unreachable-requires : goal.unreachable-requires
@@ -52,9 +65,13 @@ unreachable-requires c =
     let find = c.in_default.ensures in
     let next : n < length mid.case.tasks = next_at old mid n hub.same.case c.requires.next in
     let home : c.args.home ≡ (demand mid.case n).home = home_at old mid n c.args.home hub.same.case c.requires.home in
-    never_alone mid (price_of c.args.prices.now) c.args.chosen.now hub.keeps next (sym home ∙ c.in_default-home.is)
+    let plain : (demand mid.case n).preferred ≡ [] = plain_at old mid n hub.same.case c.requires.plain in
+    never_left mid (price_of c.args.prices.now) c.args.chosen.now hub.keeps next
     (comes_by_hub mid (price_of c.args.prices.now) c.args.chosen.now hub.keeps next (hub.yes refl))
-    (none_here mid mid c.args.chosen.now c.args.home refl home find.none)
+    (λ j l other far. none_here mid mid c.args.chosen.now c.args.home refl home find.none j l other)
+    (λ j l other close.
+    absurd (both_ways (prefers (demand mid.case n) j) (plain_far (demand mid.case n) plain j) close))
+    (λ h e. absurd (c.in_default-home.not-Some h (home ∙ e)))
 
 pub unreachable-requires-then-not-more_stay : goal.unreachable-requires-then-not-more_stay
 unreachable-requires-then-not-more_stay c =
@@ -67,10 +84,14 @@ unreachable-requires-then-not-more_stay c =
     let next : n < length new.case.tasks = next_at mid new n find.same.case
     (next_at old mid n hub.same.case c.requires.next) in
     let home : c.args.home ≡ (demand mid.case n).home = home_at old mid n c.args.home hub.same.case c.requires.home in
-    never_blocked new (price_of c.args.prices.now) c.args.chosen.now c.in-Some-home.own find.keeps next
-    (sym (home_at mid new n c.args.home find.same.case home) ∙ c.in-Some-home.is) find.wide
-    (none_here mid new c.args.chosen.now c.args.home (ap view_of find.unchanged) home find.none)
-    (c.if-not-more_stay.ensures.blocked refl)
+    let plain : (demand new.case n).preferred ≡ [] =
+    plain_at mid new n find.same.case (plain_at old mid n hub.same.case c.requires.plain) in
+    never_left new (price_of c.args.prices.now) c.args.chosen.now find.keeps next
+    find.wide
+    (λ j l other far. none_here mid new c.args.chosen.now c.args.home (ap view_of find.unchanged) home find.none j l other)
+    (λ j l other close.
+    absurd (both_ways (prefers (demand new.case n) j) (plain_far (demand new.case n) plain j) close))
+    (λ h e. c.if-not-more_stay.ensures.blocked refl)
 
 pub returns-clause-chosen : goal.returns-clause-chosen
 returns-clause-chosen c =
@@ -186,6 +207,8 @@ returns-in-Some-clause-spent c j l =
     (λ (passed : (j < m) × (runs_at c.args.home j ≡ false)).
     spent_held new.case p m (best new p) j next
     (ap (λ (h : Option ℕ). runs_at h m) (sym home) ∙ find.some.1)
+    (plain_far (demand new.case n)
+    (plain_at mid new n find.same.case (plain_at old mid n hub.same.case c.requires.plain)) m)
     (beside_at mid new p j find.same.case find.best (find.spent j passed.0 passed.1)))
     (c.reach.ensures.passed j l)
 

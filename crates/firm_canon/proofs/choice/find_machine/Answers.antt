@@ -1,4 +1,4 @@
-use Rattle.std.proofs.Common.{◌≡◌, ◌+◌, ℕ, List, Option, false, arith, refl, sym, ap, subst, ◌∙◌, ⊎_elim}
+use Rattle.std.proofs.Common.{◌≡◌, ◌+◌, ℕ, length, List, Option, false, arith, refl, sym, ap, subst, ◌∙◌, ⊎_elim}
 use Rattle.std.proofs.lemmas.Bool.{cases_eq, both_ways}
 use Rattle.firm_paths.specs.PriceTable.{price_of}
 use Rattle.firm_rules.specs.declared.rounds.Choice.{Choice}
@@ -6,6 +6,8 @@ use Rattle.firm_rules.specs.Placement.{runs_at}
 use Rattle.firm_graph.specs.View.{View}
 use Rattle.firm_canon.specs.inner.Choosing.{IsSpentBeside, Keeps, best}
 use Rattle.firm_canon.proofs.Spent.{spent_beside, spent_shut, spent_few}
+use Rattle.firm_graph.specs.Network.{demand}
+use Rattle.firm_canon.proofs.Choices.{plain_far}
 use Rattle.firm_graph.specs.Graph.{Graph}
 use Rattle.firm_graph.specs.Ids.{view_of}
 use Rattle.firm_canon.specs.inner.Cuts.{AreCuts}
@@ -74,7 +76,9 @@ pub returns-then-try_machine-clause-shut : goal.returns-then-try_machine-clause-
 returns-then-try_machine-clause-shut c k l other =
     let old : View = view_of c.args.graph.now in
     spent_shut old (price_of c.args.prices.now) c.args.chosen.now k c.requires.keeps c.requires.next
-    (ap (λ (h : Option ℕ). runs_at h k) (sym c.requires.home) ∙ other) (c.loop-machine.invariant.spent k l other)
+    (ap (λ (h : Option ℕ). runs_at h k) (sym c.requires.home) ∙ other)
+    (plain_far (demand old.case (length c.args.chosen.now)) c.requires.plain k)
+    (c.loop-machine.invariant.spent k l other)
 
 pub returns-then-try_machine-clause-spent : goal.returns-then-try_machine-clause-spent
 returns-then-try_machine-clause-spent c k l other = c.loop-machine.invariant.spent k l other
