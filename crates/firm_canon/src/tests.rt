@@ -5,8 +5,8 @@ use crate::first_best;
 use firm_graph::Graph;
 use firm_paths::{Prices, Scratch};
 use firm_rules::{
-    Change, Changes, Choice, Limits, Name, Rows, Slots, Weight, changes_of, cost_of, legal,
-    ranks_before,
+    Change, Changes, Choice, Limits, Name, Preferred, Rows, Slots, Weight, changes_of, cost_of,
+    legal, ranks_before,
 };
 use std::alloc::{AllocError, Global};
 use std::process::Abort;
@@ -130,12 +130,33 @@ struct Met {
     evictions: u64,
     full: u64,
     free_of_churn: u64,
+    near: u64,
+    remote: u64,
 }
 
-fn count_change(met: &mut Met, change: &Change) {
+/// Whether a task that was placed on the machine prefers it, or others, or none.
+fn count_placed(met: &mut Met, rows: &Rows, task: Name, machine: Name) {
+    let preferred = rows.task_named(task).map(|row| row.preferred);
+    let Some(preferred) = preferred else {
+        return;
+    };
+    if preferred.contains(machine) {
+        met.near = met.near.saturating_add(1);
+    } else if 0 < preferred.len() {
+        met.remote = met.remote.saturating_add(1);
+    }
+}
+
+fn count_change(met: &mut Met, rows: &Rows, change: &Change) {
     match change {
-        Change::Start(_, _) => met.starts = met.starts.saturating_add(1),
-        Change::Move(_, _, _) => met.moves = met.moves.saturating_add(1),
+        Change::Start(task, machine) => {
+            met.starts = met.starts.saturating_add(1);
+            count_placed(met, rows, *task, *machine);
+        }
+        Change::Move(task, _, machine) => {
+            met.moves = met.moves.saturating_add(1);
+            count_placed(met, rows, *task, *machine);
+        }
         Change::Preempt(_, _) => met.preemptions = met.preemptions.saturating_add(1),
     }
 }
@@ -151,7 +172,7 @@ fn slots_of(rows: &Rows) -> u64 {
 
 fn count_round(met: &mut Met, rows: &Rows, changes: &Changes, least: u64) {
     for change in changes.as_slice() {
-        count_change(met, change);
+        count_change(met, rows, change);
     }
     if 1 < least {
         met.ties = met.ties.saturating_add(1);
@@ -209,12 +230,25 @@ fn add_job(rt: &impl Abort, graph: &mut Graph, name: Name, weight: u64) {
     assert!(rt; graph.add_job(name, weight).is_ok());
 }
 
-fn add_task(rt: &impl Abort, graph: &mut Graph, job: Name, name: Name) {
+fn add_task(rt: &impl Abort, graph: &mut Graph, job: Name, name: Name, preferred: Preferred) {
     if !graph.rows().has_job(job) || graph.rows().has_task(name) {
         return;
     }
+    assert!(rt; graph.rows().has_machines(preferred.as_slice()));
     assert!(rt; graph.asked() < 1_000);
-    assert!(rt; graph.add_task(job, name).is_ok());
+    assert!(rt; graph.add_task(job, name, preferred).is_ok());
+}
+
+/// None to three of the machines that are there, one that is drawn twice but once.
+fn random_preferred(rows: &Rows, names: &[Name; 5], random: &mut Random) -> Preferred {
+    let mut preferred = Preferred::new();
+    for _ in 0..random.below(4) {
+        let machine = names[random.below(3) as usize];
+        if rows.has_machine(machine) && preferred.len() < 4 {
+            preferred.add(machine);
+        }
+    }
+    preferred
 }
 
 fn drain(graph: &mut Graph, name: Name, met: &mut Met) {
@@ -252,9 +286,9 @@ fn names(rt: &impl Abort) -> [Name; 5] {
 fn open_book(rt: &impl Abort, alloc: Global, graph: &mut Graph, names: &[Name; 5], weight: u64) {
     add_machine(rt, alloc, graph, names[0], 3);
     add_job(rt, graph, names[0], weight);
-    add_task(rt, graph, names[0], names[0]);
-    add_task(rt, graph, names[0], names[1]);
-    add_task(rt, graph, names[0], names[2]);
+    for task in names.iter().take(3) {
+        add_task(rt, graph, names[0], *task, Preferred::new());
+    }
 }
 
 /// A change of the rows, among 3 machines, 3 jobs and 5 tasks.
@@ -271,13 +305,16 @@ fn change(
     match random.below(9) {
         0 | 1 => add_machine(rt, alloc, graph, few, 1 + random.below(3)),
         2 => add_job(rt, graph, few, 1 + random.below(9)),
-        3..=6 => add_task(rt, graph, few, many),
+        3..=6 => {
+            let preferred = random_preferred(graph.rows(), names, random);
+            add_task(rt, graph, few, many, preferred);
+        }
         7 => drain(graph, few, met),
         _ => remove_task(graph, many),
     }
 }
 
-/// A book of thirty commands. Spread, churn and weights are small, so that many placements cost as much.
+/// A book of thirty commands. Spread, churn, remote and weights are small, so that many placements cost as much.
 fn run_book(
     rt: &impl Abort,
     alloc: Global,
@@ -299,8 +336,8 @@ fn run_book(
 }
 
 fn random_limits(rt: &impl Abort, random: &mut Random) -> Limits {
-    let (spread, churn) = (random.below(4), random.below(3));
-    let Some(limits) = Limits::check(13, 40, 100, spread, churn) else {
+    let (spread, churn, remote) = (random.below(4), random.below(3), random.below(4));
+    let Some(limits) = Limits::check(13, 60, 100, spread, churn, remote) else {
         panic!(rt; "not limits")
     };
     limits
@@ -311,7 +348,7 @@ fn expect_all_kinds(rt: &impl Abort, met: Met) {
     for count in [met.ties, met.starts, met.full, met.free_of_churn] {
         assert!(rt; 100 < count);
     }
-    for count in [met.moves, met.preemptions, met.evictions] {
+    for count in [met.moves, met.preemptions, met.evictions, met.near, met.remote] {
         assert!(rt; 20 < count);
     }
 }
@@ -327,9 +364,11 @@ fn rounds_of_small_books_beside_all_their_placements(rt: HostRuntime) -> Result<
         evictions: 0,
         full: 0,
         free_of_churn: 0,
+        near: 0,
+        remote: 0,
     };
     let names = names(&rt);
-    for _ in 0..120 {
+    for _ in 0..240 {
         let limits = random_limits(&rt, &mut random);
         run_book(&rt, rt.alloc(), limits, &names, &mut random, &mut met)?;
     }
@@ -347,7 +386,7 @@ fn add_many(rt: &impl Abort, alloc: Global, graph: &mut Graph, machines: u8, tas
     }
     for number in 0..tasks {
         let digits = [b'0' + number / 10, b'0' + number % 10];
-        add_task(rt, graph, job, name(rt, &digits));
+        add_task(rt, graph, job, name(rt, &digits), Preferred::new());
     }
 }
 
@@ -377,8 +416,8 @@ fn expect_counts(
 
 #[test]
 fn searches_and_looks_of_a_round_are_counted(rt: HostRuntime) -> Result<(), AllocError> {
-    let small = Limits::check(9, 24, 100, 1, 2);
+    let small = Limits::check(9, 24, 100, 1, 2, 7);
     expect_counts(&rt, rt.alloc(), small, 2, 2, (11, 286))?;
-    let large = Limits::check(33, 91, 100, 1, 2);
+    let large = Limits::check(33, 91, 100, 1, 2, 7);
     expect_counts(&rt, rt.alloc(), large, 10, 20, (81, 14_742))
 }

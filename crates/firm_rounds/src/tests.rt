@@ -16,7 +16,7 @@ use std::thread::{Scope, Threads};
 fn new_job(alloc: Global, ticket: Ticket) -> Option<(AskSide, Job)>
     ensures { IfSome result (λ sides. sides.1.ticket ≡ ticket) }
 {
-    let limits = Limits::check(2, 0, 1, 0, 0)?;
+    let limits = Limits::check(2, 0, 1, 0, 0, 0)?;
     let tenant = Tenant::admit(alloc, limits).ok()?;
     let (ask, side) = Tray::open(alloc, &tenant).ok()?;
     Some((ask, Job::new(ticket, tenant, side)))

@@ -17,7 +17,7 @@ use Rattle.firm_tenant.specs.Alone.{alone, alone_marked, replies_from}
 use Rattle.firm_rules.specs.Book.{Book}
 
 abbrev limits : ℕ → ℕ → ℕ → TenantLimits
-limits nodes arcs life = record { nodes = nodes; arcs = arcs; life = life; spread = 1; churn = 2 }
+limits nodes arcs life = record { nodes = nodes; arcs = arcs; life = life; spread = 1; churn = 2; remote = 3 }
 
 abbrev reply : ℕ → Outcome → Reply
 reply number outcome = record { number = number; outcome = outcome }
@@ -44,18 +44,18 @@ abbrev c : List ℕ
 c = codes "c"
 
 -- one of each: 5 of 6 nodes and 7 of 11 arcs
-one_of_each : alone (limits 6 11 100) (AddMachine m1 2 ∷ AddJob j 5 ∷ AddTask j a ∷ Show ∷ [])
+one_of_each : alone (limits 6 11 100) (AddMachine m1 2 ∷ AddJob j 5 ∷ AddTask j a [] ∷ Show ∷ [])
     ≡ ok 1 ∷ ok 2 ∷ ok 3 ∷ reply 4 (Shown 1 1 1 0 5 6 7 11) ∷ []
 one_of_each = refl
 
 -- a third task finds no node until a task is done
 no_node_left : alone (limits 6 11 100)
-    (AddMachine m1 2 ∷ AddJob j 5 ∷ AddTask j a ∷ AddTask j b ∷ AddTask j c ∷ Done a ∷ AddTask j c ∷ [])
+    (AddMachine m1 2 ∷ AddJob j 5 ∷ AddTask j a [] ∷ AddTask j b [] ∷ AddTask j c [] ∷ Done a ∷ AddTask j c [] ∷ [])
     ≡ ok 1 ∷ ok 2 ∷ ok 3 ∷ ok 4 ∷ no 5 ArenaNodes ∷ ok 6 ∷ ok 7 ∷ []
 no_node_left = refl
 
 -- a second task finds two arcs of the three that it takes, and leaves nothing behind
-no_arcs_left : alone (limits 9 9 100) (AddMachine m1 2 ∷ AddJob j 1 ∷ AddTask j a ∷ AddTask j b ∷ Show ∷ [])
+no_arcs_left : alone (limits 9 9 100) (AddMachine m1 2 ∷ AddJob j 1 ∷ AddTask j a [] ∷ AddTask j b [] ∷ Show ∷ [])
     ≡ ok 1 ∷ ok 2 ∷ ok 3 ∷ no 4 ArenaArcs ∷ reply 5 (Shown 1 1 1 0 5 9 7 9) ∷ []
 no_arcs_left = refl
 
@@ -74,18 +74,19 @@ nodes_first = refl
 
 -- names are looked up before the arena is, and a task's job before its own name
 names_first : alone (limits 5 7 100)
-    (AddTask j a ∷ AddMachine m1 2 ∷ AddMachine m1 2 ∷ AddJob j 5 ∷ AddJob j 5 ∷ AddTask j a ∷ AddTask j a ∷ AddTask b
-    a ∷ [])
+    (AddTask j a [] ∷ AddMachine m1 2 ∷ AddMachine m1 2 ∷ AddJob j 5 ∷ AddJob j 5 ∷ AddTask j a [] ∷ AddTask j a []
+    ∷ AddTask b a [] ∷ [])
     ≡ no 1 NoSuchJob ∷ ok 2 ∷ no 3 MachineExists ∷ ok 4 ∷ no 5 JobExists ∷ ok 6 ∷ no 7 TaskExists ∷ no 8 NoSuchJob ∷ []
 names_first = refl
 
 -- machines, jobs and tasks have names of their own
-three_name_spaces : alone (limits 6 20 100) (AddMachine a 2 ∷ AddJob a 5 ∷ AddTask a a ∷ []) ≡ ok 1 ∷ ok 2 ∷ ok 3 ∷ []
+three_name_spaces : alone (limits 6 20 100) (AddMachine a 2 ∷ AddJob a 5 ∷ AddTask a a [] ∷ [])
+    ≡ ok 1 ∷ ok 2 ∷ ok 3 ∷ []
 three_name_spaces = refl
 
 -- what is added again, what is not there, and a job that is closed only once its tasks are done
 known_or_not : alone (limits 8 30 100)
-    (AddJob j 5 ∷ AddJob j 5 ∷ AddTask j a ∷ AddTask j a ∷ AddTask b a ∷ CloseJob j ∷ Drain m1 ∷ Find b ∷ Done
+    (AddJob j 5 ∷ AddJob j 5 ∷ AddTask j a [] ∷ AddTask j a [] ∷ AddTask b a [] ∷ CloseJob j ∷ Drain m1 ∷ Find b ∷ Done
     a ∷ CloseJob j
     ∷ CloseJob j ∷ Done a ∷ [])
     ≡ ok 1 ∷ no 2 JobExists ∷ ok 3 ∷ no 4 TaskExists ∷ no 5 NoSuchJob ∷ no 6 JobHasTasks ∷ no 7 NoSuchMachine ∷ no 8
@@ -95,7 +96,7 @@ known_or_not = refl
 
 -- a task waits, also once the only machine is gone
 a_drain_of_a_free_machine : alone (limits 8 30 100)
-    (AddMachine m1 2 ∷ AddJob j 5 ∷ AddTask j a ∷ Find a ∷ Drain m1 ∷ Show ∷ Drain m1 ∷ [])
+    (AddMachine m1 2 ∷ AddJob j 5 ∷ AddTask j a [] ∷ Find a ∷ Drain m1 ∷ Show ∷ Drain m1 ∷ [])
     ≡ ok 1 ∷ ok 2 ∷ ok 3 ∷ reply 4 (Waits 0) ∷ reply 5 (Evicted 0) ∷ reply 6 (Shown 0 1 1 0 4 8 4 30) ∷ no 7
     NoSuchMachine ∷ []
 a_drain_of_a_free_machine = refl
@@ -111,13 +112,14 @@ running = record {
     machines = record { name = m1; slots = 2 } ∷ record { name = m2; slots = 1 } ∷ [];
     jobs = record { name = j; weight = 5 } ∷ [];
     tasks =
-        record { name = a; job = j; machine = Some m1; waited = 0 } ∷ record {
+        record { name = a; job = j; preferred = []; machine = Some m1; waited = 0 } ∷ record {
           name = b;
           job = j;
+          preferred = [];
           machine = Some m2;
           waited = 0;
         }
-        ∷ record { name = c; job = j; machine = None; waited = 3 } ∷ [];
+        ∷ record { name = c; job = j; preferred = []; machine = None; waited = 3 } ∷ [];
   };
   costs = [];
   given = 1;
@@ -139,7 +141,7 @@ a_running_task_is_done = refl
 
 -- these verbs grow nothing, so a lack of memory is never their answer
 marks_change_nothing : alone_marked (limits 8 30 100)
-    ((AddJob j 5, false) ∷ (AddTask j a, false) ∷ (Find a, true) ∷ (Done a, true) ∷ (CloseJob j, true) ∷ (
+    ((AddJob j 5, false) ∷ (AddTask j a [], false) ∷ (Find a, true) ∷ (Done a, true) ∷ (CloseJob j, true) ∷ (
       Drain m1,
       true,
     ) ∷ [])
@@ -161,3 +163,18 @@ marked : alone_marked (limits 4 10 7)
     ≡ no 1 Memory ∷ ok 2 ∷ no 3 MachineExists ∷ reply 4 (Shown 1 0 0 0 3 4 3 10) ∷ no 5 NoName
     ∷ no 6 ArenaArcs ∷ no 7 Memory ∷ no 8 Worn ∷ []
 marked = refl
+
+-- the machines that a task prefers are looked up first
+preferred_first : alone (limits 9 30 100)
+    (AddTask j a (m1 ∷ []) ∷ AddMachine m1 2 ∷ AddTask j a (m1 ∷ m2 ∷ []) ∷ AddTask j a (m1 ∷ []) ∷ AddJob j 5
+    ∷ AddTask j a (m1 ∷ []) ∷ AddTask j a (m2 ∷ []) ∷ AddTask j a (m1 ∷ []) ∷ [])
+    ≡ no 1 NoSuchMachine ∷ ok 2 ∷ no 3 NoSuchMachine ∷ no 4 NoSuchJob ∷ ok 5 ∷ ok 6 ∷ no 7 NoSuchMachine
+    ∷ no 8 TaskExists ∷ []
+preferred_first = refl
+
+-- and each of them takes an arc, which the machine takes along when it is gone
+preferred_arcs : alone (limits 9 6 100)
+    (AddMachine m1 1 ∷ AddJob j 1 ∷ AddTask j a (m1 ∷ []) ∷ AddTask j a [] ∷ Done a ∷ Drain m1 ∷ AddMachine m2 1
+    ∷ AddTask j a (m1 ∷ []) ∷ [])
+    ≡ ok 1 ∷ ok 2 ∷ no 3 ArenaArcs ∷ ok 4 ∷ ok 5 ∷ reply 6 (Evicted 0) ∷ ok 7 ∷ no 8 NoSuchMachine ∷ []
+preferred_arcs = refl

@@ -4,7 +4,7 @@ use Rattle.std.specs.Prelude.{Bool, true, false, not, Option, Some, None, nat_le
 use Rattle.std.proofs.lemmas.Bool.{leb-true, le-leb}
 use Rattle.firm_rules.specs.ArenaUse.{arena_nodes, arena_arcs}
 use Rattle.firm_rules.specs.Book.{Book, TenantRows, machine_names, job_names, task_names, with_machine, with_job}
-use Rattle.firm_rules.specs.Book.{with_task, has_tasks, task_named}
+use Rattle.firm_rules.specs.Book.{with_task, has_tasks, task_named, are_machines}
 use Rattle.firm_rules.specs.Names.{is_among}
 use Rattle.firm_rules.specs.declared.parts.Task.{Task}
 use Rattle.firm_rules.specs.declared.commands.Command.{Command}
@@ -63,9 +63,10 @@ effect-reads book (AddMachine name slots) =
     either (is_among (machine_names book.rows) name) _ _ refl (grown-reads book (with_machine book.rows name slots))
 effect-reads book (AddJob name weight) =
     either (is_among (job_names book.rows) name) _ _ refl (grown-reads book (with_job book.rows name weight))
-effect-reads book (AddTask job name) =
-    either (not (is_among (job_names book.rows) job)) _ _ refl
-    (either (is_among (task_names book.rows) name) _ _ refl (grown-reads book (with_task book.rows job name)))
+effect-reads book (AddTask job name preferred) =
+    either (not (are_machines book.rows preferred)) _ _ refl
+    (either (not (is_among (job_names book.rows) job)) _ _ refl
+    (either (is_among (task_names book.rows) name) _ _ refl (grown-reads book (with_task book.rows job name preferred))))
 effect-reads book (Drain name) = either (not (is_among (machine_names book.rows) name)) _ (λ _. _) refl (unread _ refl)
 effect-reads book (CloseJob name) =
     either (not (is_among (job_names book.rows) name)) _ (λ _. _) refl
@@ -131,10 +132,11 @@ effect-keeps book (AddMachine name slots) mark =
 effect-keeps book (AddJob name weight) mark =
     either-keeps book (is_among (job_names book.rows) name) _ _ (refl, refl)
     (grown-keeps book (with_job book.rows name weight) mark refl)
-effect-keeps book (AddTask job name) mark =
-    either-keeps book (not (is_among (job_names book.rows) job)) _ _ (refl, refl)
+effect-keeps book (AddTask job name preferred) mark =
+    either-keeps book (not (are_machines book.rows preferred)) _ _ (refl, refl)
+    (either-keeps book (not (is_among (job_names book.rows) job)) _ _ (refl, refl)
     (either-keeps book (is_among (task_names book.rows) name) _ _ (refl, refl)
-    (grown-keeps book (with_task book.rows job name) mark refl))
+    (grown-keeps book (with_task book.rows job name preferred) mark refl)))
 effect-keeps book (Drain name) mark =
     either-keeps book (not (is_among (machine_names book.rows) name)) _ _ (refl, refl) (refl, refl)
 effect-keeps book (CloseJob name) mark =

@@ -3,7 +3,7 @@ use Rattle.std.specs.Prelude.{ℕ, ℤ, pos, ◌+◌, Bool, true, false, not, Li
 use Rattle.std.specs.Prelude.{if◌then◌else◌}
 use Rattle.firm_rules.specs.Book.{Book, TenantRows, machine_names, job_names, task_names, with_machine, with_job}
 use Rattle.firm_rules.specs.Book.{with_task, without_machine, without_job, without_task, running_on, running_count}
-use Rattle.firm_rules.specs.Book.{has_tasks, task_named}
+use Rattle.firm_rules.specs.Book.{has_tasks, task_named, are_machines}
 use Rattle.firm_rules.specs.ArenaUse.{arena_nodes, arena_arcs}
 use Rattle.firm_rules.specs.Names.{is_among}
 use Rattle.firm_rules.specs.Placement.{placement_cost}
@@ -73,10 +73,11 @@ effect book (AddMachine name slots) mark =
 effect book (AddJob name weight) mark =
     if is_among (job_names book.rows) name then refused book JobExists
     else grown book (with_job book.rows name weight) mark
-effect book (AddTask job name) mark =
-    if not (is_among (job_names book.rows) job) then refused book NoSuchJob
+effect book (AddTask job name preferred) mark =
+    if not (are_machines book.rows preferred) then refused book NoSuchMachine
+    else (if not (is_among (job_names book.rows) job) then refused book NoSuchJob
     else (if is_among (task_names book.rows) name then refused book TaskExists
-    else grown book (with_task book.rows job name) mark)
+    else grown book (with_task book.rows job name preferred) mark))
 effect book (Drain name) mark =
     if not (is_among (machine_names book.rows) name) then refused book NoSuchMachine
     else (Evicted (running_on book.rows name), record book { rows = without_machine book.rows name })

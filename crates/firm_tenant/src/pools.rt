@@ -12,8 +12,8 @@ use firm_canon::first_best;
 use firm_graph::{Graph, GraphRefusal};
 use firm_paths::{Prices, Scratch};
 use firm_rules::{
-    Choice, Command, Limits, Name, Outcome, RecentCosts, Refusal, Rows, Slots, Weight, changes_of,
-    cost_of, legality_is_judged, the_round_is_the_first, use_of,
+    Choice, Command, Limits, Name, Outcome, Preferred, RecentCosts, Refusal, Rows, Slots, Weight,
+    changes_of, cost_of, legality_is_judged, the_round_is_the_first, use_of,
 };
 use std::alloc::{AllocError, Global};
 use std::marker::Model;
@@ -94,7 +94,7 @@ impl Pool {
         match command {
             Command::AddMachine(name, slots) => self.add_machine(alloc, name, slots),
             Command::AddJob(name, weight) => self.add_job(name, weight),
-            Command::AddTask(job, name) => self.add_task(job, name),
+            Command::AddTask(job, name, preferred) => self.add_task(job, name, preferred),
             Command::Drain(name) => self.drain(name),
             Command::CloseJob(name) => self.close_job(name),
             Command::Done(name) => self.remove_task(name),
@@ -130,19 +130,23 @@ impl Pool {
         grown(self.graph.add_job(name, weight))
     }
 
-    fn add_task(&mut self, job: Name, name: Name) -> Result<Outcome, Refusal>
+    fn add_task(&mut self, job: Name, name: Name, preferred: Preferred) -> Result<Outcome, Refusal>
         requires asked { self.old.asked < 2 ^ 40 }
         ensures effect { (given : ℕ) → (outcome_of result, book_of self.new given)
-            ≡ effect (book_of self.old given) (Command.AddTask job name) (is_memory_outcome (outcome_of result)) }
+            ≡ effect (book_of self.old given) (Command.AddTask job name preferred)
+            (is_memory_outcome (outcome_of result)) }
         ensures asked { self.new.asked ≤ self.old.asked + 1 }
     {
+        if !self.graph.rows().has_machines(preferred.as_slice()) {
+            return Err(Refusal::NoSuchMachine);
+        }
         if !self.graph.rows().has_job(job) {
             return Err(Refusal::NoSuchJob);
         }
         if self.graph.rows().has_task(name) {
             return Err(Refusal::TaskExists);
         }
-        grown(self.graph.add_task(job, name))
+        grown(self.graph.add_task(job, name, preferred))
     }
 
     fn drain(&mut self, name: Name) -> Result<Outcome, Refusal>

@@ -1,6 +1,7 @@
 use crate::Tenant;
 use firm_rules::{
-    Command, Limits, LineFault, Name, Outcome, RecentCosts, Refusal, Reply, Slots, Weight,
+    Command, Limits, LineFault, Name, Outcome, Preferred, RecentCosts, Refusal, Reply, Slots,
+    Weight,
 };
 use std::alloc::Global;
 use std::process::Abort;
@@ -21,11 +22,11 @@ fn job(bytes: &[u8], weight: u64) -> Result<Command, &'static str> {
 }
 
 fn task(job: &[u8], bytes: &[u8]) -> Result<Command, &'static str> {
-    Ok(Command::AddTask(name(job)?, name(bytes)?))
+    Ok(Command::AddTask(name(job)?, name(bytes)?, Preferred::new()))
 }
 
 fn limits_of(nodes: u64, arcs: u64, life: u64) -> Result<Limits, &'static str> {
-    Limits::check(nodes, arcs, life, 0, 0).ok_or("not limits")
+    Limits::check(nodes, arcs, life, 0, 0, 0).ok_or("not limits")
 }
 
 // The counts of machines, jobs, tasks and running tasks; nodes and arcs, each with its limit.

@@ -13,7 +13,7 @@ use std::thread::Threads;
 fn opened(alloc: Global) -> Option<(Tenant, AskSide, AnswerSide)>
     ensures { IfSome result (λ opened. opened.2.book ≡ opened.0) }
 {
-    let limits = Limits::check(2, 0, 1, 0, 0)?;
+    let limits = Limits::check(2, 0, 1, 0, 0, 0)?;
     let tenant = Tenant::admit(alloc, limits).ok()?;
     let (ask, answer) = Tray::open(alloc, &tenant).ok()?;
     Some((tenant, ask, answer))

@@ -37,9 +37,12 @@ const WAYS: [Way; 4] = [
     Way::EightWorkers,
 ];
 
-/// The roster of these records, each on a line.
+/// The roster of these records, each on a line. The heading of six fields stands before them, where they have none.
 fn roster_of(alloc: Global, records: &str) -> Result<Roster, Fail> {
-    let mut text = Vec::from_slice(alloc, HEADING)?;
+    let mut text = Vec::new(alloc);
+    if !records.starts_with("tenant,") {
+        text.extend_from_slice(HEADING)?;
+    }
     text.extend_from_slice(records.as_bytes())?;
     roster(alloc, &text).map_err(|_| Fail::from("a roster"))
 }

@@ -1,7 +1,7 @@
 //! Worked services with rounds: what follows `< ` is the answer, and all other lines are read.
 
 /// The records of rosters, and what their services read and write.
-pub const SERVICES: [(&str, &[u8]); 15] = [
+pub const SERVICES: [(&str, &[u8]); 17] = [
     ("alpha,9,24,100,1,2", STARTS),
     ("a,8,30,100,10,20", WAITS_GROW_DEAR),
     ("a,8,30,100,0,3", PREEMPTS),
@@ -17,9 +17,15 @@ pub const SERVICES: [(&str, &[u8]); 15] = [
     ("t,2,0,2,0,0", ROUND_AND_WORN),
     (ALPHA_AND_BETA, TWO_WITH_ROUNDS),
     (ALPHA_AND_BETA, STARTS),
+    (REMOTE_7, PREFERRED_BY_TWO),
+    (REMOTE_50, WAITS_FOR_A_PREFERRED_ONE),
 ];
 
 const ALPHA_AND_BETA: &str = "alpha,9,24,100,1,2\nbeta,8,30,100,0,3";
+
+const REMOTE_7: &str = "tenant,nodes,arcs,life,spread,churn,remote\na,9,30,100,0,0,7";
+
+const REMOTE_50: &str = "tenant,nodes,arcs,life,spread,churn,remote\na,9,30,100,0,0,50";
 
 const STARTS: &[u8] = b"\
 alpha machine m1 2
@@ -360,3 +366,43 @@ beta round
 < beta 7 ok round cost 5 preempt l m1 start h m1
 alpha round
 < alpha 8 ok round cost 1 start c m1";
+
+const PREFERRED_BY_TWO: &[u8] = b"\
+a machine m1 1
+< a 1 ok
+a machine m2 1
+< a 2 ok
+a job j 20
+< a 3 ok
+a task j x m2
+< a 4 ok
+a task j y m2
+< a 5 ok
+a round
+< a 6 ok round cost 7 start x m1 start y m2
+a done y
+< a 7 ok
+a round
+< a 8 ok round cost 0
+a show
+< a 9 ok machines 2 jobs 1 tasks 1 running 1 nodes 6 of 9 arcs 9 of 30
+a drain m2
+< a 10 ok evicted 0
+a show
+< a 11 ok machines 1 jobs 1 tasks 1 running 1 nodes 5 of 9 arcs 6 of 30";
+
+const WAITS_FOR_A_PREFERRED_ONE: &[u8] = b"\
+a machine m1 1
+< a 1 ok
+a machine m2 1
+< a 2 ok
+a job j 20
+< a 3 ok
+a task j x m2
+< a 4 ok
+a task j y m2
+< a 5 ok
+a round
+< a 6 ok round cost 20 start x m2
+a round
+< a 7 ok round cost 20 preempt x m2 start y m2";

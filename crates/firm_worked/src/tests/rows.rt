@@ -1,7 +1,7 @@
 //! Worked services without rounds: what follows `< ` is the answer, and all other lines are read.
 
 /// The records of rosters, and what their services read and write.
-pub const SERVICES: [(&str, &[u8]); 7] = [
+pub const SERVICES: [(&str, &[u8]); 8] = [
     ("a,2,0,1,0,0", b""),
     ("alpha,6,11,100,1,2", FULL_ARENA),
     ("alpha,6,11,100,1,2", ONE_OF_EACH),
@@ -9,6 +9,10 @@ pub const SERVICES: [(&str, &[u8]); 7] = [
     ("a,8,30,100,0,0", GONE_AND_THERE),
     ("a,8,30,100,0,0", DRAINED),
     ("a,3,64,10,0,0\nb,3,65,10,0,0", OWN_LIMITS),
+    (
+        "tenant,nodes,arcs,life,spread,churn,remote\na,9,6,100,0,0,0",
+        PREFERENCES,
+    ),
 ];
 
 const FULL_ARENA: &[u8] = b"\
@@ -98,3 +102,17 @@ b machine m1 64
 < b 1 ok
 b machine m2 1
 < b 2 no 12 arena-nodes";
+
+const PREFERENCES: &[u8] = b"\
+a machine m1 1
+< a 1 ok
+a job j 1
+< a 2 ok
+a task k x m9
+< a 3 no 6 no-such-machine
+a task j x m1 m1
+< a 4 no 13 arena-arcs
+a task j x
+< a 5 ok
+a task j y m1 m1 m1 m1 m1
+< a 6 no 2 bad-command";
