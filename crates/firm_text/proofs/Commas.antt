@@ -1,11 +1,13 @@
 -- How a row is cut at its first comma.
-use Rattle.std.proofs.Common.{◌≡◌, ◌≢◌, ◌≤◌, ◌-◌, ◌∙◌, ℕ, Bool, List, [], ◌∷◌, length, take, drop, refl, sym, ap, arith}
+use Rattle.std.proofs.Common.{◌≡◌, ◌≢◌, ◌≤◌, ◌-◌, ◌∙◌, ℕ, Bool, List, [], ◌∷◌, length, take, drop, refl, sym, ap}
+use Rattle.std.proofs.Common.{arith}
 use Rattle.std.specs.List.{slice_split, position_or_len}
 use Rattle.std.proofs.lemmas.List.{take_all}
 use Rattle.std.proofs.lemmas.List.Splits.{length-slice_split}
 use Rattle.firm_text.proofs.Cuts.{later_pieces, slice_split-first}
 
-module _ (p : ℕ → Bool) (xs front back : List ℕ) (first : front ≡ take (position_or_len p xs) xs) (behind : back ≡ drop (position_or_len p xs) xs) where
+module _ (p : ℕ → Bool) (xs front back : List ℕ) (first : front ≡ take (position_or_len p xs) xs) (behind : back
+    ≡ drop (position_or_len p xs) xs) where
   both : slice_split p xs ≡ front ∷ later_pieces p back
   both = rw (first, behind) (slice_split-first p xs)
 
@@ -21,7 +23,8 @@ module _ (p : ℕ → Bool) (xs front back : List ℕ) (first : front ≡ take (
   pub cut-more : 1 ≤ length back → slice_split p xs ≡ front ∷ slice_split p (take (length back - 1) (drop 1 back))
   cut-more some = both ∙ ap (λ (more : List (List ℕ)). front ∷ more) (more back some)
     where
-      more : (back : List ℕ) → 1 ≤ length back → later_pieces p back ≡ slice_split p (take (length back - 1) (drop 1 back))
+      more : (back : List ℕ) → 1 ≤ length back → later_pieces p back
+          ≡ slice_split p (take (length back - 1) (drop 1 back))
       more [] some = absurd (omega arith)
       more (mark ∷ rest) some =
           let all : length (mark ∷ rest) - 1 ≡ length rest = omega arith in

@@ -1,5 +1,6 @@
 -- A line of the operator that is at fault by itself.
-use Rattle.std.proofs.Common.{◌≡◌, ◌≤◌, ℕ, Bool, true, false, List, [], ◌∷◌, length, Option, Some, None, Result, Ok, Err, arith, refl}
+use Rattle.std.proofs.Common.{◌≡◌, ◌≤◌, ℕ, Bool, true, false, List, [], ◌∷◌, length, Option, Some, None, Result, Ok}
+use Rattle.std.proofs.Common.{Err, arith, refl}
 use Rattle.std.specs.Prelude.{nat_lt, bytes_eq, codes, if◌then◌else◌}
 use Rattle.std.specs.Option.{ok_or}
 use Rattle.std.specs.List.{slice_split}
@@ -10,7 +11,8 @@ use Rattle.firm_text.specs.Commands.{◌>>=◌, command_of}
 use Rattle.firm_text.specs.Inputs.{command_for, is_comment, line_of, longest_line, words_line}
 use Rattle.firm_text.specs.LineLaws.{RefusesForTheForm}
 use Rattle.firm_text.specs.Lines.{words}
-use Rattle.firm_text.specs.OperatorLines.{admit_line, is_comma, line_or_fault, operator_line_of, operator_verb, operator_word, retire_line, row_refusal}
+use Rattle.firm_text.specs.OperatorLines.{admit_line, is_comma, line_or_fault, operator_line_of, operator_verb}
+use Rattle.firm_text.specs.OperatorLines.{operator_word, retire_line, row_refusal}
 use Rattle.firm_text.specs.OperatorRefusals.{operator_code}
 use Rattle.firm_text.specs.Rosters.{Admitted, tenant_told}
 use Rattle.firm_text.specs.declared.faults.RosterFault.{RosterFault}
@@ -46,7 +48,8 @@ formal_admit [] = omega arith
 formal_admit (row ∷ []) = told (tenant_told (slice_split is_comma row))
   where
     told : (tenant : Result Admitted RosterFault)
-        → IsFormal (Operator (line_or_fault (result_map_both (λ t. t) row_refusal tenant >>= (λ t. Ok (Admit t.0 t.1)))))
+        → IsFormal (Operator (line_or_fault
+        (result_map_both (λ t. t) row_refusal tenant >>= (λ t. Ok (Admit t.0 t.1)))))
     told (Ok tenant) = tt
     told (Err found) = formal_row found
 formal_admit (row ∷ word ∷ rest) = omega arith
@@ -55,7 +58,8 @@ formal_retire : (rest : List (List ℕ)) → IsFormal (Operator (line_or_fault (
 formal_retire [] = omega arith
 formal_retire (tenant ∷ []) = named (name_of tenant)
   where
-    named : (name : Option (List ℕ)) → IsFormal (Operator (line_or_fault (ok_or name BadName >>= (λ n. Ok (Retire n)))))
+    named : (name : Option (List ℕ))
+        → IsFormal (Operator (line_or_fault (ok_or name BadName >>= (λ n. Ok (Retire n)))))
     named None = omega arith
     named (Some name) = tt
 formal_retire (tenant ∷ word ∷ rest) = omega arith
@@ -65,7 +69,8 @@ formal_verb [] = omega arith
 formal_verb (verb ∷ rest) = chosen (bytes_eq verb (codes "admit")) (bytes_eq verb (codes "retire"))
   where
     chosen : (admits retires : Bool)
-        → IsFormal (Operator (line_or_fault (if admits then admit_line rest else if retires then retire_line rest else Err BadCommand)))
+        → IsFormal (Operator (line_or_fault
+        (if admits then admit_line rest else if retires then retire_line rest else Err BadCommand)))
     chosen true retires = formal_admit rest
     chosen false true = formal_retire rest
     chosen false false = omega arith
@@ -83,7 +88,8 @@ formal_words (first ∷ rest) = chosen (bytes_eq first operator_word) (name_of f
 formal_line : (bytes : List ℕ) → IsFormal (line_of bytes)
 formal_line bytes = chosen (is_comment bytes) (nat_lt longest_line (length bytes))
   where
-    chosen : (comment long : Bool) → IsFormal (if comment then Nothing else if long then Long else words_line (words bytes))
+    chosen : (comment long : Bool)
+        → IsFormal (if comment then Nothing else if long then Long else words_line (words bytes))
     chosen true long = tt
     chosen false true = tt
     chosen false false = formal_words (words bytes)

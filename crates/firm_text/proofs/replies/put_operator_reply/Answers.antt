@@ -4,4 +4,5 @@ use Rattle.firm_text.proofs.replies.put_operator_reply.Goals as goal
 
 pub returns-clause-kept : goal.returns-clause-kept
 returns-clause-kept c =
-    kept_trans _ _ _ c.put_operator_words.ensures.kept (starts_with_of_append _ _ _ c.in_ok-extend_from_slice.ensures.items)
+    kept_trans _ _ _ c.put_operator_words.ensures.kept
+    (starts_with_of_append _ _ _ c.in_ok-extend_from_slice.ensures.items)

@@ -9,7 +9,8 @@ returns-in-empty c =
     let row : List ℕ = c.args.row.now in
     let front : c.split_at.result.0.now ≡ take (position_or_len is_comma row) row = cc in
     let back : c.split_at.result.1.now ≡ drop (position_or_len is_comma row) row = cc in
-    cut-last is_comma row c.split_at.result.0.now c.split_at.result.1.now front back (omega (arith, c.in-empty.len_below))
+    cut-last is_comma row c.split_at.result.0.now c.split_at.result.1.now front back
+    (omega (arith, c.in-empty.len_below))
 
 pub returns-in-len1-up : goal.returns-in-len1-up
 returns-in-len1-up c =
