@@ -7,8 +7,11 @@ use Rattle.firm_rules.specs.declared.replies.Outcome.TheVariants.{Plain, Shown, 
 use Rattle.firm_rules.specs.declared.replies.Refusal.TheVariants.{Memory}
 use Rattle.firm_text.specs.Rosters.{Admitted}
 use Rattle.firm_text.specs.Inputs.{input_lines, line_of}
-use Rattle.firm_text.specs.declared.operator.OperatorRefusal.TheVariants.{BadCommand, BadRow, BadName, BadNumber, TenantExists, NoSuchTenant, Full, Memory as NoMemory}
-use Rattle.firm_text.specs.declared.operator.OperatorReply.TheVariants.{Admitted as WasAdmitted, Retired, Refused as NotDone}
+use Rattle.firm_text.specs.declared.operator.OperatorRefusal.TheVariants.{BadCommand, BadRow, BadName, BadNumber}
+use Rattle.firm_text.specs.declared.operator.OperatorRefusal.TheVariants.{TenantExists, NoSuchTenant, Full}
+use Rattle.firm_text.specs.declared.operator.OperatorRefusal.TheVariants.{Memory as NoMemory}
+use Rattle.firm_text.specs.declared.operator.OperatorReply.TheVariants.{Admitted as WasAdmitted, Retired}
+use Rattle.firm_text.specs.declared.operator.OperatorReply.TheVariants.{Refused as NotDone}
 use Rattle.firm_table.specs.Answers.{Answer, unknown_tenant, replied, told_operator, ended}
 use Rattle.firm_table.specs.Output.{answers_of, unmarked}
 
@@ -32,19 +35,24 @@ abbrev two_tenants : List Admitted
 two_tenants = tenant alpha 9 24 100 ∷ tenant beta 8 30 100 ∷ []
 
 -- each tenant counts its own commands
-two_in_turn : told two_tenants (codes "alpha machine m1 2" ∷ codes "beta machine m1 1" ∷ codes "alpha machine m2 2" ∷ codes "beta job low 2"
+two_in_turn : told two_tenants
+    (codes "alpha machine m1 2" ∷ codes "beta machine m1 1" ∷ codes "alpha machine m2 2" ∷ codes "beta job low 2"
     ∷ codes "alpha job j 10" ∷ codes "beta task low l" ∷ codes "alpha task j a" ∷ codes "beta show" ∷ codes "gamma show" ∷ codes "alpha show" ∷ [])
     ≡ says alpha 1 Plain ∷ says beta 1 Plain ∷ says alpha 2 Plain ∷ says beta 2 Plain ∷ says alpha 3 Plain ∷ says beta 3 Plain ∷ says alpha 4 Plain
     ∷ says beta 4 (Shown 1 1 1 0 5 8 6 30) ∷ unknown_tenant ∷ says alpha 5 (Shown 2 1 1 0 6 9 10 24) ∷ []
 two_in_turn = refl
 
 -- and without the other's lines its own are answered alike
-one_of_two : told two_tenants (codes "alpha machine m1 2" ∷ codes "alpha machine m2 2" ∷ codes "alpha job j 10" ∷ codes "alpha task j a" ∷ codes "alpha show" ∷ [])
-    ≡ says alpha 1 Plain ∷ says alpha 2 Plain ∷ says alpha 3 Plain ∷ says alpha 4 Plain ∷ says alpha 5 (Shown 2 1 1 0 6 9 10 24) ∷ []
+one_of_two : told two_tenants
+    (codes "alpha machine m1 2" ∷ codes "alpha machine m2 2" ∷ codes "alpha job j 10" ∷ codes "alpha task j a" ∷ codes "alpha show" ∷ [])
+    ≡ says alpha 1 Plain ∷ says alpha 2 Plain ∷ says alpha 3 Plain ∷ says alpha 4 Plain ∷ says alpha 5
+    (Shown 2 1 1 0 6 9 10 24) ∷ []
 one_of_two = refl
 
 -- memory refused to one tenant leaves the other as it is
-refused_once : answers_of two_tenants ((line_of (codes "alpha job j 5"), true) ∷ unmarked (line_of (codes "beta job j 5")) ∷ unmarked (line_of (codes "alpha job j 5")) ∷ [])
+refused_once : answers_of two_tenants
+    ((line_of (codes "alpha job j 5"), true) ∷ unmarked (line_of (codes "beta job j 5")) ∷ unmarked
+    (line_of (codes "alpha job j 5")) ∷ [])
     ≡ says alpha 1 (Refused Memory) ∷ says beta 1 Plain ∷ says alpha 2 Plain ∷ []
 refused_once = refl
 
@@ -59,26 +67,34 @@ abbrev one_tenant : List Admitted
 one_tenant = (a, record { nodes = 4; arcs = 9; life = 10; spread = 0; churn = 0 }) ∷ []
 
 -- a name is known from its admission to its retirement, and its numbers begin anew; each refusal has its code
-coming_and_going : told one_tenant (codes "b show" ∷ codes "a job j 5" ∷ codes "+ admit b,2,0,5,0,0" ∷ codes "b show" ∷ codes "+ admit b,2,0,5,0,0"
+coming_and_going : told one_tenant
+    (codes "b show" ∷ codes "a job j 5" ∷ codes "+ admit b,2,0,5,0,0" ∷ codes "b show" ∷ codes "+ admit b,2,0,5,0,0"
     ∷ codes "+ retire b" ∷ codes "b show" ∷ codes "+ admit b,3,2,5,0,0" ∷ codes "b round" ∷ codes "+ retire c" ∷ codes "+ admit c,1,0,1,0,0"
     ∷ codes "+ admit C,1,0,1,0,0" ∷ codes "+ admit c,2,0,1,0" ∷ codes "+ drop b" ∷ codes "+" ∷ codes "a show" ∷ [])
     ≡ unknown_tenant ∷ says a 1 Plain ∷ told_operator (WasAdmitted b) ∷ says b 1 (Shown 0 0 0 0 2 2 0 0)
-    ∷ told_operator (NotDone TenantExists) ∷ told_operator (Retired b) ∷ unknown_tenant ∷ told_operator (WasAdmitted b)
+    ∷ told_operator (NotDone TenantExists) ∷ told_operator (Retired b) ∷ unknown_tenant ∷ told_operator
+    (WasAdmitted b)
     ∷ says b 1 (Placed (pos 0) []) ∷ told_operator (NotDone NoSuchTenant) ∷ told_operator (NotDone BadNumber)
-    ∷ told_operator (NotDone BadName) ∷ told_operator (NotDone BadRow) ∷ told_operator (NotDone BadCommand) ∷ told_operator (NotDone BadCommand)
+    ∷ told_operator (NotDone BadName) ∷ told_operator (NotDone BadRow) ∷ told_operator
+    (NotDone BadCommand) ∷ told_operator (NotDone BadCommand)
     ∷ says a 2 (Shown 0 1 0 0 3 4 1 9) ∷ []
 coming_and_going = refl
 
 -- memory refused to an admission leaves the place empty, and the next admission is given it
-admitted_later : answers_of one_tenant ((line_of (codes "+ admit b,2,0,5,0,0"), true) ∷ unmarked (line_of (codes "b show")) ∷ (line_of (codes "a job j 5"), true)
+admitted_later : answers_of one_tenant
+    ((line_of (codes "+ admit b,2,0,5,0,0"), true) ∷ unmarked (line_of (codes "b show")) ∷
+    (line_of (codes "a job j 5"), true)
     ∷ unmarked (line_of (codes "+ admit b,2,0,5,0,0")) ∷ unmarked (line_of (codes "b show")) ∷ [])
-    ≡ told_operator (NotDone NoMemory) ∷ unknown_tenant ∷ says a 1 (Refused Memory) ∷ told_operator (WasAdmitted b) ∷ says b 1 (Shown 0 0 0 0 2 2 0 0) ∷ []
+    ≡ told_operator (NotDone NoMemory) ∷ unknown_tenant ∷ says a 1 (Refused Memory) ∷ told_operator
+    (WasAdmitted b) ∷ says b 1 (Shown 0 0 0 0 2 2 0 0) ∷ []
 admitted_later = refl
 
 -- sixty-four tenants, and one more
 abbrev numbered : ℕ → Admitted
 numbered number = tenant (codes "t" ++ (48 + number / 10) ∷ (48 + number % 10) ∷ []) 2 0 1
 
-full : told (map numbered (range_with_len 0 64)) (codes "+ admit z,2,0,1,0,0" ∷ codes "+ retire t63" ∷ codes "+ admit z,2,0,1,0,0" ∷ [])
-    ≡ told_operator (NotDone Full) ∷ told_operator (Retired (codes "t63")) ∷ told_operator (WasAdmitted (codes "z")) ∷ []
+full : told (map numbered (range_with_len 0 64))
+    (codes "+ admit z,2,0,1,0,0" ∷ codes "+ retire t63" ∷ codes "+ admit z,2,0,1,0,0" ∷ [])
+    ≡ told_operator (NotDone Full) ∷ told_operator (Retired (codes "t63")) ∷ told_operator
+    (WasAdmitted (codes "z")) ∷ []
 full = refl

@@ -11,17 +11,20 @@ position-here p x xs here = rw (here, is_first) refl
     is_first : nat_lt 0 (length (x ∷ xs)) ≡ true
     is_first = grind (arith, nat_tests)
 
-position_behind : (n m : ℕ) → (if nat_lt (1 + n) (suc m) then Some (1 + n) else None) ≡ option_map (λ i. suc i) (if nat_lt n m then Some n else None)
+position_behind : (n m : ℕ) → (if nat_lt (1 + n) (suc m) then Some (1 + n) else None)
+    ≡ option_map (λ i. suc i) (if nat_lt n m then Some n else None)
 position_behind n m = chosen (nat_lt (1 + n) (suc m)) (nat_lt n m) refl refl
   where
-    chosen : (b c : Bool) → nat_lt (1 + n) (suc m) ≡ b → nat_lt n m ≡ c → (if b then Some (1 + n) else None) ≡ option_map (λ i. suc i) (if c then Some n else None)
+    chosen : (b c : Bool) → nat_lt (1 + n) (suc m) ≡ b → nat_lt n m ≡ c → (if b then Some (1 + n) else None)
+        ≡ option_map (λ i. suc i) (if c then Some n else None)
     chosen true true e f = ap (λ (i : ℕ). Some i) (omega arith)
     chosen false false e f = refl
     chosen true false e f = absurd (grind (arith, nat_tests))
     chosen false true e f = absurd (grind (arith, nat_tests))
 
 -- or behind the front
-pub position-behind : {X : Type 0} (p : X → Bool) (x : X) (xs : List X) → p x ≡ false → position p (x ∷ xs) ≡ option_map (λ i. suc i) (position p xs)
+pub position-behind : {X : Type 0} (p : X → Bool) (x : X) (xs : List X) → p x ≡ false → position p (x ∷ xs)
+    ≡ option_map (λ i. suc i) (position p xs)
 position-behind p x xs there = rw there (position_behind (position_or_len p xs) (length xs))
 
 -- where it stands
@@ -29,7 +32,8 @@ pub data First {X : Type 0} (p : X → Bool) (x : X) (xs : List X) : ℕ → Typ
   here : p x ≡ true → First p x xs zero
   behind : (n : ℕ) → p x ≡ false → position p xs ≡ Some n → First p x xs (suc n)
 
-pub first : {X : Type 0} (p : X → Bool) (x : X) (xs : List X) (at : ℕ) → position p (x ∷ xs) ≡ Some at → First p x xs at
+pub first : {X : Type 0} (p : X → Bool) (x : X) (xs : List X) (at : ℕ) → position p (x ∷ xs) ≡ Some at
+    → First p x xs at
 first p x xs at e = elim (p x) as (λ b. p x ≡ b → First p x xs at) [
   | true ↦ λ passes. let front : zero ≡ at = cc (position-here p x xs passes, e) in rw (← front) (here passes)
   | false ↦ λ fails. further (position p xs) refl fails (sym (position-behind p x xs fails) ∙ e)
@@ -40,7 +44,8 @@ first p x xs at e = elim (p x) as (λ b. p x ≡ b → First p x xs at) [
     further (Some n) is fails f = let same : suc n ≡ at = cc in rw (← same) (behind n fails is)
 
 -- where none passes, the front does not
-pub none_first : {X : Type 0} (p : X → Bool) (x : X) (xs : List X) → position p (x ∷ xs) ≡ None → (p x ≡ false) × (position p xs ≡ None)
+pub none_first : {X : Type 0} (p : X → Bool) (x : X) (xs : List X) → position p (x ∷ xs) ≡ None → (p x ≡ false)
+    × (position p xs ≡ None)
 none_first p x xs e = elim (p x) as (λ b. p x ≡ b → (p x ≡ false) × (position p xs ≡ None)) [
   | true ↦ λ passes. absurd (cc (position-here p x xs passes, e))
   | false ↦ λ fails. (fails, none_behind (position p xs) (sym (position-behind p x xs fails) ∙ e))

@@ -1,6 +1,7 @@
 -- The lines of a tenant, and lines without marks.
 use Rattle.std.proofs.Common.{◌≡◌, ℕ, ◌+◌, List, [], ◌∷◌, refl, sym, ap, ◌∙◌, append_assoc, append-nil}
-use Rattle.std.specs.Prelude.{Bool, true, false, ◌||◌, Option, Some, None, Result, Ok, Err, bytes_eq, map, option_map, position, slice_index_or}
+use Rattle.std.specs.Prelude.{Bool, true, false, ◌||◌, Option, Some, None, Result, Ok, Err, bytes_eq, map, option_map}
+use Rattle.std.specs.Prelude.{position, slice_index_or}
 use Rattle.std.specs.Option.{is_some}
 use Rattle.std.specs.List.{list_any}
 use Rattle.firm_rules.specs.declared.commands.Command.{Command}
@@ -9,12 +10,15 @@ use Rattle.firm_text.specs.Registers.{is_free, place_for, place_in}
 use Rattle.firm_text.specs.declared.inputs.Line.TheVariants.{Nothing, Long, Nameless, For, Operator}
 use Rattle.firm_text.specs.declared.operator.OperatorLine.TheVariants.{Admit, Retire, Faulty}
 use Rattle.firm_text.specs.declared.operator.OperatorRefusal.{OperatorRefusal}
-use Rattle.firm_table.specs.Places.{Given, MarkedLine, Stay, Place, new_stay, unused_place, opening_places, stay_of, with_command, commanded}
+use Rattle.firm_table.specs.Places.{Given, MarkedLine, Stay, Place, new_stay, unused_place, opening_places, stay_of}
+use Rattle.firm_table.specs.Places.{with_command, commanded}
 use Rattle.firm_table.specs.Places.{register_of, admission, retirement, after_line, after_lines}
 use Rattle.firm_table.specs.Answers.{Answer, tells_memory}
 use Rattle.firm_table.specs.Output.{answers_of, output_of, unmarked}
-use Rattle.firm_table.specs.Isolation.{is_operators_for, commands_to, with_commands, NoneIsOperatorsFor, StaysHoldTheirLines, NeedsNoMarks}
-use Rattle.firm_table.proofs.Lookups.{Which, same, other, which, eq_same, stay_of-commanded, stay_of-commanded-other, stay_of-left-other, stay_of-entered-other}
+use Rattle.firm_table.specs.Isolation.{is_operators_for, commands_to, with_commands, NoneIsOperatorsFor}
+use Rattle.firm_table.specs.Isolation.{StaysHoldTheirLines, NeedsNoMarks}
+use Rattle.firm_table.proofs.Lookups.{Which, same, other, which, eq_same, stay_of-commanded, stay_of-commanded-other}
+use Rattle.firm_table.proofs.Lookups.{stay_of-left-other, stay_of-entered-other}
 use Rattle.firm_table.proofs.Registering.{given_place}
 
 both_false : (b c : Bool) → (b || c) ≡ false → (b ≡ false) × (c ≡ false)
@@ -26,16 +30,20 @@ none_more None = refl
 none_more (Some s) = ap (λ (cs : List Given). Some (record s { commands = cs })) (append-nil s.commands)
 
 one_more : (s : Option Stay) (given : Given) (commands : List Given)
-    → option_map (with_commands commands) (option_map (with_command given) s) ≡ option_map (with_commands (given ∷ commands)) s
+    → option_map (with_commands commands) (option_map (with_command given) s)
+    ≡ option_map (with_commands (given ∷ commands)) s
 one_more None given commands = refl
-one_more (Some s) given commands = ap (λ (cs : List Given). Some (record s { commands = cs })) (append_assoc s.commands (given ∷ []) commands)
+one_more (Some s) given commands =
+    ap (λ (cs : List Given). Some (record s { commands = cs })) (append_assoc s.commands (given ∷ []) commands)
 
 module _ (name : List ℕ) where
   -- what holds behind a line, holds of it
   abbrev Holds : List Place → List MarkedLine → Type 0
-  Holds places lines = stay_of (after_lines places lines) name ≡ option_map (with_commands (commands_to name lines)) (stay_of places name)
+  Holds places lines = stay_of (after_lines places lines) name
+      ≡ option_map (with_commands (commands_to name lines)) (stay_of places name)
 
-  behind_command : (places : List Place) (tenant : List ℕ) (command : Command) (mark : Bool) (rest : List MarkedLine) → Which tenant name
+  behind_command : (places : List Place) (tenant : List ℕ) (command : Command) (mark : Bool) (rest : List MarkedLine)
+      → Which tenant name
       → Holds (map (commanded tenant (command, mark)) places) rest → Holds places ((For tenant command, mark) ∷ rest)
   behind_command places tenant command mark rest (same _) holds =
       let given : Given = (command, mark) in
@@ -44,7 +52,8 @@ module _ (name : List ℕ) where
       ∙ one_more (stay_of places name) given (commands_to name rest))
   behind_command places tenant command mark rest (other _ _ out back) holds =
       rw out
-      (holds ∙ ap (option_map (with_commands (commands_to name rest))) (stay_of-commanded-other places tenant name (command, mark) out))
+      (holds ∙ ap (option_map (with_commands (commands_to name rest)))
+      (stay_of-commanded-other places tenant name (command, mark) out))
 
   -- a line of the operator for another leaves the tenant
   leaves_retire : (places : List Place) (tenant : List ℕ) (stay : Option Stay) → bytes_eq tenant name ≡ false
@@ -52,14 +61,20 @@ module _ (name : List ℕ) where
   leaves_retire places tenant None out = refl
   leaves_retire places tenant (Some stay) out = stay_of-left-other places tenant name out
 
-  leaves_admit : (places : List Place) (tenant : List ℕ) (limits : TenantLimits) (found : Result ℕ OperatorRefusal) (mark : Bool)
+  leaves_admit : (places : List Place) (tenant : List ℕ) (limits : TenantLimits) (found : Result ℕ OperatorRefusal)
+      (mark : Bool)
       → place_for (register_of places) tenant ≡ found → bytes_eq tenant name ≡ false
       → stay_of (admission places tenant limits found mark).1 name ≡ stay_of places name
   leaves_admit places tenant limits (Err refusal) mark is out = refl
   leaves_admit places tenant limits (Ok at) true is out = refl
   leaves_admit places tenant limits (Ok at) false is out =
-      let free = given_place (is_some (place_in (register_of places) tenant)) (position is_free (register_of places)) at is in
-      let new : Place = record { admissions = (slice_index_or places at unused_place).admissions + 1; stay = Some (new_stay tenant limits) } in
+      let free = given_place (is_some (place_in (register_of places) tenant))
+      (position is_free (register_of places)) at is in
+      let new : Place = record {
+        admissions = (slice_index_or places at unused_place).admissions + 1;
+        stay =
+            Some (new_stay tenant limits);
+      } in
       stay_of-entered-other places name at new free.1 out
 
   holds_lines : (places : List Place) (lines : List MarkedLine) → NoneIsOperatorsFor name lines → Holds places lines
@@ -68,7 +83,8 @@ module _ (name : List ℕ) where
   holds_lines places ((Long, mark) ∷ rest) none = holds_lines places rest none
   holds_lines places ((Nameless, mark) ∷ rest) none = holds_lines places rest none
   holds_lines places ((For tenant command, mark) ∷ rest) none =
-      behind_command places tenant command mark rest (which tenant name) (holds_lines (map (commanded tenant (command, mark)) places) rest none)
+      behind_command places tenant command mark rest (which tenant name)
+      (holds_lines (map (commanded tenant (command, mark)) places) rest none)
   holds_lines places ((Operator (Admit tenant limits), mark) ∷ rest) none =
       let parts = both_false (bytes_eq tenant name) (list_any (λ given. is_operators_for name given.0) rest) none in
       holds_lines (after_line places (Operator (Admit tenant limits), mark)) rest parts.1
@@ -77,7 +93,8 @@ module _ (name : List ℕ) where
   holds_lines places ((Operator (Retire tenant), mark) ∷ rest) none =
       let parts = both_false (bytes_eq tenant name) (list_any (λ given. is_operators_for name given.0) rest) none in
       holds_lines (after_line places (Operator (Retire tenant), mark)) rest parts.1
-      ∙ ap (option_map (with_commands (commands_to name rest))) (leaves_retire places tenant (stay_of places tenant) parts.0)
+      ∙ ap (option_map (with_commands (commands_to name rest)))
+      (leaves_retire places tenant (stay_of places tenant) parts.0)
   holds_lines places ((Operator (Faulty refusal), mark) ∷ rest) none = holds_lines places rest none
 
   held : (places : List Place) (lines : List MarkedLine) → NoneIsOperatorsFor name lines → Holds places lines
@@ -86,7 +103,8 @@ module _ (name : List ℕ) where
 pub stays_hold_their_lines : StaysHoldTheirLines
 stays_hold_their_lines roster lines name none = held name (opening_places roster) lines none
 
-unmarked_lines : (lines : List MarkedLine) (answers : List Answer) → map (λ given. given.1) lines ≡ map tells_memory answers → list_any tells_memory answers ≡ false
+unmarked_lines : (lines : List MarkedLine) (answers : List Answer) → map (λ given. given.1) lines
+    ≡ map tells_memory answers → list_any tells_memory answers ≡ false
     → lines ≡ map unmarked (map (λ given. given.0) lines)
 unmarked_lines [] answers marks none = refl
 unmarked_lines (given ∷ rest) [] marks none = cc
@@ -94,7 +112,8 @@ unmarked_lines (given ∷ rest) (answer ∷ answers) marks none =
     let parts = both_false (tells_memory answer) (list_any tells_memory answers) none in
     let mark : given.1 ≡ tells_memory answer = cc in
     let more : map (λ g. g.1) rest ≡ map tells_memory answers = cc in
-    ap (λ (b : Bool). (given.0, b) ∷ rest) (mark ∙ parts.0) ∙ ap (λ (ls : List MarkedLine). unmarked given.0 ∷ ls) (unmarked_lines rest answers more parts.1)
+    ap (λ (b : Bool). (given.0, b) ∷ rest) (mark ∙ parts.0)
+    ∙ ap (λ (ls : List MarkedLine). unmarked given.0 ∷ ls) (unmarked_lines rest answers more parts.1)
 
 pub needs_no_marks : NeedsNoMarks
 needs_no_marks roster input lines are none =

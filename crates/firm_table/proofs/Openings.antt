@@ -1,5 +1,6 @@
 -- What the rows of a roster begin, one each, and behind them what nobody had, up to the count of places.
-use Rattle.std.proofs.Common.{◌≡◌, ℕ, zero, suc, ◌+◌, ◌-◌, ◌<◌, ◌≤◌, List, [], ◌∷◌, ◌++◌, length, length-append, refl, ap, ◌∙◌, take, arith}
+use Rattle.std.proofs.Common.{◌≡◌, ℕ, zero, suc, ◌+◌, ◌-◌, ◌<◌, ◌≤◌, List, [], ◌∷◌, ◌++◌, length, length-append, refl}
+use Rattle.std.proofs.Common.{ap, ◌∙◌, take, arith}
 use Rattle.std.specs.Prelude.{Option, Some, None, slice_get, map, replicate}
 use Rattle.std.proofs.lemmas.List.{length-map, length-replicate, take_all}
 use Rattle.firm_text.specs.Registers.{most_places}
@@ -16,11 +17,13 @@ opened_more : {X : Type 0} (begin : Row → X) (unused : X) (rows : List Row) (n
 opened_more begin unused [] zero place within = absurd (let none : place < 0 = within in omega (arith, none))
 opened_more begin unused [] (suc n) zero within = refl
 opened_more {X} begin unused [] (suc n) (suc place) within =
-    ap (λ (opened : List X). unused ∷ opened) (opened_more begin unused [] n place (let less : suc place < 0 + suc n = within in omega (arith, less)))
+    ap (λ (opened : List X). unused ∷ opened) (opened_more begin unused [] n place (let less : suc place < 0 + suc n =
+    within in omega (arith, less)))
 opened_more begin unused (row ∷ rest) n zero within = refl
 opened_more {X} begin unused (row ∷ rest) n (suc place) within =
     ap (λ (opened : List X). begin row ∷ opened)
-    (opened_more begin unused rest n place (let less : suc place < suc (length rest) + n = within in omega (arith, less)))
+    (opened_more begin unused rest n place (let less : suc place < suc (length rest) + n =
+    within in omega (arith, less)))
 
 module _ {X : Type 0} (begin : Row → X) (unused : X) (roster : List Row) (few : length roster ≤ most_places) where
   abbrev opened : List X

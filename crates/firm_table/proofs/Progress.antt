@@ -1,5 +1,6 @@
 -- What the service keeps from line to line.
-use Rattle.std.proofs.Common.{◌≡◌, ℕ, ◌≤◌, List, [], ◌∷◌, ◌++◌, take, drop, length, refl, sym, ap, subst, ◌∙◌, append_assoc, append-nil, take-append-drop}
+use Rattle.std.proofs.Common.{◌≡◌, ℕ, ◌≤◌, List, [], ◌∷◌, ◌++◌, take, drop, length, refl, sym, ap, subst, ◌∙◌}
+use Rattle.std.proofs.Common.{append_assoc, append-nil, take-append-drop}
 use Rattle.std.specs.Prelude.{Bool, Option, Result, Ok, Err, OnOk, OnErr, map}
 use Rattle.std.specs.List.{flat_map}
 use Rattle.std.specs.Io.KnownBytes.{Appends}
@@ -17,7 +18,8 @@ use Rattle.firm_table.specs.Places.{MarkedLine, Place, opening_places, after_lin
 use Rattle.firm_table.specs.Answers.{Answer, answer_of, tells_memory, text_of_answer}
 use Rattle.firm_table.specs.Output.{answers_from, answers_of, output_of, unmarked, AreLinesOf}
 use Rattle.firm_table.specs.Service.{Answers, BeginsAnswers, Device, UpToDate}
-use Rattle.firm_table.specs.inner.Adding.{NothingIsTold, OneMoreIsTold, FrontIsWritten, ToldBegins, AllIsWritten, OneMoreBegins}
+use Rattle.firm_table.specs.inner.Adding.{NothingIsTold, OneMoreIsTold, FrontIsWritten, ToldBegins, AllIsWritten}
+use Rattle.firm_table.specs.inner.Adding.{OneMoreBegins}
 use Rattle.firm_table.specs.inner.Line.{State, state_is, Shows}
 use Rattle.firm_table.specs.inner.Progress.{Told}
 use Rattle.firm_table.proofs.Stays.{after_lines-append, answers_from-append}
@@ -26,15 +28,20 @@ use Rattle.firm_table.proofs.Books.{shows_opening}
 
 -- the output for these lines and more
 output_of-append : (roster : List Admitted) (lines more : List MarkedLine)
-    → output_of roster (lines ++ more) ≡ output_of roster lines ++ flat_map text_of_answer (answers_from (after_lines (opening_places roster) lines) more)
+    → output_of roster (lines ++ more)
+    ≡ output_of roster lines ++ flat_map text_of_answer
+    (answers_from (after_lines (opening_places roster) lines) more)
 output_of-append roster lines more =
     ap (flat_map text_of_answer) (answers_from-append (opening_places roster) lines more)
-    ∙ flat_map-append text_of_answer (answers_of roster lines) (answers_from (after_lines (opening_places roster) lines) more)
+    ∙ flat_map-append text_of_answer (answers_of roster lines)
+    (answers_from (after_lines (opening_places roster) lines) more)
 
 -- lines that follow these, with marks that are right behind them
-lines_more : (roster : List Admitted) (text after : List ℕ) (lines more : List MarkedLine) → AreLinesOf roster text lines
+lines_more : (roster : List Admitted) (text after : List ℕ) (lines more : List MarkedLine)
+    → AreLinesOf roster text lines
     → input_lines after ≡ input_lines text ++ map (λ (g : MarkedLine). g.0) more
-    → map (λ (g : MarkedLine). g.1) more ≡ map tells_memory (answers_from (after_lines (opening_places roster) lines) more)
+    → map (λ (g : MarkedLine). g.1) more
+    ≡ map tells_memory (answers_from (after_lines (opening_places roster) lines) more)
     → AreLinesOf roster after (lines ++ more)
 lines_more roster text after lines more are each marks = record {
   each =
@@ -73,15 +80,18 @@ one_more state text after written now tenants pending line p more a =
     let here : answer_of places given ≡ a.answer = sym (a.right.answers places p.shows) in (
       record {
         lines = p.lines ++ given ∷ [];
-        are_lines = lines_more state.roster text after p.lines (given ∷ []) p.are_lines more (ap (λ (x : Answer). tells_memory x ∷ []) (sym here));
-        shows = subst (Shows tenants) (sym (after_lines-append (opening_places state.roster) p.lines (given ∷ []))) (a.right.leaves places p.shows);
+        are_lines = lines_more state.roster text after p.lines (given ∷ []) p.are_lines more
+            (ap (λ (x : Answer). tells_memory x ∷ []) (sym here));
+        shows = subst (Shows tenants) (sym (after_lines-append (opening_places state.roster) p.lines (given ∷ [])))
+            (a.right.leaves places p.shows);
         sent = p.sent;
         wrote = p.wrote;
         whole =
             ap (λ (l : List ℕ). p.sent ++ l) a.text
             ∙ sym (append_assoc p.sent state.pending (text_of_answer a.answer))
             ∙ ap (λ (l : List ℕ). l ++ text_of_answer a.answer) p.whole
-            ∙ ap (λ (l : List ℕ). output_of state.roster p.lines ++ l) (sym (append-nil (text_of_answer a.answer)) ∙ ap (λ (x : Answer). flat_map text_of_answer (x ∷ [])) (sym here))
+            ∙ ap (λ (l : List ℕ). output_of state.roster p.lines ++ l) (sym (append-nil (text_of_answer a.answer))
+            ∙ ap (λ (x : Answer). flat_map text_of_answer (x ∷ [])) (sym here))
             ∙ sym (output_of-append state.roster p.lines (given ∷ []));
       },
       refl,
@@ -101,8 +111,10 @@ front_written state text written now later front held p parts wrote = record {
 }
 
 -- what was sent begins what follows it
-begins_with : (roster : List Admitted) (text : List ℕ) (written now : Option (List ℕ)) (lines : List MarkedLine) (sent rest : List ℕ)
-    → AreLinesOf roster text lines → Appends written now sent → output_of roster lines ≡ sent ++ rest → BeginsAnswers roster text written now
+begins_with : (roster : List Admitted) (text : List ℕ) (written now : Option (List ℕ)) (lines : List MarkedLine)
+    (sent rest : List ℕ)
+    → AreLinesOf roster text lines → Appends written now sent → output_of roster lines ≡ sent ++ rest
+    → BeginsAnswers roster text written now
 begins_with roster text written now lines sent rest are wrote whole = record {
   lines = lines;
   are_lines = are;
@@ -111,22 +123,26 @@ begins_with roster text written now lines sent rest are wrote whole = record {
 }
 
 pub told_begins : ToldBegins
-told_begins state text written now p = begins_with state.roster text written now p.lines p.sent state.pending p.are_lines p.wrote (sym p.whole)
+told_begins state text written now p =
+    begins_with state.roster text written now p.lines p.sent state.pending p.are_lines p.wrote (sym p.whole)
 
 -- nothing is to be written
 pub all_is_written : AllIsWritten
 all_is_written state text written now p empty = record {
   lines = p.lines;
   are_lines = p.are_lines;
-  wrote = subst (Appends written now) (sym (append-nil p.sent) ∙ ap (λ (l : List ℕ). p.sent ++ l) (sym empty) ∙ p.whole) p.wrote;
+  wrote = subst (Appends written now) (sym (append-nil p.sent) ∙ ap (λ (l : List ℕ). p.sent ++ l) (sym empty)
+      ∙ p.whole) p.wrote;
 }
 
 -- a line that stands last in an input is that of a text
-last_of_text : (texts : List (List ℕ)) (before : List Line) (line : Line) → map line_of texts ≡ before ++ line ∷ [] → IsOfText line
+last_of_text : (texts : List (List ℕ)) (before : List Line) (line : Line) → map line_of texts ≡ before ++ line ∷ []
+    → IsOfText line
 last_of_text [] [] line e = cc
 last_of_text [] (first ∷ before) line e = cc
 last_of_text (text ∷ rest) [] line e = (text, cc)
-last_of_text (text ∷ rest) (first ∷ before) line e = let more : map line_of rest ≡ before ++ line ∷ [] = cc in last_of_text rest before line more
+last_of_text (text ∷ rest) (first ∷ before) line e = let more : map line_of rest ≡ before ++ line ∷ [] =
+    cc in last_of_text rest before line more
 
 -- the answer to one line more was not made
 pub one_more_begins : UnmarkedStepsAreGranted → RefusesForTheForm → OneMoreBegins
@@ -135,30 +151,42 @@ one_more_begins granted formal state text after written now line p more =
     let places : List Place = after_lines (opening_places state.roster) p.lines in
     let behind = flat_map text_of_answer (answers_from places others) in
     begins_with state.roster after written now (p.lines ++ others) p.sent (state.pending ++ behind)
-    (lines_more state.roster text after p.lines others p.are_lines more (ap (λ (b : Bool). b ∷ []) (sym (unmarked_answer granted formal places line (last_of_text (lines after) (input_lines text) line more)))))
+    (lines_more state.roster text after p.lines others p.are_lines more
+    (ap (λ (b : Bool). b ∷ [])
+    (sym (unmarked_answer granted formal places line (last_of_text (lines after) (input_lines text) line more)))))
     p.wrote
-    (output_of-append state.roster p.lines others ∙ ap (λ (l : List ℕ). l ++ behind) (sym p.whole) ∙ append_assoc p.sent state.pending behind)
+    (output_of-append state.roster p.lines others ∙ ap (λ (l : List ℕ). l ++ behind) (sym p.whole)
+    ∙ append_assoc p.sent state.pending behind)
 
 -- all that was to be written was
-pub all_written_now : (state : State) (text held : List ℕ) (written now later : Option (List ℕ)) → Told state text written now → Appends now later state.pending
+pub all_written_now : (state : State) (text held : List ℕ) (written now later : Option (List ℕ))
+    → Told state text written now → Appends now later state.pending
     → held ≡ [] → Told (state_is state.roster state.tenants held) text written later
 all_written_now state text held written now later p wrote empty =
-    front_written state text written now later state.pending held p (sym (append-nil state.pending) ∙ ap (λ (l : List ℕ). state.pending ++ l) (sym empty)) wrote
+    front_written state text written now later state.pending held p (sym (append-nil state.pending)
+    ∙ ap (λ (l : List ℕ). state.pending ++ l) (sym empty)) wrote
 
 -- some of it was
-pub partly_written : (state : State) (text : List ℕ) (written now later : Option (List ℕ)) (count : ℕ) → Told state text written now
-    → Appends now later (take count state.pending) → Told (state_is state.roster state.tenants (drop count state.pending)) text written later
+pub partly_written : (state : State) (text : List ℕ) (written now later : Option (List ℕ)) (count : ℕ)
+    → Told state text written now
+    → Appends now later (take count state.pending)
+    → Told (state_is state.roster state.tenants (drop count state.pending)) text written later
 partly_written state text written now later count p wrote =
-    front_written state text written now later (take count state.pending) (drop count state.pending) p (sym (take-append-drop count state.pending)) wrote
+    front_written state text written now later (take count state.pending) (drop count state.pending) p
+    (sym (take-append-drop count state.pending)) wrote
 
 -- so much of it was, whether the call went well or not
-pub so_much_written : {T E : Type 0} (r : Result T E) (now later : Option (List ℕ)) (pending : List ℕ) → OnOk r (Appends now later pending)
-    → OnErr r ((count : ℕ) × (count ≤ length pending) × Appends now later (take count pending)) → (count : ℕ) × Appends now later (take count pending)
-so_much_written (Ok x) now later pending all part = (length pending, subst (Appends now later) (sym (take-length pending)) all)
+pub so_much_written : {T E : Type 0} (r : Result T E) (now later : Option (List ℕ)) (pending : List ℕ)
+    → OnOk r (Appends now later pending)
+    → OnErr r ((count : ℕ) × (count ≤ length pending) × Appends now later (take count pending)) → (count : ℕ)
+    × Appends now later (take count pending)
+so_much_written (Ok x) now later pending all part =
+    (length pending, subst (Appends now later) (sym (take-length pending)) all)
 so_much_written (Err e) now later pending all part = (part.0, part.2)
 
 -- what was told of lines is the output for them, where nothing is to be written
-pub answers_up_to_date : (roster : List Admitted) (state : State) (reader writer : Device) → state.roster ≡ roster → state.pending ≡ []
+pub answers_up_to_date : (roster : List Admitted) (state : State) (reader writer : Device) → state.roster ≡ roster
+    → state.pending ≡ []
     → UpToDate (Told state) reader writer → UpToDate (Answers roster) reader writer
 answers_up_to_date roster state reader writer same empty u = record {
   lines = u.lines;
@@ -166,5 +194,6 @@ answers_up_to_date roster state reader writer same empty u = record {
   read = u.read;
   whole = u.whole;
   in_line = u.in_line;
-  told = subst (λ (r : List Admitted). Answers r u.lines writer.before writer.after) same (all_is_written state u.lines writer.before writer.after u.told empty);
+  told = subst (λ (r : List Admitted). Answers r u.lines writer.before writer.after) same
+      (all_is_written state u.lines writer.before writer.after u.told empty);
 }

@@ -1,5 +1,6 @@
 -- Books stand at the places that the register gives to tenants.
-use Rattle.std.proofs.Common.{◌≡◌, ℕ, zero, suc, ◌-◌, ◌<◌, List, [], ◌∷◌, ◌++◌, refl, sym, ap, ◌∙◌, length, get_or, arith}
+use Rattle.std.proofs.Common.{◌≡◌, ℕ, zero, suc, ◌-◌, ◌<◌, List, [], ◌∷◌, ◌++◌, refl, sym, ap, ◌∙◌, length, get_or}
+use Rattle.std.proofs.Common.{arith}
 use Rattle.std.specs.Prelude.{Bool, true, false, Option, Some, None, map, replicate, set, slice_index_or}
 use Rattle.std.specs.Option.{is_some}
 use Rattle.std.proofs.Math.ListN.{get_or-map}
@@ -17,13 +18,16 @@ module _ (register : List Registered) (books : List (Option Book)) (fits : Fits 
   -- as many books as places
   pub seated_within : AreSound register → (at : ℕ) → at < most_places → at < length books
   seated_within sound at low =
-      let same = sym (length-map register (λ (place : Registered). is_some place.tenant)) ∙ ap length fits ∙ length-map books is_some in
+      let same = sym (length-map register (λ (place : Registered). is_some place.tenant)) ∙ ap length fits
+      ∙ length-map books is_some in
       omega (arith, same, low, sound.all)
 
   -- a tenant that has a place has a book there
-  pub seated_here : (name : List ℕ) (at : ℕ) → place_in register name ≡ Some at → is_some (get_or books at None) ≡ true
+  pub seated_here : (name : List ℕ) (at : ℕ) → place_in register name ≡ Some at → is_some (get_or books at None)
+      ≡ true
   seated_here name at found =
-      let first = (position-Some (λ (place : Registered). is_named name place.tenant) register at (vacant 0) found).1 in
+      let first = (position-Some (λ (place : Registered). is_named name place.tenant) register at
+      (vacant 0) found).1 in
       sym (get_or-map is_some books at None)
       ∙ ap (λ (tests : List Bool). get_or tests at false) (sym fits)
       ∙ get_or-map (λ (place : Registered). is_some place.tenant) register at (vacant 0)
@@ -43,16 +47,21 @@ module _ (register : List Registered) (books : List (Option Book)) (fits : Fits 
       ∙ sym (map-set is_some books at book)
 
   -- or another book stands at a place that has one
-  pub seated_still : (at : ℕ) (book : Book) → is_some (get_or books at None) ≡ true → Fits (tenants_are register (set books at (Some book)))
+  pub seated_still : (at : ℕ) (book : Book) → is_some (get_or books at None) ≡ true
+      → Fits (tenants_are register (set books at (Some book)))
   seated_still at book here = fits ∙ sym (map-set_same is_some books at (Some book) None (sym here))
 
 -- what an index finds
-pub seat_is : (books : List (Option Book)) (at : ℕ) (found : Option Book) → at < length books → found ≡ slice_index_or books at found
+pub seat_is : (books : List (Option Book)) (at : ℕ) (found : Option Book) → at < length books → found
+    ≡ slice_index_or books at found
     → slice_index_or books at None ≡ found
-seat_is books at found low is = get_or_from_slice_get books at found None (slice_get-get_or books at found low ∙ ap (λ (f : Option Book). Some f) (sym is))
+seat_is books at found low is =
+    get_or_from_slice_get books at found None (slice_get-get_or books at found low
+    ∙ ap (λ (f : Option Book). Some f) (sym is))
 
 -- the first tenants
-opens_seated : (roster : List Row) (n : ℕ) → map (λ place. is_some place.tenant) (map (λ row. occupied row.0 1) roster ++ replicate n (vacant 0))
+opens_seated : (roster : List Row) (n : ℕ)
+    → map (λ place. is_some place.tenant) (map (λ row. occupied row.0 1) roster ++ replicate n (vacant 0))
     ≡ map is_some (map (λ row. Some (opening_book row.1)) roster ++ replicate n None)
 opens_seated [] zero = refl
 opens_seated [] (suc n) = ap (λ (tests : List Bool). false ∷ tests) (opens_seated [] n)

@@ -1,6 +1,7 @@
 -- Each tenant gets the replies of one that is alone.
 use Rattle.std.proofs.Common.{◌≡◌, ℕ, zero, suc, ◌+◌, ◌-◌, List, [], ◌∷◌, ◌++◌, refl, sym, ap, ◌∙◌, length}
-use Rattle.std.specs.Prelude.{Bool, true, false, Option, Some, None, Result, Ok, Err, map, bytes_eq, option_map, position, replicate, slice_index_or, if◌then◌else◌}
+use Rattle.std.specs.Prelude.{Bool, true, false, Option, Some, None, Result, Ok, Err, map, bytes_eq, option_map}
+use Rattle.std.specs.Prelude.{position, replicate, slice_index_or, if◌then◌else◌}
 use Rattle.std.specs.Option.{is_some}
 use Rattle.firm_rules.specs.declared.commands.Command.{Command}
 use Rattle.firm_rules.specs.declared.replies.Reply.{Reply}
@@ -12,19 +13,23 @@ use Rattle.firm_text.specs.Registers.{is_free, most_places, place_for, place_in}
 use Rattle.firm_text.specs.declared.inputs.Line.TheVariants.{Nothing, Long, Nameless, For, Operator}
 use Rattle.firm_text.specs.declared.operator.OperatorLine.TheVariants.{Admit, Retire, Faulty}
 use Rattle.firm_text.specs.declared.operator.OperatorRefusal.{OperatorRefusal}
-use Rattle.firm_table.specs.Places.{Given, MarkedLine, Stay, Place, new_stay, unused_place, place_of_row, opening_places, stay_of, with_command, commanded, left_by, entered_at}
+use Rattle.firm_table.specs.Places.{Given, MarkedLine, Stay, Place, new_stay, unused_place, place_of_row}
+use Rattle.firm_table.specs.Places.{opening_places, stay_of, with_command, commanded, left_by, entered_at}
 use Rattle.firm_table.specs.Places.{register_of, admission, retirement, after_line, after_lines}
 use Rattle.firm_table.specs.Answers.{Answer, replied, told_operator, reply_answer, answer_to_command, answer_of}
 use Rattle.firm_table.specs.Output.{answers_from, replies_with, replies_behind}
-use Rattle.firm_table.specs.Isolation.{AnswersLineByLine, RepliesAreAlone, StaysAreIsolated, StaysAreServedAlone, line_to}
-use Rattle.firm_table.proofs.Lookups.{Which, same, other, which, eq_same, stay_of-commanded, stay_of-commanded-other, stay_of-left, stay_of-left-other}
+use Rattle.firm_table.specs.Isolation.{AnswersLineByLine, RepliesAreAlone, StaysAreIsolated, StaysAreServedAlone}
+use Rattle.firm_table.specs.Isolation.{line_to}
+use Rattle.firm_table.proofs.Lookups.{Which, same, other, which, eq_same, stay_of-commanded, stay_of-commanded-other}
+use Rattle.firm_table.proofs.Lookups.{stay_of-left, stay_of-left-other}
 use Rattle.firm_table.proofs.Lookups.{stay_of-entered, stay_of-entered-other}
 use Rattle.firm_table.proofs.Registering.{none_there, given_place, is_nowhere}
 use Rattle.firm_table.proofs.Alones.{replies_in, replies_in-more, book_of-more, last_reply-more}
 use Rattle.firm_table.specs.inner.Line.{book_of}
 
 -- lines behind lines
-pub after_lines-append : (places : List Place) (lines more : List MarkedLine) → after_lines places (lines ++ more) ≡ after_lines (after_lines places lines) more
+pub after_lines-append : (places : List Place) (lines more : List MarkedLine) → after_lines places (lines ++ more)
+    ≡ after_lines (after_lines places lines) more
 after_lines-append places [] more = refl
 after_lines-append places (given ∷ rest) more = after_lines-append (after_line places given) rest more
 
@@ -32,7 +37,8 @@ pub answers_from-append : (places : List Place) (lines more : List MarkedLine)
     → answers_from places (lines ++ more) ≡ answers_from places lines ++ answers_from (after_lines places lines) more
 answers_from-append places [] more = refl
 answers_from-append places (given ∷ rest) more =
-    ap (λ (answers : List Answer). answer_of places given ∷ answers) (answers_from-append (after_line places given) rest more)
+    ap (λ (answers : List Answer). answer_of places given ∷ answers)
+    (answers_from-append (after_line places given) rest more)
 
 pub line_by_line : AnswersLineByLine
 line_by_line roster lines given = answers_from-append (opening_places roster) lines (given ∷ [])
@@ -55,7 +61,8 @@ module _ (name : List ℕ) (replies : List Reply) (places : List Place) (has : H
   heard_same : (given : Given) (stay : Option Stay) → stay_of places name ≡ stay
       → Has name (replies_with name replies (answer_to_command name stay given)) (map (commanded name given) places)
   heard_same given None none stay is =
-      let no : stay_of (map (commanded name given) places) name ≡ None = stay_of-commanded places name given ∙ ap (option_map (with_command given)) none in
+      let no : stay_of (map (commanded name given) places) name ≡ None = stay_of-commanded places name given
+      ∙ ap (option_map (with_command given)) none in
       cc
   heard_same given (Some now) some stay is =
       let after : stay_of (map (commanded name given) places) name ≡ Some (with_command given now) =
@@ -66,55 +73,77 @@ module _ (name : List ℕ) (replies : List Reply) (places : List Place) (has : H
       ∙ sym (replies_in-more now given) ∙ ap replies_in same_stay)
 
   heard_command : (tenant : List ℕ) (command : Command) (mark : Bool) → Which tenant name
-      → Has name (replies_with name replies (answer_of places (For tenant command, mark))) (after_line places (For tenant command, mark))
+      → Has name (replies_with name replies (answer_of places (For tenant command, mark)))
+      (after_line places (For tenant command, mark))
   heard_command tenant command mark (same _) = heard_same (command, mark) (stay_of places name) refl
   heard_command tenant command mark (other _ _ out back) =
       rw (quiet tenant (stay_of places tenant) (command, mark) out)
-      (alike (map (commanded tenant (command, mark)) places) (stay_of-commanded-other places tenant name (command, mark) out))
+      (alike (map (commanded tenant (command, mark)) places)
+      (stay_of-commanded-other places tenant name (command, mark) out))
 
   heard_left : (tenant : List ℕ) → Which tenant name → Has name replies (map (left_by tenant) places)
-  heard_left tenant (same _) = λ stay is. let no : stay_of (map (left_by name) places) name ≡ None = stay_of-left places name in cc
-  heard_left tenant (other _ _ out back) = alike (map (left_by tenant) places) (stay_of-left-other places tenant name out)
+  heard_left tenant (same _) = λ stay is. let no : stay_of (map (left_by name) places) name ≡ None =
+      stay_of-left places name in cc
+  heard_left tenant (other _ _ out back) =
+      alike (map (left_by tenant) places) (stay_of-left-other places tenant name out)
 
   heard_retire : (tenant : List ℕ) (stay : Option Stay)
-      → Has name (replies_with name replies (told_operator (retirement places tenant stay).0)) (retirement places tenant stay).1
+      → Has name (replies_with name replies (told_operator (retirement places tenant stay).0))
+      (retirement places tenant stay).1
   heard_retire tenant None = has
   heard_retire tenant (Some stay) = heard_left tenant (which tenant name)
 
-  heard_entered : (tenant : List ℕ) (limits : TenantLimits) (at : ℕ) → Which tenant name → place_for (register_of places) tenant ≡ Ok at
+  heard_entered : (tenant : List ℕ) (limits : TenantLimits) (at : ℕ) → Which tenant name
+      → place_for (register_of places) tenant ≡ Ok at
       → Has name (if bytes_eq tenant name then [] else replies) (entered_at at tenant limits places)
   heard_entered tenant limits at (same _) given =
-      let free = given_place (is_some (place_in (register_of places) name)) (position is_free (register_of places)) at given in
+      let free = given_place (is_some (place_in (register_of places) name))
+      (position is_free (register_of places)) at given in
       let nowhere = none_there places name (is_nowhere (place_in (register_of places) name) free.0) in
-      let new : Place = record { admissions = (slice_index_or places at unused_place).admissions + 1; stay = Some (new_stay name limits) } in
+      let new : Place = record {
+        admissions = (slice_index_or places at unused_place).admissions + 1;
+        stay =
+            Some (new_stay name limits);
+      } in
       rw (eq_same name) (λ stay is.
       let here = stay_of-entered places name at new free.1 nowhere (eq_same name) in
       let same_stay : new_stay name limits ≡ stay = cc in ap replies_in same_stay)
   heard_entered tenant limits at (other _ _ out back) given =
-      let free = given_place (is_some (place_in (register_of places) tenant)) (position is_free (register_of places)) at given in
-      let new : Place = record { admissions = (slice_index_or places at unused_place).admissions + 1; stay = Some (new_stay tenant limits) } in
+      let free = given_place (is_some (place_in (register_of places) tenant))
+      (position is_free (register_of places)) at given in
+      let new : Place = record {
+        admissions = (slice_index_or places at unused_place).admissions + 1;
+        stay =
+            Some (new_stay tenant limits);
+      } in
       rw out (alike (entered_at at tenant limits places) (stay_of-entered-other places name at new free.1 out))
 
-  heard_admit : (tenant : List ℕ) (limits : TenantLimits) (found : Result ℕ OperatorRefusal) (mark : Bool) → place_for (register_of places) tenant ≡ found
-      → Has name (replies_with name replies (told_operator (admission places tenant limits found mark).0)) (admission places tenant limits found mark).1
+  heard_admit : (tenant : List ℕ) (limits : TenantLimits) (found : Result ℕ OperatorRefusal) (mark : Bool)
+      → place_for (register_of places) tenant ≡ found
+      → Has name (replies_with name replies (told_operator (admission places tenant limits found mark).0))
+      (admission places tenant limits found mark).1
   heard_admit tenant limits (Err refusal) mark is = has
   heard_admit tenant limits (Ok at) true is = has
   heard_admit tenant limits (Ok at) false is = heard_entered tenant limits at (which tenant name) is
 
-  heard : (given : MarkedLine) → Has name (replies_with name replies (answer_of places given)) (after_line places given)
+  heard : (given : MarkedLine)
+      → Has name (replies_with name replies (answer_of places given)) (after_line places given)
   heard (Nothing, mark) = has
   heard (Long, mark) = has
   heard (Nameless, mark) = has
   heard (For tenant command, mark) = heard_command tenant command mark (which tenant name)
-  heard (Operator (Admit tenant limits), mark) = heard_admit tenant limits (place_for (register_of places) tenant) mark refl
+  heard (Operator (Admit tenant limits), mark) =
+      heard_admit tenant limits (place_for (register_of places) tenant) mark refl
   heard (Operator (Retire tenant), mark) = heard_retire tenant (stay_of places tenant)
   heard (Operator (Faulty refusal), mark) = has
 
-heard_all : (name : List ℕ) (replies : List Reply) (places : List Place) (lines : List MarkedLine) → Has name replies places
+heard_all : (name : List ℕ) (replies : List Reply) (places : List Place) (lines : List MarkedLine)
+    → Has name replies places
     → Has name (replies_behind name replies (answers_from places lines)) (after_lines places lines)
 heard_all name replies places [] has = has
 heard_all name replies places (given ∷ rest) has =
-    heard_all name (replies_with name replies (answer_of places given)) (after_line places given) rest (heard name replies places has given)
+    heard_all name (replies_with name replies (answer_of places given)) (after_line places given) rest
+    (heard name replies places has given)
 
 -- nobody stays at places that nobody had
 pub none_unused : (name : List ℕ) (n : ℕ) → stay_of (replicate n unused_place) name ≡ None
@@ -122,36 +151,44 @@ none_unused name zero = refl
 none_unused name (suc n) = none_unused name n
 
 -- before the first line nobody has replies
-begins_empty : (name : List ℕ) (roster : List Admitted) (n : ℕ) → Has name [] (map place_of_row roster ++ replicate n unused_place)
+begins_empty : (name : List ℕ) (roster : List Admitted) (n : ℕ)
+    → Has name [] (map place_of_row roster ++ replicate n unused_place)
 begins_empty name [] n stay is = let none = none_unused name n in cc
-begins_empty name (tenant ∷ rest) n stay is = elim (bytes_eq tenant.0 name) as (λ b. bytes_eq tenant.0 name ≡ b → [] ≡ replies_in stay) [
-  | true ↦ λ e. let first : new_stay tenant.0 tenant.1 ≡ stay = let it = rw e at is in cc in ap replies_in first
-  | false ↦ λ e. begins_empty name rest n stay (rw e at is)
-] refl
+begins_empty name (tenant ∷ rest) n stay is =
+    elim (bytes_eq tenant.0 name) as (λ b. bytes_eq tenant.0 name ≡ b → [] ≡ replies_in stay) [
+      | true ↦ λ e. let first : new_stay tenant.0 tenant.1 ≡ stay = let it = rw e at is in cc in ap replies_in first
+      | false ↦ λ e. begins_empty name rest n stay (rw e at is)
+    ] refl
 
 pub replies_are_alone : RepliesAreAlone
-replies_are_alone roster lines name stay is = heard_all name [] (opening_places roster) lines (begins_empty name roster (most_places - length roster)) stay is
+replies_are_alone roster lines name stay is =
+    heard_all name [] (opening_places roster) lines (begins_empty name roster (most_places - length roster)) stay is
 
 pub stays_are_isolated : StaysAreIsolated
 stays_are_isolated roster other_roster lines other_lines name stay is other_is =
     replies_are_alone roster lines name stay is ∙ sym (replies_are_alone other_roster other_lines name stay other_is)
 
 -- a tenant that is given commands alone
-alone_answers : (name : List ℕ) (places : List Place) (stay : Stay) (commands : List Given) → stay_of places name ≡ Some stay
+alone_answers : (name : List ℕ) (places : List Place) (stay : Stay) (commands : List Given) → stay_of places name
+    ≡ Some stay
     → answers_from places (map (line_to name) commands) ≡ map (replied name) (replies_from (book_of stay) commands)
 alone_answers name places stay [] is = refl
 alone_answers name places stay (given ∷ rest) is =
     let reply = (step (book_of stay) given.0 given.1).0 in
     let here : answer_of places (line_to name given) ≡ replied name reply =
-    ap (λ (s : Option Stay). answer_to_command name s given) is ∙ ap (reply_answer name) (last_reply-more stay given) in
+    ap (λ (s : Option Stay). answer_to_command name s given) is
+    ∙ ap (reply_answer name) (last_reply-more stay given) in
     let after : stay_of (map (commanded name given) places) name ≡ Some (with_command given stay) =
     stay_of-commanded places name given ∙ ap (option_map (with_command given)) is in
     ap (λ (a : Answer). a ∷ answers_from (map (commanded name given) places) (map (line_to name) rest)) here
-    ∙ ap (λ (answers : List Answer). replied name reply ∷ answers) (alone_answers name (map (commanded name given) places) (with_command given stay) rest after)
+    ∙ ap (λ (answers : List Answer). replied name reply ∷ answers)
+    (alone_answers name (map (commanded name given) places) (with_command given stay) rest after)
     ∙ ap (λ book. replied name reply ∷ map (replied name) (replies_from book rest)) (book_of-more stay given)
 
 pub stays_are_served_alone : StaysAreServedAlone
 stays_are_served_alone roster lines name stay is =
-    let opening : stay_of (opening_places ((name, stay.limits) ∷ [])) name ≡ Some (new_stay name stay.limits) = rw (eq_same name) refl in
+    let opening : stay_of (opening_places ((name, stay.limits) ∷ [])) name ≡ Some (new_stay name stay.limits) =
+    rw (eq_same name) refl in
     ap (map (replied name)) (replies_are_alone roster lines name stay is)
-    ∙ sym (alone_answers name (opening_places ((name, stay.limits) ∷ [])) (new_stay name stay.limits) stay.commands opening)
+    ∙ sym (alone_answers name (opening_places ((name, stay.limits) ∷ []))
+    (new_stay name stay.limits) stay.commands opening)

@@ -14,7 +14,9 @@ use Rattle.firm_text.specs.declared.inputs.Line.{Line}
 use Rattle.firm_text.specs.declared.inputs.Line.TheVariants.{Nothing, Long, Nameless, For, Operator}
 use Rattle.firm_text.specs.declared.operator.OperatorLine.TheVariants.{Admit, Retire, Faulty}
 use Rattle.firm_text.specs.declared.operator.OperatorRefusal.{OperatorRefusal}
-use Rattle.firm_text.specs.declared.operator.OperatorRefusal.TheVariants.{BadCommand, BadRow, BadName, BadNumber, TenantExists, NoSuchTenant, Full, Memory as NoMemory}
+use Rattle.firm_text.specs.declared.operator.OperatorRefusal.TheVariants.{BadCommand, BadRow, BadName, BadNumber}
+use Rattle.firm_text.specs.declared.operator.OperatorRefusal.TheVariants.{TenantExists, NoSuchTenant, Full}
+use Rattle.firm_text.specs.declared.operator.OperatorRefusal.TheVariants.{Memory as NoMemory}
 use Rattle.firm_text.specs.declared.operator.OperatorReply.TheVariants.{Refused}
 use Rattle.firm_table.specs.Places.{Place, Stay, stay_of, register_of, admission, retirement, after_line}
 use Rattle.firm_table.specs.Answers.{answer_of, answer_to_command, is_operator_memory, tells_memory}
@@ -28,7 +30,8 @@ abbrev pub IsOfText : Line → Type 0
 IsOfText line = (text : List ℕ) × (line_of text ≡ line)
 
 refused_place : (held : Bool) (free : Option ℕ) (refusal : OperatorRefusal)
-    → (if held then Err TenantExists else ok_or {E = OperatorRefusal} free Full) ≡ Err refusal → is_operator_memory (Refused refusal) ≡ false
+    → (if held then Err TenantExists else ok_or {E = OperatorRefusal} free Full) ≡ Err refusal
+    → is_operator_memory (Refused refusal) ≡ false
 refused_place true free refusal e = let same : TenantExists ≡ refusal = cc in rw (← same) refl
 refused_place false None refusal e = let same : Full ≡ refusal = cc in rw (← same) refl
 refused_place false (Some at) refusal e = cc
@@ -44,38 +47,45 @@ not_memory Full low = refl
 not_memory NoMemory low = absurd (omega (arith, low))
 
 module _ (granted : UnmarkedStepsAreGranted) (formal : RefusesForTheForm) where
-  unmarked_command : (name : List ℕ) (command : Command) (stay : Option Stay) → tells_memory (answer_to_command name stay (command, false)) ≡ false
+  unmarked_command : (name : List ℕ) (command : Command) (stay : Option Stay)
+      → tells_memory (answer_to_command name stay (command, false)) ≡ false
   unmarked_command name command None = refl
   unmarked_command name command (Some stay) =
       rw (last_reply-more stay (command, false))
       (granted (book_of stay) command)
 
-  unmarked_admission : (places : List Place) (name : List ℕ) (limits : TenantLimits) (found : Result ℕ OperatorRefusal) → place_for (register_of places) name ≡ found
+  unmarked_admission : (places : List Place) (name : List ℕ) (limits : TenantLimits)
+      (found : Result ℕ OperatorRefusal) → place_for (register_of places) name ≡ found
       → is_operator_memory (admission places name limits found false).0 ≡ false
   unmarked_admission places name limits (Ok at) is = refl
   unmarked_admission places name limits (Err refusal) is =
       refused_place (is_some (place_in (register_of places) name)) (position is_free (register_of places)) refusal is
 
-  unmarked_retirement : (places : List Place) (name : List ℕ) (stay : Option Stay) → is_operator_memory (retirement places name stay).0 ≡ false
+  unmarked_retirement : (places : List Place) (name : List ℕ) (stay : Option Stay)
+      → is_operator_memory (retirement places name stay).0 ≡ false
   unmarked_retirement places name None = refl
   unmarked_retirement places name (Some stay) = refl
 
   -- a line of an input is not refused for want of memory by itself
-  pub unmarked_answer : (places : List Place) (line : Line) → IsOfText line → tells_memory (answer_of places (unmarked line)) ≡ false
+  pub unmarked_answer : (places : List Place) (line : Line) → IsOfText line
+      → tells_memory (answer_of places (unmarked line)) ≡ false
   unmarked_answer places Nothing said = refl
   unmarked_answer places Long said = refl
   unmarked_answer places Nameless said = refl
   unmarked_answer places (For name command) said = unmarked_command name command (stay_of places name)
-  unmarked_answer places (Operator (Admit name limits)) said = unmarked_admission places name limits (place_for (register_of places) name) refl
+  unmarked_answer places (Operator (Admit name limits)) said =
+      unmarked_admission places name limits (place_for (register_of places) name) refl
   unmarked_answer places (Operator (Retire name)) said = unmarked_retirement places name (stay_of places name)
   unmarked_answer places (Operator (Faulty refusal)) said = not_memory refusal (formal said.0 refusal said.1)
 
   pub go_unmarked : (places : List Place) (texts : List (List ℕ))
-      → map tells_memory (answers_from places (map unmarked (map line_of texts))) ≡ map (λ line. false) (map line_of texts)
+      → map tells_memory (answers_from places (map unmarked (map line_of texts)))
+      ≡ map (λ line. false) (map line_of texts)
   go_unmarked places [] = refl
   go_unmarked places (text ∷ rest) =
       let line : Line = line_of text in
-      ap (λ (b : Bool). b ∷ map tells_memory (answers_from (after_line places (unmarked line)) (map unmarked (map line_of rest))))
+      ap (λ (b : Bool). b ∷ map tells_memory
+      (answers_from (after_line places (unmarked line)) (map unmarked (map line_of rest))))
       (unmarked_answer places line (text, refl))
       ∙ ap (λ (bs : List Bool). false ∷ bs) (go_unmarked (after_line places (unmarked line)) rest)
 

@@ -1,5 +1,6 @@
 -- What the output is to each tenant.
-use Rattle.std.specs.Prelude.{◌≡◌, ℕ, Bool, false, List, [], ◌∷◌, ◌++◌, Option, Some, None, map, option_map, bytes_eq, if◌then◌else◌}
+use Rattle.std.specs.Prelude.{◌≡◌, ℕ, Bool, false, List, [], ◌∷◌, ◌++◌, Option, Some, None, map, option_map, bytes_eq}
+use Rattle.std.specs.Prelude.{if◌then◌else◌}
 use Rattle.std.specs.List.{filter_map, list_any}
 use Rattle.firm_rules.specs.Limits.{TenantLimits}
 use Rattle.firm_tenant.specs.Alone.{alone_marked}
@@ -24,18 +25,21 @@ stay_in roster lines name = stay_of (after_lines (opening_places roster) lines) 
 -- a line more is answered behind the others, which are answered as they were
 abbrev pub AnswersLineByLine : Type 0
 AnswersLineByLine = (roster : List Admitted) (lines : List MarkedLine) (given : MarkedLine)
-    → answers_of roster (lines ++ given ∷ []) ≡ answers_of roster lines ++ answer_of (after_lines (opening_places roster) lines) given ∷ []
+    → answers_of roster (lines ++ given ∷ [])
+    ≡ answers_of roster lines ++ answer_of (after_lines (opening_places roster) lines) given ∷ []
 
--- at every moment a tenant has got, since it came, the replies of one that is alone in the service and is given what it
--- was given
+-- at every moment a tenant has got, since it came, the replies of one that is alone in the service and is given what
+-- it was given
 abbrev pub RepliesAreAlone : Type 0
-RepliesAreAlone = (roster : List Admitted) (lines : List MarkedLine) (name : List ℕ) (stay : Stay) → stay_in roster lines name ≡ Some stay
+RepliesAreAlone = (roster : List Admitted) (lines : List MarkedLine) (name : List ℕ) (stay : Stay)
+    → stay_in roster lines name ≡ Some stay
     → replies_to name (answers_of roster lines) ≡ alone_marked stay.limits stay.commands
 
 -- two stays that began with the same limits and were given the same have got the same, whatever else the two services
 -- hold and were told, and whoever stayed there before
 abbrev pub StaysAreIsolated : Type 0
-StaysAreIsolated = (roster other_roster : List Admitted) (lines other_lines : List MarkedLine) (name : List ℕ) (stay : Stay)
+StaysAreIsolated = (roster other_roster : List Admitted) (lines other_lines : List MarkedLine) (name : List ℕ)
+    (stay : Stay)
     → stay_in roster lines name ≡ Some stay → stay_in other_roster other_lines name ≡ Some stay
     → replies_to name (answers_of roster lines) ≡ replies_to name (answers_of other_roster other_lines)
 
@@ -45,8 +49,10 @@ line_to name given = (For name given.0, given.1)
 
 -- and they are what a service answers that admits this tenant alone, and is given its commands alone
 abbrev pub StaysAreServedAlone : Type 0
-StaysAreServedAlone = (roster : List Admitted) (lines : List MarkedLine) (name : List ℕ) (stay : Stay) → stay_in roster lines name ≡ Some stay
-    → map (replied name) (replies_to name (answers_of roster lines)) ≡ answers_of ((name, stay.limits) ∷ []) (map (line_to name) stay.commands)
+StaysAreServedAlone = (roster : List Admitted) (lines : List MarkedLine) (name : List ℕ) (stay : Stay)
+    → stay_in roster lines name ≡ Some stay
+    → map (replied name) (replies_to name (answers_of roster lines))
+    ≡ answers_of ((name, stay.limits) ∷ []) (map (line_to name) stay.commands)
 
 -- the command that a line gives the tenant of this name
 abbrev pub given_to : List ℕ → MarkedLine → Option Given
@@ -76,13 +82,15 @@ NoneIsOperatorsFor name lines = list_any (λ given. is_operators_for name given.
 
 -- a tenant that the operator does not name was given the commands of its lines, and has the limits that it had
 abbrev pub StaysHoldTheirLines : Type 0
-StaysHoldTheirLines = (roster : List Admitted) (lines : List MarkedLine) (name : List ℕ) → NoneIsOperatorsFor name lines
+StaysHoldTheirLines = (roster : List Admitted) (lines : List MarkedLine) (name : List ℕ)
+    → NoneIsOperatorsFor name lines
     → stay_in roster lines name ≡ option_map (with_commands (commands_to name lines)) (stay_in roster [] name)
 
 -- a tenant with the same row in two rosters, which the operator does not name, gets the same replies in services that
 -- are given equal lines for it
 abbrev pub TenantsAreIsolated : Type 0
-TenantsAreIsolated = (roster other_roster : List Admitted) (lines other_lines : List MarkedLine) (name : List ℕ) (limits : TenantLimits)
+TenantsAreIsolated = (roster other_roster : List Admitted) (lines other_lines : List MarkedLine) (name : List ℕ)
+    (limits : TenantLimits)
     → limits_in roster name ≡ Some limits → limits_in other_roster name ≡ Some limits
     → NoneIsOperatorsFor name lines → NoneIsOperatorsFor name other_lines
     → commands_to name lines ≡ commands_to name other_lines
@@ -96,4 +104,5 @@ NeedsNoMarks = (roster : List Admitted) (input : List ℕ) (lines : List MarkedL
 -- the lines of an input that are left to answer can be taken as lines to which memory is not refused
 abbrev pub MayGoUnmarked : Type 0
 MayGoUnmarked = (input : List ℕ) (places : List Place)
-    → map tells_memory (answers_from places (map unmarked (input_lines input))) ≡ map (λ line. false) (input_lines input)
+    → map tells_memory (answers_from places (map unmarked (input_lines input)))
+    ≡ map (λ line. false) (input_lines input)

@@ -7,7 +7,8 @@ use Rattle.firm_text.specs.Rosters.{Admitted}
 use Rattle.firm_text.specs.declared.inputs.Line.{Line}
 use Rattle.firm_text.specs.declared.operator.OperatorReply.TheVariants.{Admitted as WasAdmitted, Retired, Refused}
 use Rattle.firm_table.specs.Places.{MarkedLine, Place, opening_places, after_line}
-use Rattle.firm_table.specs.Answers.{Answer, silent, too_long, unknown_tenant, replied, told_operator, answer_of, tells_memory, text_of_answer}
+use Rattle.firm_table.specs.Answers.{Answer, silent, too_long, unknown_tenant, replied, told_operator, answer_of}
+use Rattle.firm_table.specs.Answers.{tells_memory, text_of_answer}
 
 -- the answers to these lines in order, where these are the places before them
 abbrev pub answers_from : List Place → List MarkedLine → List Answer

@@ -88,9 +88,10 @@ registered place = record { tenant = option_map (λ stay. stay.name) place.stay;
 abbrev pub register_of : List Place → List Registered
 register_of places = map registered places
 
--- the reply to an admission to the place that the register gives, if it gives one, and the places after it; where memory
--- is refused nobody comes, and the place was not given
-abbrev pub admission : List Place → List ℕ → TenantLimits → Result ℕ OperatorRefusal → Bool → OperatorReply × List Place
+-- the reply to an admission to the place that the register gives, if it gives one, and the places after it; where
+-- memory is refused nobody comes, and the place was not given
+abbrev pub admission : List Place → List ℕ → TenantLimits → Result ℕ OperatorRefusal → Bool → OperatorReply
+    × List Place
 admission places name limits (Err refusal) mark = (Refused refusal, places)
 admission places name limits (Ok at) true = (Refused Memory, places)
 admission places name limits (Ok at) false = (Admitted name, entered_at at name limits places)

@@ -7,7 +7,8 @@ use Rattle.firm_table.specs.inner.Line.{opening_books}
 use Rattle.firm_table.proofs.Openings.{opened_at, opened_next, opened_all}
 use Rattle.firm_table.proofs.tenants.admit_all.Goals as goal
 
-first_is : (row : Option Row) → opened_at (λ (r : Row). Some (opening_book r.1)) None row ≡ option_map (λ r. opening_book r.1) row
+first_is : (row : Option Row) → opened_at (λ (r : Row). Some (opening_book r.1)) None row
+    ≡ option_map (λ r. opening_book r.1) row
 first_is None = refl
 first_is (Some row) = refl
 
@@ -18,12 +19,16 @@ loop-place-preserved c =
     let book : Option Book = option_map (λ r. opening_book r.1) (slice_get roster c.loop-place.place) in
     let added : c.push.new.self.items ≡ c.loop-place.places.items ++ book ∷ [] = search rules in
     added ∙ ap (λ (books : List (Option Book)). books ++ book ∷ []) c.loop-place.invariant
-    ∙ ap (λ (b : Option Book). take c.loop-place.place (opening_books roster) ++ b ∷ []) (sym (first_is (slice_get roster c.loop-place.place)))
-    ∙ sym (opened_next (λ (r : Row). Some (opening_book r.1)) None roster few c.loop-place.place c.loop-place-test.true)
+    ∙ ap (λ (b : Option Book). take c.loop-place.place (opening_books roster) ++ b ∷ [])
+    (sym (first_is (slice_get roster c.loop-place.place)))
+    ∙ sym (opened_next (λ (r : Row). Some
+    (opening_book r.1)) None roster few c.loop-place.place c.loop-place-test.true)
 
 pub returns : goal.returns
 returns c =
     let roster : List Row = c.args.roster.now in
     let few : length roster ≤ most_places = omega (arith, c.len.ensures.few, c.len.ensures.length) in
-    let end : c.loop-place.place ≡ most_places = omega (arith, c.loop-place.auto.place-end, c.loop-place-test.false) in
-    c.loop-place.invariant ∙ ap (λ (n : ℕ). take n (opening_books roster)) end ∙ opened_all (λ (r : Row). Some (opening_book r.1)) None roster few
+    let end : c.loop-place.place ≡ most_places =
+    omega (arith, c.loop-place.auto.place-end, c.loop-place-test.false) in
+    c.loop-place.invariant ∙ ap (λ (n : ℕ). take n (opening_books roster)) end
+    ∙ opened_all (λ (r : Row). Some (opening_book r.1)) None roster few

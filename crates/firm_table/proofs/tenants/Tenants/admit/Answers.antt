@@ -21,4 +21,5 @@ pub returns : goal.returns
 returns c =
     let tenants = tenants_are c.self.inside.register c.self.inside.places.items in
     let given : place_for c.self.inside.register c.args.name ≡ Ok c.in-Ok.place = sym c.in-Ok.ensures.place in
-    rw (← c.self.view_is, c.in-Ok.ensures.admitted, c.in-Ok-admit.ensures) (admissions_are_answered tenants c.args.name c.args.limits c.in-Ok.place given)
+    rw (← c.self.view_is, c.in-Ok.ensures.admitted, c.in-Ok-admit.ensures)
+    (admissions_are_answered tenants c.args.name c.args.limits c.in-Ok.place given)

@@ -13,7 +13,8 @@ found_some : (found : Option ℕ) (at : ℕ) → Ok at ≡ ok_or {E = OperatorRe
 found_some None at e = absurd (cc)
 found_some (Some place) at e = cc
 
-found_none : (found : Option ℕ) (refusal : OperatorRefusal) → Err refusal ≡ ok_or found NoSuchTenant → (found ≡ None) × (refusal ≡ NoSuchTenant)
+found_none : (found : Option ℕ) (refusal : OperatorRefusal) → Err refusal ≡ ok_or found NoSuchTenant → (found ≡ None)
+    × (refusal ≡ NoSuchTenant)
 found_none None refusal e = (refl, cc)
 found_none (Some place) refusal e = absurd (cc)
 
@@ -26,14 +27,16 @@ pub invariant_of-self : goal.invariant_of-self
 invariant_of-self c =
     let register = c.self.inside.register in
     rw (c.in-Ok.ensures.retired)
-    (seated_set register c.self.inside.places.items c.self.invariant c.in-Ok.place (vacant (admissions_at register c.in-Ok.place)) None refl)
+    (seated_set register c.self.inside.places.items c.self.invariant c.in-Ok.place
+    (vacant (admissions_at register c.in-Ok.place)) None refl)
 
 pub returns-in-Ok : goal.returns-in-Ok
 returns-in-Ok c =
     let register = c.self.inside.register in
     let found = found_some (place_in register c.args.name) c.in-Ok.place c.in-Ok.ensures.place in
     rw (← c.self.view_is, c.in-Ok.ensures.retired)
-    (retirements_are_answered (tenants_are register c.self.inside.places.items) c.args.name c.in-Ok.place c.retire.ensures.sound found)
+    (retirements_are_answered
+    (tenants_are register c.self.inside.places.items) c.args.name c.in-Ok.place c.retire.ensures.sound found)
 
 pub returns-in-Err : goal.returns-in-Err
 returns-in-Err c =

@@ -10,9 +10,11 @@ use Rattle.firm_table.proofs.tenants.Tenants.step.Goals as goal
 
 pub returns-in_err-place : goal.returns-in_err-place
 returns-in_err-place c =
-    let none : place_in c.self.inside.register c.args.name ≡ None = sym c.place_of.ensures.place ∙ c.in_err-place.was in
+    let none : place_in c.self.inside.register c.args.name ≡ None = sym c.place_of.ensures.place
+    ∙ c.in_err-place.was in
     let is : c.from_residual.result ≡ None = search rules in
-    rw (is, ← c.self.view_is) (strangers_are_answered (tenants_are c.self.inside.register c.self.inside.places.items) c.args.name c.args.command none)
+    rw (is, ← c.self.view_is)
+    (strangers_are_answered (tenants_are c.self.inside.register c.self.inside.places.items) c.args.name c.args.command none)
 
 pub index_mut-requires : goal.index_mut-requires
 index_mut-requires c =
@@ -23,16 +25,19 @@ pub unreachable-requires : goal.unreachable-requires
 unreachable-requires c =
     let books : List (Option Book) = c.self.inside.places.items in
     let at : ℕ = c.in_ok-place.place in
-    let found : place_in c.self.inside.register c.args.name ≡ Some at = sym c.place_of.ensures.place ∙ c.in_ok-place.was in
+    let found : place_in c.self.inside.register c.args.name ≡ Some at = sym c.place_of.ensures.place
+    ∙ c.in_ok-place.was in
     let low = seated_within c.self.inside.register books c.self.invariant c.place_of.ensures.sound at c.in_ok-place.ensures.within in
     let here = seat_is books at c.index_mut.result.now low c.index_mut.ensures.value in
-    let some : is_some (slice_index_or books at None) ≡ true = seated_here c.self.inside.register books c.self.invariant c.args.name at found in
+    let some : is_some (slice_index_or books at None) ≡ true =
+    seated_here c.self.inside.register books c.self.invariant c.args.name at found in
     let wrong : false ≡ true = sym (ap is_some (here ∙ c.in_default.is)) ∙ some in
     cc
 
 pub invariant_of-self : goal.invariant_of-self
 invariant_of-self c =
-    let found : place_in c.self.inside.register c.args.name ≡ Some c.in_ok-place.place = sym c.place_of.ensures.place ∙ c.in_ok-place.was in
+    let found : place_in c.self.inside.register c.args.name ≡ Some c.in_ok-place.place = sym c.place_of.ensures.place
+    ∙ c.in_ok-place.was in
     seated_still c.self.inside.register c.self.inside.places.items c.self.invariant c.in_ok-place.place c.step.new.self
     (seated_here c.self.inside.register c.self.inside.places.items c.self.invariant c.args.name c.in_ok-place.place found)
 
@@ -40,7 +45,8 @@ pub returns : goal.returns
 returns c =
     let books : List (Option Book) = c.self.inside.places.items in
     let at : ℕ = c.in_ok-place.place in
-    let found : place_in c.self.inside.register c.args.name ≡ Some at = sym c.place_of.ensures.place ∙ c.in_ok-place.was in
+    let found : place_in c.self.inside.register c.args.name ≡ Some at = sym c.place_of.ensures.place
+    ∙ c.in_ok-place.was in
     let low = seated_within c.self.inside.register books c.self.invariant c.place_of.ensures.sound at c.in_ok-place.ensures.within in
     let here = seat_is books at c.index_mut.result.now low c.index_mut.ensures.value in
     rw (← c.self.view_is)
