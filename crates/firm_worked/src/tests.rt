@@ -5,8 +5,10 @@ ghost use Rattle.std.specs.Prelude.{◌≡◌, ◌≤◌, ◌^◌, false};
 mod devices;
 mod formats;
 mod pieces;
+mod refused;
 mod rounds;
 mod rows;
+mod stays;
 
 use firm_hall::{Open, serve};
 use firm_table::{ServeFault, serve_one};

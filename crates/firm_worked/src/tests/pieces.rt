@@ -3,7 +3,8 @@
 ghost use Rattle.std.specs.Prelude.{◌≡◌, ◌≤◌, ◌^◌, false};
 
 use super::{
-    Dripping, MOST, WAYS, Way, Worked, formats, roster_of, rounds, rows, serve_by, worked_from,
+    Dripping, MOST, WAYS, Way, Worked, formats, roster_of, rounds, rows, serve_by, stays,
+    worked_from,
 };
 use firm_table::ServeFault;
 use firm_text::{Bytes, Failed, Sink, Source};
@@ -86,6 +87,12 @@ fn answers_line_for_line(rt: HostRuntime) -> Result<(), Fail> {
 #[test]
 fn answers_rounds_line_for_line(rt: HostRuntime) -> Result<(), Fail> {
     assert_eq!(rt; differs_among(&rt, rt.alloc(), &rounds::SERVICES)?, None);
+    Ok(())
+}
+
+#[test]
+fn answers_tenants_that_come_and_go(rt: HostRuntime) -> Result<(), Fail> {
+    assert_eq!(rt; differs_among(&rt, rt.alloc(), &stays::SERVICES)?, None);
     Ok(())
 }
 
@@ -233,6 +240,67 @@ fn serves_sixty_four_tenants(rt: HostRuntime) -> Result<(), Fail> {
     let (records, input, output) = sixty_four(rt.alloc())?;
     for way in WAYS {
         let (written, ended) = serve_pieces(&rt, rt.alloc(), way, &records, &input, 4_096, MOST)?;
+        assert_eq!(rt; ended, Ok(()), "{way:?}");
+        assert!(rt; written.as_slice() == output.as_slice(), "{way:?}");
+    }
+    Ok(())
+}
+
+/// What the operator asks for once 64 tenants are there, and the answers.
+const FULL: [(&[u8], &[u8]); 6] = [
+    (b"+ admit z,2,0,1,0,0\n", b"+ no 27 operator-full\n"),
+    (b"+ admit t64,2,0,1,0,0\n", b"+ no 25 tenant-exists\n"),
+    (b"+ retire t64\n", b"+ ok retired t64\n"),
+    (b"+ admit z,2,0,1,0,0\n", b"+ ok admitted z\n"),
+    (b"+ admit t64,2,0,1,0,0\n", b"+ no 27 operator-full\n"),
+    (b"z round\n", b"z 1 ok round cost 0\n"),
+];
+
+#[test]
+fn a_65th_tenant_waits_until_one_is_retired(rt: HostRuntime) -> Result<(), Fail> {
+    let (records, mut input, mut output) = sixty_four(rt.alloc())?;
+    for (line, answer) in FULL {
+        input.extend_from_slice(line)?;
+        output.extend_from_slice(answer)?;
+    }
+    for way in WAYS {
+        let (written, ended) = serve_pieces(&rt, rt.alloc(), way, &records, &input, 4_096, MOST)?;
+        assert_eq!(rt; ended, Ok(()), "{way:?}");
+        assert!(rt; written.as_slice() == output.as_slice(), "{way:?}");
+    }
+    Ok(())
+}
+
+/// 200 tenants, one after the other at one place: each is admitted, has one round, and is retired.
+fn one_after_the_other(alloc: Global) -> Result<(Vec<u8>, Vec<u8>), Fail> {
+    let mut input = Vec::from_slice(alloc, b"+ retire a\n")?;
+    let mut output = Vec::from_slice(alloc, b"+ ok retired a\n")?;
+    for number in 1..=200 {
+        let lines = format!(in alloc;
+            "+ admit t{number},2,0,1,0,0\nt{number} round\n+ retire t{number}\n"
+        )?;
+        input.extend_from_slice(lines.as_bytes())?;
+        let answers = format!(in alloc;
+            "+ ok admitted t{number}\nt{number} 1 ok round cost 0\n+ ok retired t{number}\n"
+        )?;
+        output.extend_from_slice(answers.as_bytes())?;
+    }
+    Ok((input, output))
+}
+
+#[test]
+fn a_place_goes_from_tenant_to_tenant(rt: HostRuntime) -> Result<(), Fail> {
+    let (input, output) = one_after_the_other(rt.alloc())?;
+    for way in WAYS {
+        let (written, ended) = serve_pieces(
+            &rt,
+            rt.alloc(),
+            way,
+            "a,2,0,1,0,0",
+            &input,
+            4_096,
+            MOST,
+        )?;
         assert_eq!(rt; ended, Ok(()), "{way:?}");
         assert!(rt; written.as_slice() == output.as_slice(), "{way:?}");
     }

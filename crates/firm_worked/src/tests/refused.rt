@@ -1,0 +1,154 @@
+//! Admissions to which memory may be refused. With ample memory they find it; run with
+//! `rt try --test --fail-alloc N -- finds_no_memory`, where the Nth request is refused, one of them meets the refusal for
+//! some N.
+
+ghost use Rattle.std.specs.Prelude.{◌≡◌, false};
+
+use super::{Dripping, MOST, WAYS, Way, roster_of, serve_by};
+use firm_rules::{Command, Limits};
+use firm_table::{Answer, Event, ServeFault, Table};
+use firm_text::{Failed, PLACES, Roster, Sink};
+use std::alloc::Global;
+use std::process::Abort;
+use std::sync::Wait;
+use std::test::Fail;
+use std::thread::Threads;
+
+const INPUT: &[u8] = b"\
++ admit b,8,30,100,0,0
+b show
++ admit b,8,30,100,0,0
+b show
++ retire b
+b show
+";
+
+/// The output where the first admission finds memory.
+const ADMITTED: &[u8] = b"\
++ ok admitted b
+b 1 ok machines 0 jobs 0 tasks 0 running 0 nodes 2 of 8 arcs 0 of 30
++ no 25 tenant-exists
+b 2 ok machines 0 jobs 0 tasks 0 running 0 nodes 2 of 8 arcs 0 of 30
++ ok retired b
+! unknown-tenant
+";
+
+/// The output where it finds none.
+const REFUSED: &[u8] = b"\
++ no 28 operator-memory
+! unknown-tenant
++ ok admitted b
+b 1 ok machines 0 jobs 0 tasks 0 running 0 nodes 2 of 8 arcs 0 of 30
++ ok retired b
+! unknown-tenant
+";
+
+/// Whether a service may have written this and ended so, where one request for memory at most was refused.
+fn may_end_so(written: &[u8], ended: Result<(), ServeFault>) -> bool {
+    match ended {
+        Ok(()) => written == ADMITTED || written == REFUSED,
+        Err(ServeFault::Memory) => ADMITTED.starts_with(written) || REFUSED.starts_with(written),
+        Err(_) => false,
+    }
+}
+
+/// Keeps up to 512 bytes, and takes no memory.
+#[derive(Drop)]
+struct Slate {
+    bytes: [u8; 512],
+    count: usize,
+    failed: bool,
+}
+
+impl Slate {
+    fn new() -> Slate
+        ensures { result.failed ≡ false }
+    {
+        Slate {
+            bytes: [0; 512],
+            count: 0,
+            failed: false,
+        }
+    }
+
+    fn written(&self) -> &[u8] {
+        self.bytes.get(..self.count).unwrap_or(&[])
+    }
+}
+
+impl Sink for Slate {
+    ghost write_failed = { λ sink. sink.failed };
+
+    fn write(&mut self, bytes: &[u8]) -> Result<usize, Failed> {
+        let end = self.count.saturating_add(bytes.len());
+        let Some(room) = self.bytes.get_mut(self.count..end) else {
+            self.failed = true;
+            return Err(Failed);
+        };
+        room.copy_from_slice(bytes);
+        self.count = end;
+        Ok(bytes.len())
+    }
+
+    fn flush(&mut self) -> Result<(), Failed> {
+        Ok(())
+    }
+}
+
+/// What a service writes, and how it ends.
+fn serve_input<R: Threads + Wait + Sync>(
+    rt: &R,
+    alloc: Global,
+    way: Way,
+    roster: &Roster,
+) -> (Slate, Result<(), ServeFault>) {
+    let mut reader = Dripping::new(INPUT, 4_096, false);
+    let mut writer = Slate::new();
+    let ended = serve_by(rt, alloc, way, &mut reader, &mut writer, roster, MOST);
+    (writer, ended)
+}
+
+#[test]
+fn an_admission_that_finds_no_memory_is_refused(rt: HostRuntime) -> Result<(), Fail> {
+    let roster = roster_of(rt.alloc(), "a,2,0,1,0,0")?;
+    for way in WAYS {
+        let (slate, ended) = serve_input(&rt, rt.alloc(), way, &roster);
+        let written = slate.written();
+        assert!(rt;
+            may_end_so(written, ended),
+            "{way:?}: {ended:?} behind {written:?}"
+        );
+    }
+    Ok(())
+}
+
+/// Admits a tenant to an empty place of the table. Where it finds no memory nobody is there, and the next try finds it.
+fn admit_to(rt: &impl Abort, alloc: Global, table: &mut Table, place: usize, limits: Limits) {
+    let admit = Event::Admit(place, limits);
+    let first = table.event(alloc, admit);
+    if first != Answer::Admitted {
+        assert_eq!(rt; first, Answer::NoMemory);
+        assert_eq!(rt;
+            table.event(alloc, Event::Post(place, Command::Show)),
+            Answer::NotNow
+        );
+        assert_eq!(rt; table.event(alloc, Event::Retire(place)), Answer::NotNow);
+        assert_eq!(rt; table.event(alloc, admit), Answer::Admitted);
+    }
+    assert_eq!(rt; table.event(alloc, admit), Answer::NotNow);
+}
+
+#[test]
+fn an_admission_that_finds_no_memory_leaves_its_place_empty(rt: HostRuntime) -> Result<(), Fail> {
+    let alloc = rt.alloc();
+    let mut table = Table::open(alloc, &roster_of(alloc, "a,2,0,1,0,0")?, 1)?;
+    let limits = Limits::check(8, 30, 9, 0, 0).ok_or("not limits")?;
+    for place in 1..PLACES {
+        admit_to(&rt, alloc, &mut table, place, limits);
+    }
+    for place in 1..PLACES {
+        let retired = table.event(alloc, Event::Retire(place));
+        assert_eq!(rt; retired, Answer::Retired);
+    }
+    Ok(())
+}
