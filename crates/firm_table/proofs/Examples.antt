@@ -16,7 +16,7 @@ use Rattle.firm_table.specs.Answers.{Answer, unknown_tenant, replied, told_opera
 use Rattle.firm_table.specs.Output.{answers_of, unmarked}
 
 abbrev tenant : List ℕ → ℕ → ℕ → ℕ → Admitted
-tenant name nodes arcs life = (name, record { nodes = nodes; arcs = arcs; life = life; spread = 1; churn = 2 })
+tenant name nodes arcs life = (name, record { nodes = nodes; arcs = arcs; life = life; spread = 1; churn = 2; remote = 0 })
 
 abbrev says : List ℕ → ℕ → Outcome → Answer
 says name number outcome = replied name (record { number = number; outcome = outcome })
@@ -64,12 +64,12 @@ abbrev b : List ℕ
 b = codes "b"
 
 abbrev one_tenant : List Admitted
-one_tenant = (a, record { nodes = 4; arcs = 9; life = 10; spread = 0; churn = 0 }) ∷ []
+one_tenant = (a, record { nodes = 4; arcs = 9; life = 10; spread = 0; churn = 0; remote = 0 }) ∷ []
 
 -- a name is known from its admission to its retirement, and its numbers begin anew; each refusal has its code
 coming_and_going : told one_tenant
     (codes "b show" ∷ codes "a job j 5" ∷ codes "+ admit b,2,0,5,0,0" ∷ codes "b show" ∷ codes "+ admit b,2,0,5,0,0"
-    ∷ codes "+ retire b" ∷ codes "b show" ∷ codes "+ admit b,3,2,5,0,0" ∷ codes "b round" ∷ codes "+ retire c" ∷ codes "+ admit c,1,0,1,0,0"
+    ∷ codes "+ retire b" ∷ codes "b show" ∷ codes "+ admit b,3,2,5,0,0,0" ∷ codes "b round" ∷ codes "+ retire c" ∷ codes "+ admit c,1,0,1,0,0"
     ∷ codes "+ admit C,1,0,1,0,0" ∷ codes "+ admit c,2,0,1,0" ∷ codes "+ drop b" ∷ codes "+" ∷ codes "a show" ∷ [])
     ≡ unknown_tenant ∷ says a 1 Plain ∷ told_operator (WasAdmitted b) ∷ says b 1 (Shown 0 0 0 0 2 2 0 0)
     ∷ told_operator (NotDone TenantExists) ∷ told_operator (Retired b) ∷ unknown_tenant ∷ told_operator

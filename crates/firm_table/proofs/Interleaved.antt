@@ -15,7 +15,7 @@ use Rattle.firm_table.specs.declared.events.Answer.TheVariants.{Replied, Queued,
 use Rattle.firm_rules.specs.declared.tickets.Ticket.{Ticket}
 
 abbrev row : List ℕ → ℕ → ℕ → Row
-row name nodes arcs = (name, record { nodes = nodes; arcs = arcs; life = 100; spread = 1; churn = 2 })
+row name nodes arcs = (name, record { nodes = nodes; arcs = arcs; life = 100; spread = 1; churn = 2; remote = 0 })
 
 abbrev ticket : ℕ → ℕ → Ticket
 ticket place number = record { place = place; number = number }
@@ -33,7 +33,7 @@ one_worker = refl
 
 -- a place that goes from tenant to tenant
 abbrev small : TenantLimits
-small = record { nodes = 2; arcs = 0; life = 5; spread = 0; churn = 0 }
+small = record { nodes = 2; arcs = 0; life = 5; spread = 0; churn = 0; remote = 0 }
 
 abbrev coming_and_going : List MarkedEvent
 coming_and_going = map (λ (event : Event). (event, false)) (Ask 0 ∷ Retire 0 ∷ Take 0 ∷ Answer 0 ∷ Collect 0 ∷ Retire 0 ∷ Ask 0 ∷ [])

@@ -52,7 +52,7 @@ fn expect(rt: &impl Abort, alloc: Global, table: &mut Table, event: Event, wante
 
 /// Limits of a life of nine commands.
 fn limits_of(nodes: u64, arcs: u64) -> Result<Limits, &'static str> {
-    Limits::check(nodes, arcs, 9, 0, 0).ok_or("not limits")
+    Limits::check(nodes, arcs, 9, 0, 0, 0).ok_or("not limits")
 }
 
 fn add_job() -> Result<Command, &'static str> {

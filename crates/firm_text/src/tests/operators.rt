@@ -6,27 +6,36 @@ use firm_rules::Limits;
 use std::alloc::{AllocError, Global};
 use std::process::Abort;
 
-/// A line that admits a tenant, the tenant's name, and its limits: nodes, arcs, life, spread and churn.
-type Admission = (&'static [u8], &'static [u8], [u64; 5]);
+/// A line that admits a tenant, the tenant's name, and its limits: nodes, arcs, life, spread, churn and remote.
+type Admission = (&'static [u8], &'static [u8], [u64; 6]);
 
-fn limits(rt: &impl Abort, numbers: &[u64; 5]) -> Limits {
-    let [nodes, arcs, life, spread, churn] = *numbers;
-    Limits::check(nodes, arcs, life, spread, churn).expect(rt, "limits")
+fn limits(rt: &impl Abort, numbers: &[u64; 6]) -> Limits {
+    let [nodes, arcs, life, spread, churn, remote] = *numbers;
+    Limits::check(nodes, arcs, life, spread, churn, remote).expect(rt, "limits")
 }
 
 fn expect_asked(rt: &impl Abort, bytes: &[u8], asked: OperatorLine) {
     assert_eq!(rt; line(bytes), Line::Operator(asked), "{bytes:?}");
 }
 
-static ADMISSIONS: [Admission; 5] = [
-    (b"+ admit b,2,0,5,0,0", b"b", [2, 0, 5, 0, 0]),
-    (b"\t+  admit\tb,2,0,5,0,0 ", b"b", [2, 0, 5, 0, 0]),
-    (b"+ admit b,0000000000003,2,5,0,1", b"b", [3, 2, 5, 0, 1]),
-    (b"+ admit -,2,0,1,0,0", b"-", [2, 0, 1, 0, 0]),
+static ADMISSIONS: [Admission; 7] = [
+    (b"+ admit b,2,0,5,0,0", b"b", [2, 0, 5, 0, 0, 0]),
+    (b"+ admit b,3,2,5,0,0,0", b"b", [3, 2, 5, 0, 0, 0]),
+    (b"\t+  admit\tb,2,0,5,0,0 ", b"b", [2, 0, 5, 0, 0, 0]),
+    (b"+ admit b,0000000000003,2,5,0,1", b"b", [3, 2, 5, 0, 1, 0]),
+    (b"+ admit -,2,0,1,0,0", b"-", [2, 0, 1, 0, 0, 0]),
+    (b"+ admit -,2,0,1,0,0,7", b"-", [2, 0, 1, 0, 0, 7]),
     (
-        b"+ admit abcdefghijklmnop,4096,65536,1099511627776,1000,1000000",
+        b"+ admit abcdefghijklmnop,4096,65536,1099511627776,1000,1000000,1000000",
         b"abcdefghijklmnop",
-        [4_096, 65_536, 1_099_511_627_776, 1_000, 1_000_000],
+        [
+            4_096,
+            65_536,
+            1_099_511_627_776,
+            1_000,
+            1_000_000,
+            1_000_000,
+        ],
     ),
 ];
 
@@ -51,7 +60,7 @@ fn retirements(rt: HostRuntime) {
     }
 }
 
-static REFUSED: [(&[u8], OperatorRefusal); 42] = [
+static REFUSED: [(&[u8], OperatorRefusal); 45] = [
     (b"+", BadCommand),
     (b" + \t", BadCommand),
     (b"+ \xff", BadCommand),
@@ -74,6 +83,7 @@ static REFUSED: [(&[u8], OperatorRefusal); 42] = [
     (b"+ admit ,,,,,,,", BadRow),
     (b"+ admit c;2;0;1;0;0", BadRow),
     (b"+ admit ,,,,,", BadName),
+    (b"+ admit ,,,,,,", BadName),
     (b"+ admit C,1,0,1,0,0", BadName),
     (b"+ admit C,2,0,1,0,0", BadName),
     (b"+ admit \"c\",2,0,1,0,0", BadName),
@@ -90,7 +100,9 @@ static REFUSED: [(&[u8], OperatorRefusal); 42] = [
     (b"+ admit c,2,0,1099511627777,0,0", BadNumber),
     (b"+ admit c,2,0,1,1001,0", BadNumber),
     (b"+ admit c,2,0,1,0,1000001", BadNumber),
+    (b"+ admit c,2,0,1,0,0,1000001", BadNumber),
     (b"+ admit c,2,0,1,0,", BadNumber),
+    (b"+ admit c,2,0,1,0,0,", BadNumber),
     (b"+ admit c,+2,0,1,0,0", BadNumber),
     (b"+ admit c,\"2\",0,1,0,0", BadNumber),
     (b"+ admit c,00000000000002,0,1,0,0", BadNumber),

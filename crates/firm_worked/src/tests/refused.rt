@@ -142,7 +142,7 @@ fn admit_to(rt: &impl Abort, alloc: Global, table: &mut Table, place: usize, lim
 fn an_admission_that_finds_no_memory_leaves_its_place_empty(rt: HostRuntime) -> Result<(), Fail> {
     let alloc = rt.alloc();
     let mut table = Table::open(alloc, &roster_of(alloc, "a,2,0,1,0,0")?, 1)?;
-    let limits = Limits::check(8, 30, 9, 0, 0).ok_or("not limits")?;
+    let limits = Limits::check(8, 30, 9, 0, 0, 0).ok_or("not limits")?;
     for place in 1..PLACES {
         admit_to(&rt, alloc, &mut table, place, limits);
     }

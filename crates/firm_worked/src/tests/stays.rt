@@ -27,7 +27,7 @@ b show
 < + ok retired b
 b show
 < ! unknown-tenant
-+ admit b,3,2,5,0,0
++ admit b,3,2,5,0,0,0
 < + ok admitted b
 b round
 < b 1 ok round cost 0
@@ -127,9 +127,13 @@ const IN_THEIR_ORDER: &[u8] = b"\
 < + no 21 operator-command
 + admit A,x,0,0
 < + no 22 operator-row
++ admit A,x,0,0,0,0,0,0
+< + no 22 operator-row
 + admit A,x,0,0,0,0
 < + no 23 operator-name
 + admit a,x,0,0,0,0
+< + no 24 operator-number
++ admit a,2,0,9,0,0,1000001
 < + no 24 operator-number
 + admit a,2,0,9,0,0
 < + no 25 tenant-exists
