@@ -1,6 +1,6 @@
 -- A table of preferences, and one more; and preferences without one of them.
-use Rattle.std.proofs.Common.{◌≡◌, ℕ, zero, suc, ◌+◌, ◌<◌, ◌≤◌, Bool, true, false, not, cond, ◌||◌, List, [], ◌∷◌, ◌++◌, length}
-use Rattle.std.proofs.Common.{take, bytes_eq, true≢false, refl, sym, ap, subst, ◌∙◌, arith}
+use Rattle.std.proofs.Common.{◌≡◌, ℕ, suc, ◌+◌, ◌<◌, ◌≤◌, Bool, true, false, not, cond, ◌||◌, List, [], ◌∷◌, ◌++◌, length}
+use Rattle.std.proofs.Common.{None, take, bytes_eq, true≢false, refl, sym, ap, subst, ◌∙◌, arith}
 use Rattle.std.specs.Prelude.{slice_set, slice_index_or, codes, drop}
 use Rattle.std.specs.Cmp.{IsEquivalence}
 use Rattle.std.specs.List.{IsDistinct, AllByRecursion}
@@ -9,6 +9,8 @@ use Rattle.std.proofs.lemmas.Slice.Eq.{bytes_eq-Decides}
 use Rattle.std.proofs.lemmas.List.{length-append}
 use Rattle.std.proofs.lemmas.Map.Keys.{IsDistinct-push}
 use Rattle.firm_rules.specs.Names.{is_among}
+use Rattle.firm_rules.specs.Book.{is_on, evicted, forgetting}
+use Rattle.firm_rules.specs.declared.parts.Task.{Task}
 use Rattle.firm_rules.specs.Preferences.{ArePreferences, padded, with_preference, without_preference}
 use Rattle.firm_rules.proofs.NamedRows.{bytes_eq-own, bytes_eq-other, length-filter-le}
 use Rattle.firm_rules.proofs.Padded.{written, long, taken}
@@ -112,3 +114,29 @@ module _ (gone : List ℕ) (names left : List (List ℕ)) (next : List ℕ) (res
   passed own =
       sym (ap (λ (b : Bool). left ++ cond (not b) (next ∷ without_preference gone rest) (without_preference gone rest)) own)
       ∙ so_far
+
+-- preferences without a name that is none of them
+without_other : (gone : List ℕ) (names : List (List ℕ)) → is_among names gone ≡ false
+    → without_preference gone names ≡ names
+without_other gone [] none = refl
+without_other gone (name ∷ names) none =
+    elim (bytes_eq gone name) as (λ b. (b || is_among names gone) ≡ false
+    → cond (not b) (name ∷ without_preference gone names) (without_preference gone names) ≡ name ∷ names) [
+      | true ↦ λ e. absurd (true≢false e)
+      | false ↦ λ e. ap (λ (l : List (List ℕ)). name ∷ l) (without_other gone names e)
+    ] none
+
+-- a task that has nothing to do with a machine does not run there, and is as it was once that is gone
+pub evicted-other : (gone : List ℕ) (task : Task) → (is_on gone task.machine || is_among task.preferred gone) ≡ false
+    → (is_on gone task.machine ≡ false) × (evicted gone task ≡ task)
+evicted-other gone task apart =
+    elim (is_on gone task.machine) as (λ b. (b || is_among task.preferred gone) ≡ false
+    → (b ≡ false)
+    × (cond b (record (forgetting gone task) { machine = None; waited = 0 }) (forgetting gone task) ≡ task)) [
+      | true ↦ λ e. absurd (true≢false e)
+      | false ↦ λ e. (
+        refl,
+        ap (λ (l : List (List ℕ)). let t : Task = record task { preferred = l } in t)
+            (without_other gone task.preferred e),
+      )
+    ] apart

@@ -1,5 +1,5 @@
 -- A table of 8 costs, and one more cost.
-use Rattle.std.proofs.Common.{◌≡◌, ℕ, ◌+◌, ◌<◌, List, ap, sym, ◌∙◌}
+use Rattle.std.proofs.Common.{ℕ, ◌+◌, ◌<◌, List, ap, sym, ◌∙◌}
 use Rattle.std.specs.Prelude.{ℤ, pos, length, slice_set}
 use Rattle.firm_rules.specs.Recent.{padded, AreRecentCosts}
 use Rattle.firm_rules.proofs.Padded.{written, long, taken}

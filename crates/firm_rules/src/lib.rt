@@ -29,7 +29,7 @@ pub use laws::{legality_is_judged, the_first_difference_decides, the_round_is_th
 pub use names::Name;
 pub use parts::{Job, Machine, Task, Use};
 pub use placements::{cost_of, legal, ranks_before};
-pub use preferences::Preferred;
+pub use preferences::{MOST_PREFERENCES, Preferred};
 pub use recent::RecentCosts;
 pub use replies::{Outcome, Refusal, Reply};
 pub use rounds::{Change, Choice};

@@ -7,7 +7,8 @@ ghost use Rattle.firm_rules.specs.Preferences.{with_preference, without_preferen
 use crate::names::Name;
 use std::marker::Model;
 
-const MOST_PREFERENCES: usize = 4;
+/// A task prefers at most this many machines.
+pub const MOST_PREFERENCES: usize = 4;
 
 /// The names of the machines that a task prefers, 4 at most, each once, in the order in which they were given.
 #[derive(Clone, Copy, Debug, PartialEq, Eq)]

@@ -1,8 +1,33 @@
-use Rattle.std.proofs.Common.{ap, ◌∙◌}
+use Rattle.std.proofs.Common.{sym, ap, ◌∙◌}
 use Rattle.indexmap.proofs.CallerLemmas.{keys-with_value_at}
+use Rattle.firm_rules.proofs.PreferredNames.{evicted-other}
 use Rattle.firm_rules.proofs.SoundRows.{one_if, one_if-from_bool}
 use Rattle.firm_rules.proofs.TaskWrites.{evicted-written}
 use Rattle.firm_rules.proofs.tables.evict_at.Goals as goal
+
+pub returns-then-not-names_machine-clause-names : goal.returns-then-not-names_machine-clause-names
+returns-then-not-names_machine-clause-names g c =
+    keys-with_value_at c.args.tasks.now c.args.place c.in-Some.task.now
+
+pub returns-then-not-names_machine-clause-tasks : goal.returns-then-not-names_machine-clause-tasks
+returns-then-not-names_machine-clause-tasks g c d =
+    let other = evicted-other c.args.name c.in-Some.task.now (sym c.names_machine.ensures ∙ c.if-not-names_machine.true) in
+    (evicted-written c.args.name c.args.tasks.now.entries c.args.place c.in-Some.task.now c.in-Some.ensures.value
+    c.in-Some.task.now (sym other.1) d).0
+
+pub returns-then-not-names_machine-clause-count : goal.returns-then-not-names_machine-clause-count
+returns-then-not-names_machine-clause-count g c d =
+    let other = evicted-other c.args.name c.in-Some.task.now (sym c.names_machine.ensures ∙ c.if-not-names_machine.true) in
+    sym (ap one_if other.0)
+    ∙ (evicted-written c.args.name c.args.tasks.now.entries c.args.place c.in-Some.task.now c.in-Some.ensures.value
+    c.in-Some.task.now (sym other.1) d).1
+
+pub returns-then-not-names_machine-clause-preferences : goal.returns-then-not-names_machine-clause-preferences
+returns-then-not-names_machine-clause-preferences g c d =
+    let other = evicted-other c.args.name c.in-Some.task.now (sym c.names_machine.ensures ∙ c.if-not-names_machine.true) in
+    c.len.ensures.value
+    ∙ (evicted-written c.args.name c.args.tasks.now.entries c.args.place c.in-Some.task.now c.in-Some.ensures.value
+    c.in-Some.task.now (sym other.1) d).2
 
 pub returns-clause-names : goal.returns-clause-names
 returns-clause-names g c = keys-with_value_at c.args.tasks.now c.args.place c.without_machine.result
@@ -20,9 +45,6 @@ returns-clause-count g c d =
 
 pub returns-clause-preferences : goal.returns-clause-preferences
 returns-clause-preferences g c d =
-    c.len.ensures.value
+    c.len-2.ensures.value
     ∙ (evicted-written c.args.name c.args.tasks.now.entries c.args.place c.in-Some.task.now c.in-Some.ensures.value
     c.without_machine.result c.without_machine.ensures d).2
-
-pub returns-clause-few : goal.returns-clause-few
-returns-clause-few g c = c.len.ensures.most

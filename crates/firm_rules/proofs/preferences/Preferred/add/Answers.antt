@@ -1,6 +1,6 @@
 use Rattle.std.proofs.Common.{List, ℕ, length, ap, ◌∙◌, sym, arith}
 use Rattle.firm_rules.specs.Names.{is_among}
-use Rattle.firm_rules.proofs.PreferredNames.{added, with_new}
+use Rattle.firm_rules.proofs.PreferredNames.{added}
 use Rattle.firm_rules.proofs.preferences.Preferred.add.Goals as goal
 
 pub invariant_of-self : goal.invariant_of-self

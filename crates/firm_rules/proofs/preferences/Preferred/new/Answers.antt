@@ -1,4 +1,4 @@
-use Rattle.std.proofs.Common.{◌≡◌, List, ℕ, [], ◌∷◌, refl, ap, arith}
+use Rattle.std.proofs.Common.{List, ℕ, [], ◌∷◌, refl, ap, arith}
 use Rattle.std.specs.List.{IsDistinct}
 use Rattle.firm_rules.proofs.preferences.Preferred.new.Goals as goal
 

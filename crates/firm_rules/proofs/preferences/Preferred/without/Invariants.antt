@@ -1,4 +1,4 @@
-use Rattle.std.proofs.Common.{◌≡◌, ◌++◌, ◌≤◌, drop}
+use Rattle.std.proofs.Common.{◌≡◌, ◌++◌, drop}
 use Rattle.firm_rules.specs.Preferences.{without_preference}
 use Rattle.firm_rules.proofs.preferences.Preferred.without.Given as goal
 
