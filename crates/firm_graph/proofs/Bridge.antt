@@ -8,7 +8,7 @@ use Rattle.std.proofs.lemmas.Bool.{cases_Bool, cond-true, cond-false, not_from_t
 use Rattle.firm_paths.specs.Network.{Arc}
 use Rattle.firm_rules.specs.Book.{TenantRows, machine_names, job_names}
 use Rattle.firm_rules.specs.Placement.{Case, Demand}
-use Rattle.firm_rules.specs.Round.{case_of, place_of, machine_place, job_place, weight_at, demand_of}
+use Rattle.firm_rules.specs.Round.{case_of, place_of, machine_place, job_place, demand_of}
 use Rattle.firm_rules.specs.declared.parts.Machine.{Machine}
 use Rattle.firm_rules.specs.declared.parts.Job.{Job}
 use Rattle.firm_rules.specs.declared.parts.Task.{Task}

@@ -1,10 +1,10 @@
 -- What a graph is once a task prefers a machine no longer.
-use Rattle.std.proofs.Common.{◌≡◌, ℕ, zero, suc, ◌+◌, ◌<◌, ◌≤◌, Bool, true, false, not, cond, is_some, ⊎_elim, Option, Some}
+use Rattle.std.proofs.Common.{◌≡◌, ℕ, zero, suc, ◌+◌, ◌<◌, ◌≤◌, Bool, true, false, not, cond, ⊎_elim, Some}
 use Rattle.std.proofs.Common.{None, List, [], ◌∷◌, ◌++◌, map, length, get_or, set, bytes_eq, arith, refl, sym, ap, ap₂}
 use Rattle.std.proofs.Common.{◌∙◌, ltb, subst}
-use Rattle.std.specs.List.{sum_by, AllZip, AllByRecursion, IsDistinct, remove, filter, position, position_or_len}
+use Rattle.std.specs.List.{sum_by, AllZip, AllByRecursion, IsDistinct, remove, position, position_or_len}
 use Rattle.std.proofs.lemmas.Bool.{cases_Bool, cond-true, ltb-false}
-use Rattle.std.proofs.lemmas.List.{length-map, length-set}
+use Rattle.std.proofs.lemmas.List.{length-set}
 use Rattle.std.proofs.Math.Seq.{map-set_same}
 use Rattle.std.proofs.lemmas.List.Sums.{sum_by-cons, sum_by-append, sum_by-set}
 use Rattle.std.proofs.lemmas.Map.Keys.{IsDistinct-head, IsDistinct-tail}
@@ -20,7 +20,7 @@ use Rattle.firm_rules.specs.Preferences.{without_preference}
 use Rattle.firm_rules.specs.declared.parts.Task.{Task}
 use Rattle.firm_graph.specs.declared.parts.TaskParts.{TaskParts}
 use Rattle.firm_graph.specs.Network.{away}
-use Rattle.firm_graph.specs.Graph.{Graph, Mirrors, flat_zip, preferred_spans, task_spans, Target, target_of, node_under}
+use Rattle.firm_graph.specs.Graph.{Graph, Mirrors, flat_zip, preferred_spans, task_spans, target_of, node_under}
 use Rattle.firm_graph.specs.Graph.{graph_nodes, graph_spans, machine_nodes}
 use Rattle.firm_graph.specs.Steps.{Holds, near, update_at, refitted, with_forgetting_at, IsFitting, no_task, task_at}
 use Rattle.firm_graph.specs.Steps.{forgetting_first, forgetting_rows}

@@ -2,7 +2,7 @@
 use Rattle.std.proofs.Common.{◌≡◌, ℕ, zero, suc, ◌+◌, ◌<◌, Bool, true, false, true≢false, cond, ◌||◌, ⊎_elim, Option}
 use Rattle.std.proofs.Common.{Some, None, List, [], ◌∷◌, ◌++◌, map, length, get_or, bytes_eq, arith, refl, sym, ap, ap₂}
 use Rattle.std.proofs.Common.{◌∙◌}
-use Rattle.std.specs.List.{sum_by, All, AllZip, Contains, remove, position, position_or_len, list_any}
+use Rattle.std.specs.List.{sum_by, All, Contains, remove, position, position_or_len, list_any}
 use Rattle.std.specs.Prelude.{slice_index_or}
 use Rattle.std.proofs.lemmas.Bool.{cases_Bool, cond-false}
 use Rattle.std.proofs.lemmas.List.{get_or-map, length-map}

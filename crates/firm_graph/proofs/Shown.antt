@@ -482,9 +482,11 @@ module _ (g : Graph) (is : IsGraph g) where
   read-demand : (i : ℕ) → i < length v.case.tasks → (i < length g.rows.tasks) ×
       (demand v.case i ≡ demand_of g.rows (get_or g.rows.tasks i no_task))
   read-demand i below =
-      let here : i < length g.rows.tasks = omega (arith, below, length-map (demand_of g.rows) g.rows.tasks) in
-      (here, get_or-map (demand_of g.rows) g.rows.tasks i no_task
-      (record { home = None; preferred = []; delay = 0; job = 0 }) here)
+      let here : i < length g.rows.tasks = omega (arith, below, length-map (demand_of g.rows) g.rows.tasks) in (
+        here,
+        get_or-map (demand_of g.rows) g.rows.tasks i no_task
+            (record { home = None; preferred = []; delay = 0; job = 0 }) here,
+      )
 
   job-below : (i : ℕ) → i < length v.case.tasks → (demand v.case i).job < v.case.jobs
   job-below i below =

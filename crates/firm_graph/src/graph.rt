@@ -23,8 +23,10 @@ ghost use Rattle.firm_graph.specs.View.{Shows, IsAtRest, IsSameCase, CanHold, wi
 ghost use Rattle.firm_graph.specs.declared.network.Node.TheVariants.{Sink, Hub};
 ghost use Rattle.firm_graph.specs.declared.network.Key.TheVariants.{Through, Wide, Stay, Delay, Prefer};
 
-use crate::edits::{away_cost, drop_node, link, link_preferred, link_slots, push_reserved, put_node};
-use crate::edits::{unlink, unlink_preferred, unlink_slots};
+use crate::edits::{
+    away_cost, drop_node, link, link_preferred, link_slots, push_reserved, put_node, unlink,
+    unlink_preferred, unlink_slots,
+};
 use crate::growth::{grow_jobs, grow_machines, grow_tasks};
 use crate::moves::{evict_tasks, forget_machine, settle_tasks};
 use crate::order::SearchOrder;
@@ -394,8 +396,8 @@ impl Graph {
         drop_node(&mut self.net, parts.node);
     }
 
-    /// Removes a machine. The tasks that run on it wait again, and how many they are is the answer. No task prefers it any
-    /// longer.
+    /// Removes a machine. The tasks that run on it wait again, and how many they are is the answer. No task prefers it
+    /// any longer.
     pub fn drop_machine(&mut self, name: Name) -> u32
         requires there { is_among (machine_names self.old.rows) name ≡ true }
         ensures rows { self.new.rows ≡ without_machine self.old.rows name }
@@ -416,8 +418,8 @@ impl Graph {
         evicted
     }
 
-    /// Makes the rows those after a round of these choices, one for each task, and moves the tasks' stay arcs. The arcs of
-    /// a task that starts, or no longer runs, cost what they then do.
+    /// Makes the rows those after a round of these choices, one for each task, and moves the tasks' stay arcs. The arcs
+    /// of each task cost what they do where it now stands.
     pub fn settle(&mut self, choices: &[Choice])
         requires legal { is_legal (case_of self.old.rows) choices.now ≡ true }
         ensures rows { self.new.rows ≡ rows_after self.old.rows choices.now }

@@ -47,7 +47,13 @@ pub(crate) fn forget_machine(net: &mut Net, rows: &Rows, tasks: &mut [TaskParts]
 }
 
 // Takes the arc to the machine of a name, if there is one, out of the preferences of the task at a place.
-fn forget_at(net: &mut Net, rows: &Rows, mut parts: TaskParts, place: usize, name: Name) -> TaskParts
+fn forget_at(
+    net: &mut Net,
+    rows: &Rows,
+    mut parts: TaskParts,
+    place: usize,
+    name: Name,
+) -> TaskParts
     requires place { place < length rows.now.tasks }
     requires preferred { length parts.arcs.preferred ≡ length (task_at rows.now place).preferred }
     ensures node { result.node ≡ parts.node }
@@ -63,9 +69,9 @@ fn forget_at(net: &mut Net, rows: &Rows, mut parts: TaskParts, place: usize, nam
     unlink(net, parts.arcs.preferred.at(preference));
     parts.arcs.preferred.remove(preference);
     let limits = rows.limits();
-    let leaving = where_runs(task.machine.is_some(), limits.churn() as u32);
     let away = away_cost(limits, parts.arcs.preferred.len());
-    rate(net, parts.arcs.wide, 1, leaving + away);
+    let wide = where_runs(task.machine.is_some(), limits.churn() as u32) + away;
+    rate(net, parts.arcs.wide, 1, wide);
     parts
 }
 

@@ -8,7 +8,7 @@ use crate::parts::{JobParts, MachineIds, TaskParts};
 use crate::{Graph, GraphRefusal, TaskArcs};
 use firm_net::{ArcId, ArcRow, Net, NodeId, Way};
 use firm_paths::{Prices, Scratch};
-use firm_rules::{Choice, Limits, Name, Rows, Slots, Use, Weight, legal, use_of};
+use firm_rules::{Choice, Limits, Name, Preferred, Rows, Slots, Use, Weight, legal, use_of};
 use linked_list_allocator::LocalHeap;
 use std::alloc::{AllocError, Allocator, Global};
 use std::process::Abort;
@@ -27,7 +27,7 @@ fn weight(rt: &impl Abort, weight: u64) -> Weight {
 }
 
 fn limits(rt: &impl Abort, nodes: u64, arcs: u64) -> Limits {
-    Limits::check(nodes, arcs, 100, 1, 2).expect(rt, "limits")
+    Limits::check(nodes, arcs, 100, 1, 2, 7).expect(rt, "limits")
 }
 
 fn machine(
@@ -51,12 +51,29 @@ fn job(rt: &impl Abort, graph: &mut Graph, bytes: &[u8]) -> Result<(), GraphRefu
 }
 
 fn task(rt: &impl Abort, graph: &mut Graph, job: &[u8], bytes: &[u8]) -> Result<(), GraphRefusal> {
+    preferring(rt, graph, job, bytes, &[])
+}
+
+// A task that prefers these machines.
+fn preferring(
+    rt: &impl Abort,
+    graph: &mut Graph,
+    job: &[u8],
+    bytes: &[u8],
+    machines: &[&[u8]],
+) -> Result<(), GraphRefusal> {
     let job = name(rt, job);
-    let name = name(rt, bytes);
+    let task = name(rt, bytes);
+    let mut preferred = Preferred::new();
+    for bytes in machines {
+        assert!(rt; preferred.len() < 4);
+        preferred.add(name(rt, bytes));
+    }
     assert!(rt; graph.rows().has_job(job));
-    assert!(rt; !graph.rows().has_task(name));
+    assert!(rt; !graph.rows().has_task(task));
+    assert!(rt; graph.rows().has_machines(preferred.as_slice()));
     assert!(rt; graph.asked() < 1_000);
-    graph.add_task(job, name)
+    graph.add_task(job, task, preferred)
 }
 
 fn drain(rt: &impl Abort, graph: &mut Graph, bytes: &[u8], evicted: u32) {
@@ -180,6 +197,18 @@ fn expect_task(
     owner
 }
 
+// The arcs of the task at a place to the machines that it prefers lead to these nodes and cost so much each.
+fn expect_preferred(rt: &impl Abort, graph: &Graph, place: usize, heads: &[NodeId], cost: u32) {
+    let node = source(rt, graph, place);
+    let preferred = arcs_of(rt, graph, place).preferred;
+    assert_eq!(rt; preferred.len(), heads.len());
+    for (preference, head) in heads.iter().enumerate() {
+        assert!(rt; preference < preferred.len());
+        let arc = preferred.at(preference);
+        expect_row(rt, graph.net(), arc, row(rt, node, *head, 1, cost));
+    }
+}
+
 fn expect_waiting(rt: &impl Abort, graph: &Graph, place: usize) -> NodeId {
     expect_task(rt, graph, place, 0, (graph.hub(), 0), 10)
 }
@@ -243,6 +272,95 @@ fn a_wait_costs_more_after_each_round(rt: HostRuntime) -> Result<(), Fail> {
     let first = expect_machine(&rt, &graph, 0);
     let owner = expect_task(&rt, &graph, 0, 0, (graph.hub(), 0), 12);
     expect_same(&rt, expect_running(&rt, &graph, 1, first), owner);
+    Ok(())
+}
+
+#[test]
+fn arcs_to_preferred_machines_follow_their_task(rt: HostRuntime) -> Result<(), Fail> {
+    let mut graph = worked(&rt, rt.alloc())?;
+    let machines: &[&[u8]] = &[b"m2", b"m1", b"m2"];
+    expect(
+        &rt,
+        preferring(&rt, &mut graph, b"j", b"c", machines),
+        Ok(()),
+    );
+    expect_room(&rt, &graph, 1, 6);
+    let first = expect_machine(&rt, &graph, 0);
+    let second = expect_machine(&rt, &graph, 1);
+    expect_task(&rt, &graph, 2, 7, (graph.hub(), 0), 10);
+    expect_preferred(&rt, &graph, 2, &[second, first], 0);
+    settle(
+        &rt,
+        &mut graph,
+        &[Choice::Wait, Choice::Wait, Choice::On(1)],
+    );
+    expect_task(&rt, &graph, 2, 9, (second, 1), 12);
+    expect_preferred(&rt, &graph, 2, &[second, first], 2);
+    done(&rt, &mut graph, b"c");
+    expect_room(&rt, &graph, 2, 11);
+    Ok(())
+}
+
+#[test]
+fn no_task_prefers_a_drained_machine(rt: HostRuntime) -> Result<(), Fail> {
+    let alloc = rt.alloc();
+    let mut graph = worked(&rt, alloc)?;
+    expect(
+        &rt,
+        preferring(&rt, &mut graph, b"j", b"c", &[b"m2"]),
+        Ok(()),
+    );
+    expect(
+        &rt,
+        preferring(&rt, &mut graph, b"j", b"d", &[b"m1", b"m2"]),
+        Ok(()),
+    );
+    settle(
+        &rt,
+        &mut graph,
+        &[Choice::Wait, Choice::Wait, Choice::On(0), Choice::On(1)],
+    );
+    drain(&rt, &mut graph, b"m2", 1);
+    // A machine that is added under the name later is preferred by none.
+    expect(&rt, machine(&rt, alloc, &mut graph, b"m2", 2), Ok(()));
+    let first = expect_machine(&rt, &graph, 0);
+    expect_task(&rt, &graph, 2, 2, (first, 1), 12);
+    expect_preferred(&rt, &graph, 2, &[], 2);
+    expect_task(&rt, &graph, 3, 7, (graph.hub(), 0), 10);
+    expect_preferred(&rt, &graph, 3, &[first], 0);
+    Ok(())
+}
+
+#[test]
+fn preferences_keep_their_order_where_one_goes(rt: HostRuntime) -> Result<(), Fail> {
+    let alloc = rt.alloc();
+    let mut graph = worked(&rt, alloc)?;
+    expect(&rt, machine(&rt, alloc, &mut graph, b"m3", 1), Ok(()));
+    let machines: &[&[u8]] = &[b"m3", b"m1", b"m2"];
+    expect(
+        &rt,
+        preferring(&rt, &mut graph, b"j", b"c", machines),
+        Ok(()),
+    );
+    let third = head_of(&rt, graph.net(), through(&rt, &graph, 2));
+    drain(&rt, &mut graph, b"m1", 0);
+    let second = expect_machine(&rt, &graph, 0);
+    expect_preferred(&rt, &graph, 2, &[third, second], 0);
+    drain(&rt, &mut graph, b"m3", 0);
+    expect_preferred(&rt, &graph, 2, &[second], 0);
+    Ok(())
+}
+
+#[test]
+fn an_arc_is_asked_for_each_preference(rt: HostRuntime) -> Result<(), Fail> {
+    let alloc = rt.alloc();
+    let mut graph = Graph::open(alloc, limits(&rt, 9, 6))?;
+    expect(&rt, machine(&rt, alloc, &mut graph, b"m1", 1), Ok(()));
+    expect(&rt, job(&rt, &mut graph, b"j"), Ok(()));
+    let arcs = Err(GraphRefusal::Arcs);
+    expect(&rt, preferring(&rt, &mut graph, b"j", b"x", &[b"m1"]), arcs);
+    expect(&rt, task(&rt, &mut graph, b"j", b"x"), Ok(()));
+    expect_room(&rt, &graph, 4, 0);
     Ok(())
 }
 
@@ -347,6 +465,31 @@ fn a_least_flow_is_held_and_moved(rt: HostRuntime) -> Result<(), Fail> {
     push(&rt, &mut graph, arc, Way::Forward, false);
     push(&rt, &mut graph, arc, Way::Backward, true);
     expect_flow(&rt, &graph, arc, 1);
+    Ok(())
+}
+
+#[test]
+fn the_way_by_the_hub_costs_remote(rt: HostRuntime) -> Result<(), Fail> {
+    let alloc = rt.alloc();
+    let mut graph = Graph::open(alloc, limits(&rt, 9, 30))?;
+    expect(&rt, machine(&rt, alloc, &mut graph, b"m1", 1), Ok(()));
+    expect(&rt, machine(&rt, alloc, &mut graph, b"m2", 1), Ok(()));
+    expect(&rt, job(&rt, &mut graph, b"j"), Ok(()));
+    expect(
+        &rt,
+        preferring(&rt, &mut graph, b"j", b"x", &[b"m2"]),
+        Ok(()),
+    );
+    expect(
+        &rt,
+        preferring(&rt, &mut graph, b"j", b"y", &[b"m2"]),
+        Ok(()),
+    );
+    let mut prices = Prices::new(alloc, graph.net())?;
+    let mut scratch = Scratch::new(alloc, graph.net())?;
+    assert_eq!(rt; graph.least(&mut prices, &mut scratch), 7);
+    expect_flow(&rt, &graph, through(&rt, &graph, 0), 1);
+    expect_flow(&rt, &graph, through(&rt, &graph, 1), 0);
     Ok(())
 }
 
@@ -461,6 +604,7 @@ impl<'a> Lists<'a> {
             &mut self.rows,
             job,
             name,
+            Preferred::new(),
         )
         .is_ok()
     }

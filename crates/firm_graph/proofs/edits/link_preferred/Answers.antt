@@ -1,6 +1,4 @@
-use Rattle.std.proofs.Common.{◌≡◌, ◌+◌, ◌≤◌, ◌<◌, ℕ, List, [], length, map, take, arith, ap, sym, ◌∙◌, ◌∷◌, subst, length-append}
-use Rattle.std.proofs.lemmas.List.{length-map, get_or_default}
-use Rattle.firm_net.specs.Net.{IsNode}
+use Rattle.std.proofs.Common.{ℕ, List, [], length, map, take, arith, ap, ◌∷◌, subst, length-append}
 use Rattle.firm_net.specs.Edits.{IsEdit}
 use Rattle.firm_net.specs.declared.row.NodeId.{NodeId}
 use Rattle.firm_net.specs.declared.row.ArcId.{ArcId}

@@ -1,6 +1,6 @@
-use Rattle.std.proofs.Common.{◌≡◌, ◌≢◌, ℕ, [], map, length, take}
+use Rattle.std.proofs.Common.{◌≡◌, ◌≢◌, [], map, length, take}
 use Rattle.std.specs.List.{All}
-use Rattle.firm_net.specs.Net.{IsNet, IsNode}
+use Rattle.firm_net.specs.Net.{IsNode}
 use Rattle.firm_net.specs.declared.row.NodeId.{NodeId}
 use Rattle.firm_net.specs.Edits.{IsEdit}
 use Rattle.firm_rules.specs.Book.{machine_names}

@@ -1,4 +1,4 @@
-use Rattle.std.proofs.Common.{◌≤◌, ◌<◌, length, arith}
+use Rattle.std.proofs.Common.{arith}
 use Rattle.firm_graph.proofs.Near.{rate-step, rate-end}
 use Rattle.firm_graph.proofs.edits.rate_preferred.Goals as goal
 

@@ -1,6 +1,5 @@
-use Rattle.std.proofs.Common.{◌≡◌, ◌≤◌, ◌<◌, List, length, get_or, arith, ap, sym, ◌∙◌, subst}
+use Rattle.std.proofs.Common.{◌≤◌, length, arith, ap, ◌∙◌, subst}
 use Rattle.firm_rules.specs.Book.{TenantRows}
-use Rattle.firm_graph.specs.declared.parts.TaskParts.{TaskParts}
 use Rattle.firm_graph.specs.Graph.{Mirrors}
 use Rattle.firm_graph.specs.Steps.{moved, thrown_out_first}
 use Rattle.firm_graph.proofs.Firsts.{throw-end}

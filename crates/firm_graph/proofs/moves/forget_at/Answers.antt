@@ -1,4 +1,4 @@
-use Rattle.std.proofs.Common.{◌≡◌, ◌+◌, ◌<◌, ℕ, Bool, cond, ltb, is_some, Option, Some, List, [], ◌∷◌, length, set, bytes_eq, arith, ap, ap₂, sym, ◌∙◌, subst}
+use Rattle.std.proofs.Common.{◌≡◌, ◌+◌, ◌<◌, ℕ, Bool, cond, ltb, is_some, Some, List, [], ◌∷◌, length, set, bytes_eq, arith, ap, ap₂, sym, ◌∙◌, subst}
 use Rattle.std.specs.List.{IsDistinct, position, remove}
 use Rattle.firm_net.specs.Net.{Net, row_at}
 use Rattle.firm_net.specs.Row.{Row}
@@ -8,11 +8,11 @@ use Rattle.firm_rules.specs.Limits.{TenantLimits}
 use Rattle.firm_rules.specs.declared.parts.Task.{Task}
 use Rattle.firm_graph.specs.declared.parts.TaskParts.{TaskParts}
 use Rattle.firm_graph.specs.Network.{away}
-use Rattle.firm_graph.specs.Graph.{Graph, Mirrors}
-use Rattle.firm_graph.specs.Steps.{IsFitting, refitted, with_forgetting_at, task_at, no_task}
+use Rattle.firm_graph.specs.Graph.{Mirrors}
+use Rattle.firm_graph.specs.Steps.{refitted, with_forgetting_at, task_at, no_task}
 use Rattle.firm_graph.proofs.Additions.{read-at}
 use Rattle.firm_graph.proofs.Lookups.{position-is}
-use Rattle.firm_graph.proofs.Forgets.{fewer, forgot, forgot-holds, not-preferred}
+use Rattle.firm_graph.proofs.Forgets.{forgot, forgot-holds, not-preferred}
 use Rattle.firm_graph.proofs.moves.forget_at.Goals as goal
 
 pub returns-in_default-place_among-clause-step : goal.returns-in_default-place_among-clause-step
@@ -53,7 +53,7 @@ returns-clause-step c =
     let place : ℕ = c.args.place in
     let parts : TaskParts = c.args.parts in
     let k : ℕ = c.in-Some-place_among.preference in
-    let leaving : ℕ = c.where_runs-leaving.result in
+    let leaving : ℕ = c.where_runs.result in
     let far : ℕ = c.away_cost-away.result in
     let row : task_at g.rows place ≡ c.in-Some.task =
     fit.its_row ∙ read-at c.args.rows.now.tasks place c.in-Some.task c.in-Some.ensures no_task in
@@ -69,7 +69,7 @@ returns-clause-step c =
     let runs : c.is_some.result ≡ is_some (task_at g.rows place).machine =
     c.is_some.ensures ∙ sym (ap (λ (t : Task). is_some t.machine) row) in
     let leaving_is : leaving ≡ cond (is_some (task_at g.rows place).machine) g.rows.limits.churn 0 =
-    c.where_runs-leaving.ensures ∙ ap₂ (λ (b : Bool) (n : ℕ). cond b n 0) runs churn in
+    c.where_runs.ensures ∙ ap₂ (λ (b : Bool) (n : ℕ). cond b n 0) runs churn in
     let count : c.len.result ≡ length (remove parts.arcs.preferred k) =
     c.len.ensures.value ∙ ap (λ (l : List ArcId). length l) c.remove.ensures in
     let far_is : far ≡ away g.rows.limits.remote (remove parts.arcs.preferred k) =

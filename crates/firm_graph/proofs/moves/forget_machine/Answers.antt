@@ -1,6 +1,4 @@
-use Rattle.std.proofs.Common.{◌≡◌, ◌+◌, ◌≤◌, ◌<◌, ℕ, List, length, get_or, set, map, arith, ap, sym, ◌∙◌, subst}
-use Rattle.std.specs.List.{AllZip}
-use Rattle.firm_net.specs.declared.row.NodeId.{NodeId}
+use Rattle.std.proofs.Common.{◌≡◌, ◌≤◌, ℕ, length, arith, ap, ◌∙◌, subst}
 use Rattle.firm_rules.specs.Book.{TenantRows}
 use Rattle.firm_rules.specs.declared.parts.Task.{Task}
 use Rattle.firm_graph.specs.declared.parts.TaskParts.{TaskParts}
@@ -37,9 +35,13 @@ loop-place-preserved c = record {
 pub returns-clause-forgotten : goal.returns-clause-forgotten
 returns-clause-forgotten c =
     λ g mirrors net_is rows_is tasks_is.
-    let all : length g.rows.tasks ≤ c.loop-place.place = omega
-    (arith, c.loop-place-test.false, c.loop-place.auto.tasks, c.requires.tasks,
-    ap (λ (r : TenantRows). length r.tasks) rows_is) in
+    let all : length g.rows.tasks ≤ c.loop-place.place = omega (
+      arith,
+      c.loop-place-test.false,
+      c.loop-place.auto.tasks,
+      c.requires.tasks,
+      ap (λ (r : TenantRows). length r.tasks) rows_is,
+    ) in
     subst (λ (r : TenantRows). Mirrors (refitted g r c.loop-place.net c.loop-place.tasks))
     (forget-end g.rows c.args.name c.loop-place.place all)
     (c.loop-place.invariant.so_far g mirrors net_is rows_is tasks_is)

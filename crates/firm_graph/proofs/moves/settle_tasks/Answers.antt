@@ -20,7 +20,7 @@ loop-place-preserved c = record {
       settle-next g c.args.rows.now c.args.machines.now c.args.hub c.args.choices.now c.loop-place.place _
       c.index-tasks-place.result
       c.stand_of-stand.result c.loop-place.net c.place_task.new.net
-      rows_is machines_is hub_is here below 
+      rows_is machines_is hub_is here below
       (c.index-tasks-place.is ∙ ap (λ (l : List TaskParts). get_or l c.loop-place.place c.index-tasks-place.result)
       (sym tasks_is))
       (get_or_default c.args.choices.now c.loop-place.place Wait _ c.loop-place-test.true)

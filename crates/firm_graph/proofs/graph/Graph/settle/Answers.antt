@@ -1,4 +1,4 @@
-use Rattle.std.proofs.Common.{◌≡◌, ◌+◌, ℕ, true, List, length, arith, sym, subst}
+use Rattle.std.proofs.Common.{◌≡◌, ℕ, true, List, length, arith, sym, subst}
 use Rattle.std.specs.List.{All}
 use Rattle.std.proofs.lemmas.List.{length-map}
 use Rattle.firm_rules.specs.Placement.{IsLegal, IsPlace, is_legal}

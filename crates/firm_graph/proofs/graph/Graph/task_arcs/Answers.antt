@@ -1,4 +1,4 @@
-use Rattle.std.proofs.Common.{◌≡◌, ◌<◌, length, ap, sym, subst}
+use Rattle.std.proofs.Common.{◌≡◌, ◌<◌, length, sym, subst}
 use Rattle.firm_graph.specs.Graph.{Graph}
 use Rattle.firm_graph.specs.Ids.{view_of}
 use Rattle.firm_graph.specs.Inside.{graph_of}

@@ -1,4 +1,4 @@
-use Rattle.std.proofs.Common.{◌≡◌, ◌+◌, ◌<◌, ◌++◌, ◌∷◌, [], List, length, arith, ap, sym, ◌∙◌}
+use Rattle.std.proofs.Common.{◌+◌, ◌<◌, ◌++◌, ◌∷◌, [], List, length, arith, ap, ◌∙◌}
 use Rattle.firm_net.specs.declared.row.ArcId.{ArcId}
 use Rattle.firm_graph.specs.Parts.{arcs_in}
 use Rattle.firm_graph.proofs.Fronts.{are-front, arcs-padded, front-added, added-counted}
