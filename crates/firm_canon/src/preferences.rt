@@ -1,5 +1,5 @@
 //! The choice of a place for a task that prefers some machines.
-ghost use Rattle.std.specs.Prelude.{◌≡◌, ◌+◌, ◌<◌, ◌≤◌, ◌==◌, ◌&&◌, ◌||◌, ◌∷◌, ◌++◌, ◌⊎◌, [], ℕ, length, true, false, Some};
+ghost use Rattle.std.specs.Prelude.{◌≡◌, ◌+◌, ◌<◌, ◌≤◌, ◌==◌, ◌&&◌, ◌||◌, ◌⊎◌, ℕ, length, true, false, Some};
 ghost use Rattle.std.specs.Prelude.{IfSome, IfNone, nat_le};
 ghost use Rattle.std.specs.List.{list_any, position};
 ghost use Rattle.firm_paths.specs.NetArcs.{limits_of};
