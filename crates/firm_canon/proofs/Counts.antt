@@ -1,7 +1,7 @@
 -- Searches made one after another add up.
 use Rattle.std.proofs.Common.{◌≡◌, ℕ, ◌+◌, ◌-◌, ◌*◌, ◌^◌, ◌<◌, ◌≤◌, Bool, true, false, length, get_or, refl, arith}
 use Rattle.std.proofs.Common.{ap, subst, ◌∙◌, ⊎_elim}
-use Rattle.std.specs.Prelude.{count_by, nat_lt, ◌==◌, ◌&&◌, ◌||◌, List, [], ◌∷◌, cond, map, suc, sum_by}
+use Rattle.std.specs.Prelude.{count_by, nat_lt, ◌==◌, ◌||◌, List, [], ◌∷◌, cond, map, suc, sum_by}
 use Rattle.std.specs.List.{list_any}
 use Rattle.std.proofs.lemmas.Bool.{cases_lt, cases_eq, cond-true, cond-false, lt-ltb, le-ltb, eq-eqb, ne_eqb}
 use Rattle.std.proofs.Math.Nat.{mul-add}
@@ -229,14 +229,6 @@ below_all (x ∷ xs) n =
       below_all xs n,
       sides (nat_lt x n),
     )
-
-pub one_or : (a b : Bool) → b ≡ true → one_if (a || b) ≡ 1
-one_or true b e = refl
-one_or false b e = ap one_if e
-
-pub one_more : (a b h : Bool) → h ≡ true → one_if a ≤ one_if ((a && h) || b)
-one_more true b h e = omega (arith, ap (λ (z : Bool). one_if (z || b)) e)
-one_more false b h e = omega arith
 
 -- a sum over a list, by place
 listed_total : {A B : Type 0} (f : A → B) (g : B → ℕ) (d : B) (xs : List A)

@@ -16,6 +16,7 @@ pub mod Tries
 pub mod Choices
 pub mod Opens
 pub mod Passes
+pub mod Ways
 pub mod Spent
 pub mod Prefixes
 pub mod Holdings

@@ -40,7 +40,7 @@ number_out (x ∷ xs) j e =
     (cases_Bool (eqb x j))
 
 -- what a search for the machine among them finds
-position_some : (xs : List ℕ) (j k : ℕ) → position (λ z. z == j) xs ≡ Some k
+pub position_some : (xs : List ℕ) (j k : ℕ) → position (λ z. z == j) xs ≡ Some k
     → (list_any (λ z. z == j) xs ≡ true) × (k ≡ position_or_len (λ z. z == j) xs)
 position_some xs j k e =
     let n : ℕ = position_or_len (λ z. z == j) xs in

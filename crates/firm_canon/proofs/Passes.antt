@@ -1,7 +1,8 @@
 -- What follows once the machines that a task could go to were tried one after another.
-use Rattle.std.proofs.Common.{◌≡◌, ℕ, ◌<◌, ◌≤◌, Bool, true, false, ◌&&◌, List, length, Some, Option, refl, sym, ap}
+use Rattle.std.proofs.Common.{◌≡◌, ℕ, ◌<◌, ◌≤◌, Bool, true, false, List, length, Some, Option, refl, sym, ap}
 use Rattle.std.proofs.Common.{subst, ◌∙◌, ◌⊎◌, inl, inr, ⊎_elim}
 use Rattle.std.specs.Prelude.{nat_le}
+use Rattle.std.specs.Bool.{then_some}
 use Rattle.std.proofs.lemmas.Bool.{cases_Bool, cases_lt, both_ways, le-leb}
 use Rattle.firm_rules.specs.declared.rounds.Choice.{Choice}
 use Rattle.firm_rules.specs.declared.rounds.Choice.TheVariants.{On, Wait}
@@ -11,6 +12,7 @@ use Rattle.firm_graph.specs.Network.{demand}
 use Rattle.firm_graph.specs.View.{View, IsSameCase, flows}
 use Rattle.firm_canon.specs.inner.Placed.{aside}
 use Rattle.firm_canon.specs.inner.Turns.{IsStopped}
+use Rattle.firm_canon.specs.inner.Ways.{is_tried}
 use Rattle.firm_canon.specs.inner.Choosing.{Keeps, Shut, HasRoom, IsChosen, IsRefused, IsPassed, IsSpent, best}
 use Rattle.firm_canon.specs.inner.Choosing.{next_number}
 use Rattle.firm_canon.proofs.Nears.{number_in}
@@ -20,7 +22,7 @@ use Rattle.firm_canon.proofs.Choices.{shut_near, shut_same, chose_wait, chosen_o
 use Rattle.firm_canon.proofs.Opens.{never_left, none_aside}
 
 -- whether the machine is among those that are tried by the hub
-untried : (hub : Bool) (from k : ℕ) → (hub && nat_le from k) ≡ false → (hub ≡ false) ⊎ (k < from)
+untried : (hub : Bool) (from k : ℕ) → is_tried (then_some hub from) k ≡ false → (hub ≡ false) ⊎ (k < from)
 untried true from k e =
     ⊎_elim (λ (l : k < from). inr l) (λ (g : from ≤ k). absurd (both_ways (nat_le from k) e (le-leb from k g)))
     (cases_lt k from)
@@ -42,7 +44,7 @@ module _ (v : View) (price : ℕ → ℕ) (p : List Choice) (keeps : Keeps v pri
   AreSpent = (j : ℕ) → j < from → IsSpent v.case p (best v p) j
 
   abbrev pub IsPassedAt : ℕ → Type 0
-  IsPassedAt k = IsPassed v price p (hub && nat_le from k) k
+  IsPassedAt k = IsPassed v price p (is_tried (then_some hub from) k) k
 
   -- no least placement goes on by a machine that was passed
   passed_shut : IsClosed → AreSpent → (k : ℕ) → IsPassedAt k → runs_at task.home k ≡ false → Shut v p k
@@ -57,14 +59,14 @@ module _ (v : View) (price : ℕ → ℕ) (p : List Choice) (keeps : Keeps v pri
       no.none)
       (λ (far : prefers task k ≡ false).
       ⊎_elim
-      (λ (tried : (hub && nat_le from k) ≡ true).
+      (λ (tried : is_tried (then_some hub from) k ≡ true).
       spent_shut v price p k keeps next other far (passed.far other far tried))
-      (λ (not_tried : (hub && nat_le from k) ≡ false).
+      (λ (not_tried : is_tried (then_some hub from) k ≡ false).
       ⊎_elim (λ (off : hub ≡ false). closed off k other far)
       (λ (low : k < from).
       spent_shut v price p k keeps next other far (spent_beside v.case p (best v p) k (spent k low)))
       (untried hub from k not_tried))
-      (cases_Bool (hub && nat_le from k)))
+      (cases_Bool (is_tried (then_some hub from) k)))
       (cases_Bool (prefers task k))
 
   -- THE FIRST MACHINE that was not passed is chosen
@@ -104,11 +106,11 @@ module _ (v : View) (price : ℕ → ℕ) (p : List Choice) (keeps : Keeps v pri
       never_left v price p keeps next one
       (λ j l other far.
       ⊎_elim
-      (λ (tried : (hub && nat_le from j) ≡ true).
+      (λ (tried : is_tried (then_some hub from) j ≡ true).
       spent_few v price p j keeps one ((passed j l).far other far tried))
-      (λ (not_tried : (hub && nat_le from j) ≡ false).
+      (λ (not_tried : is_tried (then_some hub from) j ≡ false).
       ⊎_elim (λ (off : hub ≡ false). absurd (both_ways hub off at_hub))
       (λ (low : j < from). spent_few v price p j keeps one (spent_beside v.case p (best v p) j (spent j low)))
       (untried hub from j not_tried))
-      (cases_Bool (hub && nat_le from j)))
+      (cases_Bool (is_tried (then_some hub from) j)))
       (λ j l other close. (passed j l).near other close)

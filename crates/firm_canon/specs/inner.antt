@@ -4,3 +4,4 @@ pub mod Laws
 pub mod Choosing
 pub mod Turns
 pub mod Cuts
+pub mod Ways

@@ -16,7 +16,7 @@ ghost use Rattle.firm_graph.specs.declared.network.Key.TheVariants.{Through, Wid
 
 use crate::attempts::{more_stay, seek_hub, seek_machine, seek_own};
 use crate::cuts::Cuts;
-use crate::preferences::choose_preferring;
+use crate::preferences::{Wishes, choose_preferring};
 use crate::reads::{
     flow_on, home_of, low_on, machine_count, preferred_places, stay_arc, through_arc, wide_arc,
 };
@@ -327,5 +327,6 @@ pub(crate) fn choose(
     if places.is_empty() {
         return choose_plain(graph, prices, scratch, cuts, chosen, home, from);
     }
-    choose_preferring(graph, prices, scratch, cuts, chosen, home, &places, *from)
+    let wishes = Wishes { home, places };
+    choose_preferring(graph, prices, scratch, cuts, chosen, &wishes, *from)
 }

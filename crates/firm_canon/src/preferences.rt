@@ -1,7 +1,7 @@
 //! The choice of a place for a task that prefers some machines.
-ghost use Rattle.std.specs.Prelude.{◌≡◌, ◌+◌, ◌<◌, ◌≤◌, ◌==◌, ◌&&◌, ◌||◌, ◌⊎◌, ℕ, length, true, false, Some};
-ghost use Rattle.std.specs.Prelude.{IfSome, IfNone, nat_le};
-ghost use Rattle.std.specs.List.{list_any, position};
+ghost use Rattle.std.specs.Prelude.{◌≡◌, ◌+◌, ◌<◌, ◌≤◌, ◌==◌, ◌⊎◌, ℕ, length, true, false, Some};
+ghost use Rattle.std.specs.Prelude.{IfSome, IfNone, None, is_some};
+ghost use Rattle.std.specs.List.{position};
 ghost use Rattle.firm_paths.specs.NetArcs.{limits_of};
 ghost use Rattle.firm_paths.specs.PriceTable.{price_of};
 ghost use Rattle.firm_rules.specs.ArenaUse.{arena_arcs};
@@ -15,16 +15,37 @@ ghost use Rattle.firm_canon.specs.inner.Placed.{aside};
 ghost use Rattle.firm_canon.specs.inner.Turns.{IsStopped};
 ghost use Rattle.firm_canon.specs.inner.Choosing.{Keeps, Shut, HasRoom, IsChosen, IsPassed, IsSpent, best};
 ghost use Rattle.firm_canon.specs.inner.Cuts.{AreCuts, HasSought, cut_count, one_if};
+ghost use Rattle.firm_canon.specs.inner.Ways.{IsWay, is_tried, found_by};
+ghost use Rattle.firm_canon.specs.declared.preferences.Way.TheVariants.{ByHub};
 ghost use Rattle.firm_rules.specs.declared.rounds.Choice.TheVariants.{On};
 ghost use Rattle.firm_graph.specs.declared.network.Key.TheVariants.{Wide, Stay, Prefer};
 
 use crate::attempts::{more_prefer, more_stay, more_wide, seek_hub, seek_own};
 use crate::choice::{is_home, try_machine};
 use crate::cuts::Cuts;
-use crate::reads::{flow_on, machine_count, prefer_arc, stay_arc, wait_arc, wide_arc};
+use crate::reads::{
+    MOST_PREFERENCES, flow_on, machine_count, prefer_arc, stay_arc, wait_arc, wide_arc,
+};
+use arrayvec::ArrayVec;
 use firm_graph::Graph;
 use firm_paths::{Prices, Scratch};
 use firm_rules::Choice;
+
+/// The place of the machine that a task runs on, and the places of those that it prefers.
+#[derive(Drop)]
+pub(crate) struct Wishes {
+    pub(crate) home: Option<u32>,
+    pub(crate) places: ArrayVec<u32, MOST_PREFERENCES>,
+}
+
+/// How a task comes to a machine that is not its own.
+#[derive(Clone, Copy)]
+pub(crate) enum Way {
+    /// By the arc of its preference of this number, counted from 0.
+    Preferred(usize),
+    /// By the hub.
+    ByHub,
+}
 
 /// Which of the preferences is for the machine, counted from 0.
 pub(crate) fn preference_for(places: &[u32], machine: u32) -> Option<usize>
@@ -187,149 +208,153 @@ fn try_preferred(
     more_prefer(graph, prices, scratch, chosen, number)
 }
 
-/// Tries one machine: as the next task prefers it, or by the hub, if that may be tried. Its own machine is passed over.
-fn try_place(
+/// How the next task can come to the machine, if at all: not to its own, and not by the hub to one before `first`; there
+/// is no first where its unit is not at the hub.
+fn way_to(wishes: &Wishes, first: Option<u32>, machine: u32) -> Option<Way>
+    ensures some { IfSome result (λ way. (runs_at wishes.now.home machine ≡ false)
+        × IsWay wishes.now.places.items (is_tried first machine) machine way) }
+    ensures none { IfNone result (runs_at wishes.now.home machine ≡ false
+        → (position (λ place. place == machine) wishes.now.places.items ≡ None) × (is_tried first machine ≡ false)) }
+{
+    if is_home(wishes.home, machine) {
+        return None;
+    }
+    if let Some(number) = preference_for(&wishes.places, machine) {
+        return Some(Way::Preferred(number));
+    }
+    let Some(first) = first else {
+        return None;
+    };
+    if first <= machine {
+        return Some(Way::ByHub);
+    }
+    None
+}
+
+/// Tries to send the next task to a machine by this way.
+fn try_way(
     graph: &mut Graph,
     prices: &Prices,
     scratch: &mut Scratch,
     cuts: &mut Cuts,
     chosen: &[Choice],
-    home: Option<u32>,
-    places: &[u32],
     machine: u32,
-    by_hub: bool,
+    way: Way,
 ) -> bool
     requires keeps { Keeps (view_of graph.old) (price_of prices.now) chosen.now }
     requires next { length chosen.now < length (view_of graph.old).case.tasks }
-    requires home { home ≡ (demand (view_of graph.old).case (length chosen.now)).home }
-    requires places { places.now ≡ (demand (view_of graph.old).case (length chosen.now)).preferred }
     requires machine { machine < length (view_of graph.old).case.slots }
-    requires wide { by_hub ≡ true → flows (view_of graph.old) (Wide (length chosen.now)) ≡ 1 }
+    requires other { runs_at (demand (view_of graph.old).case (length chosen.now)).home machine ≡ false }
+    requires way { IsWay (demand (view_of graph.old).case (length chosen.now)).preferred true machine way }
+    requires wide { way ≡ ByHub → flows (view_of graph.old) (Wide (length chosen.now)) ≡ 1 }
     requires made_for { (prices.now.limits ≡ limits_of graph.old.net) × (scratch.old.limits ≡ limits_of graph.old.net) }
     requires cuts { AreCuts (view_of graph.old) (price_of prices.now) chosen.now cuts.old }
     ensures same { IsSameGraph graph.old graph.new }
-    ensures searched { HasSought scratch.old scratch.new 1
-        (one_if ((result && by_hub) || list_any (λ place. place == machine) places.now))
-        (arena_arcs graph.old.rows) (cut_count cuts.old) (cut_count cuts.new) }
+    ensures searched { HasSought scratch.old scratch.new 1 (found_by way result) (arena_arcs graph.old.rows)
+        (cut_count cuts.old) (cut_count cuts.new) }
     ensures cuts { AreCuts (view_of graph.new) (price_of prices.now) chosen.now cuts.new }
     ensures keeps { Keeps (view_of graph.new) (price_of prices.now) chosen.now }
     ensures best { best (view_of graph.new) chosen.now ≡ best (view_of graph.old) chosen.now }
-    ensures other { result ≡ true → runs_at home machine ≡ false }
     ensures room { result ≡ true
         → HasRoom (view_of graph.new).case chosen.now (On machine) (flows (view_of graph.new)) }
     ensures passed { result ≡ false
-        → IsPassed (view_of graph.old) (price_of prices.now) chosen.now by_hub machine }
+        → IsPassed (view_of graph.old) (price_of prices.now) chosen.now true machine }
     ensures unchanged { result ≡ false → graph.new ≡ graph.old }
 {
-    if is_home(home, machine) {
-        return false;
+    match way {
+        Way::Preferred(number) => try_preferred(graph, prices, scratch, chosen, number),
+        Way::ByHub => try_machine(graph, prices, scratch, cuts, chosen, machine),
     }
-    if let Some(number) = preference_for(places, machine) {
-        return try_preferred(graph, prices, scratch, chosen, number);
-    }
-    if !by_hub {
-        return false;
-    }
-    try_machine(graph, prices, scratch, cuts, chosen, machine)
 }
 
-/// Whether the machine is tried by the hub: the task's unit is there, and the machine is not among those before `from`.
-fn is_tried(hub: bool, from: u32, machine: u32) -> bool
-    ensures { result ≡ (hub && nat_le from machine) }
-{
-    hub && from <= machine
-}
-
-/// Finds the first machine, but the next task's own, to which it can go: as it prefers it, or by the hub, where its unit
-/// is there. The machines before `from` are spent, and not tried by the hub.
+/// Finds the first machine, but the next task's own, to which it can go: as it prefers it, or, from `first` on, by the
+/// hub.
 fn find_place(
     graph: &mut Graph,
     prices: &Prices,
     scratch: &mut Scratch,
     cuts: &mut Cuts,
     chosen: &[Choice],
-    home: Option<u32>,
-    places: &[u32],
-    hub: bool,
-    from: u32,
+    wishes: &Wishes,
+    first: Option<u32>,
 ) -> Option<u32>
     requires keeps { Keeps (view_of graph.old) (price_of prices.now) chosen.now }
     requires next { length chosen.now < length (view_of graph.old).case.tasks }
-    requires home { home ≡ (demand (view_of graph.old).case (length chosen.now)).home }
-    requires places { places.now ≡ (demand (view_of graph.old).case (length chosen.now)).preferred }
-    requires wide { hub ≡ true → flows (view_of graph.old) (Wide (length chosen.now)) ≡ 1 }
+    requires home { wishes.now.home ≡ (demand (view_of graph.old).case (length chosen.now)).home }
+    requires places { wishes.now.places.items ≡ (demand (view_of graph.old).case (length chosen.now)).preferred }
+    requires wide { IfSome first (λ _. flows (view_of graph.old) (Wide (length chosen.now)) ≡ 1) }
     requires made_for { (prices.now.limits ≡ limits_of graph.old.net) × (scratch.old.limits ≡ limits_of graph.old.net) }
     requires cuts { AreCuts (view_of graph.old) (price_of prices.now) chosen.now cuts.old }
     ensures same { IsSameGraph graph.old graph.new }
     ensures searched { IfSome result (λ _. HasSought scratch.old scratch.new (length graph.old.rows.machines)
-        (length places.now + one_if hub) (arena_arcs graph.old.rows) (cut_count cuts.old) (cut_count cuts.new)) }
+        (length wishes.now.places.items + one_if (is_some first)) (arena_arcs graph.old.rows)
+        (cut_count cuts.old) (cut_count cuts.new)) }
     ensures searched_all { IfNone result (HasSought scratch.old scratch.new (length graph.old.rows.machines)
-        (length places.now) (arena_arcs graph.old.rows) (cut_count cuts.old) (cut_count cuts.new)) }
+        (length wishes.now.places.items) (arena_arcs graph.old.rows) (cut_count cuts.old) (cut_count cuts.new)) }
     ensures cuts { AreCuts (view_of graph.new) (price_of prices.now) chosen.now cuts.new }
     ensures keeps { Keeps (view_of graph.new) (price_of prices.now) chosen.now }
     ensures best { best (view_of graph.new) chosen.now ≡ best (view_of graph.old) chosen.now }
-    ensures some { IfSome result (λ j. (j < length (view_of graph.old).case.slots) × (runs_at home j ≡ false)
+    ensures some { IfSome result (λ j. (j < length (view_of graph.old).case.slots) × (runs_at wishes.now.home j ≡ false)
         × HasRoom (view_of graph.new).case chosen.now (On j) (flows (view_of graph.new))) }
     ensures before { IfSome result (λ j. (k : ℕ) → k < j
-        → IsPassed (view_of graph.old) (price_of prices.now) chosen.now (hub && nat_le from k) k) }
+        → IsPassed (view_of graph.old) (price_of prices.now) chosen.now (is_tried first k) k) }
     ensures none { IfNone result ((k : ℕ) → k < length (view_of graph.old).case.slots
-        → IsPassed (view_of graph.old) (price_of prices.now) chosen.now (hub && nat_le from k) k) }
+        → IsPassed (view_of graph.old) (price_of prices.now) chosen.now (is_tried first k) k) }
     ensures unchanged { IfNone result (graph.new ≡ graph.old) }
 {
     for machine in 0..machine_count(graph) {
-        let by_hub = is_tried(hub, from, machine);
-        if try_place(
-            graph, prices, scratch, cuts, chosen, home, places, machine, by_hub,
-        ) {
+        let Some(way) = way_to(wishes, first, machine) else {
+            continue;
+        };
+        if try_way(graph, prices, scratch, cuts, chosen, machine, way) {
             return Some(machine);
         }
     }
     None
 }
 
-/// Chooses for the next task, which prefers the machines at these places. The machines before `from` are spent, and stay
-/// so.
+/// Chooses for the next task, which prefers some machines. The machines before `from` are spent, and stay so.
 pub(crate) fn choose_preferring(
     graph: &mut Graph,
     prices: &Prices,
     scratch: &mut Scratch,
     cuts: &mut Cuts,
     chosen: &[Choice],
-    home: Option<u32>,
-    places: &[u32],
+    wishes: &Wishes,
     from: u32,
 ) -> Choice
     requires keeps { Keeps (view_of graph.old) (price_of prices.now) chosen.now }
     requires next { length chosen.now < length (view_of graph.old).case.tasks }
-    requires home { home ≡ (demand (view_of graph.old).case (length chosen.now)).home }
-    requires places { places.now ≡ (demand (view_of graph.old).case (length chosen.now)).preferred }
-    requires some { 0 < length places.now }
+    requires home { wishes.now.home ≡ (demand (view_of graph.old).case (length chosen.now)).home }
+    requires places { wishes.now.places.items ≡ (demand (view_of graph.old).case (length chosen.now)).preferred }
+    requires some { 0 < length wishes.now.places.items }
     requires spent { (j : ℕ) → j < from → IsSpent (view_of graph.old).case chosen.now
         (best (view_of graph.old) chosen.now) j }
     requires made_for { (prices.now.limits ≡ limits_of graph.old.net) × (scratch.old.limits ≡ limits_of graph.old.net) }
     requires cuts { AreCuts (view_of graph.old) (price_of prices.now) chosen.now cuts.old }
     ensures same { IsSameGraph graph.old graph.new }
-    ensures searched { HasSought scratch.old scratch.new (length graph.old.rows.machines + 3) (2 + length places.now)
-        (arena_arcs graph.old.rows) (cut_count cuts.old) (cut_count cuts.new) }
+    ensures searched { HasSought scratch.old scratch.new (length graph.old.rows.machines + 3)
+        (2 + length wishes.now.places.items) (arena_arcs graph.old.rows) (cut_count cuts.old) (cut_count cuts.new) }
     ensures cuts { AreCuts (view_of graph.new) (price_of prices.now) chosen.now cuts.new }
     ensures keeps { Keeps (view_of graph.new) (price_of prices.now) chosen.now }
     ensures best { best (view_of graph.new) chosen.now ≡ best (view_of graph.old) chosen.now }
     ensures chosen { IsChosen (view_of graph.new) chosen.now result }
 {
     let hub = reach_hub(graph, prices, scratch, cuts, chosen);
-    if let Some(own) = reach_own(graph, prices, scratch, cuts, chosen, home) {
+    if let Some(own) = reach_own(graph, prices, scratch, cuts, chosen, wishes.home) {
         return Choice::On(own);
     }
-    if let Some(machine) = find_place(
-        graph, prices, scratch, cuts, chosen, home, places, hub, from,
-    ) {
+    let first = hub.then_some(from);
+    if let Some(machine) = find_place(graph, prices, scratch, cuts, chosen, wishes, first) {
         return Choice::On(machine);
     }
     if !hub {
         return Choice::Wait;
     }
-    // Only the own machine has surplus behind the hub, so the way there is open now.
-    let Some(own) = home else { unreachable!() };
+    // Some machine has surplus behind the hub, and none that was passed: it is the own one, and the way there is open.
+    let Some(own) = wishes.home else {
+        unreachable!()
+    };
     if !more_stay(graph, prices, scratch, chosen) {
         unreachable!()
     }

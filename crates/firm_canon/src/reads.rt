@@ -17,7 +17,7 @@ use firm_paths::arcs_are_rows;
 use firm_rules::{Name, Rows};
 
 /// A task has no more preferences than that.
-const MOST_PREFERENCES: usize = 4;
+pub(crate) const MOST_PREFERENCES: usize = 4;
 
 /// The net has as many arcs as the rows take of the arena.
 pub(crate) fn arcs_are_counted(graph: &Graph)

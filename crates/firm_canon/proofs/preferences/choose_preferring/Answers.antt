@@ -1,6 +1,7 @@
-use Rattle.std.proofs.Common.{◌≡◌, ◌+◌, ◌<◌, ◌≤◌, ℕ, Bool, true, false, ◌&&◌, List, length, arith, refl, sym}
-use Rattle.std.proofs.Common.{ap, subst, ◌∙◌, ⊎_elim}
-use Rattle.std.specs.Prelude.{nat_le}
+use Rattle.std.proofs.Common.{◌≡◌, ◌+◌, ◌<◌, ◌≤◌, ℕ, Bool, true, false, List, length, arith, refl, sym}
+use Rattle.std.proofs.Common.{ap, subst, ◌∙◌, ⊎_elim, Option}
+use Rattle.std.specs.Prelude.{is_some}
+use Rattle.std.specs.Bool.{then_some}
 use Rattle.std.proofs.lemmas.Bool.{cases_Bool}
 use Rattle.firm_paths.specs.PriceTable.{price_of}
 use Rattle.firm_rules.specs.declared.rounds.Choice.{Choice}
@@ -13,6 +14,7 @@ use Rattle.firm_graph.specs.View.{View, IsSameCase, flows}
 use Rattle.firm_graph.specs.Ids.{view_of}
 use Rattle.firm_canon.specs.inner.Placed.{aside}
 use Rattle.firm_canon.specs.inner.Turns.{IsStopped}
+use Rattle.firm_canon.specs.inner.Ways.{is_tried}
 use Rattle.firm_canon.specs.inner.Choosing.{Keeps, Shut, IsChosen, IsPassed, best}
 use Rattle.firm_canon.specs.inner.Cuts.{one_if}
 use Rattle.firm_canon.specs.inner.Graphs.{IsSameGraph}
@@ -35,6 +37,12 @@ closed old v p hub none same shut off =
     subst (λ (z : View). flows z (Stay (length p)) ≡ 0 → (j : ℕ) → runs_at (demand z.case (length p)).home j ≡ false
     → prefers (demand z.case (length p)) j ≡ false → Shut z p j) (sym (same off)) (shut off) none
 
+-- the same of where the attempts by the hub begin
+tried_from : (v : View) (price : ℕ → ℕ) (p : List Choice) (hub : Bool) (from : ℕ) (first : Option ℕ) (k : ℕ)
+    → first ≡ then_some hub from → IsPassed v price p (is_tried first k) k
+    → IsPassed v price p (is_tried (then_some hub from) k) k
+tried_from v price p hub from first k e passed = subst (λ (f : Option ℕ). IsPassed v price p (is_tried f k) k) e passed
+
 pub returns-in-Some-find_place-clause-chosen : goal.returns-in-Some-find_place-clause-chosen
 returns-in-Some-find_place-clause-chosen c =
     let old : View = view_of c.args.graph.now in
@@ -49,16 +57,17 @@ returns-in-Some-find_place-clause-chosen c =
     let new : View = view_of c.find_place.new.graph in
     let next : n < length v.case.tasks = next_at old v n hub.same.case c.requires.next in
     let some = find.some in
-    first_found v price p hub.keeps next c.reach_hub-hub.result c.args.from new c.args.home c.in-Some-find_place.machine
+    first_found v price p hub.keeps next c.reach_hub-hub.result c.args.from new c.args.wishes.now.home c.in-Some-find_place.machine
     (closed old v p c.reach_hub-hub.result gone.none (λ f. ap view_of (hub.unchanged f)) hub.shut)
     (λ j l. spent_at old v p j hub.same.case hub.best (c.requires.spent j l))
     (subst (λ (z : View). IsSameCase z new) still find.same.case)
     (subst (λ (z : View). best new p ≡ best z p) still find.best)
-    (home_at old v n c.args.home hub.same.case c.requires.home)
+    (home_at old v n c.args.wishes.now.home hub.same.case c.requires.home)
     gone.shut
     (subst (λ (z : View). c.in-Some-find_place.machine < length z.case.slots) still some.0, some.1, some.2)
-    (λ k l. subst (λ (z : View). IsPassed z price p (c.reach_hub-hub.result && nat_le c.args.from k) k) still
-    (find.before k l))
+    (λ k l. subst (λ (z : View). IsPassed z price p (is_tried (then_some c.reach_hub-hub.result c.args.from) k) k) still
+    (tried_from (view_of c.reach_own.new.graph) price p c.reach_hub-hub.result c.args.from c.then_some-first.result k
+    c.then_some-first.ensures (find.before k l)))
 
 pub returns-then-not-hub-clause-chosen : goal.returns-then-not-hub-clause-chosen
 returns-then-not-hub-clause-chosen c =
@@ -79,8 +88,9 @@ returns-then-not-hub-clause-chosen c =
     (λ j l. spent_at old v p j hub.same.case hub.best (c.requires.spent j l))
     (subst (λ (z : View). flows z (Wide n) ≡ 0) (sym (ap view_of (hub.unchanged off))) (hub.none off))
     gone.none gone.stopped gone.shut
-    (λ k l. subst (λ (z : View). IsPassed z price p (c.reach_hub-hub.result && nat_le c.args.from k) k) still
-    (find.none k (subst (λ (z : View). k < length z.case.slots) (sym still) l))))
+    (λ k l. subst (λ (z : View). IsPassed z price p (is_tried (then_some c.reach_hub-hub.result c.args.from) k) k) still
+    (tried_from (view_of c.reach_own.new.graph) price p c.reach_hub-hub.result c.args.from c.then_some-first.result k
+    c.then_some-first.ensures (find.none k (subst (λ (z : View). k < length z.case.slots) (sym still) l)))))
 
 pub unreachable-requires : goal.unreachable-requires
 unreachable-requires c =
@@ -98,9 +108,10 @@ unreachable-requires c =
     none_passed v price p hub.keeps next c.reach_hub-hub.result c.args.from on
     (λ j l. spent_at old v p j hub.same.case hub.best (c.requires.spent j l))
     (hub.yes on)
-    (λ k l. subst (λ (z : View). IsPassed z price p (c.reach_hub-hub.result && nat_le c.args.from k) k) still
-    (find.none k (subst (λ (z : View). k < length z.case.slots) (sym still) l)))
-    (λ h e. absurd (c.in_default-home.not-Some h (home_at old v n c.args.home hub.same.case c.requires.home ∙ e)))
+    (λ k l. subst (λ (z : View). IsPassed z price p (is_tried (then_some c.reach_hub-hub.result c.args.from) k) k) still
+    (tried_from (view_of c.reach_own.new.graph) price p c.reach_hub-hub.result c.args.from c.then_some-first.result k
+    c.then_some-first.ensures (find.none k (subst (λ (z : View). k < length z.case.slots) (sym still) l))))
+    (λ h e. absurd (c.in_default-home.not-Some h (home_at old v n c.args.wishes.now.home hub.same.case c.requires.home ∙ e)))
 
 pub unreachable-requires-then-not-more_stay : goal.unreachable-requires-then-not-more_stay
 unreachable-requires-then-not-more_stay c =
@@ -119,8 +130,9 @@ unreachable-requires-then-not-more_stay c =
     none_passed v price p hub.keeps next c.reach_hub-hub.result c.args.from on
     (λ j l. spent_at old v p j hub.same.case hub.best (c.requires.spent j l))
     (hub.yes on)
-    (λ k l. subst (λ (z : View). IsPassed z price p (c.reach_hub-hub.result && nat_le c.args.from k) k) still
-    (find.none k (subst (λ (z : View). k < length z.case.slots) (sym still) l)))
+    (λ k l. subst (λ (z : View). IsPassed z price p (is_tried (then_some c.reach_hub-hub.result c.args.from) k) k) still
+    (tried_from (view_of c.reach_own.new.graph) price p c.reach_hub-hub.result c.args.from c.then_some-first.result k
+    c.then_some-first.ensures (find.none k (subst (λ (z : View). k < length z.case.slots) (sym still) l))))
     (λ h e. subst (λ (z : View). IsStopped z price (Stay n)) end (c.if-not-more_stay.ensures.blocked refl))
 
 pub returns-clause-chosen : goal.returns-clause-chosen
@@ -137,9 +149,9 @@ returns-clause-chosen c =
     let stay = c.if-not-more_stay.ensures in
     let next : n < length end.case.tasks = next_at three end n stay.same.case (next_at two three n find.same.case
     (next_at one two n gone.same.case (next_at old one n hub.same.case c.requires.next))) in
-    let home : c.args.home ≡ (demand end.case n).home =
-    home_at three end n c.args.home stay.same.case (home_at two three n c.args.home find.same.case
-    (home_at one two n c.args.home gone.same.case (home_at old one n c.args.home hub.same.case c.requires.home))) in
+    let home : c.args.wishes.now.home ≡ (demand end.case n).home =
+    home_at three end n c.args.wishes.now.home stay.same.case (home_at two three n c.args.wishes.now.home find.same.case
+    (home_at one two n c.args.wishes.now.home gone.same.case (home_at old one n c.args.wishes.now.home hub.same.case c.requires.home))) in
     chose_own end (price_of c.args.prices.now) c.args.chosen.now c.in-Some-home.own stay.tried.keeps next
     (sym home ∙ c.in-Some-home.is) (omega (arith, stay.tried.won refl))
 
@@ -157,6 +169,11 @@ returns-in-Some-clause-searched c =
     sought_since old one (same_rows old one hub.same)
     c.args.scratch.now c.reach_hub-hub.new.scratch c.reach_own.new.scratch 1 1 _ 1 2 _ _ _ _
     hub.searched c.in-Some.ensures.searched (omega arith) (omega (arith, c.requires.some))
+
+-- where the task's unit is at the hub there is a machine to begin with
+is_there : (hub : Bool) (from : ℕ) → is_some (then_some hub from) ≡ hub
+is_there true from = refl
+is_there false from = refl
 
 -- a task that comes by the hub does not come as it prefers
 either : (v : View) (price : ℕ → ℕ) (p : List Choice) (hub : Bool) → Keeps v price p → length p < length v.case.tasks
@@ -189,6 +206,8 @@ returns-in-Some-find_place-clause-searched c =
       arith,
       either (view_of one) (price_of c.args.prices.now) c.args.chosen.now c.reach_hub-hub.result hub.keeps
           (next_at (view_of old) (view_of one) n hub.same.case c.requires.next) hub.yes,
+      ap (λ (f : Option ℕ). one_if (is_some f)) c.then_some-first.ensures,
+      ap one_if (is_there c.reach_hub-hub.result c.args.from),
     ))
 
 pub returns-then-not-hub-clause-searched : goal.returns-then-not-hub-clause-searched
@@ -229,7 +248,7 @@ returns-clause-searched c =
     let besides : ℕ = aside (view_of one).case (flows (view_of one)) n in
     sought_since old three (same_rows old three to_three)
     c.args.scratch.now c.find_place.new.scratch c.more_stay.new.scratch
-    (2 + length two.rows.machines) 1 _ (1 + besides + length c.args.places.now) 1 _ _ _ _
+    (2 + length two.rows.machines) 1 _ (1 + besides + length c.args.wishes.now.places.items) 1 _ _ _ _
     (sought_since old two (same_rows old two to_two)
     c.args.scratch.now c.reach_own.new.scratch c.find_place.new.scratch
     2 (length two.rows.machines) (2 + length two.rows.machines) (1 + besides) _ _ _ _ _

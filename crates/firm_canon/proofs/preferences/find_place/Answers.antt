@@ -1,16 +1,19 @@
-use Rattle.std.proofs.Common.{◌≡◌, ◌+◌, ◌<◌, ◌≤◌, ℕ, Bool, true, false, ◌&&◌, List, length, arith, refl, sym, ap, subst, ◌∙◌}
-use Rattle.std.proofs.Common.{⊎_elim}
-use Rattle.std.specs.Prelude.{nat_le, ◌==◌, ◌||◌}
-use Rattle.std.specs.List.{list_any}
-use Rattle.std.proofs.lemmas.Bool.{cases_eq, cases_Bool}
+use Rattle.std.specs.Prelude.{◌==◌}
+use Rattle.std.specs.List.{position}
+use Rattle.std.proofs.Common.{◌≡◌, ◌+◌, ◌<◌, ℕ, true, false, None, Option, List, length, arith, refl, sym, ap, subst, ◌∙◌, ⊎_elim}
+use Rattle.std.proofs.lemmas.Bool.{cases_eq, both_ways}
 use Rattle.firm_paths.specs.PriceTable.{price_of}
 use Rattle.firm_rules.specs.declared.rounds.Choice.{Choice}
+use Rattle.firm_rules.specs.Placement.{Demand, runs_at, prefers}
 use Rattle.firm_graph.specs.Network.{demand}
 use Rattle.firm_graph.specs.Graph.{Graph}
 use Rattle.firm_graph.specs.View.{View}
 use Rattle.firm_graph.specs.Ids.{view_of}
 use Rattle.firm_canon.specs.inner.Choosing.{Keeps, IsPassed, best}
-use Rattle.firm_canon.specs.inner.Cuts.{AreCuts, one_if}
+use Rattle.firm_canon.specs.inner.Cuts.{AreCuts}
+use Rattle.firm_canon.specs.inner.Ways.{is_tried}
+use Rattle.firm_canon.proofs.Nears.{preferred_missed}
+use Rattle.firm_canon.proofs.Ways.{passed_by, found_none, found_one}
 use Rattle.firm_canon.proofs.Counts.{none_sought, sought_since, sought_within, below, below_more, below_all}
 use Rattle.firm_canon.proofs.preferences.find_place.Goals as goal
 
@@ -30,50 +33,85 @@ loop-machine-preserved c =
     let machine : ℕ = c.loop-machine.machine in
     let inv = c.loop-machine.invariant in
     let same : view_of c.loop-machine.graph ≡ old = ap view_of inv.still in
-    let lost = c.if-try_place.ensures in
+    let lost = c.if-try_way.ensures in
+    let places : List ℕ = c.args.wishes.now.places.items in
     record {
       still = lost.unchanged refl ∙ inv.still;
       searched = sought_since c.args.graph.now c.loop-machine.graph
           (ap (λ (h : Graph). h.rows) inv.still)
-          c.args.scratch.now c.loop-machine.scratch c.try_place.new.scratch machine 1 (machine + 1)
-          (below c.args.places.now machine) (one_if (list_any (λ place. place == machine) c.args.places.now))
-          (below c.args.places.now (machine + 1)) _ _ _
-          inv.searched lost.searched (omega arith) (below_more c.args.places.now machine);
-      cuts = subst (λ (v : View). AreCuts v (price_of c.args.prices.now) p c.try_place.new.cuts)
+          c.args.scratch.now c.loop-machine.scratch c.try_way.new.scratch machine 1 (machine + 1)
+          (below places machine) _ (below places (machine + 1)) _ _ _
+          inv.searched lost.searched (omega arith)
+          (found_none places (is_tried c.args.first machine) machine c.in-Some.way c.in-Some.ensures.some.1);
+      cuts = subst (λ (v : View). AreCuts v (price_of c.args.prices.now) p c.try_way.new.cuts)
           (ap view_of (lost.unchanged refl) ∙ same) lost.cuts;
       in_range = omega (arith, c.loop-machine-test.true, c.machine_count-machine-end.ensures.case);
       passed = λ k l. ⊎_elim
           (λ (e : k ≡ machine).
-          subst (λ (z : ℕ). IsPassed old (price_of c.args.prices.now) p (c.args.hub && nat_le c.args.from z) z) (sym e)
-          (subst (λ (b : Bool). IsPassed old (price_of c.args.prices.now) p b machine) c.is_tried-by_hub.ensures
-          (subst (λ (v : View). IsPassed v (price_of c.args.prices.now) p c.is_tried-by_hub.result machine) same
-          (lost.passed refl))))
+          subst (λ (z : ℕ). IsPassed old (price_of c.args.prices.now) p (is_tried c.args.first z) z) (sym e)
+          (passed_by old (price_of c.args.prices.now) p (is_tried c.args.first machine) machine
+          (subst (λ (v : View). IsPassed v (price_of c.args.prices.now) p true machine) same (lost.passed refl))))
           (λ (ne : k ≡ machine → ⊥). inv.passed k (omega (arith, l, ne)))
           (cases_eq k machine);
     }
 
-pub try_place-requires-clause-keeps : goal.try_place-requires-clause-keeps
-try_place-requires-clause-keeps c =
+pub loop-machine-preserved-in_default : goal.loop-machine-preserved-in_default
+loop-machine-preserved-in_default c =
+    let old : View = view_of c.args.graph.now in
+    let p : List Choice = c.args.chosen.now in
+    let t : Demand = demand old.case (length p) in
+    let machine : ℕ = c.loop-machine.machine in
+    let inv = c.loop-machine.invariant in
+    let places : List ℕ = c.args.wishes.now.places.items in
+    let no : runs_at t.home machine ≡ false → (position (λ z. z == machine) places ≡ None)
+    × (is_tried c.args.first machine ≡ false) =
+    λ other. c.in_default.ensures.none (ap (λ (h : Option ℕ). runs_at h machine) c.requires.home ∙ other) in
+    record {
+      still = inv.still;
+      searched = sought_within c.args.scratch.now c.loop-machine.scratch machine (machine + 1)
+          (below places machine) (below places (machine + 1)) _ _ _ inv.searched
+          (omega arith) (omega (arith, below_more places machine));
+      cuts = inv.cuts;
+      in_range = omega (arith, c.loop-machine-test.true, c.machine_count-machine-end.ensures.case);
+      passed = λ k l. ⊎_elim
+          (λ (e : k ≡ machine).
+          subst (λ (z : ℕ). IsPassed old (price_of c.args.prices.now) p (is_tried c.args.first z) z) (sym e)
+          (record {
+            near = λ other close. absurd (both_ways (prefers t machine)
+                (preferred_missed t places machine c.requires.places (no other).0) close);
+            far = λ other far tried. absurd (both_ways (is_tried c.args.first machine) (no other).1 tried);
+          }))
+          (λ (ne : k ≡ machine → ⊥). inv.passed k (omega (arith, l, ne)))
+          (cases_eq k machine);
+    }
+
+pub returns-then-try_way-clause-best : goal.returns-then-try_way-clause-best
+returns-then-try_way-clause-best c = c.try_way.ensures.best
+    ∙ ap (λ (h : Graph). best (view_of h) c.args.chosen.now) c.loop-machine.invariant.still
+
+pub returns-then-try_way-clause-searched : goal.returns-then-try_way-clause-searched
+returns-then-try_way-clause-searched c =
+    sought_since c.args.graph.now c.loop-machine.graph
+    (ap (λ (h : Graph). h.rows) c.loop-machine.invariant.still)
+    c.args.scratch.now c.loop-machine.scratch c.try_way.new.scratch c.loop-machine.machine 1 _
+    (below c.args.wishes.now.places.items c.loop-machine.machine) _ _ _ _ _
+    c.loop-machine.invariant.searched c.if-try_way.ensures.searched
+    (omega (arith, c.loop-machine-test.true, c.machine_count-machine-end.ensures.rows))
+    (found_one c.args.wishes.now.places.items c.args.first c.loop-machine.machine c.in-Some.way
+    c.in-Some.ensures.some.1)
+
+pub try_way-requires-clause-keeps : goal.try_way-requires-clause-keeps
+try_way-requires-clause-keeps c =
     subst (λ (h : Graph). Keeps (view_of h) (price_of c.args.prices.now) c.args.chosen.now)
     (sym c.loop-machine.invariant.still) c.requires.keeps
 
-pub try_place-requires-clause-next : goal.try_place-requires-clause-next
-try_place-requires-clause-next c =
+pub try_way-requires-clause-next : goal.try_way-requires-clause-next
+try_way-requires-clause-next c =
     subst (λ (h : Graph). length c.args.chosen.now < length (view_of h).case.tasks)
     (sym c.loop-machine.invariant.still) c.requires.next
 
-pub try_place-requires-clause-home : goal.try_place-requires-clause-home
-try_place-requires-clause-home c =
-    subst (λ (h : Graph). c.args.home ≡ (demand (view_of h).case (length c.args.chosen.now)).home)
-    (sym c.loop-machine.invariant.still) c.requires.home
-
-pub try_place-requires-clause-places : goal.try_place-requires-clause-places
-try_place-requires-clause-places c =
-    subst (λ (h : Graph). c.args.places.now ≡ (demand (view_of h).case (length c.args.chosen.now)).preferred)
-    (sym c.loop-machine.invariant.still) c.requires.places
-
-pub try_place-requires-clause-cuts : goal.try_place-requires-clause-cuts
-try_place-requires-clause-cuts c =
+pub try_way-requires-clause-cuts : goal.try_way-requires-clause-cuts
+try_way-requires-clause-cuts c =
     subst (λ (h : Graph). AreCuts (view_of h) (price_of c.args.prices.now) c.args.chosen.now c.loop-machine.cuts)
     (sym c.loop-machine.invariant.still) c.loop-machine.invariant.cuts
 
@@ -93,7 +131,7 @@ returns-clause-cuts c =
 pub returns-clause-searched_all : goal.returns-clause-searched_all
 returns-clause-searched_all c =
     sought_within c.args.scratch.now c.loop-machine.scratch c.loop-machine.machine _
-    (below c.args.places.now c.loop-machine.machine) _ _ _ _
+    (below c.args.wishes.now.places.items c.loop-machine.machine) _ _ _ _
     c.loop-machine.invariant.searched
     (omega (
       arith,
@@ -101,43 +139,4 @@ returns-clause-searched_all c =
       c.machine_count-machine-end.ensures.case,
       c.machine_count-machine-end.ensures.rows,
     ))
-    (below_all c.args.places.now c.loop-machine.machine)
-
-pub returns-then-try_place-clause-best : goal.returns-then-try_place-clause-best
-returns-then-try_place-clause-best c = c.try_place.ensures.best
-    ∙ ap (λ (h : Graph). best (view_of h) c.args.chosen.now) c.loop-machine.invariant.still
-
--- what an attempt that found a way adds
-adds : (places : List ℕ) (machine from : ℕ) (hub by_hub : Bool) → by_hub ≡ (hub && nat_le from machine)
-    → below places machine + one_if (by_hub || list_any (λ place. place == machine) places)
-    ≤ length places + one_if hub
-adds places machine from hub by_hub is =
-    let more : below places machine + one_if (list_any (λ place. place == machine) places) ≤ below places (machine + 1) =
-    below_more places machine in
-    let all : below places (machine + 1) ≤ length places = below_all places (machine + 1) in
-    let listed : Bool = list_any (λ place. place == machine) places in
-    ⊎_elim
-    (λ (t : by_hub ≡ true).
-    omega (
-      arith,
-      below_all places machine,
-      ap (λ (b : Bool). one_if (b || listed)) t,
-      ap one_if (hub_is hub (nat_le from machine) (sym is ∙ t)),
-    ))
-    (λ (f : by_hub ≡ false). omega (arith, more, all, ap (λ (b : Bool). one_if (b || listed)) f))
-    (cases_Bool by_hub)
-  where
-    hub_is : (a b : Bool) → (a && b) ≡ true → a ≡ true
-    hub_is true b e = refl
-    hub_is false b e = absurd cc
-
-pub returns-then-try_place-clause-searched : goal.returns-then-try_place-clause-searched
-returns-then-try_place-clause-searched c =
-    sought_since c.args.graph.now c.loop-machine.graph
-    (ap (λ (h : Graph). h.rows) c.loop-machine.invariant.still)
-    c.args.scratch.now c.loop-machine.scratch c.try_place.new.scratch c.loop-machine.machine 1 _
-    (below c.args.places.now c.loop-machine.machine) _ _ _ _ _
-    c.loop-machine.invariant.searched c.if-try_place.ensures.searched
-    (omega (arith, c.loop-machine-test.true, c.machine_count-machine-end.ensures.rows))
-    (adds c.args.places.now c.loop-machine.machine c.args.from c.args.hub c.is_tried-by_hub.result
-    c.is_tried-by_hub.ensures)
+    (below_all c.args.wishes.now.places.items c.loop-machine.machine)
