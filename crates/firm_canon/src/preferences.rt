@@ -208,8 +208,8 @@ fn try_preferred(
     more_prefer(graph, prices, scratch, chosen, number)
 }
 
-/// How the next task can come to the machine, if at all: not to its own, and not by the hub to one before `first`; there
-/// is no first where its unit is not at the hub.
+/// How the next task can come to the machine, if at all: not to its own, and not by the hub to one before `first`, or
+/// to any where its unit is not at the hub.
 fn way_to(wishes: &Wishes, first: Option<u32>, machine: u32) -> Option<Way>
     ensures some { IfSome result (λ way. (runs_at wishes.now.home machine ≡ false)
         × IsWay wishes.now.places.items (is_tried first machine) machine way) }
