@@ -1,5 +1,4 @@
 mod Alls
-mod Live
 mod Opening
 mod Once
 mod Shutting
@@ -8,6 +7,8 @@ mod Seating
 mod Telling
 mod Coming
 mod Taking
+mod Fitting
+mod Obeying
 mod Giving
 mod Starting
 mod Serves

@@ -1,6 +1,6 @@
 -- What stands at the places, as a desk comes home, answers or asks.
 use Rattle.std.proofs.Common.{◌≡◌, ◌≢◌, ℕ, zero, suc, ◌+◌, ◌<◌, List, [], ◌∷◌, ◌++◌, length, set, get_or, refl, sym, ap, ◌∙◌, subst, arith}
-use Rattle.std.specs.Prelude.{Bool, false, map}
+use Rattle.std.specs.Prelude.{Bool, true, false, map, Some}
 use Rattle.std.proofs.lemmas.List.{length-set, length-map, get_or-map, get_or-set_same, get_or-set_other, ext_get_or}
 use mathlib.Core.Logic.{dite}
 use native.Mathlib.Decide.{ℕ_discrete}
@@ -8,13 +8,15 @@ use Rattle.firm_rules.specs.Book.{Book}
 use Rattle.firm_rules.specs.declared.commands.Command.TheVariants.{Round}
 use Rattle.firm_rules.specs.declared.replies.Reply.{Reply}
 use Rattle.firm_tenant.specs.Step.{step, is_memory}
+use Rattle.std.proofs.Math.Seq.{map-set_same}
+use Rattle.firm_text.specs.Registers.{most_places}
 use Rattle.firm_rounds.specs.Rounds.{weigh}
 use Rattle.firm_rounds.specs.Passes.{QueueId}
 use Rattle.firm_hall.specs.Desks.{DeskIs, IsStep}
 use Rattle.firm_hall.specs.inner.Seats.{waits_for, filled}
-use Rattle.firm_hall.specs.inner.Serving.{book_at, asked_at, SeatIs, AreSeats}
+use Rattle.firm_hall.specs.inner.Serving.{book_at, asked_at, seat_counts, SeatIs, AreSeats}
 use Rattle.firm_hall.specs.declared.seats.Seat.{Seat}
-use Rattle.firm_hall.specs.declared.seats.Seat.TheVariants.{Home, Away, Gone}
+use Rattle.firm_hall.specs.declared.seats.Seat.TheVariants.{Home, Away, Empty, Gone}
 use Rattle.firm_hall.specs.declared.seats.Slot.{Slot}
 use Rattle.firm_hall.proofs.Slots.{with_mark, with_here, with_other, none_push, one_push, none_filled, none_other, one_other}
 
@@ -36,6 +38,7 @@ pub seat_other : (queue : QueueId) (place other : ℕ) (reply : Reply) (slots : 
     → SeatIs queue other (filled place reply slots) seat
 seat_other queue place other reply slots (Home desk) differ is = (is.0, is.1, none_other place other reply slots is.2)
 seat_other queue place other reply slots (Away asked) differ is = (is.0, is.1, one_other place other asked reply slots differ is.2)
+seat_other queue place other reply slots (Empty empty) differ is = (is.0, is.1, none_other place other reply slots is.2)
 seat_other queue place other reply slots Gone differ is = absurd is
 
 -- a place, with one answer more that waits for another or for none
@@ -43,6 +46,7 @@ pub seat_push : (queue : QueueId) (place : ℕ) (slots : List Slot) (slot : Slot
     → SeatIs queue place (slots ++ slot ∷ []) seat
 seat_push queue place slots slot (Home desk) out is = (is.0, is.1, none_push place slots slot is.2 out)
 seat_push queue place slots slot (Away asked) out is = (is.0, is.1, one_push place asked slots slot is.2 out)
+seat_push queue place slots slot (Empty empty) out is = (is.0, is.1, none_push place slots slot is.2 out)
 seat_push queue place slots slot Gone out is = absurd is
 
 -- a place, once the first answer is taken, which waits for none
@@ -50,6 +54,7 @@ pub seat_pop : (queue : QueueId) (place : ℕ) (slot : Slot) (rest : List Slot) 
     → SeatIs queue place rest seat
 seat_pop queue place slot rest (Home desk) out is = (is.0, is.1, is.2.1)
 seat_pop queue place slot rest (Away asked) out is = (is.0, is.1, rw out at is.2)
+seat_pop queue place slot rest (Empty empty) out is = (is.0, is.1, is.2.1)
 seat_pop queue place slot rest Gone out is = absurd is
 
 -- the book of a place that is not this one rests on no mark of it
@@ -57,7 +62,8 @@ pub book_other : (queue : QueueId) (place other : ℕ) (mark : Bool) (marks : �
     → book_at marks seat ≡ book_at (with_mark place mark marks) seat
 book_other queue place other mark marks slots (Home desk) differ is = refl
 book_other queue place other mark marks slots (Away asked) differ is =
-    ap (λ (b : Bool). (step asked.book Round b).1) (sym (with_other place mark marks asked.place (λ e. differ (sym is.1 ∙ e))))
+    ap (λ (b : Bool). Some (step asked.book Round b).1) (sym (with_other place mark marks asked.place (λ e. differ (sym is.1 ∙ e))))
+book_other queue place other mark marks slots (Empty empty) differ is = refl
 book_other queue place other mark marks slots Gone differ is = absurd is
 
 -- the desk that came back is the one of its place
@@ -74,18 +80,18 @@ pub book_back : (queue : QueueId) (place : ℕ) (marks : ℕ → Bool) (slots : 
     → SeatIs queue place slots (Away asked) → book_at marks (Home desk) ≡ book_at (with_mark place (is_memory reply) marks) (Away asked)
 book_back queue place marks slots asked desk reply stepped is =
     let mark = is_memory reply in
-    ap (λ (p : Reply × Book). p.1) stepped.stepped
-    ∙ ap (λ (b : Bool). (step asked.book Round b).1) (sym (with_here place mark marks asked.place is.1))
+    ap (λ (p : Reply × Book). Some p.1) stepped.stepped
+    ∙ ap (λ (b : Bool). Some (step asked.book Round b).1) (sym (with_here place mark marks asked.place is.1))
 
-module _ (queue : QueueId) (count place : ℕ) (slots : List Slot) (seats : List Seat) (asked desk : DeskIs) (reply : Reply) (default : Seat)
-    (are : AreSeats queue count slots seats) (low : place < count) (away : Away asked ≡ get_or seats place default) (back : IsStep asked Round reply desk) where
+module _ (queue : QueueId) (place : ℕ) (slots : List Slot) (seats : List Seat) (asked desk : DeskIs) (reply : Reply) (default : Seat)
+    (are : AreSeats queue slots seats) (low : place < most_places) (away : Away asked ≡ get_or seats place default) (back : IsStep asked Round reply desk) where
   within : place < length seats
   within = omega (arith, are.long)
 
   pub here_is : SeatIs queue place slots (Away asked)
   here_is = subst (SeatIs queue place slots) (sym away) (are.each place default low)
 
-  pub seats_back : AreSeats queue count (filled place reply slots) (set seats place (Home desk))
+  pub seats_back : AreSeats queue (filled place reply slots) (set seats place (Home desk))
   seats_back = record {
     long = length-set seats place (Home desk) ∙ are.long;
     each = λ j d l.
@@ -110,6 +116,10 @@ module _ (queue : QueueId) (count place : ℕ) (slots : List Slot) (seats : List
       (λ k differ is. book_other queue place k (is_memory reply) marks slots (get_or seats k default) differ is)
       i (λ w. are.each i default (omega (arith, are.long))) low_i
       ∙ sym (get_or-map g seats i default (f default) low_i))
+
+  pub counts_back : map seat_counts (set seats place (Home desk)) ≡ map seat_counts seats
+  counts_back = map-set_same seat_counts seats place (Home desk) default
+      (ap (λ (d : DeskIs). (true, d.admissions)) back.same_desk ∙ ap seat_counts away)
 
   pub asked_back : weigh asked_at (set seats place (Home desk)) ≡ weigh asked_at seats
   asked_back =

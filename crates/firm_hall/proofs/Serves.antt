@@ -4,6 +4,7 @@ use Rattle.std.specs.Prelude.{Bool, false, Option}
 use Rattle.std.specs.Io.KnownBytes.{Appends}
 use Rattle.std.proofs.KnownBytes.{Appends-nil, Appends-kept, Consumes-nil}
 use Rattle.firm_text.specs.Rosters.{Admitted}
+use Rattle.firm_text.specs.declared.registers.Place.{Place as Registered}
 use Rattle.firm_table.specs.Output.{output_of}
 use Rattle.firm_table.specs.Service.{Device, device, Served, Stopped, ToldToTheEnd}
 use Rattle.firm_table.specs.declared.faults.ServeFault.TheVariants.{Memory}
@@ -26,9 +27,9 @@ unread roster most left written read_failed write_failed reads writes = record {
 }
 
 -- all was read, and nothing is still to be written
-pub served_with : (roster : List Admitted) (seats : List Seat) (slots : List Slot) (output : List ℕ) (most : ℕ) (reader writer : Device) → slots ≡ [] → output ≡ []
-    → ToldToTheEnd (TellsParts roster seats slots output) most reader writer → Served roster most reader writer → ServedWith roster most reader writer (weigh asked_at seats)
-served_with roster seats slots output most reader writer none_held none end served =
+pub served_with : (roster : List Admitted) (register : List Registered) (seats : List Seat) (slots : List Slot) (output : List ℕ) (most : ℕ) (reader writer : Device) → slots ≡ [] → output ≡ []
+    → ToldToTheEnd (TellsParts roster register seats slots output) most reader writer → Served roster most reader writer → ServedWith roster most reader writer (weigh asked_at seats)
+served_with roster register seats slots output most reader writer none_held none end served =
     let marks : ℕ → Bool = λ place. false in
     let tells = end.told.told marks in
     let t = tells.told in
@@ -54,11 +55,11 @@ served_with roster seats slots output most reader writer none_held none end serv
     }
 
 -- the same, of the rosters that a body knows to be this one, and of a count that it knows
-pub served_by : (roster own now : List Admitted) (seats : List Seat) (slots : List Slot) (output : List ℕ) (most asked : ℕ) (reader writer : Device) → own ≡ roster → now ≡ own
-    → asked ≡ weigh asked_at seats → slots ≡ [] → output ≡ [] → ToldToTheEnd (TellsParts now seats slots output) most reader writer → Served own most reader writer
+pub served_by : (roster own now : List Admitted) (register : List Registered) (seats : List Seat) (slots : List Slot) (output : List ℕ) (most asked : ℕ) (reader writer : Device) → own ≡ roster → now ≡ own
+    → asked ≡ weigh asked_at seats → slots ≡ [] → output ≡ [] → ToldToTheEnd (TellsParts now register seats slots output) most reader writer → Served own most reader writer
     → ServedWith roster most reader writer asked
-served_by roster own now seats slots output most asked reader writer is same all none_held none end served =
+served_by roster own now register seats slots output most asked reader writer is same all none_held none end served =
     let here : ServedWith now most reader writer (weigh asked_at seats) =
-    served_with now seats slots output most reader writer none_held none end (subst (λ (r : List Admitted). Served r most reader writer) (sym same) served) in
+    served_with now register seats slots output most reader writer none_held none end (subst (λ (r : List Admitted). Served r most reader writer) (sym same) served) in
     subst (λ (r : List Admitted). ServedWith r most reader writer asked) (same ∙ is)
     (subst (λ (n : ℕ). ServedWith now most reader writer n) (sym all) here)

@@ -12,7 +12,7 @@ use Rattle.firm_hall.specs.Desks.{DeskIs}
 use Rattle.firm_hall.specs.inner.Seats.{waits_for, answered, filled, filled_if}
 use Rattle.firm_hall.specs.inner.Serving.{answer_in, NoneWaits, OneWaits, IsFor, IsPlaced, ArePlaced, FirstIsFor, FirstIsKnown}
 use Rattle.firm_hall.specs.declared.seats.Slot.{Slot}
-use Rattle.firm_hall.specs.declared.seats.Slot.TheVariants.{TooLong, Stranger, Replied, Waiting}
+use Rattle.firm_hall.specs.declared.seats.Slot.TheVariants.{TooLong, Stranger, Replied, Waiting, Obeyed}
 
 -- a place is itself
 pub is_place : (place same : ℕ) → place ≡ same → (place == same) ≡ true
@@ -24,12 +24,14 @@ answered_waits place reply TooLong = refl
 answered_waits place reply Stranger = refl
 answered_waits place reply (Replied name same) = refl
 answered_waits place reply (Waiting other name asked) = refl
+answered_waits place reply (Obeyed same) = refl
 
 -- an answer waits for one place alone
 waits_once : (place other : ℕ) (slot : Slot) → other ≢ place → waits_for place slot ≡ true → waits_for other slot ≡ false
 waits_once place other TooLong differ here = cc
 waits_once place other Stranger differ here = cc
 waits_once place other (Replied name reply) differ here = cc
+waits_once place other (Obeyed reply) differ here = cc
 waits_once place other (Waiting at name asked) differ here =
     let same : at ≡ place = eqb-true at place here in ne_eqb at other (λ e. differ (sym e ∙ same))
 
@@ -51,9 +53,9 @@ pub one_here : (place : ℕ) (asked : DeskIs) (slots : List Slot) (slot : Slot) 
 one_here place asked [] slot none here is = rw here (is, tt)
 one_here place asked (first ∷ rest) slot none here is = rw none.0 (one_here place asked rest slot none.1 here is)
 
-pub placed_push : (count : ℕ) (slots : List Slot) (slot : Slot) → ArePlaced count slots → IsPlaced count slot → ArePlaced count (slots ++ slot ∷ [])
-placed_push count [] slot are is = (is, tt)
-placed_push count (first ∷ rest) slot are is = (are.0, placed_push count rest slot are.1 is)
+pub placed_push : (slots : List Slot) (slot : Slot) → ArePlaced slots → IsPlaced slot → ArePlaced (slots ++ slot ∷ [])
+placed_push [] slot are is = (is, tt)
+placed_push (first ∷ rest) slot are is = (are.0, placed_push rest slot are.1 is)
 
 -- the first is taken, which is known
 pub known_waits : (place : ℕ) (slot : Slot) (rest : List Slot) → FirstIsKnown (slot ∷ rest) → waits_for place slot ≡ false
@@ -61,6 +63,7 @@ known_waits place TooLong rest known = refl
 known_waits place Stranger rest known = refl
 known_waits place (Replied name reply) rest known = refl
 known_waits place (Waiting at name asked) rest known = absurd known
+known_waits place (Obeyed reply) rest known = refl
 
 pub one_pop : (place : ℕ) (asked : DeskIs) (slot : Slot) (rest : List Slot) → FirstIsKnown (slot ∷ rest) → OneWaits place asked (slot ∷ rest) → OneWaits place asked rest
 one_pop place asked slot rest known one = rw (known_waits place slot rest known) at one
@@ -94,17 +97,18 @@ one_other place other asked reply (slot ∷ rest) differ one = elim (waits_for p
     behind true f more = let here = rw f at one in rw f (here.0, none_other place other reply rest here.1)
     behind false f more = let there = rw f at one in rw f (more there)
 
-answered_placed : (count : ℕ) (reply : Reply) (slot : Slot) → IsPlaced count slot → IsPlaced count (answered reply slot)
-answered_placed count reply TooLong is = tt
-answered_placed count reply Stranger is = tt
-answered_placed count reply (Replied name same) is = tt
-answered_placed count reply (Waiting at name asked) is = tt
+answered_placed : (reply : Reply) (slot : Slot) → IsPlaced slot → IsPlaced (answered reply slot)
+answered_placed reply TooLong is = tt
+answered_placed reply Stranger is = tt
+answered_placed reply (Replied name same) is = tt
+answered_placed reply (Waiting at name asked) is = tt
+answered_placed reply (Obeyed same) is = tt
 
-pub placed_filled : (count place : ℕ) (reply : Reply) (slots : List Slot) → ArePlaced count slots → ArePlaced count (filled place reply slots)
-placed_filled count place reply [] are = tt
-placed_filled count place reply (slot ∷ rest) are = elim (waits_for place slot) as (λ b. waits_for place slot ≡ b → ArePlaced count (filled place reply (slot ∷ rest))) [
-  | true ↦ λ e. rw e (answered_placed count reply slot are.0, are.1)
-  | false ↦ λ e. rw e (are.0, placed_filled count place reply rest are.1)
+pub placed_filled : (place : ℕ) (reply : Reply) (slots : List Slot) → ArePlaced slots → ArePlaced (filled place reply slots)
+placed_filled place reply [] are = tt
+placed_filled place reply (slot ∷ rest) are = elim (waits_for place slot) as (λ b. waits_for place slot ≡ b → ArePlaced (filled place reply (slot ∷ rest))) [
+  | true ↦ λ e. rw e (answered_placed reply slot are.0, are.1)
+  | false ↦ λ e. rw e (are.0, placed_filled place reply rest are.1)
 ] refl
 
 answered_known : (place : ℕ) (reply : Reply) (slot : Slot) (rest : List Slot) → waits_for place slot ≡ true → FirstIsKnown (answered reply slot ∷ rest)
@@ -112,6 +116,7 @@ answered_known place reply TooLong rest here = tt
 answered_known place reply Stranger rest here = tt
 answered_known place reply (Replied name same) rest here = tt
 answered_known place reply (Waiting at name asked) rest here = tt
+answered_known place reply (Obeyed same) rest here = tt
 
 pub first_filled : (place : ℕ) (reply : Reply) (slots : List Slot) → FirstIsFor place slots → FirstIsKnown (filled place reply slots)
 first_filled place reply [] here = absurd here
@@ -155,6 +160,7 @@ answer_same place mark marks TooLong out = refl
 answer_same place mark marks Stranger out = refl
 answer_same place mark marks (Replied name reply) out = refl
 answer_same place mark marks (Waiting at name asked) out = rw out refl
+answer_same place mark marks (Obeyed reply) out = refl
 
 pub answers_same : (place : ℕ) (mark : Bool) (marks : ℕ → Bool) (slots : List Slot) → NoneWaits place slots
     → map (answer_in (with_mark place mark marks)) slots ≡ map (answer_in marks) slots
@@ -168,6 +174,7 @@ answer_known : (place : ℕ) (asked : DeskIs) (reply : Reply) (mark : Bool) (mar
 answer_known place asked reply mark marks TooLong here is e = absurd is
 answer_known place asked reply mark marks Stranger here is e = absurd is
 answer_known place asked reply mark marks (Replied name same) here is e = absurd is
+answer_known place asked reply mark marks (Obeyed same) here is e = absurd is
 answer_known place asked reply mark marks (Waiting at name known) here is e =
     rw here (ap (replied name) (e ∙ ap (λ (d : DeskIs). (step d.book Round mark).0) (sym is)))
 

@@ -1,22 +1,21 @@
 -- What is told, as one line more is answered, and as rounds come back.
 use Rattle.std.proofs.Common.{◌≡◌, ℕ, ◌+◌, ◌≤◌, List, [], ◌∷◌, ◌++◌, length, take, sym, ap, ◌∙◌, subst, arith, append_assoc, append-nil}
-use Rattle.std.specs.Prelude.{Bool, map, Option, if◌then◌else◌}
+use Rattle.std.specs.Prelude.{Bool, map, Option}
 use Rattle.std.specs.List.{flat_map}
 use Rattle.std.specs.Io.KnownBytes.{Appends}
 use Rattle.std.proofs.KnownBytes.{Appends-trans}
 use Rattle.std.proofs.lemmas.Grind.{flat_map-append}
 use Rattle.std.proofs.lemmas.List.{length-map, map-append, take-append-le}
 use Rattle.std.proofs.Math.Seq.{take-append-add}
-use Rattle.firm_rules.specs.Book.{Book}
 use Rattle.firm_text.specs.Inputs.{input_lines}
 use Rattle.firm_text.specs.declared.inputs.Line.{Line}
 use Rattle.firm_table.specs.Places.{MarkedLine}
 use Rattle.firm_table.specs.Answers.{Answer, tells_memory, text_of_answer}
 use Rattle.firm_table.specs.Output.{answers_of, output_of}
 use Rattle.firm_table.specs.Service.{BeginsAnswers}
-use Rattle.firm_table.specs.inner.Line.{State, IsAnswer, state_is}
+use Rattle.firm_table.specs.inner.Line.{State, Tenants, IsAnswer, state_is}
 use Rattle.firm_table.specs.inner.Adding.{OneMoreIsTold}
-use Rattle.firm_hall.specs.Counts.{rounds_in, round_of, refusals_in}
+use Rattle.firm_hall.specs.Counts.{rounds_in, round_of, refusal_in, refusals_in}
 use Rattle.firm_hall.specs.inner.Serving.{answer_in, held_text, Tells}
 use Rattle.firm_hall.specs.declared.seats.Slot.{Slot}
 
@@ -30,10 +29,6 @@ rounds_more (l ∷ lines) (a ∷ answers) given answer long =
     let rest : rounds_in (lines ++ given ∷ []) (answers ++ answer ∷ []) ≡ rounds_in lines answers + round_of given.0 answer =
     rounds_more lines answers given answer (omega arith) in omega arith
 
--- 1 for an answer that says that memory was refused
-abbrev pub refusal_in : Answer → ℕ
-refusal_in answer = if tells_memory answer then 1 else 0
-
 refusals_more : (answers : List Answer) (answer : Answer) → refusals_in (answers ++ answer ∷ []) ≡ refusals_in answers + refusal_in answer
 refusals_more [] answer = omega arith
 refusals_more (a ∷ answers) answer =
@@ -44,12 +39,12 @@ pub record Adds (asked later : ℕ) (line : Line) (answer : Answer) : Type 0 whe
   pub least : later ≤ asked + round_of line answer
   pub most : asked + round_of line answer ≤ later + refusal_in answer
 
-pub tells_more : OneMoreIsTold → (state : State) (books : List Book) (pending : List ℕ) (line : Line) (asked later : ℕ) (text after : List ℕ)
+pub tells_more : OneMoreIsTold → (state : State) (tenants : Tenants) (pending : List ℕ) (line : Line) (asked later : ℕ) (text after : List ℕ)
     (written now : Option (List ℕ)) → input_lines after ≡ input_lines text ++ line ∷ []
-    → (a : IsAnswer state.roster state.books books line state.pending pending) → Adds asked later line a.answer
-    → Tells state asked text written now → Tells (state_is state.roster books pending) later after written now
-tells_more one_more state books pending line asked later text after written now more a adds tells =
-    let q = one_more state text after written now books pending line tells.told more a in
+    → (a : IsAnswer state.tenants tenants line state.pending pending) → Adds asked later line a.answer
+    → Tells state asked text written now → Tells (state_is state.roster tenants pending) later after written now
+tells_more one_more state tenants pending line asked later text after written now more a adds tells =
+    let q = one_more state text after written now tenants pending line tells.told more a in
     let old = tells.told.lines in
     let answers = answers_of state.roster old in
     let given : MarkedLine = (line, tells_memory a.answer) in
@@ -97,7 +92,7 @@ tells_begins state asked text written now later count front held tells both few 
 
 -- the front of it was
 pub tells_written : (state : State) (asked : ℕ) (text : List ℕ) (written now later : Option (List ℕ)) (front held : List ℕ) → Tells state asked text written now
-    → state.pending ≡ front ++ held → Appends now later front → Tells (state_is state.roster state.books held) asked text written later
+    → state.pending ≡ front ++ held → Appends now later front → Tells (state_is state.roster state.tenants held) asked text written later
 tells_written state asked text written now later front held tells both wrote =
     let t = tells.told in
     record {

@@ -6,13 +6,14 @@ use Rattle.firm_rules.specs.declared.replies.Reply.{Reply}
 use Rattle.firm_rules.specs.declared.replies.Outcome.{Outcome}
 use Rattle.firm_rules.specs.declared.replies.Outcome.TheVariants.{Refused}
 use Rattle.firm_rules.specs.declared.replies.Refusal.TheVariants.{Worn}
+use Rattle.firm_tenant.specs.Step.{is_memory}
 use Rattle.firm_text.specs.declared.inputs.Line.{Line}
-use Rattle.firm_text.specs.declared.inputs.Line.TheVariants.{Nothing, Long, Nameless, For}
+use Rattle.firm_text.specs.declared.inputs.Line.TheVariants.{Nothing, Long, Nameless, For, Operator}
 use Rattle.firm_text.specs.Rosters.{Admitted}
 use Rattle.firm_table.specs.Places.{MarkedLine}
 use Rattle.firm_table.specs.Output.{answers_of}
 use Rattle.firm_table.specs.Service.{Device, Served}
-use Rattle.firm_table.specs.Answers.{Answer, silent, too_long, unknown_tenant, replied, tells_memory}
+use Rattle.firm_table.specs.Answers.{Answer, silent, too_long, unknown_tenant, replied, told_operator}
 
 -- whether a command is a round
 abbrev pub is_round : Command → Bool
@@ -37,17 +38,27 @@ round_of (For name command) silent = 0
 round_of (For name command) too_long = 0
 round_of (For name command) unknown_tenant = 0
 round_of (For name command) (replied tenant reply) = round_in command reply
+round_of (For name command) (told_operator reply) = 0
+round_of (Operator asked) answer = 0
 
--- how many rounds these lines tell, which have these answers: those of tenants that had life for them
+-- how many rounds these lines tell, which have these answers: those of tenants that had life for them, over all stays
 abbrev pub rounds_in : List MarkedLine → List Answer → ℕ
 rounds_in [] answers = 0
 rounds_in (given ∷ rest) [] = 0
 rounds_in (given ∷ rest) (answer ∷ answers) = round_of given.0 answer + rounds_in rest answers
 
--- how many of these answers say that memory was refused
+-- 1 for a tenant's reply that says that memory was refused, and 0 for each other answer
+abbrev pub refusal_in : Answer → ℕ
+refusal_in silent = 0
+refusal_in too_long = 0
+refusal_in unknown_tenant = 0
+refusal_in (replied tenant reply) = if is_memory reply then 1 else 0
+refusal_in (told_operator reply) = 0
+
+-- how many of these answers say that memory was refused to a tenant
 abbrev pub refusals_in : List Answer → ℕ
 refusals_in [] = 0
-refusals_in (answer ∷ answers) = (if tells_memory answer then 1 else 0) + refusals_in answers
+refusals_in (answer ∷ answers) = refusal_in answer + refusals_in answers
 
 -- So many rounds were asked: all that the lines tell, but for some to which memory was refused.
 pub record Counted (asked : ℕ) (lines : List MarkedLine) (answers : List Answer) : Type 0 where
@@ -55,7 +66,7 @@ pub record Counted (asked : ℕ) (lines : List MarkedLine) (answers : List Answe
   pub most : rounds_in lines answers ≤ asked + refusals_in answers
 
 -- What Ok says of a service: what was written is the output for all that was read; and so many rounds were asked, which
--- are all that the lines tell where no answer says that memory was refused.
+-- are all that the lines tell where no reply of a tenant says that memory was refused.
 pub record ServedWith (roster : List Admitted) (most : ℕ) (reader writer : Device) (asked : ℕ) : Type 0 where
   pub served : Served roster most reader writer
   pub counted : Counted asked served.answers.lines (answers_of roster served.answers.lines)

@@ -1,12 +1,14 @@
 //! What stands at a tenant's place while the hall serves, and the answers that are held.
 ghost use Rattle.std.specs.Prelude.{◌≡◌, MatchBool};
-ghost use Rattle.firm_hall.specs.declared.seats.Seat.TheVariants.{Home};
-ghost use Rattle.firm_hall.specs.inner.Seats.{IsSeated, IsHome, IsHomeOf, IsTurned, IsTaken, IsTakenAt, waits_for, waiting_place, answered};
+ghost use Rattle.firm_hall.specs.inner.Seats.{IsSeated, IsBack, IsHome, IsHomeOf, IsFree, IsTurned, IsAdmitted, IsRetired};
+ghost use Rattle.firm_hall.specs.inner.Seats.{IsTaken, IsTakenAt, waits_for, waiting_place, answered};
 ghost use Rattle.firm_rules.specs.declared.commands.Command.TheVariants.{Round};
 
 use crate::desks::{Asked, AskedPoll, Desk};
+use crate::empty::{AdmitFault, EmptyDesk};
 use crate::halls::Hall;
-use firm_rules::{Command, Name, Reply};
+use firm_rules::{Command, Limits, Name, Reply};
+use firm_text::OperatorReply;
 use std::alloc::Global;
 use std::mem;
 use std::snapshot::Snapshot;
@@ -19,6 +21,8 @@ pub(crate) enum Seat {
     Home(Desk),
     /// The tenant's round is away.
     Away(Asked),
+    /// No tenant has the place.
+    Empty(EmptyDesk),
     /// Nothing, while its desk is at work.
     Gone,
 }
@@ -34,41 +38,45 @@ pub(crate) enum Slot {
     Replied(Name, Reply),
     /// The reply to the round that is away from this place.
     Waiting(usize, Name, Snapshot<Asked>),
+    /// The reply to the operator.
+    Obeyed(OperatorReply),
 }
 
 impl Seat {
-    // Whether the desk is home.
-    pub(crate) fn is_home(&self) -> bool
-        ensures { MatchBool result (IsHome self.now) (Unit {0}) }
+    // Whether no round is away from there.
+    pub(crate) fn is_back(&self) -> bool
+        requires { IsSeated self.now }
+        ensures { MatchBool result (IsBack self.now) (Unit {0}) }
     {
         match self {
-            Seat::Home(_) => true,
-            _ => false,
+            Seat::Away(_) => false,
+            _ => true,
         }
     }
 
-    // The desk comes home, with the reply to the round that was away.
+    // The round comes back that is away, if one is, and its desk is home again; with the round's reply.
     pub(crate) fn come_home<R: Wait>(&mut self, rt: &R) -> Option<Reply>
         requires { IsSeated self.old }
         ensures turned { IsTurned self.old self.new result }
-        ensures home { IsHome self.new }
+        ensures back { IsBack self.new }
     {
-        let (desk, reply) = mem::replace(self, Seat::Gone).into_desk(rt);
-        let _gone = mem::replace(self, Seat::Home(desk));
+        let (seat, reply) = mem::replace(self, Seat::Gone).back(rt);
+        let _gone = mem::replace(self, seat);
         reply
     }
 
-    // The desk, once it is home, with the reply to the round that was away.
-    pub(crate) fn into_desk<R: Wait>(self, rt: &R) -> (Desk, Option<Reply>)
+    fn back<R: Wait>(self, rt: &R) -> (Seat, Option<Reply>)
         requires { IsSeated self }
-        ensures { IsTurned self (Home result.0) result.1 }
+        ensures turned { IsTurned self result.0 result.1 }
+        ensures back { IsBack result.0 }
     {
         match self {
-            Seat::Home(desk) => (desk, None),
             Seat::Away(asked) => {
                 let (desk, reply) = asked.wait(rt);
-                (desk, Some(reply))
+                (Seat::Home(desk), Some(reply))
             }
+            Seat::Home(desk) => (Seat::Home(desk), None),
+            Seat::Empty(place) => (Seat::Empty(place), None),
             Seat::Gone => unreachable!(),
         }
     }
@@ -111,7 +119,36 @@ impl Seat {
         Slot::Replied(name, reply)
     }
 
-    // The same for a round.
+    // A tenant with these limits comes to the empty place. Tells whether it did: it does not for want of memory alone,
+    // and all is as it was then.
+    pub(crate) fn admit(&mut self, alloc: Global, limits: Limits) -> bool
+        requires { IsFree self.old }
+        ensures { IsAdmitted self.old limits result self.new }
+    {
+        let Seat::Empty(place) = mem::replace(self, Seat::Gone) else {
+            unreachable!()
+        };
+        let (seat, came) = match place.admit(alloc, limits) {
+            Ok(desk) => (Seat::Home(desk), true),
+            Err(AdmitFault::Worn(place)) => (Seat::Empty(place), false),
+            Err(AdmitFault::Memory(place)) => (Seat::Empty(place), false),
+        };
+        let _gone = mem::replace(self, seat);
+        came
+    }
+
+    // The tenant, which is home, leaves the place.
+    pub(crate) fn retire(&mut self)
+        requires { IsHome self.old }
+        ensures { IsRetired self.old self.new }
+    {
+        let Seat::Home(desk) = mem::replace(self, Seat::Gone) else {
+            unreachable!()
+        };
+        let _gone = mem::replace(self, Seat::Empty(desk.retire()));
+    }
+
+    // The same as `take` for a round.
     fn ask<R: Wait>(&mut self, rt: &R, alloc: Global, hall: &Hall, place: usize, name: Name) -> Slot
         requires { IsHomeOf hall.now.id self.old }
         ensures { IsTakenAt self.old place name Round self.new result }

@@ -1,32 +1,35 @@
 //! The service: a hall, its desks and one to eight workers, from the first byte to the last.
-ghost use Rattle.std.specs.Prelude.{◌≡◌, ℕ, ◌+◌, ◌<◌, ◌≤◌, ◌^◌, [], All, IfOk, IfErr, false, length, map};
+ghost use Rattle.std.specs.Prelude.{◌≡◌, ℕ, ◌+◌, ◌-◌, ◌<◌, ◌≤◌, ◌^◌, [], All, IfOk, IfErr, false, length, map};
 ghost use Rattle.std.specs.Prelude.{vec_len, vec_capacity};
 ghost use Rattle.std.specs.Thread.{IsSync};
 ghost use Rattle.firm_table.specs.Service.{Stopped, device};
 ghost use Rattle.firm_rounds.specs.Rounds.{weigh};
 ghost use Rattle.firm_hall.specs.Counts.{ServedWith};
-ghost use Rattle.firm_hall.specs.Opening.{opening_desks};
+ghost use Rattle.firm_text.specs.Registers.{most_places};
+ghost use Rattle.firm_hall.specs.Opening.{opening_desks, unused_places};
+ghost use Rattle.firm_hall.specs.inner.Ending.{AreOf};
 
 use crate::clerk::HallClerk;
 use crate::close::{CloseFault, Totals};
 use crate::desks::Desk;
 use crate::empty::EmptyDesk;
 use crate::halls::Hall;
-use crate::serving::Serving;
+use crate::serving::{Ended, Serving};
 use crate::team::{join_all, start};
 use crate::workers::{Gate, Report, WorkerPass};
 use firm_rounds::Job;
 use firm_table::{ServeFault, serve_lines};
-use firm_text::{Roster, Sink, Source};
+use firm_text::{PLACES, Roster, Sink, Source};
 use std::alloc::Global;
 use std::sync::Wait;
 use std::thread;
 use std::thread::{Scope, Threads};
 
 /// Answers the lines of an input of at most `most` bytes, 2^32 at most, for the tenants of the roster, which are
-/// admitted first. 1 to 8 workers solve their rounds, each on a thread of its own and after it passed the gate. Answers
-/// are written in the order of their lines. It waits for a round only where the next line is for its tenant, where
-/// 1,024 answers are held, or at the end of the input.
+/// admitted first, and for those that the operator admits meanwhile, up to 64 at a time. 1 to 8 workers solve their
+/// rounds, each on a thread of its own and after it passed the gate. Answers are written in the order of their lines. It
+/// waits for a round only where the next line is for its tenant or retires it, where 1,024 answers are held, or at the
+/// end of the input.
 ///
 /// On `Ok` a read has found the end of the input, and what was written is the output for all of it. After a fault it is
 /// a prefix of the output for the bytes that were read. `Read` and `Write` come where a call of the reader or the
@@ -57,13 +60,14 @@ pub fn serve<S: Source, W: Sink, R: Threads + Wait + Sync, G: Gate + Sync>(
     let Ok((hall, desks, passes, empty)) = Hall::open(alloc, roster, workers) else {
         return Err(ServeFault::Memory);
     };
-    let (desks, reports) = serve_with(
-        rt, alloc, reader, writer, &hall, roster, desks, passes, gate, most,
+    let (ended, reports) = serve_with(
+        rt, alloc, reader, writer, &hall, roster, desks, empty, passes, gate, most,
     )?;
-    // A roster has 64 rows at most, so the sum fits.
-    let count = roster.len();
-    prove!(count <= 64);
-    let rounds = asked_by(desks.as_slice());
+    let Ended {
+        desks,
+        empty,
+        rounds,
+    } = ended;
     close(rt, alloc, hall, desks, reports, empty);
     Ok(Totals { rounds })
 }
@@ -84,51 +88,54 @@ fn serve_with<S: Source, W: Sink, R: Threads + Wait + Sync, G: Gate + Sync>(
     hall: &Hall,
     roster: &Roster,
     desks: Vec<Desk>,
+    empty: Vec<EmptyDesk>,
     passes: Vec<WorkerPass>,
     gate: &G,
     most: u64,
-) -> Result<(Vec<Desk>, Vec<Report>), ServeFault>
+) -> Result<(Ended, Vec<Report>), ServeFault>
     requires most { most ≤ 2 ^ 32 }
     requires reader { S.read_failed reader.old ≡ false }
     requires writer { W.write_failed writer.old ≡ false }
     requires desks { desks.items ≡ opening_desks hall.now.id 0 roster.now }
+    requires empty { empty.items
+        ≡ unused_places hall.now.id (length roster.now) (most_places - length roster.now) }
     requires passes { All (λ p. p.queue ≡ hall.now.id) passes.items }
     ensures served { IfOk result (λ r. ServedWith roster.now most
         (device (S.left reader.old) (S.left reader.new) (S.read_failed reader.new))
         (device (W.written writer.old) (W.written writer.new) (W.write_failed writer.new))
-        (weigh (λ desk. desk.put) r.0.items)) }
+        r.0.rounds) }
     ensures stopped { IfErr result (Stopped roster.now most
         (device (S.left reader.old) (S.left reader.new) (S.read_failed reader.new))
         (device (W.written writer.old) (W.written writer.new) (W.write_failed writer.new))) }
-    ensures desks { IfOk result (λ r. All (λ desk. desk.queue ≡ hall.now.id) r.0.items
-        × (length r.0.items ≡ length roster.now)) }
+    ensures desks { IfOk result (λ r. AreOf hall.now.id r.0.desks.items r.0.empty.items) }
     ensures reports { IfOk result (λ r. All (λ report. report.queue ≡ hall.now.id) r.1.items) }
 {
     let (served, back, out) = thread::scope(
         thread::scope_env(),
         rt,
-        move |scope| -> (Result<(Vec<Desk>, Vec<Report>), ServeFault>, &mut S, &mut W)
+        move |scope| -> (Result<(Ended, Vec<Report>), ServeFault>, &mut S, &mut W)
             requires threads { IsSync R.row × IsSync G.row }
             requires most { most ≤ 2 ^ 32 }
             requires reader { S.read_failed reader.now ≡ false }
             requires writer { W.write_failed writer.now ≡ false }
             requires desks { desks.items ≡ opening_desks hall.now.id 0 roster.now }
+            requires empty { empty.items
+                ≡ unused_places hall.now.id (length roster.now) (most_places - length roster.now) }
             requires passes { All (λ p. p.queue ≡ hall.now.id) passes.items }
             ensures reads { result.1.ghost_name ≡ reader.entry.ghost_name }
             ensures writes { result.2.ghost_name ≡ writer.entry.ghost_name }
             ensures served { IfOk result.0 (λ r. ServedWith roster.entry.now most
                 (device (S.left reader.entry.now) (S.left result.1.now) (S.read_failed result.1.now))
                 (device (W.written writer.entry.now) (W.written result.2.now) (W.write_failed result.2.now))
-                (weigh (λ desk. desk.put) r.0.items)) }
+                r.0.rounds) }
             ensures stopped { IfErr result.0 (Stopped roster.entry.now most
                 (device (S.left reader.entry.now) (S.left result.1.now) (S.read_failed result.1.now))
                 (device (W.written writer.entry.now) (W.written result.2.now) (W.write_failed result.2.now))) }
-            ensures desks { IfOk result.0 (λ r. All (λ desk. desk.queue ≡ hall.entry.now.id) r.0.items
-                × (length r.0.items ≡ length roster.entry.now)) }
+            ensures desks { IfOk result.0 (λ r. AreOf hall.entry.now.id r.0.desks.items r.0.empty.items) }
             ensures reports { IfOk result.0 (λ r. All (λ report. report.queue ≡ hall.entry.now.id) r.1.items) }
         {
             let served = serve_in(
-                scope, rt, alloc, reader, writer, hall, roster, desks, passes, gate, most,
+                scope, rt, alloc, reader, writer, hall, roster, desks, empty, passes, gate, most,
             );
             (served, reader, writer)
         },
@@ -148,24 +155,26 @@ fn serve_in<'s, E: 's, S: Source, W: Sink, R: Threads + Wait + Sync, G: Gate + S
     hall: &'s Hall,
     roster: &Roster,
     desks: Vec<Desk>,
+    empty: Vec<EmptyDesk>,
     passes: Vec<WorkerPass>,
     gate: &'s G,
     most: u64,
-) -> Result<(Vec<Desk>, Vec<Report>), ServeFault>
+) -> Result<(Ended, Vec<Report>), ServeFault>
     requires most { most ≤ 2 ^ 32 }
     requires reader { S.read_failed reader.old ≡ false }
     requires writer { W.write_failed writer.old ≡ false }
     requires desks { desks.items ≡ opening_desks hall.now.id 0 roster.now }
+    requires empty { empty.items
+        ≡ unused_places hall.now.id (length roster.now) (most_places - length roster.now) }
     requires passes { All (λ p. p.queue ≡ hall.now.id) passes.items }
     ensures served { IfOk result (λ r. ServedWith roster.now most
         (device (S.left reader.old) (S.left reader.new) (S.read_failed reader.new))
         (device (W.written writer.old) (W.written writer.new) (W.write_failed writer.new))
-        (weigh (λ desk. desk.put) r.0.items)) }
+        r.0.rounds) }
     ensures stopped { IfErr result (Stopped roster.now most
         (device (S.left reader.old) (S.left reader.new) (S.read_failed reader.new))
         (device (W.written writer.old) (W.written writer.new) (W.write_failed writer.new))) }
-    ensures desks { IfOk result (λ r. All (λ desk. desk.queue ≡ hall.now.id) r.0.items
-        × (length r.0.items ≡ length roster.now)) }
+    ensures desks { IfOk result (λ r. AreOf hall.now.id r.0.desks.items r.0.empty.items) }
     ensures reports { IfOk result (λ r. All (λ report. report.queue ≡ hall.now.id) r.1.items) }
 {
     let count = passes.len();
@@ -176,11 +185,13 @@ fn serve_in<'s, E: 's, S: Source, W: Sink, R: Threads + Wait + Sync, G: Gate + S
         return Err(ServeFault::Memory);
     };
     let (handles, all) = start(scope, rt, alloc, hall, passes, gate, handles);
-    let served = serve_desks(rt, alloc, reader, writer, hall, roster, desks, all, most);
+    let served = serve_desks(
+        rt, alloc, reader, writer, hall, roster, desks, empty, all, most,
+    );
     hall.shut();
     let reports = join_all(rt, hall, handles, reports);
     match served {
-        Ok(desks) => Ok((desks, reports)),
+        Ok(ended) => Ok((ended, reports)),
         Err(fault) => Err(fault),
     }
 }
@@ -194,48 +205,41 @@ fn serve_desks<S: Source, W: Sink, R: Wait>(
     hall: &Hall,
     roster: &Roster,
     desks: Vec<Desk>,
+    empty: Vec<EmptyDesk>,
     are_running: bool,
     most: u64,
-) -> Result<Vec<Desk>, ServeFault>
+) -> Result<Ended, ServeFault>
     requires most { most ≤ 2 ^ 32 }
     requires reader { S.read_failed reader.old ≡ false }
     requires writer { W.write_failed writer.old ≡ false }
     requires desks { desks.items ≡ opening_desks hall.now.id 0 roster.now }
-    ensures served { IfOk result (λ desks. ServedWith roster.now most
+    requires empty { empty.items
+        ≡ unused_places hall.now.id (length roster.now) (most_places - length roster.now) }
+    ensures served { IfOk result (λ ended. ServedWith roster.now most
         (device (S.left reader.old) (S.left reader.new) (S.read_failed reader.new))
         (device (W.written writer.old) (W.written writer.new) (W.write_failed writer.new))
-        (weigh (λ desk. desk.put) desks.items)) }
+        ended.rounds) }
     ensures stopped { IfErr result (Stopped roster.now most
         (device (S.left reader.old) (S.left reader.new) (S.read_failed reader.new))
         (device (W.written writer.old) (W.written writer.new) (W.write_failed writer.new))) }
-    ensures desks { IfOk result (λ desks. All (λ desk. desk.queue ≡ hall.now.id) desks.items
-        × (length desks.items ≡ length roster.now)) }
+    ensures desks { IfOk result (λ ended. AreOf hall.now.id ended.desks.items ended.empty.items) }
 {
     if !are_running {
         return Err(ServeFault::Memory);
     }
-    let Ok(room) = Vec::with_capacity(alloc, roster.len()) else {
+    let Ok(room) = Vec::with_capacity(alloc, PLACES) else {
         return Err(ServeFault::Memory);
     };
-    let Ok(serving) = Serving::open(alloc, hall, roster, desks) else {
+    let Ok(empty_room) = Vec::with_capacity(alloc, PLACES) else {
+        return Err(ServeFault::Memory);
+    };
+    let Ok(serving) = Serving::open(alloc, hall, roster, desks, empty) else {
         return Err(ServeFault::Memory);
     };
     let mut clerk = HallClerk { rt, alloc, serving };
     serve_lines(reader, writer, &mut clerk, most)?;
     let HallClerk { serving, .. } = clerk;
-    Ok(serving.into_desks(rt, room))
-}
-
-// How many rounds these desks asked.
-fn asked_by(desks: &[Desk]) -> u64
-    requires { length desks.now ≤ 64 }
-    ensures { result ≡ weigh (λ desk. desk.put) desks.now }
-{
-    let mut rounds = 0;
-    for i in 0..desks.len() {
-        rounds += desks[i].asked();
-    }
-    rounds
+    Ok(serving.end(rt, room, empty_room))
 }
 
 // Ends the hall. Rounds that no worker took are solved here.

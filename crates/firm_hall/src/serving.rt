@@ -1,29 +1,36 @@
 //! Lines are answered in order at the desks, while rounds are away.
-ghost use Rattle.std.specs.Prelude.{◌≡◌, ℕ, ◌+◌, ◌<◌, ◌≤◌, ◌++◌, ◌∷◌, All, Bool, List, Option, Some, [], false};
-ghost use Rattle.std.specs.Prelude.{IfOk, IfErr, OnOk, OnErr, MatchBool, length, map, take, vec_capacity};
+ghost use Rattle.std.specs.Prelude.{◌≡◌, ℕ, ◌+◌, ◌-◌, ◌<◌, ◌≤◌, ◌^◌, ◌++◌, ◌∷◌, Bool, List, Option, Some, [], false};
+ghost use Rattle.std.specs.Prelude.{IfOk, IfErr, OnOk, OnErr, MatchBool, length, map, take, vec_capacity, vec_len};
 ghost use Rattle.std.specs.VecDeque.{deque_len, deque_capacity};
 ghost use Rattle.std.specs.Io.KnownBytes.{Appends};
 ghost use Rattle.firm_text.specs.Inputs.{input_lines};
-ghost use Rattle.firm_text.specs.Rosters.{place_among};
+ghost use Rattle.firm_text.specs.Registers.{AreSound, most_places, place_in};
 ghost use Rattle.firm_text.specs.declared.inputs.Line.TheVariants.{For};
+ghost use Rattle.firm_text.specs.declared.operator.OperatorLine.TheVariants.{Admit, Retire};
 ghost use Rattle.firm_table.specs.Answers.{text_of_answer};
 ghost use Rattle.firm_table.specs.Service.{BeginsAnswers};
 ghost use Rattle.firm_table.specs.inner.Faults.{IsWritingFault};
 ghost use Rattle.firm_rounds.specs.Rounds.{weigh};
-ghost use Rattle.firm_hall.specs.Opening.{opening_desks};
-ghost use Rattle.firm_hall.specs.declared.seats.Seat.TheVariants.{Home};
-ghost use Rattle.firm_hall.specs.inner.Seats.{filled_if};
-ghost use Rattle.firm_hall.specs.inner.Serving.{answer_in, asked_at, AreOpen, IsOpen, TellsAll, Keeps, Takes, Passes};
-ghost use Rattle.firm_hall.specs.inner.Serving.{Begins, FirstIsFor, FirstWaits, FirstIsKnown, IsHomeAt, AllHome};
+ghost use Rattle.firm_hall.specs.Opening.{opening_desks, unused_places};
+ghost use Rattle.firm_hall.specs.declared.seats.Seat.TheVariants.{Home, Empty};
+ghost use Rattle.firm_hall.specs.inner.Seats.{IsSeated, filled_if};
+ghost use Rattle.firm_hall.specs.inner.Serving.{answer_in, asked_at, AreOpen, IsOpen, TellsAll, Keeps, Takes, Obeys};
+ghost use Rattle.firm_hall.specs.inner.Serving.{Passes, Begins, FirstIsFor, FirstWaits, FirstIsKnown, IsBackAt, AllBack};
 ghost use Rattle.firm_hall.specs.inner.Serving.{IsWrittenOut, IsFinished};
+ghost use Rattle.firm_rounds.specs.Passes.{QueueId};
+ghost use Rattle.firm_hall.specs.inner.Ending.{IsOf, AreOf};
 
 use crate::desks::Desk;
+use crate::empty::EmptyDesk;
 use crate::halls::Hall;
 use crate::seats::{Seat, Slot};
-use firm_rules::{Command, Name, Reply};
+use firm_rules::{Command, Limits, Name, Reply};
 use firm_table::{ServeFault, answers_add_up, write_all};
 use firm_tenant::replies_tell_their_marks;
-use firm_text::{Line, Roster, Sink, put_reply};
+use firm_text::{
+    Line, OperatorLine, OperatorRefusal, OperatorReply, PLACES, Register, Roster, Sink,
+    put_operator_reply, put_reply,
+};
 use std::alloc::{AllocError, Global};
 use std::collections::VecDeque;
 use std::sync::Wait;
@@ -31,15 +38,24 @@ use std::sync::Wait;
 /// How many answers are held at most.
 const HELD: usize = 1_024;
 
-/// A hall that serves: what stands at each place, the answers that are held, in the order of their lines, and those
-/// that are still to be written before them.
+/// A hall that serves: which tenant has which place, what stands at each, the answers that are held, in the order of
+/// their lines, and those that are still to be written before them.
 #[derive(Drop)]
 pub(crate) struct Serving<'h> {
     hall: &'h Hall,
     roster: &'h Roster,
+    register: Register,
     seats: Vec<Seat>,
     slots: VecDeque<Slot>,
     output: Vec<u8>,
+}
+
+/// What a service leaves: its desks, which are home, its empty ones, and how many rounds were asked at all of them.
+#[derive(Drop)]
+pub(crate) struct Ended {
+    pub(crate) desks: Vec<Desk>,
+    pub(crate) empty: Vec<EmptyDesk>,
+    pub(crate) rounds: u64,
 }
 
 impl<'h> Serving<'h> {
@@ -49,8 +65,11 @@ impl<'h> Serving<'h> {
         hall: &'h Hall,
         roster: &'h Roster,
         desks: Vec<Desk>,
+        empty: Vec<EmptyDesk>,
     ) -> Result<Serving<'h>, AllocError>
-        requires { desks.items ≡ opening_desks hall.now.id 0 roster.now }
+        requires desks { desks.items ≡ opening_desks hall.now.id 0 roster.now }
+        requires empty { empty.items
+            ≡ unused_places hall.now.id (length roster.now) (most_places - length roster.now) }
         ensures open { IfOk result (λ serving. IsOpen serving) }
         ensures told { IfOk result (λ serving. (written : Option (List ℕ)) → TellsAll serving [] written written) }
         ensures hall { IfOk result (λ serving. serving.hall.now ≡ hall.now) }
@@ -58,12 +77,17 @@ impl<'h> Serving<'h> {
     {
         // A law: before the first line nothing is told.
         answers_add_up();
-        let seats = seats_of(alloc, desks)?;
+        // A roster has no more rows than there are places.
+        prove!(roster.len() <= PLACES);
+        let mut seats = Vec::with_capacity(alloc, PLACES)?;
+        put_desks(&mut seats, desks)?;
+        put_empty(&mut seats, empty)?;
         let slots = VecDeque::with_capacity(alloc, HELD)?;
         let output = Vec::new(alloc);
         Ok(Serving {
             hall,
             roster,
+            register: Register::of(roster),
             seats,
             slots,
             output,
@@ -112,13 +136,94 @@ impl<'h> Serving<'h> {
             Line::Nothing => {}
             Line::Long => self.slots.push_back_reserved(Slot::TooLong),
             Line::Nameless => self.slots.push_back_reserved(Slot::Stranger),
-            Line::For(name, command) => match self.roster.place_of(name) {
+            Line::For(name, command) => match self.register.place_of(name) {
                 None => self.slots.push_back_reserved(Slot::Stranger),
                 Some(place) => {
                     self.come_home(rt, place);
                     self.command(rt, alloc, place, name, command);
                 }
             },
+            Line::Operator(asked) => {
+                let reply = self.obey(rt, alloc, asked);
+                self.slots.push_back_reserved(Slot::Obeyed(reply));
+            }
+        }
+    }
+
+    // Does what the operator asks for, where it can be done. The answer is still to be held.
+    fn obey<R: Wait>(&mut self, rt: &R, alloc: Global, asked: OperatorLine) -> OperatorReply
+        requires { IsOpen self.old }
+        ensures obeys { Obeys self.old self.new asked result }
+        ensures open { IsOpen self.new }
+        ensures roster { self.new.roster ≡ self.old.roster }
+        ensures hall { self.new.hall ≡ self.old.hall }
+    {
+        // Laws: of one line more.
+        answers_add_up();
+        match asked {
+            OperatorLine::Admit(name, limits) => self.admit(alloc, name, limits),
+            OperatorLine::Retire(name) => self.retire(rt, name),
+            OperatorLine::Faulty(refusal) => OperatorReply::Refused(refusal),
+        }
+    }
+
+    // Admits a tenant. Where memory is refused to it nobody comes, and no admission is used.
+    fn admit(&mut self, alloc: Global, name: Name, limits: Limits) -> OperatorReply
+        requires { IsOpen self.old }
+        ensures obeys { Obeys self.old self.new (Admit name limits) result }
+        ensures open { IsOpen self.new }
+        ensures roster { self.new.roster ≡ self.old.roster }
+        ensures hall { self.new.hall ≡ self.old.hall }
+    {
+        // Laws: of one line more.
+        answers_add_up();
+        let place = match self.register.admit(name) {
+            Ok(place) => place,
+            Err(refusal) => return OperatorReply::Refused(refusal),
+        };
+        if self.seats[place].admit(alloc, limits) {
+            return OperatorReply::Admitted(name);
+        }
+        self.register.undo(place);
+        OperatorReply::Refused(OperatorRefusal::Memory)
+    }
+
+    // Retires a tenant, once no round of it is away.
+    fn retire<R: Wait>(&mut self, rt: &R, name: Name) -> OperatorReply
+        requires { IsOpen self.old }
+        ensures obeys { Obeys self.old self.new (Retire name) result }
+        ensures open { IsOpen self.new }
+        ensures roster { self.new.roster ≡ self.old.roster }
+        ensures hall { self.new.hall ≡ self.old.hall }
+    {
+        // Laws: of one line more.
+        answers_add_up();
+        let Some(place) = self.register.place_of(name) else {
+            return OperatorReply::Refused(OperatorRefusal::NoSuchTenant);
+        };
+        self.come_home(rt, place);
+        self.leave(place, name)
+    }
+
+    // The tenant of the place, which is home, leaves it.
+    fn leave(&mut self, place: usize, name: Name) -> OperatorReply
+        requires open { IsOpen self.old }
+        requires place { place < most_places }
+        requires found { place_in self.old.register name ≡ Some place }
+        requires back { IsBackAt place self.old.seats.items }
+        ensures obeys { Obeys self.old self.new (Retire name) result }
+        ensures open { IsOpen self.new }
+        ensures roster { self.new.roster ≡ self.old.roster }
+        ensures hall { self.new.hall ≡ self.old.hall }
+    {
+        // Laws: of one line more.
+        answers_add_up();
+        match self.register.retire(name) {
+            Ok(_) => {
+                self.seats[place].retire();
+                OperatorReply::Retired(name)
+            }
+            Err(refusal) => OperatorReply::Refused(refusal),
         }
     }
 
@@ -132,9 +237,10 @@ impl<'h> Serving<'h> {
         command: Command,
     )
         requires open { IsOpen self.old }
-        requires place { place < length self.old.roster.now }
-        requires found { place_among self.old.roster.now name ≡ Some place }
-        requires home { IsHomeAt place self.old.seats.items }
+        requires place { place < most_places }
+        requires sound { AreSound self.old.register }
+        requires found { place_in self.old.register name ≡ Some place }
+        requires back { IsBackAt place self.old.seats.items }
         ensures takes { Takes self.old self.new (For name command) }
         ensures open { AreOpen self.new }
         ensures roster { self.new.roster ≡ self.old.roster }
@@ -147,20 +253,21 @@ impl<'h> Serving<'h> {
         self.slots.push_back_reserved(slot);
     }
 
-    // The desk of the place comes home; the answer that waited for its round is known then.
+    // The round comes back that is away from the place, if one is; the answer that waited for it is known then.
     fn come_home<R: Wait>(&mut self, rt: &R, place: usize)
         requires open { AreOpen self.old }
-        requires place { place < length self.old.roster.now }
+        requires place { place < most_places }
         ensures keeps { Keeps self.old self.new }
         ensures open { AreOpen self.new }
-        ensures home { IsHomeAt place self.new.seats.items }
-        ensures others { (other : ℕ) → IsHomeAt other self.old.seats.items → IsHomeAt other self.new.seats.items }
+        ensures back { IsBackAt place self.new.seats.items }
+        ensures others { (other : ℕ) → IsBackAt other self.old.seats.items → IsBackAt other self.new.seats.items }
+        ensures register { self.new.register ≡ self.old.register }
         ensures first { FirstIsFor place self.old.slots.items → FirstIsKnown self.new.slots.items }
         ensures length { deque_len self.new.slots ≡ deque_len self.old.slots }
         ensures roster { self.new.roster ≡ self.old.roster }
         ensures hall { self.new.hall ≡ self.old.hall }
     {
-        if self.seats[place].is_home() {
+        if self.seats[place].is_back() {
             return;
         }
         let reply = self.seats[place].come_home(rt);
@@ -170,7 +277,7 @@ impl<'h> Serving<'h> {
     // The same where the round is answered; else all stays. Tells whether it was.
     fn look_at(&mut self, place: usize) -> bool
         requires open { AreOpen self.old }
-        requires place { place < length self.old.roster.now }
+        requires place { place < most_places }
         requires first { FirstIsFor place self.old.slots.items }
         ensures keeps { Keeps self.old self.new }
         ensures open { AreOpen self.new }
@@ -238,7 +345,7 @@ impl<'h> Serving<'h> {
     // All answers, which are known, are to be written.
     fn put_all(&mut self) -> Result<(), AllocError>
         requires open { AreOpen self.old }
-        requires home { AllHome self.old.seats.items }
+        requires back { AllBack self.old.seats.items }
         ensures keeps { OnOk result (Keeps self.old self.new) }
         ensures open { AreOpen self.new }
         ensures none { OnOk result (self.new.slots.items ≡ []) }
@@ -252,12 +359,12 @@ impl<'h> Serving<'h> {
         Ok(())
     }
 
-    // All tenants come home.
+    // All rounds come back.
     fn all_come_home<R: Wait>(&mut self, rt: &R)
         requires { AreOpen self.old }
         ensures keeps { Keeps self.old self.new }
         ensures open { AreOpen self.new }
-        ensures home { AllHome self.new.seats.items }
+        ensures back { AllBack self.new.seats.items }
         ensures length { deque_len self.new.slots ≡ deque_len self.old.slots }
         ensures roster { self.new.roster ≡ self.old.roster }
         ensures hall { self.new.hall ≡ self.old.hall }
@@ -355,21 +462,69 @@ impl<'h> Serving<'h> {
         Ok(())
     }
 
-    /// The desks, in the order of their places, once each is home. They are put where this room is reserved for them.
-    pub(crate) fn into_desks<R: Wait>(self, rt: &R, room: Vec<Desk>) -> Vec<Desk>
+    /// Ends the service once each desk is home. The desks are put where these rooms are reserved for them.
+    pub(crate) fn end<R: Wait>(self, rt: &R, room: Vec<Desk>, empty_room: Vec<EmptyDesk>) -> Ended
         requires open { AreOpen self }
-        requires room { (room.items ≡ []) × (length self.roster.now ≤ vec_capacity room) }
-        ensures of { All (λ desk. desk.queue ≡ self.entry.hall.now.id) result.items }
-        ensures count { length result.items ≡ length self.entry.roster.now }
-        ensures asked { weigh (λ desk. desk.put) result.items ≡ weigh asked_at self.entry.seats.items }
+        requires room { (room.items ≡ []) × (most_places ≤ vec_capacity room) }
+        requires empty_room { (empty_room.items ≡ []) × (most_places ≤ vec_capacity empty_room) }
+        ensures of { AreOf self.entry.hall.now.id result.desks.items result.empty.items }
+        ensures rounds { result.rounds ≡ weigh asked_at self.entry.seats.items }
     {
         let mut desks = room;
+        let mut empty = empty_room;
+        let mut rounds = 0;
         for seat in self.seats {
-            let (desk, _) = seat.into_desk(rt);
-            desks.push_reserved(desk);
+            rounds += put_away(rt, seat, &mut desks, &mut empty);
         }
-        desks
+        Ended {
+            desks,
+            empty,
+            rounds,
+        }
     }
+}
+
+// Puts the desk of a seat with the others, once it is home; or the empty one with the empty ones. Tells how many rounds
+// were asked there.
+fn put_away<R: Wait>(rt: &R, seat: Seat, desks: &mut Vec<Desk>, empty: &mut Vec<EmptyDesk>) -> u64
+    requires seated { IsSeated seat }
+    requires room { vec_len desks.old < vec_capacity desks.old }
+    requires empty_room { vec_len empty.old < vec_capacity empty.old }
+    ensures of { (id : QueueId) → IsOf id seat → AreOf id desks.old.items empty.old.items
+        → AreOf id desks.new.items empty.new.items }
+    ensures count { vec_len desks.new + vec_len empty.new ≡ (vec_len desks.old + vec_len empty.old) + 1 }
+    ensures room { (vec_capacity desks.new ≡ vec_capacity desks.old)
+        × (vec_capacity empty.new ≡ vec_capacity empty.old) }
+    ensures asked { result ≡ asked_at seat }
+    ensures few { result ≤ 2 ^ 55 }
+{
+    match seat {
+        Seat::Home(desk) => put_desk(desks, desk),
+        Seat::Away(asked) => {
+            let (desk, _) = asked.wait(rt);
+            put_desk(desks, desk)
+        }
+        Seat::Empty(place) => {
+            let rounds = place.asked();
+            empty.push_reserved(place);
+            rounds
+        }
+        Seat::Gone => unreachable!(),
+    }
+}
+
+// Puts a desk with the others. Tells how many rounds were asked there.
+fn put_desk(desks: &mut Vec<Desk>, desk: Desk) -> u64
+    requires room { vec_len desks.old < vec_capacity desks.old }
+    ensures items { desks.new.items ≡ desks.old.items ++ desk ∷ [] }
+    ensures count { vec_len desks.new ≡ vec_len desks.old + 1 }
+    ensures room { vec_capacity desks.new ≡ vec_capacity desks.old }
+    ensures asked { result ≡ desk.put }
+    ensures few { result ≤ 2 ^ 55 }
+{
+    let rounds = desk.asked();
+    desks.push_reserved(desk);
+    rounds
 }
 
 // Writes what is to be written.
@@ -389,15 +544,24 @@ fn write_held<W: Sink>(writer: &mut W, output: &mut Vec<u8>) -> Result<(), Serve
     Ok(())
 }
 
-// A seat for each desk, which is home.
-fn seats_of(alloc: Global, desks: Vec<Desk>) -> Result<Vec<Seat>, AllocError>
-    ensures { IfOk result (λ seats. seats.items ≡ map Home desks.items) }
+// A seat more for each desk, which is home.
+fn put_desks(seats: &mut Vec<Seat>, desks: Vec<Desk>) -> Result<(), AllocError>
+    ensures { OnOk result (seats.new.items ≡ seats.old.items ++ map Home desks.items) }
 {
-    let mut seats = Vec::with_capacity(alloc, desks.len())?;
     for desk in desks {
-        seats.push_reserved(Seat::Home(desk));
+        seats.push(Seat::Home(desk))?;
     }
-    Ok(seats)
+    Ok(())
+}
+
+// A seat more for each empty desk.
+fn put_empty(seats: &mut Vec<Seat>, empty: Vec<EmptyDesk>) -> Result<(), AllocError>
+    ensures { OnOk result (seats.new.items ≡ seats.old.items ++ map Empty empty.items) }
+{
+    for place in empty {
+        seats.push(Seat::Empty(place))?;
+    }
+    Ok(())
 }
 
 // The reply that came, if one did, is the answer that waited for the round of the place.
@@ -428,6 +592,10 @@ fn put_answer(output: &mut Vec<u8>, answer: Slot) -> Result<(), AllocError>
         Slot::Stranger => output.extend_from_slice(b"! unknown-tenant\n"),
         Slot::Replied(name, reply) => {
             put_reply(output, name, &reply)?;
+            output.extend_from_slice(b"\n")
+        }
+        Slot::Obeyed(reply) => {
+            put_operator_reply(output, reply)?;
             output.extend_from_slice(b"\n")
         }
         Slot::Waiting(_, _, _) => unreachable!(),

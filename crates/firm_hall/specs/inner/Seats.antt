@@ -1,44 +1,82 @@
 -- What stands at the places of a hall that serves, and the answers that it holds.
-use Rattle.std.specs.Prelude.{◌≡◌, ℕ, ◌+◌, ◌<◌, ◌==◌, ◌⊎◌, Bool, false, List, [], ◌∷◌, Option, Some, None}
+use Rattle.std.specs.Prelude.{◌≡◌, ℕ, ◌+◌, ◌<◌, ◌==◌, ◌⊎◌, Bool, true, false, List, [], ◌∷◌, Option, Some, None}
 use Rattle.std.specs.Prelude.{if◌then◌else◌}
+use Rattle.firm_rules.specs.Limits.{TenantLimits}
+use Rattle.firm_rules.specs.Book.{opening_book}
 use Rattle.firm_rules.specs.declared.commands.Command.{Command}
 use Rattle.firm_rules.specs.declared.commands.Command.TheVariants.{Round}
 use Rattle.firm_rules.specs.declared.replies.Reply.{Reply}
 use Rattle.firm_rules.specs.declared.replies.Outcome.TheVariants.{Refused}
 use Rattle.firm_rules.specs.declared.replies.Refusal.TheVariants.{Worn, Memory}
+use Rattle.firm_text.specs.Registers.{most_admissions}
 use Rattle.firm_rounds.specs.Passes.{QueueId}
-use Rattle.firm_hall.specs.Desks.{DeskIs, desk_is, IsStep}
+use Rattle.firm_hall.specs.Desks.{DeskIs, desk_is, place_is, IsStep}
 use Rattle.firm_hall.specs.declared.seats.Seat.{Seat}
-use Rattle.firm_hall.specs.declared.seats.Seat.TheVariants.{Home, Away, Gone}
+use Rattle.firm_hall.specs.declared.seats.Seat.TheVariants.{Home, Away, Empty, Gone}
 use Rattle.firm_hall.specs.declared.seats.Slot.{Slot}
-use Rattle.firm_hall.specs.declared.seats.Slot.TheVariants.{TooLong, Stranger, Replied, Waiting}
+use Rattle.firm_hall.specs.declared.seats.Slot.TheVariants.{TooLong, Stranger, Replied, Waiting, Obeyed}
 
 -- something stands there
 abbrev pub IsSeated : Seat → Type 0
 IsSeated (Home desk) = Unit {0}
 IsSeated (Away asked) = Unit {0}
+IsSeated (Empty place) = Unit {0}
 IsSeated Gone = ⊥
+
+-- no round is away from there
+abbrev pub IsBack : Seat → Type 0
+IsBack (Home desk) = Unit {0}
+IsBack (Away asked) = ⊥
+IsBack (Empty place) = Unit {0}
+IsBack Gone = ⊥
 
 -- a desk at home
 abbrev pub IsHome : Seat → Type 0
 IsHome (Home desk) = Unit {0}
 IsHome (Away asked) = ⊥
+IsHome (Empty place) = ⊥
 IsHome Gone = ⊥
 
 -- and one of this hall
 abbrev pub IsHomeOf : QueueId → Seat → Type 0
 IsHomeOf queue (Home desk) = desk.queue ≡ queue
 IsHomeOf queue (Away asked) = ⊥
+IsHomeOf queue (Empty place) = ⊥
 IsHomeOf queue Gone = ⊥
+
+-- nobody is there, and the place has an admission left
+abbrev pub IsFree : Seat → Type 0
+IsFree (Home desk) = ⊥
+IsFree (Away asked) = ⊥
+IsFree (Empty place) = place.admissions < most_admissions
+IsFree Gone = ⊥
 
 -- what stands at a place later: the same, or the desk that came back with the round's reply
 abbrev pub IsTurned : Seat → Seat → Option Reply → Type 0
 IsTurned before after None = after ≡ before
 IsTurned (Away asked) (Home desk) (Some reply) = IsStep asked Round reply desk
 IsTurned (Away asked) (Away other) (Some reply) = ⊥
+IsTurned (Away asked) (Empty place) (Some reply) = ⊥
 IsTurned (Away asked) Gone (Some reply) = ⊥
 IsTurned (Home desk) after (Some reply) = ⊥
+IsTurned (Empty place) after (Some reply) = ⊥
 IsTurned Gone after (Some reply) = ⊥
+
+-- where a tenant came, its desk stands in place of the empty one, with the opening book; else all is as it was
+abbrev pub IsAdmitted : Seat → TenantLimits → Bool → Seat → Type 0
+IsAdmitted (Home desk) limits came after = ⊥
+IsAdmitted (Away asked) limits came after = ⊥
+IsAdmitted (Empty place) limits true after =
+    after ≡ Home (desk_is place.queue place.place place.put (place.admissions + 1) (opening_book limits))
+IsAdmitted (Empty place) limits false after = after ≡ Empty place
+IsAdmitted Gone limits came after = ⊥
+
+-- the empty desk stands there in place of the tenant's
+abbrev pub IsRetired : Seat → Seat → Type 0
+IsRetired (Home desk) after = after ≡ Empty (place_is desk.queue desk.place desk.put desk.admissions)
+IsRetired (Away asked) after = ⊥
+IsRetired (Empty place) after = ⊥
+IsRetired Gone after = ⊥
 
 -- whether an answer is the reply to the round that is away from the place
 abbrev pub waits_for : ℕ → Slot → Bool
@@ -46,6 +84,7 @@ waits_for place TooLong = false
 waits_for place Stranger = false
 waits_for place (Replied name reply) = false
 waits_for place (Waiting other name asked) = other == place
+waits_for place (Obeyed reply) = false
 
 -- the place whose round it waits for
 abbrev pub waiting_place : Slot → Option ℕ
@@ -53,6 +92,7 @@ waiting_place TooLong = None
 waiting_place Stranger = None
 waiting_place (Replied name reply) = None
 waiting_place (Waiting place name asked) = Some place
+waiting_place (Obeyed reply) = None
 
 -- the reply came
 abbrev pub answered : Reply → Slot → Slot
@@ -60,6 +100,7 @@ answered reply TooLong = TooLong
 answered reply Stranger = Stranger
 answered reply (Replied name same) = Replied name same
 answered reply (Waiting place name asked) = Replied name reply
+answered reply (Obeyed same) = Obeyed same
 
 -- the first answer that waits for the place is this reply
 abbrev pub filled : ℕ → Reply → List Slot → List Slot
@@ -97,13 +138,17 @@ IsTaken before place name command (Away asked) (Waiting at tenant known) =
 IsTaken before place name command (Home after) TooLong = ⊥
 IsTaken before place name command (Home after) Stranger = ⊥
 IsTaken before place name command (Home after) (Waiting at tenant known) = ⊥
+IsTaken before place name command (Home after) (Obeyed reply) = ⊥
 IsTaken before place name command (Away asked) TooLong = ⊥
 IsTaken before place name command (Away asked) Stranger = ⊥
 IsTaken before place name command (Away asked) (Replied tenant reply) = ⊥
+IsTaken before place name command (Away asked) (Obeyed reply) = ⊥
+IsTaken before place name command (Empty after) slot = ⊥
 IsTaken before place name command Gone slot = ⊥
 
 -- the same of the seat where the desk was home
 abbrev pub IsTakenAt : Seat → ℕ → List ℕ → Command → Seat → Slot → Type 0
 IsTakenAt (Home before) place name command after slot = IsTaken before place name command after slot
 IsTakenAt (Away asked) place name command after slot = ⊥
+IsTakenAt (Empty before) place name command after slot = ⊥
 IsTakenAt Gone place name command after slot = ⊥

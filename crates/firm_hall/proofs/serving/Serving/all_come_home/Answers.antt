@@ -1,6 +1,6 @@
 use Rattle.std.proofs.Common.{◌≡◌, ◌∙◌, ◌<◌, ◌≤◌, arith, subst, ⊎_elim, ℕ}
 use Rattle.std.proofs.lemmas.Bool.{cases_lt}
-use Rattle.firm_hall.specs.inner.Serving.{IsHomeAt}
+use Rattle.firm_hall.specs.inner.Serving.{IsBackAt}
 use Rattle.firm_hall.proofs.serving.Serving.all_come_home.Goals as goal
 
 pub loop-place-preserved : goal.loop-place-preserved
@@ -10,11 +10,11 @@ loop-place-preserved g c =
     record {
       keeps = λ text written now told. e.keeps text written now (i.keeps text written now told);
       stands = e.open;
-      home = λ place low. ⊎_elim
-          (λ (less : place < c.loop-place.place). e.others place (i.home place less))
+      back = λ place low. ⊎_elim
+          (λ (less : place < c.loop-place.place). e.others place (i.back place less))
           (λ (more : c.loop-place.place ≤ place).
           let same : c.loop-place.place ≡ place = omega arith in
-          subst (λ (p : ℕ). IsHomeAt p c.come_home.new.self.seats.items) same e.home)
+          subst (λ (p : ℕ). IsBackAt p c.come_home.new.self.seats.items) same e.back)
           (cases_lt place c.loop-place.place);
       length = e.length ∙ i.length;
       roster = e.roster ∙ i.roster;

@@ -6,12 +6,12 @@ use Rattle.firm_hall.proofs.serving.Serving.make_room.Goals as goal
 pub returns-then-len-lt-HELD-clause-begins : goal.returns-then-len-lt-HELD-clause-begins
 returns-then-len-lt-HELD-clause-begins g c text written told =
     let s = c.args.self.now in
-    begun s.roster.now s.seats.items s.slots.items s.output.items text written _ told
+    begun s.roster.now s.register s.seats.items s.slots.items s.output.items text written _ told
 
 pub returns-in_default-clause-begins : goal.returns-in_default-clause-begins
 returns-in_default-clause-begins g c text written told =
     let s = c.args.self.now in
-    begun s.roster.now s.seats.items s.slots.items s.output.items text written _ told
+    begun s.roster.now s.register s.seats.items s.slots.items s.output.items text written _ told
 
 pub returns-clause-begins : goal.returns-clause-begins
 returns-clause-begins g c text written told =
