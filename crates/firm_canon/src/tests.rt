@@ -348,7 +348,13 @@ fn expect_all_kinds(rt: &impl Abort, met: Met) {
     for count in [met.ties, met.starts, met.full, met.free_of_churn] {
         assert!(rt; 100 < count);
     }
-    for count in [met.moves, met.preemptions, met.evictions, met.near, met.remote] {
+    for count in [
+        met.moves,
+        met.preemptions,
+        met.evictions,
+        met.near,
+        met.remote,
+    ] {
         assert!(rt; 20 < count);
     }
 }
