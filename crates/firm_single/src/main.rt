@@ -17,8 +17,9 @@ fn main(rt: HostRuntime) -> anyhow::Result<()> {
     let roster = read_roster(&rt, alloc)?;
     let mut reader = Bytes::new(rt.stdin());
     let mut writer = Bytes::new(rt.stdout());
-    serve_one(alloc, &mut reader, &mut writer, &roster, MOST_INPUT)
-        .map_err(|fault| anyhow!("the service: {fault:?}"))
+    serve_one(alloc, &mut reader, &mut writer, &roster, MOST_INPUT).map_err(|fault| anyhow!(
+        "the service: {fault:?}"
+    ))
 }
 
 // The roster in the file that the last word names.
