@@ -18,7 +18,8 @@ module _ {A : Type 0} (P : A → Type 0) where
 
 -- one element more is turned, off the front of those that are left
 module _ {A B : Type 0} (f : A → B) where
-  pub one_turned : (old new whole : List B) (y : B) (x : A) (all rest : List A) → all ≡ x ∷ rest → y ≡ f x → new ≡ old ++ y ∷ []
+  pub one_turned : (old new whole : List B) (y : B) (x : A) (all rest : List A) → all ≡ x ∷ rest → y ≡ f x
+      → new ≡ old ++ y ∷ []
       → old ++ map f all ≡ whole → new ++ map f rest ≡ whole
   one_turned old new whole y x all rest steps is pushed before =
       ap (λ (ys : List B). ys ++ map f rest) (pushed ∙ ap (λ (z : B). old ++ z ∷ []) is)

@@ -17,7 +17,8 @@ use Rattle.firm_hall.specs.declared.seats.Seat.{Seat}
 use Rattle.firm_hall.specs.declared.seats.Seat.TheVariants.{Home, Away, Empty, Gone}
 use Rattle.firm_hall.specs.declared.seats.Slot.{Slot}
 
-module _ (register : List Registered) (seats : List Seat) (fits : Fits register seats) (place : ℕ) (before default : Seat) (low : place < length seats)
+module _ (register : List Registered) (seats : List Seat) (fits : Fits register seats) (place : ℕ)
+    (before default : Seat) (low : place < length seats)
     (at : before ≡ get_or seats place default) where
   pub counts_at : seat_counts before ≡ place_counts (get_or register place (vacant 0))
   counts_at =
@@ -30,20 +31,27 @@ module _ (register : List Registered) (seats : List Seat) (fits : Fits register 
   pub has_tenant : (name : List ℕ) → place_in register name ≡ Some place → (seat_counts before).0 ≡ true
   has_tenant name found =
       ap (λ (c : Bool × ℕ). c.0) counts_at
-      ∙ named (get_or register place (vacant 0)).tenant (position-Some (λ (p : Registered). is_named name p.tenant) register place (vacant 0) found).1
+      ∙ named (get_or register place (vacant 0)).tenant
+      (position-Some (λ (p : Registered). is_named name p.tenant) register place (vacant 0) found).1
     where
       named : (tenant : Option (List ℕ)) → is_named name tenant ≡ true → is_some tenant ≡ true
       named None e = cc
       named (Some tenant) e = refl
 
   -- nobody has a place that the register gives, and it has an admission left
-  pub has_none : (name : List ℕ) → place_for register name ≡ Ok place → ((seat_counts before).0 ≡ false) × ((seat_counts before).1 < most_admissions)
+  pub has_none : (name : List ℕ) → place_for register name ≡ Ok place
+      → ((seat_counts before).0 ≡ false) × ((seat_counts before).1 < most_admissions)
   has_none name given =
-      let free = (position-Some is_free register place (vacant 0) (given_place (is_some (place_in register name)) (position is_free register) given)).1 in
-      let parts = free_parts (get_or register place (vacant 0)) free in
-      (ap (λ (c : Bool × ℕ). c.0) counts_at ∙ parts.0, subst (λ (n : ℕ). n < most_admissions) (sym (ap (λ (c : Bool × ℕ). c.1) counts_at)) parts.1)
+      let free = (position-Some is_free register place (vacant 0)
+      (given_place (is_some (place_in register name)) (position is_free register) given)).1 in
+      let parts = free_parts (get_or register place (vacant 0)) free in (
+        ap (λ (c : Bool × ℕ). c.0) counts_at
+            ∙ parts.0,
+        subst (λ (n : ℕ). n < most_admissions) (sym (ap (λ (c : Bool × ℕ). c.1) counts_at)) parts.1,
+      )
     where
-      given_place : (held : Bool) (found : Option ℕ) → (if held then Err TenantExists else ok_or {E = OperatorRefusal} found Full) ≡ Ok place → found ≡ Some place
+      given_place : (held : Bool) (found : Option ℕ)
+          → (if held then Err TenantExists else ok_or {E = OperatorRefusal} found Full) ≡ Ok place → found ≡ Some place
       given_place true found e = absurd (cc)
       given_place false None e = absurd (cc)
       given_place false (Some i) e = cc
@@ -55,13 +63,15 @@ module _ (register : List Registered) (seats : List Seat) (fits : Fits register 
       free_parts : (p : Registered) → is_free p ≡ true → (is_some p.tenant ≡ false) × (p.admissions < most_admissions)
       free_parts p e = by (is_none p.tenant) (nat_lt p.admissions most_admissions) refl refl e
         where
-          by : (a b : Bool) → is_none p.tenant ≡ a → nat_lt p.admissions most_admissions ≡ b → (a && b) ≡ true → (is_some p.tenant ≡ false) × (p.admissions < most_admissions)
+          by : (a b : Bool) → is_none p.tenant ≡ a → nat_lt p.admissions most_admissions ≡ b → (a && b) ≡ true
+              → (is_some p.tenant ≡ false) × (p.admissions < most_admissions)
           by true true none few both = (none_some p.tenant none, grind (arith, nat_tests))
           by true false none few both = absurd (cc)
           by false b none few both = absurd (cc)
 
 -- the desk of a tenant whose round is not away is home
-pub home_there : (queue : QueueId) (place : ℕ) (slots : List Slot) (seat : Seat) → SeatIs queue place slots seat → IsBack seat → (seat_counts seat).0 ≡ true → IsHomeOf queue seat
+pub home_there : (queue : QueueId) (place : ℕ) (slots : List Slot) (seat : Seat) → SeatIs queue place slots seat
+    → IsBack seat → (seat_counts seat).0 ≡ true → IsHomeOf queue seat
 home_there queue place slots (Home desk) is back has = is.0
 home_there queue place slots (Away asked) is back has = absurd back
 home_there queue place slots (Empty empty) is back has = absurd (cc)
@@ -73,14 +83,16 @@ is_home queue (Away asked) is = absurd is
 is_home queue (Empty empty) is = absurd is
 is_home queue Gone is = absurd is
 
-pub free_there : (queue : QueueId) (place : ℕ) (slots : List Slot) (seat : Seat) → SeatIs queue place slots seat → (seat_counts seat).0 ≡ false → (seat_counts seat).1 < most_admissions → IsFree seat
+pub free_there : (queue : QueueId) (place : ℕ) (slots : List Slot) (seat : Seat) → SeatIs queue place slots seat
+    → (seat_counts seat).0 ≡ false → (seat_counts seat).1 < most_admissions → IsFree seat
 free_there queue place slots (Home desk) is none few = absurd (cc)
 free_there queue place slots (Away asked) is none few = absurd (cc)
 free_there queue place slots (Empty empty) is none few = few
 free_there queue place slots Gone is none few = absurd is
 
 -- the same, of what a body finds at a place
-module _ (queue : QueueId) (register : List Registered) (slots : List Slot) (seats : List Seat) (are : AreSeats queue slots seats) (fits : Fits register seats) (place : ℕ)
+module _ (queue : QueueId) (register : List Registered) (slots : List Slot) (seats : List Seat)
+    (are : AreSeats queue slots seats) (fits : Fits register seats) (place : ℕ)
     (before default : Seat) (low : place < most_places) (at : before ≡ get_or seats place default) where
   within : place < length seats
   within = omega (arith, are.long)
@@ -90,7 +102,8 @@ module _ (queue : QueueId) (register : List Registered) (slots : List Slot) (sea
 
   pub home_of : (name : List ℕ) → place_in register name ≡ Some place → IsBackAt place seats → IsHomeOf queue before
   home_of name found back =
-      home_there queue place slots before here (subst IsBack (sym at) (back default within)) (has_tenant register seats fits place before default within at name found)
+      home_there queue place slots before here (subst IsBack (sym at) (back default within))
+      (has_tenant register seats fits place before default within at name found)
 
   pub free_of : (name : List ℕ) → place_for register name ≡ Ok place → IsFree before
   free_of name given =

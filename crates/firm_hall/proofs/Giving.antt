@@ -1,5 +1,6 @@
 -- Known answers are taken off the front, and written.
-use Rattle.std.proofs.Common.{◌≡◌, ℕ, ◌<◌, ◌≤◌, List, [], ◌∷◌, ◌++◌, length, take, get_or, refl, sym, ap, ◌∙◌, subst, arith, append_assoc, append-nil}
+use Rattle.std.proofs.Common.{◌≡◌, ℕ, ◌<◌, ◌≤◌, List, [], ◌∷◌, ◌++◌, length, take, get_or, refl, sym, ap, ◌∙◌, subst}
+use Rattle.std.proofs.Common.{arith, append_assoc, append-nil}
 use Rattle.std.specs.Prelude.{Bool, true, false, ◌==◌, map, Option, Result, Ok, Err, OnErr, OnOk}
 use Rattle.std.proofs.Math.Seq.{take-length}
 use Rattle.std.specs.Io.KnownBytes.{Appends}
@@ -12,7 +13,8 @@ use Rattle.firm_table.specs.inner.Line.{state_is, tenants_are}
 use Rattle.firm_rounds.specs.Rounds.{weigh}
 use Rattle.firm_rounds.specs.Passes.{QueueId}
 use Rattle.firm_hall.specs.inner.Seats.{IsBack}
-use Rattle.firm_hall.specs.inner.Serving.{answer_in, held_text, book_at, asked_at, state_with, AreSeats, ArePlaced, SeatIs, Tells, TellsParts, FirstIsKnown, AllBack, NoneWaits}
+use Rattle.firm_hall.specs.inner.Serving.{answer_in, held_text, book_at, asked_at, state_with, AreSeats, ArePlaced}
+use Rattle.firm_hall.specs.inner.Serving.{SeatIs, Tells, TellsParts, FirstIsKnown, AllBack, NoneWaits}
 use Rattle.firm_hall.specs.declared.seats.Seat.{Seat}
 use Rattle.firm_hall.specs.declared.seats.Seat.TheVariants.{Home, Away, Empty, Gone}
 use Rattle.firm_hall.specs.declared.seats.Slot.{Slot}
@@ -22,61 +24,82 @@ use Rattle.firm_hall.proofs.Seating.{seat_pop}
 use Rattle.firm_hall.proofs.Telling.{tells_begins, tells_written}
 
 -- the first answer is taken
-pub popped_seats : (queue : QueueId) (slots rest : List Slot) (slot : Slot) (seats : List Seat) → slots ≡ slot ∷ rest → FirstIsKnown slots
+pub popped_seats : (queue : QueueId) (slots rest : List Slot) (slot : Slot) (seats : List Seat) → slots ≡ slot ∷ rest
+    → FirstIsKnown slots
     → AreSeats queue slots seats → AreSeats queue rest seats
 popped_seats queue slots rest slot seats is known are =
     let known' = subst FirstIsKnown is known in
     record {
       long = are.long;
-      each = λ place default low. seat_pop queue place slot rest (get_or seats place default) (known_waits place slot rest known')
-          (subst (λ (xs : List Slot). SeatIs queue place xs (get_or seats place default)) is (are.each place default low));
+      each = λ place default low. seat_pop queue place slot rest (get_or seats place default)
+          (known_waits place slot rest known')
+          (subst (λ (xs : List Slot). SeatIs queue place xs (get_or seats place default)) is
+          (are.each place default low));
     }
 
 pub popped_placed : (slots rest : List Slot) (slot : Slot) → slots ≡ slot ∷ rest → ArePlaced slots → ArePlaced rest
 popped_placed slots rest slot is placed = (subst ArePlaced is placed).1
 
 -- and its text is still to be written
-pub popped_tells : (roster : List Admitted) (register : List Registered) (seats : List Seat) (slots rest : List Slot) (slot : Slot) (output later : List ℕ) → slots ≡ slot ∷ rest
-    → ((marks : ℕ → Bool) → later ≡ output ++ text_of_answer (answer_in marks slot)) → (text : List ℕ) (written now : Option (List ℕ))
-    → TellsParts roster register seats slots output text written now → TellsParts roster register seats rest later text written now
+pub popped_tells : (roster : List Admitted) (register : List Registered) (seats : List Seat) (slots rest : List Slot)
+    (slot : Slot) (output later : List ℕ) → slots ≡ slot ∷ rest
+    → ((marks : ℕ → Bool) → later ≡ output ++ text_of_answer (answer_in marks slot))
+    → (text : List ℕ) (written now : Option (List ℕ))
+    → TellsParts roster register seats slots output text written now
+    → TellsParts roster register seats rest later text written now
 popped_tells roster register seats slots rest slot output later is added text written now told marks =
     let pending : output ++ held_text marks slots ≡ later ++ held_text marks rest =
     ap (λ (xs : List Slot). output ++ held_text marks xs) is
     ∙ sym (append_assoc output (text_of_answer (answer_in marks slot)) (held_text marks rest))
     ∙ ap (λ (l : List ℕ). l ++ held_text marks rest) (sym (added marks)) in
-    subst (λ (l : List ℕ). Tells (state_is roster (tenants_are register (map (book_at marks) seats)) l) (weigh asked_at seats) text written now) pending (told marks)
+    subst (λ (l : List ℕ). Tells (state_is roster (tenants_are register (map (book_at marks) seats)) l)
+    (weigh asked_at seats) text written now) pending (told marks)
 
 -- no mark for any place
 abbrev unmarked : ℕ → Bool
 unmarked place = false
 
 -- what was written begins the output
-pub begun : (roster : List Admitted) (register : List Registered) (seats : List Seat) (slots : List Slot) (output text : List ℕ) (written now : Option (List ℕ))
+pub begun : (roster : List Admitted) (register : List Registered) (seats : List Seat) (slots : List Slot)
+    (output text : List ℕ) (written now : Option (List ℕ))
     → TellsParts roster register seats slots output text written now → BeginsAnswers roster text written now
 begun roster register seats slots output text written now told =
-    tells_begins (state_with unmarked roster register seats slots output) (weigh asked_at seats) text written now now 0 [] (output ++ held_text unmarked slots) (told unmarked) refl (omega arith) (Appends-nil now)
+    tells_begins (state_with unmarked roster register seats slots output) (weigh asked_at seats) text written now now 0
+    [] (output ++ held_text unmarked slots) (told unmarked) refl (omega arith) (Appends-nil now)
 
 -- and so it does where some of what was to be written was
-pub partly : (roster : List Admitted) (register : List Registered) (seats : List Seat) (slots : List Slot) (output text : List ℕ) (written now later : Option (List ℕ)) (count : ℕ) → count ≤ length output
-    → Appends now later (take count output) → TellsParts roster register seats slots output text written now → BeginsAnswers roster text written later
+pub partly : (roster : List Admitted) (register : List Registered) (seats : List Seat) (slots : List Slot)
+    (output text : List ℕ) (written now later : Option (List ℕ)) (count : ℕ) → count ≤ length output
+    → Appends now later (take count output) → TellsParts roster register seats slots output text written now
+    → BeginsAnswers roster text written later
 partly roster register seats slots output text written now later count few wrote told =
-    tells_begins (state_with unmarked roster register seats slots output) (weigh asked_at seats) text written now later count output (held_text unmarked slots) (told unmarked) refl few wrote
+    tells_begins (state_with unmarked roster register seats slots output) (weigh asked_at seats) text written now later
+    count output (held_text unmarked slots) (told unmarked) refl few wrote
 
-pub wholly : (roster : List Admitted) (register : List Registered) (seats : List Seat) (slots : List Slot) (output text : List ℕ) (written now later : Option (List ℕ))
-    → Appends now later output → TellsParts roster register seats slots output text written now → BeginsAnswers roster text written later
+pub wholly : (roster : List Admitted) (register : List Registered) (seats : List Seat) (slots : List Slot)
+    (output text : List ℕ) (written now later : Option (List ℕ))
+    → Appends now later output → TellsParts roster register seats slots output text written now
+    → BeginsAnswers roster text written later
 wholly roster register seats slots output text written now later wrote told =
-    partly roster register seats slots output text written now later (length output) (omega arith) (subst (Appends now later) (sym (take-length output)) wrote) told
+    partly roster register seats slots output text written now later (length output) (omega arith)
+    (subst (Appends now later) (sym (take-length output)) wrote) told
 
 -- all that was to be written was
-pub written_all : (roster : List Admitted) (register : List Registered) (seats : List Seat) (slots : List Slot) (output held text : List ℕ) (written now later : Option (List ℕ)) → held ≡ []
-    → Appends now later output → TellsParts roster register seats slots output text written now → TellsParts roster register seats slots held text written later
+pub written_all : (roster : List Admitted) (register : List Registered) (seats : List Seat) (slots : List Slot)
+    (output held text : List ℕ) (written now later : Option (List ℕ)) → held ≡ []
+    → Appends now later output → TellsParts roster register seats slots output text written now
+    → TellsParts roster register seats slots held text written later
 written_all roster register seats slots output held text written now later none wrote told marks =
-    let same : held_text marks slots ≡ held ++ held_text marks slots = ap (λ (l : List ℕ). l ++ held_text marks slots) (sym none) in
-    subst (λ (l : List ℕ). Tells (state_is roster (tenants_are register (map (book_at marks) seats)) l) (weigh asked_at seats) text written later) same
-    (tells_written (state_with marks roster register seats slots output) (weigh asked_at seats) text written now later output (held_text marks slots) (told marks) refl wrote)
+    let same : held_text marks slots ≡ held ++ held_text marks slots =
+    ap (λ (l : List ℕ). l ++ held_text marks slots) (sym none) in
+    subst (λ (l : List ℕ). Tells (state_is roster (tenants_are register (map (book_at marks) seats)) l)
+    (weigh asked_at seats) text written later) same
+    (tells_written (state_with marks roster register seats slots output)
+    (weigh asked_at seats) text written now later output (held_text marks slots) (told marks) refl wrote)
 
 -- where no round is away, each answer is known
-pub all_known : (queue : QueueId) (slots : List Slot) (seats : List Seat) → AreSeats queue slots seats → ArePlaced slots → AllBack seats → 0 < length slots
+pub all_known : (queue : QueueId) (slots : List Slot) (seats : List Seat) → AreSeats queue slots seats
+    → ArePlaced slots → AllBack seats → 0 < length slots
     → FirstIsKnown slots
 all_known queue [] seats are placed back some = absurd (omega arith)
 all_known queue (TooLong ∷ rest) seats are placed back some = tt
@@ -84,11 +107,13 @@ all_known queue (Stranger ∷ rest) seats are placed back some = tt
 all_known queue (Replied name reply ∷ rest) seats are placed back some = tt
 all_known queue (Obeyed reply ∷ rest) seats are placed back some = tt
 all_known queue (Waiting place name asked ∷ rest) seats are placed back some =
-    let none = waits_none (get_or seats place Gone) (back place Gone (omega (arith, are.long, placed.0))) (are.each place Gone placed.0) in
+    let none = waits_none (get_or seats place Gone) (back place Gone (omega (arith, are.long, placed.0)))
+    (are.each place Gone placed.0) in
     let here = is_place place place refl in
     absurd (not_both here none.0)
   where
-    waits_none : (seat : Seat) → IsBack seat → SeatIs queue place (Waiting place name asked ∷ rest) seat → NoneWaits place (Waiting place name asked ∷ rest)
+    waits_none : (seat : Seat) → IsBack seat → SeatIs queue place (Waiting place name asked ∷ rest) seat
+        → NoneWaits place (Waiting place name asked ∷ rest)
     waits_none (Home desk) is_back is = is.2
     waits_none (Away other) is_back is = absurd is_back
     waits_none (Empty empty) is_back is = is.2
@@ -98,15 +123,18 @@ all_known queue (Waiting place name asked ∷ rest) seats are placed back some =
     not_both e f = let g : true ≡ false = sym e ∙ f in cc
 
 -- nothing is still to be written: what was is the output
-pub answers_all : (roster : List Admitted) (register : List Registered) (seats : List Seat) (slots : List Slot) (output text : List ℕ) (written now : Option (List ℕ)) → slots ≡ [] → output ≡ []
+pub answers_all : (roster : List Admitted) (register : List Registered) (seats : List Seat) (slots : List Slot)
+    (output text : List ℕ) (written now : Option (List ℕ)) → slots ≡ [] → output ≡ []
     → TellsParts roster register seats slots output text written now → Answers roster text written now
 answers_all roster register seats slots output text written now none_held none told =
     let t = (told unmarked).told in
-    let empty : output ++ held_text unmarked slots ≡ [] = ap (λ (l : List ℕ). l ++ held_text unmarked slots) none ∙ ap (held_text unmarked) none_held in
+    let empty : output ++ held_text unmarked slots ≡ [] =
+    ap (λ (l : List ℕ). l ++ held_text unmarked slots) none ∙ ap (held_text unmarked) none_held in
     record {
       lines = t.lines;
       are_lines = t.are_lines;
-      wrote = subst (Appends written now) (sym (append-nil t.sent) ∙ ap (λ (l : List ℕ). t.sent ++ l) (sym empty) ∙ t.whole) t.wrote;
+      wrote = subst (Appends written now) (sym (append-nil t.sent) ∙ ap (λ (l : List ℕ). t.sent ++ l) (sym empty)
+          ∙ t.whole) t.wrote;
     }
 
 -- what holds anyway holds where a call failed

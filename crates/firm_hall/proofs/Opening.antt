@@ -1,5 +1,6 @@
 -- The desks that a hall is opened with, one by one.
-use Rattle.std.proofs.Common.{◌≡◌, ℕ, zero, suc, ◌+◌, ◌-◌, ◌<◌, ◌≤◌, List, [], ◌∷◌, ◌++◌, Some, All, length, get_or, drop, take, map}
+use Rattle.std.proofs.Common.{◌≡◌, ℕ, zero, suc, ◌+◌, ◌-◌, ◌<◌, ◌≤◌, List, [], ◌∷◌, ◌++◌, Some, All, length, get_or}
+use Rattle.std.proofs.Common.{drop, take, map}
 use Rattle.std.proofs.Common.{add-one, ⊎_elim, refl, sym, ap, ◌∙◌, arith, length-append}
 use Rattle.std.specs.Prelude.{slice_get}
 use Rattle.std.proofs.lemmas.List.{get_or_append_left, get_or_push, get_or-drop, append_assoc, append-nil, drop_more}
@@ -108,7 +109,8 @@ pub puts_front : (id : QueueId) (n m : ℕ) → n ≤ m → take n (new_puts id 
 puts_front id n zero low = let none : n ≡ 0 = omega arith in rw none refl
 puts_front id n (suc m) low = ⊎_elim
     (λ (less : n < suc m).
-    take-append-le n (new_puts id m) (put_is id m 0 ∷ []) (omega (arith, puts_wide id m)) ∙ puts_front id n m (omega arith))
+    take-append-le n (new_puts id m) (put_is id m 0 ∷ []) (omega (arith, puts_wide id m))
+    ∙ puts_front id n m (omega arith))
     (λ (more : suc m ≤ n).
     let same : suc m ≡ n = omega arith in
     take_all n (new_puts id (suc m)) (omega (arith, puts_wide id (suc m))) ∙ ap (new_puts id) same)
@@ -119,9 +121,11 @@ abbrev pub unused_of : PutIs → PlaceIs
 unused_of pass = place_is pass.queue pass.place 0 0
 
 -- one place more
-unused_more : (id : QueueId) (n k m : ℕ) → m ≡ n + k → unused_places id n k ++ place_is id m 0 0 ∷ [] ≡ unused_places id n (suc k)
+unused_more : (id : QueueId) (n k m : ℕ) → m ≡ n + k
+    → unused_places id n k ++ place_is id m 0 0 ∷ [] ≡ unused_places id n (suc k)
 unused_more id n zero m e = let same : m ≡ n = omega arith in ap (λ (j : ℕ). place_is id j 0 0 ∷ []) same
-unused_more id n (suc k) m e = ap (λ (ps : List PlaceIs). place_is id n 0 0 ∷ ps) (unused_more id (suc n) k m (omega arith))
+unused_more id n (suc k) m e =
+    ap (λ (ps : List PlaceIs). place_is id n 0 0 ∷ ps) (unused_more id (suc n) k m (omega arith))
 
 -- and those of the others
 pub puts_rest : (id : QueueId) (n k m : ℕ) → m ≡ n + k → map unused_of (drop n (new_puts id m)) ≡ unused_places id n k
@@ -140,12 +144,14 @@ unused_are_of id n (suc k) zero d low = refl
 unused_are_of id n (suc k) (suc i) d low = unused_are_of id (suc n) k i d (omega arith)
 
 -- what a hall is opened with: the passes of the roster's places, and those of the others
-pub front_of : (id : QueueId) (rows places n : ℕ) (puts front : List PutIs) → n ≡ rows → rows ≤ places → puts ≡ new_puts id places
+pub front_of : (id : QueueId) (rows places n : ℕ) (puts front : List PutIs) → n ≡ rows → rows ≤ places
+    → puts ≡ new_puts id places
     → front ≡ take n puts → front ≡ new_puts id rows
 front_of id rows places n puts front count low all cut =
     cut ∙ ap (take n) all ∙ ap (λ (k : ℕ). take k (new_puts id places)) count ∙ puts_front id rows places low
 
-pub rest_of : (id : QueueId) (rows places n : ℕ) (puts rest : List PutIs) → n ≡ rows → rows ≤ places → puts ≡ new_puts id places
+pub rest_of : (id : QueueId) (rows places n : ℕ) (puts rest : List PutIs) → n ≡ rows → rows ≤ places
+    → puts ≡ new_puts id places
     → rest ≡ drop n puts → map unused_of rest ≡ unused_places id rows (places - rows)
 rest_of id rows places n puts rest count low all cut =
     ap (map unused_of) (cut ∙ ap (drop n) all ∙ ap (λ (k : ℕ). drop k (new_puts id places)) count)

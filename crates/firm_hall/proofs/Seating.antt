@@ -1,5 +1,6 @@
 -- What stands at the places, as a desk comes home, answers or asks.
-use Rattle.std.proofs.Common.{◌≡◌, ◌≢◌, ℕ, zero, suc, ◌+◌, ◌<◌, List, [], ◌∷◌, ◌++◌, length, set, get_or, refl, sym, ap, ◌∙◌, subst, arith}
+use Rattle.std.proofs.Common.{◌≡◌, ◌≢◌, ℕ, zero, suc, ◌+◌, ◌<◌, List, [], ◌∷◌, ◌++◌, length, set, get_or, refl, sym}
+use Rattle.std.proofs.Common.{ap, ◌∙◌, subst, arith}
 use Rattle.std.specs.Prelude.{Bool, true, false, map, Some}
 use Rattle.std.proofs.lemmas.List.{length-set, length-map, get_or-map, get_or-set_same, get_or-set_other, ext_get_or}
 use mathlib.Core.Logic.{dite}
@@ -18,31 +19,39 @@ use Rattle.firm_hall.specs.inner.Serving.{book_at, asked_at, seat_counts, SeatIs
 use Rattle.firm_hall.specs.declared.seats.Seat.{Seat}
 use Rattle.firm_hall.specs.declared.seats.Seat.TheVariants.{Home, Away, Empty, Gone}
 use Rattle.firm_hall.specs.declared.seats.Slot.{Slot}
-use Rattle.firm_hall.proofs.Slots.{with_mark, with_here, with_other, none_push, one_push, none_filled, none_other, one_other}
+use Rattle.firm_hall.proofs.Slots.{with_mark, with_here, with_other, none_push, one_push, none_filled, none_other}
+use Rattle.firm_hall.proofs.Slots.{one_other}
 
 module _ {A : Type 0} where
-  pub weigh_set : (g : A → ℕ) (xs : List A) (i : ℕ) (y d : A) → i < length xs → weigh g (set xs i y) + g (get_or xs i d) ≡ weigh g xs + g y
+  pub weigh_set : (g : A → ℕ) (xs : List A) (i : ℕ) (y d : A) → i < length xs
+      → weigh g (set xs i y) + g (get_or xs i d) ≡ weigh g xs + g y
   weigh_set g [] i y d low = absurd (omega arith)
   weigh_set g (x ∷ xs) zero y d low = omega arith
-  weigh_set g (x ∷ xs) (suc i) y d low = let rest : weigh g (set xs i y) + g (get_or xs i d) ≡ weigh g xs + g y = weigh_set g xs i y d (omega arith) in omega arith
+  weigh_set g (x ∷ xs) (suc i) y d low = let rest : weigh g (set xs i y) + g (get_or xs i d) ≡ weigh g xs + g y =
+      weigh_set g xs i y d (omega arith) in omega arith
 
   -- a list in which one element was set, and of which all others hold what they held
-  pub each_set : (P Q : ℕ → A → Type 0) (xs : List A) (i : ℕ) (y d : A) → i < length xs → Q i y → ((j : ℕ) → j ≢ i → P j (get_or xs j d) → Q j (get_or xs j d))
+  pub each_set : (P Q : ℕ → A → Type 0) (xs : List A) (i : ℕ) (y d : A) → i < length xs → Q i y
+      → ((j : ℕ) → j ≢ i → P j (get_or xs j d) → Q j (get_or xs j d))
       → (j : ℕ) → (j < length xs → P j (get_or xs j d)) → j < length xs → Q j (get_or (set xs i y) j d)
   each_set P Q xs i y d low here there j all within = dite (ℕ_discrete j i)
-      (λ same. subst (λ (k : ℕ). Q k (get_or (set xs i y) k d)) (sym same) (subst (Q i) (sym (get_or-set_same xs i y d low)) here))
+      (λ same. subst (λ (k : ℕ). Q k (get_or (set xs i y) k d)) (sym same)
+      (subst (Q i) (sym (get_or-set_same xs i y d low)) here))
       (λ differ. subst (Q j) (sym (get_or-set_other xs i j y d differ)) (there j differ (all within)))
 
 -- another place, of which an answer became known that waited for this one
-pub seat_other : (queue : QueueId) (place other : ℕ) (reply : Reply) (slots : List Slot) (seat : Seat) → other ≢ place → SeatIs queue other slots seat
+pub seat_other : (queue : QueueId) (place other : ℕ) (reply : Reply) (slots : List Slot) (seat : Seat) → other ≢ place
+    → SeatIs queue other slots seat
     → SeatIs queue other (filled place reply slots) seat
 seat_other queue place other reply slots (Home desk) differ is = (is.0, is.1, none_other place other reply slots is.2)
-seat_other queue place other reply slots (Away asked) differ is = (is.0, is.1, one_other place other asked reply slots differ is.2)
+seat_other queue place other reply slots (Away asked) differ is =
+    (is.0, is.1, one_other place other asked reply slots differ is.2)
 seat_other queue place other reply slots (Empty empty) differ is = (is.0, is.1, none_other place other reply slots is.2)
 seat_other queue place other reply slots Gone differ is = absurd is
 
 -- a place, with one answer more that waits for another or for none
-pub seat_push : (queue : QueueId) (place : ℕ) (slots : List Slot) (slot : Slot) (seat : Seat) → waits_for place slot ≡ false → SeatIs queue place slots seat
+pub seat_push : (queue : QueueId) (place : ℕ) (slots : List Slot) (slot : Slot) (seat : Seat)
+    → waits_for place slot ≡ false → SeatIs queue place slots seat
     → SeatIs queue place (slots ++ slot ∷ []) seat
 seat_push queue place slots slot (Home desk) out is = (is.0, is.1, none_push place slots slot is.2 out)
 seat_push queue place slots slot (Away asked) out is = (is.0, is.1, one_push place asked slots slot is.2 out)
@@ -50,7 +59,8 @@ seat_push queue place slots slot (Empty empty) out is = (is.0, is.1, none_push p
 seat_push queue place slots slot Gone out is = absurd is
 
 -- a place, once the first answer is taken, which waits for none
-pub seat_pop : (queue : QueueId) (place : ℕ) (slot : Slot) (rest : List Slot) (seat : Seat) → waits_for place slot ≡ false → SeatIs queue place (slot ∷ rest) seat
+pub seat_pop : (queue : QueueId) (place : ℕ) (slot : Slot) (rest : List Slot) (seat : Seat)
+    → waits_for place slot ≡ false → SeatIs queue place (slot ∷ rest) seat
     → SeatIs queue place rest seat
 seat_pop queue place slot rest (Home desk) out is = (is.0, is.1, is.2.1)
 seat_pop queue place slot rest (Away asked) out is = (is.0, is.1, rw out at is.2)
@@ -58,16 +68,19 @@ seat_pop queue place slot rest (Empty empty) out is = (is.0, is.1, is.2.1)
 seat_pop queue place slot rest Gone out is = absurd is
 
 -- the book of a place that is not this one rests on no mark of it
-pub book_other : (queue : QueueId) (place other : ℕ) (mark : Bool) (marks : ℕ → Bool) (slots : List Slot) (seat : Seat) → other ≢ place → SeatIs queue other slots seat
+pub book_other : (queue : QueueId) (place other : ℕ) (mark : Bool) (marks : ℕ → Bool) (slots : List Slot) (seat : Seat)
+    → other ≢ place → SeatIs queue other slots seat
     → book_at marks seat ≡ book_at (with_mark place mark marks) seat
 book_other queue place other mark marks slots (Home desk) differ is = refl
 book_other queue place other mark marks slots (Away asked) differ is =
-    ap (λ (b : Bool). Some (step asked.book Round b).1) (sym (with_other place mark marks asked.place (λ e. differ (sym is.1 ∙ e))))
+    ap (λ (b : Bool). Some (step asked.book Round b).1)
+    (sym (with_other place mark marks asked.place (λ e. differ (sym is.1 ∙ e))))
 book_other queue place other mark marks slots (Empty empty) differ is = refl
 book_other queue place other mark marks slots Gone differ is = absurd is
 
 -- the desk that came back is the one of its place
-pub seat_back : (queue : QueueId) (place : ℕ) (slots : List Slot) (asked desk : DeskIs) (reply : Reply) → IsStep asked Round reply desk
+pub seat_back : (queue : QueueId) (place : ℕ) (slots : List Slot) (asked desk : DeskIs) (reply : Reply)
+    → IsStep asked Round reply desk
     → SeatIs queue place slots (Away asked) → SeatIs queue place (filled place reply slots) (Home desk)
 seat_back queue place slots asked desk reply step is = (
   ap (λ (d : DeskIs). d.queue) step.same_desk ∙ is.0,
@@ -76,15 +89,19 @@ seat_back queue place slots asked desk reply step is = (
 )
 
 -- and its book is the one that its mark tells
-pub book_back : (queue : QueueId) (place : ℕ) (marks : ℕ → Bool) (slots : List Slot) (asked desk : DeskIs) (reply : Reply) → IsStep asked Round reply desk
-    → SeatIs queue place slots (Away asked) → book_at marks (Home desk) ≡ book_at (with_mark place (is_memory reply) marks) (Away asked)
+pub book_back : (queue : QueueId) (place : ℕ) (marks : ℕ → Bool) (slots : List Slot) (asked desk : DeskIs)
+    (reply : Reply) → IsStep asked Round reply desk
+    → SeatIs queue place slots (Away asked)
+    → book_at marks (Home desk) ≡ book_at (with_mark place (is_memory reply) marks) (Away asked)
 book_back queue place marks slots asked desk reply stepped is =
     let mark = is_memory reply in
     ap (λ (p : Reply × Book). Some p.1) stepped.stepped
     ∙ ap (λ (b : Bool). Some (step asked.book Round b).1) (sym (with_here place mark marks asked.place is.1))
 
-module _ (queue : QueueId) (place : ℕ) (slots : List Slot) (seats : List Seat) (asked desk : DeskIs) (reply : Reply) (default : Seat)
-    (are : AreSeats queue slots seats) (low : place < most_places) (away : Away asked ≡ get_or seats place default) (back : IsStep asked Round reply desk) where
+module _ (queue : QueueId) (place : ℕ) (slots : List Slot) (seats : List Seat) (asked desk : DeskIs) (reply : Reply)
+    (default : Seat)
+    (are : AreSeats queue slots seats) (low : place < most_places) (away : Away asked ≡ get_or seats place default)
+    (back : IsStep asked Round reply desk) where
   within : place < length seats
   within = omega (arith, are.long)
 
@@ -95,13 +112,16 @@ module _ (queue : QueueId) (place : ℕ) (slots : List Slot) (seats : List Seat)
   seats_back = record {
     long = length-set seats place (Home desk) ∙ are.long;
     each = λ j d l.
-        each_set (λ k (s : Seat). SeatIs queue k slots s) (λ k (s : Seat). SeatIs queue k (filled place reply slots) s) seats place (Home desk) d within
+        each_set (λ k (s : Seat). SeatIs queue k slots s) (λ k (s : Seat). SeatIs queue k (filled place reply slots) s)
+        seats place (Home desk) d within
         (seat_back queue place slots asked desk reply back here_is)
         (λ k differ is. seat_other queue place k reply slots (get_or seats k d) differ is)
         j (λ w. are.each j d l) (omega (arith, are.long));
   }
 
-  pub books_back : (marks : ℕ → Bool) → map (book_at marks) (set seats place (Home desk)) ≡ map (book_at (with_mark place (is_memory reply) marks)) seats
+  pub books_back : (marks : ℕ → Bool)
+      → map (book_at marks) (set seats place (Home desk)) ≡ map
+      (book_at (with_mark place (is_memory reply) marks)) seats
   books_back marks =
       let f = book_at marks in
       let g = book_at (with_mark place (is_memory reply) marks) in
@@ -111,7 +131,8 @@ module _ (queue : QueueId) (place : ℕ) (slots : List Slot) (seats : List Seat)
       (λ i l.
       let low_i : i < length seats = omega (arith, length-map new f, length-set seats place (Home desk)) in
       get_or-map f new i default (f default) (omega (arith, length-map new f))
-      ∙ each_set (λ k (s : Seat). SeatIs queue k slots s) (λ k (s : Seat). f s ≡ g (get_or seats k default)) seats place (Home desk) default within
+      ∙ each_set (λ k (s : Seat). SeatIs queue k slots s) (λ k (s : Seat). f s ≡ g (get_or seats k default)) seats
+      place (Home desk) default within
       (book_back queue place marks slots asked desk reply back here_is ∙ ap g away)
       (λ k differ is. book_other queue place k (is_memory reply) marks slots (get_or seats k default) differ is)
       i (λ w. are.each i default (omega (arith, are.long))) low_i
@@ -124,5 +145,6 @@ module _ (queue : QueueId) (place : ℕ) (slots : List Slot) (seats : List Seat)
   pub asked_back : weigh asked_at (set seats place (Home desk)) ≡ weigh asked_at seats
   asked_back =
       let turn = weigh_set asked_at seats place (Home desk) default within in
-      let same : asked_at (get_or seats place default) ≡ asked_at (Home desk) = sym (ap asked_at away) ∙ sym (ap (λ (d : DeskIs). d.put) back.same_desk) in
+      let same : asked_at (get_or seats place default) ≡ asked_at (Home desk) =
+      sym (ap asked_at away) ∙ sym (ap (λ (d : DeskIs). d.put) back.same_desk) in
       omega (arith, turn, same)

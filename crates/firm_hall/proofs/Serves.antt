@@ -15,7 +15,8 @@ use Rattle.firm_hall.specs.declared.seats.Seat.{Seat}
 use Rattle.firm_hall.specs.declared.seats.Slot.{Slot}
 
 -- nothing was read yet
-pub unread : (roster : List Admitted) (most : ℕ) (left written : Option (List ℕ)) (read_failed write_failed : Bool) → read_failed ≡ false → write_failed ≡ false
+pub unread : (roster : List Admitted) (most : ℕ) (left written : Option (List ℕ)) (read_failed write_failed : Bool)
+    → read_failed ≡ false → write_failed ≡ false
     → Stopped roster most (device left left read_failed) (device written written write_failed) Memory
 unread roster most left written read_failed write_failed reads writes = record {
   answered = [];
@@ -23,18 +24,28 @@ unread roster most left written read_failed write_failed reads writes = record {
   read = Consumes-nil left;
   whole = inl (λ some. absurd (omega arith));
   cause = (reads, writes);
-  begins = record { lines = []; are_lines = record { each = refl; marks = refl }; count = 0; wrote = Appends-nil written };
+  begins = record {
+    lines = [];
+    are_lines = record { each = refl; marks = refl };
+    count = 0;
+    wrote =
+        Appends-nil written;
+  };
 }
 
 -- all was read, and nothing is still to be written
-pub served_with : (roster : List Admitted) (register : List Registered) (seats : List Seat) (slots : List Slot) (output : List ℕ) (most : ℕ) (reader writer : Device) → slots ≡ [] → output ≡ []
-    → ToldToTheEnd (TellsParts roster register seats slots output) most reader writer → Served roster most reader writer → ServedWith roster most reader writer (weigh asked_at seats)
+pub served_with : (roster : List Admitted) (register : List Registered) (seats : List Seat) (slots : List Slot)
+    (output : List ℕ) (most : ℕ) (reader writer : Device) → slots ≡ [] → output ≡ []
+    → ToldToTheEnd (TellsParts roster register seats slots output) most reader writer
+    → Served roster most reader writer → ServedWith roster most reader writer (weigh asked_at seats)
 served_with roster register seats slots output most reader writer none_held none end served =
     let marks : ℕ → Bool = λ place. false in
     let tells = end.told.told marks in
     let t = tells.told in
-    let empty : output ++ held_text marks slots ≡ [] = ap (λ (l : List ℕ). l ++ held_text marks slots) none ∙ ap (held_text marks) none_held in
-    let whole : t.sent ≡ output_of roster t.lines = sym (append-nil t.sent) ∙ ap (λ (l : List ℕ). t.sent ++ l) (sym empty) ∙ t.whole in
+    let empty : output ++ held_text marks slots ≡ [] =
+    ap (λ (l : List ℕ). l ++ held_text marks slots) none ∙ ap (held_text marks) none_held in
+    let whole : t.sent ≡ output_of roster t.lines =
+    sym (append-nil t.sent) ∙ ap (λ (l : List ℕ). t.sent ++ l) (sym empty) ∙ t.whole in
     let counted = tells.counted in
     record {
       served = record {
@@ -45,7 +56,8 @@ served_with roster register seats slots output most reader writer none_held none
         answers = record {
           lines = t.lines;
           are_lines = t.are_lines;
-          wrote = Appends-kept writer.before end.told.until writer.after (output_of roster t.lines) (subst (Appends writer.before end.told.until) whole t.wrote) end.told.kept;
+          wrote = Appends-kept writer.before end.told.until writer.after (output_of roster t.lines)
+              (subst (Appends writer.before end.told.until) whole t.wrote) end.told.kept;
         };
         reads = served.reads;
         writes = served.writes;
@@ -55,11 +67,14 @@ served_with roster register seats slots output most reader writer none_held none
     }
 
 -- the same, of the rosters that a body knows to be this one, and of a count that it knows
-pub served_by : (roster own now : List Admitted) (register : List Registered) (seats : List Seat) (slots : List Slot) (output : List ℕ) (most asked : ℕ) (reader writer : Device) → own ≡ roster → now ≡ own
-    → asked ≡ weigh asked_at seats → slots ≡ [] → output ≡ [] → ToldToTheEnd (TellsParts now register seats slots output) most reader writer → Served own most reader writer
+pub served_by : (roster own now : List Admitted) (register : List Registered) (seats : List Seat) (slots : List Slot)
+    (output : List ℕ) (most asked : ℕ) (reader writer : Device) → own ≡ roster → now ≡ own
+    → asked ≡ weigh asked_at seats → slots ≡ [] → output ≡ []
+    → ToldToTheEnd (TellsParts now register seats slots output) most reader writer → Served own most reader writer
     → ServedWith roster most reader writer asked
 served_by roster own now register seats slots output most asked reader writer is same all none_held none end served =
     let here : ServedWith now most reader writer (weigh asked_at seats) =
-    served_with now register seats slots output most reader writer none_held none end (subst (λ (r : List Admitted). Served r most reader writer) (sym same) served) in
+    served_with now register seats slots output most reader writer none_held none end
+    (subst (λ (r : List Admitted). Served r most reader writer) (sym same) served) in
     subst (λ (r : List Admitted). ServedWith r most reader writer asked) (same ∙ is)
     (subst (λ (n : ℕ). ServedWith now most reader writer n) (sym all) here)

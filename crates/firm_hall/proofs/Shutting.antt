@@ -167,7 +167,8 @@ whole_back {A = A} f n items slice new ys e same long =
     ∙ now
 
 -- the same, of lists that a body knows to be these
-gathered_in : (shares : List Share) (desks desks' : List DeskIs) (empty empty' : List PlaceIs) (reports reports' : List PopIs)
+gathered_in : (shares : List Share) (desks desks' : List DeskIs) (empty empty' : List PlaceIs)
+    (reports reports' : List PopIs)
     → desks' ≡ desks → empty' ≡ empty → reports' ≡ reports → IsGathered shares desks' empty' reports'
     → IsGathered shares desks empty reports
 gathered_in shares desks desks' empty empty' reports reports' d e r g =
@@ -175,16 +176,20 @@ gathered_in shares desks desks' empty empty' reports reports' d e r g =
     (subst (λ (xs : List PlaceIs). IsGathered shares desks xs reports') e
     (subst (λ (xs : List DeskIs). IsGathered shares xs empty' reports') d g))
 
-pub shut_in : (shares : List Share) (desks desks' : List DeskIs) (empty empty' : List PlaceIs) (reports reports' : List PopIs)
+pub shut_in : (shares : List Share) (desks desks' : List DeskIs) (empty empty' : List PlaceIs)
+    (reports reports' : List PopIs)
     (jobs : List JobIs)
-    → desks' ≡ desks → empty' ≡ empty → reports' ≡ reports → IsGathered shares desks' empty' reports' → Settled shares jobs
+    → desks' ≡ desks → empty' ≡ empty → reports' ≡ reports → IsGathered shares desks' empty' reports'
+    → Settled shares jobs
     → IsClosed desks empty reports jobs
 shut_in shares desks desks' empty empty' reports reports' jobs d e r g s =
     shut shares desks empty reports jobs (gathered_in shares desks desks' empty empty' reports reports' d e r g) s
 
-pub few_in : (shares : List Share) (desks desks' : List DeskIs) (empty empty' : List PlaceIs) (reports reports' : List PopIs)
+pub few_in : (shares : List Share) (desks desks' : List DeskIs) (empty empty' : List PlaceIs)
+    (reports reports' : List PopIs)
     (jobs : List JobIs)
-    → desks' ≡ desks → empty' ≡ empty → reports' ≡ reports → IsGathered shares desks' empty' reports' → Settled shares jobs
+    → desks' ≡ desks → empty' ≡ empty → reports' ≡ reports → IsGathered shares desks' empty' reports'
+    → Settled shares jobs
     → got_weight (λ t. 1) reports ≤ 2 ^ 61
 few_in shares desks desks' empty empty' reports reports' jobs d e r g s =
     few shares desks empty reports jobs (gathered_in shares desks desks' empty empty' reports reports' d e r g) s

@@ -1,5 +1,6 @@
 -- The answers that are held, as one is added, becomes known, or is taken off the front.
-use Rattle.std.proofs.Common.{◌≡◌, ◌≢◌, ℕ, zero, suc, ◌+◌, ◌<◌, ◌≤◌, List, [], ◌∷◌, ◌++◌, length, take, set, get_or, refl, sym, ap, ◌∙◌, subst, arith, ne_eqb, add-one}
+use Rattle.std.proofs.Common.{◌≡◌, ◌≢◌, ℕ, zero, suc, ◌+◌, ◌<◌, ◌≤◌, List, [], ◌∷◌, ◌++◌, length, take, set, get_or}
+use Rattle.std.proofs.Common.{refl, sym, ap, ◌∙◌, subst, arith, ne_eqb, add-one}
 use Rattle.std.specs.Prelude.{Bool, true, false, ◌==◌, map, Option, Some, if◌then◌else◌}
 use Rattle.std.proofs.lemmas.Bool.{eqb-true}
 use Rattle.std.proofs.lemmas.Bool.Decides.{nat_tests}
@@ -10,7 +11,8 @@ use Rattle.firm_tenant.specs.Step.{step}
 use Rattle.firm_table.specs.Answers.{Answer, replied}
 use Rattle.firm_hall.specs.Desks.{DeskIs}
 use Rattle.firm_hall.specs.inner.Seats.{waits_for, answered, filled, filled_if}
-use Rattle.firm_hall.specs.inner.Serving.{answer_in, NoneWaits, OneWaits, IsFor, IsPlaced, ArePlaced, FirstIsFor, FirstIsKnown}
+use Rattle.firm_hall.specs.inner.Serving.{answer_in, NoneWaits, OneWaits, IsFor, IsPlaced, ArePlaced, FirstIsFor}
+use Rattle.firm_hall.specs.inner.Serving.{FirstIsKnown}
 use Rattle.firm_hall.specs.declared.seats.Slot.{Slot}
 use Rattle.firm_hall.specs.declared.seats.Slot.TheVariants.{TooLong, Stranger, Replied, Waiting, Obeyed}
 
@@ -27,7 +29,8 @@ answered_waits place reply (Waiting other name asked) = refl
 answered_waits place reply (Obeyed same) = refl
 
 -- an answer waits for one place alone
-waits_once : (place other : ℕ) (slot : Slot) → other ≢ place → waits_for place slot ≡ true → waits_for other slot ≡ false
+waits_once : (place other : ℕ) (slot : Slot) → other ≢ place → waits_for place slot ≡ true
+    → waits_for other slot ≡ false
 waits_once place other TooLong differ here = cc
 waits_once place other Stranger differ here = cc
 waits_once place other (Replied name reply) differ here = cc
@@ -36,19 +39,24 @@ waits_once place other (Waiting at name asked) differ here =
     let same : at ≡ place = eqb-true at place here in ne_eqb at other (λ e. differ (sym e ∙ same))
 
 -- one answer more
-pub none_push : (place : ℕ) (slots : List Slot) (slot : Slot) → NoneWaits place slots → waits_for place slot ≡ false → NoneWaits place (slots ++ slot ∷ [])
+pub none_push : (place : ℕ) (slots : List Slot) (slot : Slot) → NoneWaits place slots → waits_for place slot ≡ false
+    → NoneWaits place (slots ++ slot ∷ [])
 none_push place [] slot none out = (out, tt)
 none_push place (first ∷ rest) slot none out = (none.0, none_push place rest slot none.1 out)
 
-pub one_push : (place : ℕ) (asked : DeskIs) (slots : List Slot) (slot : Slot) → OneWaits place asked slots → waits_for place slot ≡ false
+pub one_push : (place : ℕ) (asked : DeskIs) (slots : List Slot) (slot : Slot) → OneWaits place asked slots
+    → waits_for place slot ≡ false
     → OneWaits place asked (slots ++ slot ∷ [])
 one_push place asked [] slot one out = absurd one
-one_push place asked (first ∷ rest) slot one out = elim (waits_for place first) as (λ b. waits_for place first ≡ b → OneWaits place asked (first ∷ (rest ++ slot ∷ []))) [
-  | true ↦ λ e. let here = rw e at one in rw e (here.0, none_push place rest slot here.1 out)
-  | false ↦ λ e. rw e (one_push place asked rest slot (rw e at one) out)
-] refl
+one_push place asked (first ∷ rest) slot one out =
+    elim (waits_for place first) as (λ b. waits_for place first ≡ b
+    → OneWaits place asked (first ∷ (rest ++ slot ∷ []))) [
+      | true ↦ λ e. let here = rw e at one in rw e (here.0, none_push place rest slot here.1 out)
+      | false ↦ λ e. rw e (one_push place asked rest slot (rw e at one) out)
+    ] refl
 
-pub one_here : (place : ℕ) (asked : DeskIs) (slots : List Slot) (slot : Slot) → NoneWaits place slots → waits_for place slot ≡ true → IsFor asked slot
+pub one_here : (place : ℕ) (asked : DeskIs) (slots : List Slot) (slot : Slot) → NoneWaits place slots
+    → waits_for place slot ≡ true → IsFor asked slot
     → OneWaits place asked (slots ++ slot ∷ [])
 one_here place asked [] slot none here is = rw here (is, tt)
 one_here place asked (first ∷ rest) slot none here is = rw none.0 (one_here place asked rest slot none.1 here is)
@@ -58,41 +66,52 @@ placed_push [] slot are is = (is, tt)
 placed_push (first ∷ rest) slot are is = (are.0, placed_push rest slot are.1 is)
 
 -- the first is taken, which is known
-pub known_waits : (place : ℕ) (slot : Slot) (rest : List Slot) → FirstIsKnown (slot ∷ rest) → waits_for place slot ≡ false
+pub known_waits : (place : ℕ) (slot : Slot) (rest : List Slot) → FirstIsKnown (slot ∷ rest)
+    → waits_for place slot ≡ false
 known_waits place TooLong rest known = refl
 known_waits place Stranger rest known = refl
 known_waits place (Replied name reply) rest known = refl
 known_waits place (Waiting at name asked) rest known = absurd known
 known_waits place (Obeyed reply) rest known = refl
 
-pub one_pop : (place : ℕ) (asked : DeskIs) (slot : Slot) (rest : List Slot) → FirstIsKnown (slot ∷ rest) → OneWaits place asked (slot ∷ rest) → OneWaits place asked rest
+pub one_pop : (place : ℕ) (asked : DeskIs) (slot : Slot) (rest : List Slot) → FirstIsKnown (slot ∷ rest)
+    → OneWaits place asked (slot ∷ rest) → OneWaits place asked rest
 one_pop place asked slot rest known one = rw (known_waits place slot rest known) at one
 
 -- what waited for the place is known
-pub none_filled : (place : ℕ) (asked : DeskIs) (reply : Reply) (slots : List Slot) → OneWaits place asked slots → NoneWaits place (filled place reply slots)
+pub none_filled : (place : ℕ) (asked : DeskIs) (reply : Reply) (slots : List Slot) → OneWaits place asked slots
+    → NoneWaits place (filled place reply slots)
 none_filled place asked reply [] one = absurd one
-none_filled place asked reply (slot ∷ rest) one = elim (waits_for place slot) as (λ b. waits_for place slot ≡ b → NoneWaits place (filled place reply (slot ∷ rest))) [
-  | true ↦ λ e. let here = rw e at one in rw e (answered_waits place reply slot, here.1)
-  | false ↦ λ e. let there = rw e at one in rw e (e, none_filled place asked reply rest there)
-] refl
+none_filled place asked reply (slot ∷ rest) one =
+    elim (waits_for place slot) as (λ b. waits_for place slot ≡ b → NoneWaits place (filled place reply (slot ∷ rest))) [
+      | true ↦ λ e. let here = rw e at one in rw e (answered_waits place reply slot, here.1)
+      | false ↦ λ e. let there = rw e at one in rw e (e, none_filled place asked reply rest there)
+    ] refl
 
 -- and what waits for another stays
-pub none_other : (place other : ℕ) (reply : Reply) (slots : List Slot) → NoneWaits other slots → NoneWaits other (filled place reply slots)
+pub none_other : (place other : ℕ) (reply : Reply) (slots : List Slot) → NoneWaits other slots
+    → NoneWaits other (filled place reply slots)
 none_other place other reply [] none = tt
-none_other place other reply (slot ∷ rest) none = elim (waits_for place slot) as (λ b. waits_for place slot ≡ b → NoneWaits other (filled place reply (slot ∷ rest))) [
-  | true ↦ λ e. rw e (answered_waits other reply slot, none.1)
-  | false ↦ λ e. rw e (none.0, none_other place other reply rest none.1)
-] refl
+none_other place other reply (slot ∷ rest) none =
+    elim (waits_for place slot) as (λ b. waits_for place slot ≡ b → NoneWaits other (filled place reply (slot ∷ rest))) [
+      | true ↦ λ e. rw e (answered_waits other reply slot, none.1)
+      | false ↦ λ e. rw e (none.0, none_other place other reply rest none.1)
+    ] refl
 
-pub one_other : (place other : ℕ) (asked : DeskIs) (reply : Reply) (slots : List Slot) → other ≢ place → OneWaits other asked slots
+pub one_other : (place other : ℕ) (asked : DeskIs) (reply : Reply) (slots : List Slot) → other ≢ place
+    → OneWaits other asked slots
     → OneWaits other asked (filled place reply slots)
 one_other place other asked reply [] differ one = absurd one
-one_other place other asked reply (slot ∷ rest) differ one = elim (waits_for place slot) as (λ b. waits_for place slot ≡ b → OneWaits other asked (filled place reply (slot ∷ rest))) [
-  | true ↦ λ e. let there = rw (waits_once place other slot differ e) at one in rw (e, answered_waits other reply slot) there
-  | false ↦ λ e. rw e (behind (waits_for other slot) refl (one_other place other asked reply rest differ))
-] refl
+one_other place other asked reply (slot ∷ rest) differ one =
+    elim (waits_for place slot) as (λ b. waits_for place slot ≡ b
+    → OneWaits other asked (filled place reply (slot ∷ rest))) [
+      | true ↦ λ e. let there =
+          rw (waits_once place other slot differ e) at one in rw (e, answered_waits other reply slot) there
+      | false ↦ λ e. rw e (behind (waits_for other slot) refl (one_other place other asked reply rest differ))
+    ] refl
   where
-    behind : (c : Bool) → waits_for other slot ≡ c → (OneWaits other asked rest → OneWaits other asked (filled place reply rest))
+    behind : (c : Bool) → waits_for other slot ≡ c
+        → (OneWaits other asked rest → OneWaits other asked (filled place reply rest))
         → OneWaits other asked (slot ∷ filled place reply rest)
     behind true f more = let here = rw f at one in rw f (here.0, none_other place other reply rest here.1)
     behind false f more = let there = rw f at one in rw f (more there)
@@ -104,43 +123,54 @@ answered_placed reply (Replied name same) is = tt
 answered_placed reply (Waiting at name asked) is = tt
 answered_placed reply (Obeyed same) is = tt
 
-pub placed_filled : (place : ℕ) (reply : Reply) (slots : List Slot) → ArePlaced slots → ArePlaced (filled place reply slots)
+pub placed_filled : (place : ℕ) (reply : Reply) (slots : List Slot) → ArePlaced slots
+    → ArePlaced (filled place reply slots)
 placed_filled place reply [] are = tt
-placed_filled place reply (slot ∷ rest) are = elim (waits_for place slot) as (λ b. waits_for place slot ≡ b → ArePlaced (filled place reply (slot ∷ rest))) [
-  | true ↦ λ e. rw e (answered_placed reply slot are.0, are.1)
-  | false ↦ λ e. rw e (are.0, placed_filled place reply rest are.1)
-] refl
+placed_filled place reply (slot ∷ rest) are =
+    elim (waits_for place slot) as (λ b. waits_for place slot ≡ b → ArePlaced (filled place reply (slot ∷ rest))) [
+      | true ↦ λ e. rw e (answered_placed reply slot are.0, are.1)
+      | false ↦ λ e. rw e (are.0, placed_filled place reply rest are.1)
+    ] refl
 
-answered_known : (place : ℕ) (reply : Reply) (slot : Slot) (rest : List Slot) → waits_for place slot ≡ true → FirstIsKnown (answered reply slot ∷ rest)
+answered_known : (place : ℕ) (reply : Reply) (slot : Slot) (rest : List Slot) → waits_for place slot ≡ true
+    → FirstIsKnown (answered reply slot ∷ rest)
 answered_known place reply TooLong rest here = tt
 answered_known place reply Stranger rest here = tt
 answered_known place reply (Replied name same) rest here = tt
 answered_known place reply (Waiting at name asked) rest here = tt
 answered_known place reply (Obeyed same) rest here = tt
 
-pub first_filled : (place : ℕ) (reply : Reply) (slots : List Slot) → FirstIsFor place slots → FirstIsKnown (filled place reply slots)
+pub first_filled : (place : ℕ) (reply : Reply) (slots : List Slot) → FirstIsFor place slots
+    → FirstIsKnown (filled place reply slots)
 first_filled place reply [] here = absurd here
 first_filled place reply (slot ∷ rest) here = rw here (answered_known place reply slot rest here)
 
 -- how a search finds what waited
-pub filled_at : (place : ℕ) (reply : Reply) (slots : List Slot) (at : ℕ) (default : Slot) → NoneWaits place (take at slots) → at < length slots
-    → waits_for place (get_or slots at default) ≡ true → filled place reply slots ≡ set slots at (answered reply (get_or slots at default))
+pub filled_at : (place : ℕ) (reply : Reply) (slots : List Slot) (at : ℕ) (default : Slot)
+    → NoneWaits place (take at slots) → at < length slots
+    → waits_for place (get_or slots at default) ≡ true
+    → filled place reply slots ≡ set slots at (answered reply (get_or slots at default))
 filled_at place reply [] at default none low here = absurd (omega arith)
 filled_at place reply (slot ∷ rest) zero default none low here = rw here refl
 filled_at place reply (slot ∷ rest) (suc at) default none low here =
     rw none.0 (ap (λ (xs : List Slot). slot ∷ xs) (filled_at place reply rest at default none.1 (omega arith) here))
 
-pub filled_nowhere : (place : ℕ) (reply : Reply) (slots : List Slot) → NoneWaits place slots → filled place reply slots ≡ slots
+pub filled_nowhere : (place : ℕ) (reply : Reply) (slots : List Slot) → NoneWaits place slots
+    → filled place reply slots ≡ slots
 filled_nowhere place reply [] none = refl
-filled_nowhere place reply (slot ∷ rest) none = rw none.0 (ap (λ (xs : List Slot). slot ∷ xs) (filled_nowhere place reply rest none.1))
+filled_nowhere place reply (slot ∷ rest) none =
+    rw none.0 (ap (λ (xs : List Slot). slot ∷ xs) (filled_nowhere place reply rest none.1))
 
-none_more : (place : ℕ) (slots : List Slot) (at : ℕ) (default : Slot) → NoneWaits place (take at slots) → at < length slots
+none_more : (place : ℕ) (slots : List Slot) (at : ℕ) (default : Slot) → NoneWaits place (take at slots)
+    → at < length slots
     → waits_for place (get_or slots at default) ≡ false → NoneWaits place (take (suc at) slots)
 none_more place [] at default none low out = absurd (omega arith)
 none_more place (slot ∷ rest) zero default none low out = (out, tt)
-none_more place (slot ∷ rest) (suc at) default none low out = (none.0, none_more place rest at default none.1 (omega arith) out)
+none_more place (slot ∷ rest) (suc at) default none low out =
+    (none.0, none_more place rest at default none.1 (omega arith) out)
 
-pub none_take : (place : ℕ) (slots : List Slot) (at : ℕ) (default : Slot) → NoneWaits place (take at slots) → at < length slots
+pub none_take : (place : ℕ) (slots : List Slot) (at : ℕ) (default : Slot) → NoneWaits place (take at slots)
+    → at < length slots
     → waits_for place (get_or slots at default) ≡ false → NoneWaits place (take (at + 1) slots)
 none_take place slots at default none low out =
     subst (λ (n : ℕ). NoneWaits place (take n slots)) (sym (add-one at)) (none_more place slots at default none low out)
@@ -149,13 +179,16 @@ none_take place slots at default none low out =
 abbrev pub with_mark : ℕ → Bool → (ℕ → Bool) → ℕ → Bool
 with_mark place mark marks other = if other == place then mark else marks other
 
-pub with_here : (place : ℕ) (mark : Bool) (marks : ℕ → Bool) (other : ℕ) → other ≡ place → with_mark place mark marks other ≡ mark
+pub with_here : (place : ℕ) (mark : Bool) (marks : ℕ → Bool) (other : ℕ) → other ≡ place
+    → with_mark place mark marks other ≡ mark
 with_here place mark marks other e = rw (is_place other place e) refl
 
-pub with_other : (place : ℕ) (mark : Bool) (marks : ℕ → Bool) (other : ℕ) → other ≢ place → with_mark place mark marks other ≡ marks other
+pub with_other : (place : ℕ) (mark : Bool) (marks : ℕ → Bool) (other : ℕ) → other ≢ place
+    → with_mark place mark marks other ≡ marks other
 with_other place mark marks other differ = rw (ne_eqb other place differ) refl
 
-answer_same : (place : ℕ) (mark : Bool) (marks : ℕ → Bool) (slot : Slot) → waits_for place slot ≡ false → answer_in (with_mark place mark marks) slot ≡ answer_in marks slot
+answer_same : (place : ℕ) (mark : Bool) (marks : ℕ → Bool) (slot : Slot) → waits_for place slot ≡ false
+    → answer_in (with_mark place mark marks) slot ≡ answer_in marks slot
 answer_same place mark marks TooLong out = refl
 answer_same place mark marks Stranger out = refl
 answer_same place mark marks (Replied name reply) out = refl
@@ -166,11 +199,14 @@ pub answers_same : (place : ℕ) (mark : Bool) (marks : ℕ → Bool) (slots : L
     → map (answer_in (with_mark place mark marks)) slots ≡ map (answer_in marks) slots
 answers_same place mark marks [] none = refl
 answers_same place mark marks (slot ∷ rest) none =
-    ap (λ (x : Answer). x ∷ map (answer_in (with_mark place mark marks)) rest) (answer_same place mark marks slot none.0)
+    ap (λ (x : Answer). x ∷ map (answer_in (with_mark place mark marks)) rest)
+    (answer_same place mark marks slot none.0)
     ∙ ap (λ (xs : List Answer). answer_in marks slot ∷ xs) (answers_same place mark marks rest none.1)
 
-answer_known : (place : ℕ) (asked : DeskIs) (reply : Reply) (mark : Bool) (marks : ℕ → Bool) (slot : Slot) → waits_for place slot ≡ true → IsFor asked slot
-    → reply ≡ (step asked.book Round mark).0 → answer_in marks (answered reply slot) ≡ answer_in (with_mark place mark marks) slot
+answer_known : (place : ℕ) (asked : DeskIs) (reply : Reply) (mark : Bool) (marks : ℕ → Bool) (slot : Slot)
+    → waits_for place slot ≡ true → IsFor asked slot
+    → reply ≡ (step asked.book Round mark).0
+    → answer_in marks (answered reply slot) ≡ answer_in (with_mark place mark marks) slot
 answer_known place asked reply mark marks TooLong here is e = absurd is
 answer_known place asked reply mark marks Stranger here is e = absurd is
 answer_known place asked reply mark marks (Replied name same) here is e = absurd is
@@ -179,24 +215,34 @@ answer_known place asked reply mark marks (Waiting at name known) here is e =
     rw here (ap (replied name) (e ∙ ap (λ (d : DeskIs). (step d.book Round mark).0) (sym is)))
 
 -- the reply that came is the one that its mark tells
-pub answers_filled : (place : ℕ) (asked : DeskIs) (reply : Reply) (mark : Bool) (marks : ℕ → Bool) (slots : List Slot) → OneWaits place asked slots
-    → reply ≡ (step asked.book Round mark).0 → map (answer_in marks) (filled place reply slots) ≡ map (answer_in (with_mark place mark marks)) slots
+pub answers_filled : (place : ℕ) (asked : DeskIs) (reply : Reply) (mark : Bool) (marks : ℕ → Bool) (slots : List Slot)
+    → OneWaits place asked slots
+    → reply ≡ (step asked.book Round mark).0
+    → map (answer_in marks) (filled place reply slots) ≡ map (answer_in (with_mark place mark marks)) slots
 answers_filled place asked reply mark marks [] one e = absurd one
-answers_filled place asked reply mark marks (slot ∷ rest) one e = elim (waits_for place slot) as (λ b. waits_for place slot ≡ b
-    → map (answer_in marks) (filled place reply (slot ∷ rest)) ≡ map (answer_in (with_mark place mark marks)) (slot ∷ rest)) [
+answers_filled place asked reply mark marks (slot ∷ rest) one e =
+    elim (waits_for place slot) as (λ b. waits_for place slot ≡ b
+    → map (answer_in marks) (filled place reply (slot ∷ rest)) ≡ map (answer_in (with_mark place mark marks))
+    (slot ∷ rest)) [
       | true ↦ λ f. let here = rw f at one in
           rw f
-          (ap (λ (x : Answer). x ∷ map (answer_in marks) rest) (answer_known place asked reply mark marks slot f here.0 e)
-          ∙ ap (λ (xs : List Answer). answer_in (with_mark place mark marks) slot ∷ xs) (sym (answers_same place mark marks rest here.1)))
+          (ap (λ (x : Answer). x ∷ map (answer_in marks) rest)
+          (answer_known place asked reply mark marks slot f here.0 e)
+          ∙ ap (λ (xs : List Answer). answer_in (with_mark place mark marks) slot ∷ xs)
+          (sym (answers_same place mark marks rest here.1)))
       | false ↦ λ f. let there = rw f at one in
           rw f
-          (ap (λ (x : Answer). x ∷ map (answer_in marks) (filled place reply rest)) (sym (answer_same place mark marks slot f))
-          ∙ ap (λ (xs : List Answer). answer_in (with_mark place mark marks) slot ∷ xs) (answers_filled place asked reply mark marks rest there e))
+          (ap (λ (x : Answer). x ∷ map (answer_in marks) (filled place reply rest))
+          (sym (answer_same place mark marks slot f))
+          ∙ ap (λ (xs : List Answer). answer_in (with_mark place mark marks) slot ∷ xs)
+          (answers_filled place asked reply mark marks rest there e))
     ] refl
 
 -- what a search leaves that found the answer, and one that found none
-pub found_at : (place : ℕ) (maybe : Option Reply) (reply : Reply) (slots same : List Slot) (at : ℕ) (seen there new : Slot) → maybe ≡ Some reply → same ≡ slots
-    → NoneWaits place (take at same) → at < length same → seen ≡ get_or same at seen → there ≡ get_or same at there → waits_for place seen ≡ true → new ≡ answered reply there
+pub found_at : (place : ℕ) (maybe : Option Reply) (reply : Reply) (slots same : List Slot) (at : ℕ)
+    (seen there new : Slot) → maybe ≡ Some reply → same ≡ slots
+    → NoneWaits place (take at same) → at < length same → seen ≡ get_or same at seen → there ≡ get_or same at there
+    → waits_for place seen ≡ true → new ≡ answered reply there
     → set same at new ≡ filled_if place maybe slots
 found_at place maybe reply slots same at seen there new is whole none low seen_is there_is here new_is =
     let equal : there ≡ get_or same at seen = there_is ∙ default_of same at there seen low in
@@ -210,7 +256,9 @@ found_at place maybe reply slots same at seen there new is whole none low seen_i
     default_of (x ∷ xs) zero d e l = refl
     default_of (x ∷ xs) (suc i) d e l = default_of xs i d e (omega arith)
 
-pub none_left : (place : ℕ) (maybe : Option Reply) (reply : Reply) (slots same : List Slot) (at : ℕ) → maybe ≡ Some reply → same ≡ slots → NoneWaits place (take at same)
+pub none_left : (place : ℕ) (maybe : Option Reply) (reply : Reply) (slots same : List Slot) (at : ℕ)
+    → maybe ≡ Some reply → same ≡ slots → NoneWaits place (take at same)
     → length same ≤ at → same ≡ filled_if place maybe slots
 none_left place maybe reply slots same at is whole none long =
-    rw is (sym (filled_nowhere place reply same (subst (NoneWaits place) (take_all at same long) none)) ∙ ap (filled place reply) whole)
+    rw is (sym (filled_nowhere place reply same (subst (NoneWaits place) (take_all at same long) none))
+    ∙ ap (filled place reply) whole)

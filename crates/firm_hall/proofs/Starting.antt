@@ -1,5 +1,6 @@
 -- A hall before its first line, and its desks after the last.
-use Rattle.std.proofs.Common.{◌≡◌, ℕ, zero, suc, ◌+◌, ◌-◌, ◌<◌, ◌≤◌, List, [], ◌∷◌, ◌++◌, All, length, get_or, refl, sym, ap, ◌∙◌, subst, arith}
+use Rattle.std.proofs.Common.{◌≡◌, ℕ, zero, suc, ◌+◌, ◌-◌, ◌<◌, ◌≤◌, List, [], ◌∷◌, ◌++◌, All, length, get_or, refl}
+use Rattle.std.proofs.Common.{sym, ap, ◌∙◌, subst, arith}
 use Rattle.std.specs.Prelude.{Bool, true, false, map, replicate, Option, Some, None}
 use Rattle.std.proofs.lemmas.List.{map-append}
 use Rattle.firm_rules.specs.Book.{Book, opening_book}
@@ -15,7 +16,8 @@ use Rattle.firm_table.specs.Output.{answers_of}
 use Rattle.firm_hall.specs.Desks.{DeskIs, PlaceIs}
 use Rattle.firm_hall.specs.Opening.{opening_desks, unused_places}
 use Rattle.firm_hall.specs.inner.Seats.{IsSeated}
-use Rattle.firm_hall.specs.inner.Serving.{book_at, asked_at, seat_counts, place_counts, AreSeats, Fits, SeatIs, Tells, TellsParts}
+use Rattle.firm_hall.specs.inner.Serving.{book_at, asked_at, seat_counts, place_counts, AreSeats, Fits, SeatIs, Tells}
+use Rattle.firm_hall.specs.inner.Serving.{TellsParts}
 use Rattle.firm_hall.specs.inner.Ending.{IsOf}
 use Rattle.firm_hall.specs.declared.seats.Seat.{Seat}
 use Rattle.firm_hall.specs.declared.seats.Seat.TheVariants.{Home, Away, Empty, Gone}
@@ -23,21 +25,28 @@ use Rattle.firm_hall.specs.declared.seats.Slot.{Slot}
 
 -- the seats before the first line, from this place on: so many empty ones behind those of the roster's tenants
 abbrev pub opening_seats : QueueId → ℕ → List Admitted → ℕ → List Seat
-opening_seats id at roster more = map Home (opening_desks id at roster) ++ map Empty (unused_places id (at + length roster) more)
+opening_seats id at roster more =
+    map Home (opening_desks id at roster) ++ map Empty (unused_places id (at + length roster) more)
 
 -- the seats that are opened
-pub seats_are : (id : QueueId) (roster : List Admitted) (first second third : List Seat) (desks : List DeskIs) (empty : List PlaceIs) → first ≡ []
+pub seats_are : (id : QueueId) (roster : List Admitted) (first second third : List Seat) (desks : List DeskIs)
+    (empty : List PlaceIs) → first ≡ []
     → second ≡ first ++ map Home desks → third ≡ second ++ map Empty empty → desks ≡ opening_desks id 0 roster
-    → empty ≡ unused_places id (length roster) (most_places - length roster) → third ≡ opening_seats id 0 roster (most_places - length roster)
+    → empty ≡ unused_places id (length roster) (most_places - length roster)
+    → third ≡ opening_seats id 0 roster (most_places - length roster)
 seats_are id roster first second third desks empty none one both desks_are empty_are =
     let same : length roster ≡ 0 + length roster = omega arith in
     both
-    ∙ ap (λ (xs : List Seat). xs ++ map Empty empty) (one ∙ ap (λ (xs : List Seat). xs ++ map Home desks) none ∙ ap (map Home) desks_are)
-    ∙ ap (λ (ps : List PlaceIs). map Home (opening_desks id 0 roster) ++ map Empty ps) (empty_are ∙ ap (λ (n : ℕ). unused_places id n (most_places - length roster)) same)
+    ∙ ap (λ (xs : List Seat). xs ++ map Empty empty) (one ∙ ap (λ (xs : List Seat). xs ++ map Home desks) none
+    ∙ ap (map Home) desks_are)
+    ∙ ap (λ (ps : List PlaceIs). map Home (opening_desks id 0 roster) ++ map Empty ps) (empty_are
+    ∙ ap (λ (n : ℕ). unused_places id n (most_places - length roster)) same)
 
 -- one tenant, and one empty place
 one_tenant : (id : QueueId) (at : ℕ) (tenant : Admitted) (rest : List Admitted) (more : ℕ)
-    → opening_seats id at (tenant ∷ rest) more ≡ Home (record { queue = id; place = at; put = 0; admissions = 1; book = opening_book tenant.1 }) ∷ opening_seats id (suc at) rest more
+    → opening_seats id at (tenant ∷ rest) more ≡ Home
+    (record { queue = id; place = at; put = 0; admissions = 1; book = opening_book tenant.1 }) ∷ opening_seats id
+    (suc at) rest more
 one_tenant id at tenant rest more =
     let same : at + length (tenant ∷ rest) ≡ suc at + length rest = omega arith in
     ap (λ (n : ℕ). Home (record { queue = id; place = at; put = 0; admissions = 1; book = opening_book tenant.1 })
@@ -45,47 +54,63 @@ one_tenant id at tenant rest more =
 
 -- what is told of each seat is told of the list
 module _ {B : Type 0} (f : Seat → B) (of_tenant : Admitted → B) (of_empty : B) where
-  empty_as : (id : QueueId) (at more : ℕ) → ((k : ℕ) → f (Empty (record { queue = id; place = k; put = 0; admissions = 0 })) ≡ of_empty)
+  empty_as : (id : QueueId) (at more : ℕ)
+      → ((k : ℕ) → f (Empty (record { queue = id; place = k; put = 0; admissions = 0 })) ≡ of_empty)
       → map f (map Empty (unused_places id at more)) ≡ replicate more of_empty
   empty_as id at zero same = refl
-  empty_as id at (suc more) same = ap (λ (b : B). b ∷ map f (map Empty (unused_places id (suc at) more))) (same at) ∙ ap (λ (bs : List B). of_empty ∷ bs) (empty_as id (suc at) more same)
+  empty_as id at (suc more) same =
+      ap (λ (b : B). b ∷ map f (map Empty (unused_places id (suc at) more))) (same at)
+      ∙ ap (λ (bs : List B). of_empty ∷ bs) (empty_as id (suc at) more same)
 
   homes_as : (id : QueueId) (at : ℕ) (roster : List Admitted)
-      → ((k : ℕ) (t : Admitted) → f (Home (record { queue = id; place = k; put = 0; admissions = 1; book = opening_book t.1 })) ≡ of_tenant t)
+      → ((k : ℕ) (t : Admitted)
+      → f (Home (record { queue = id; place = k; put = 0; admissions = 1; book = opening_book t.1 })) ≡ of_tenant t)
       → map f (map Home (opening_desks id at roster)) ≡ map of_tenant roster
   homes_as id at [] same = refl
   homes_as id at (tenant ∷ rest) same =
-      ap (λ (b : B). b ∷ map f (map Home (opening_desks id (suc at) rest))) (same at tenant) ∙ ap (λ (bs : List B). of_tenant tenant ∷ bs) (homes_as id (suc at) rest same)
+      ap (λ (b : B). b ∷ map f (map Home (opening_desks id (suc at) rest))) (same at tenant)
+      ∙ ap (λ (bs : List B). of_tenant tenant ∷ bs) (homes_as id (suc at) rest same)
 
   pub seats_as : (id : QueueId) (roster : List Admitted) (more : ℕ)
-      → ((k : ℕ) (t : Admitted) → f (Home (record { queue = id; place = k; put = 0; admissions = 1; book = opening_book t.1 })) ≡ of_tenant t)
+      → ((k : ℕ) (t : Admitted)
+      → f (Home (record { queue = id; place = k; put = 0; admissions = 1; book = opening_book t.1 })) ≡ of_tenant t)
       → ((k : ℕ) → f (Empty (record { queue = id; place = k; put = 0; admissions = 0 })) ≡ of_empty)
       → map f (opening_seats id 0 roster more) ≡ map of_tenant roster ++ replicate more of_empty
   seats_as id roster more homes empties =
       map-append f (map Home (opening_desks id 0 roster)) (map Empty (unused_places id (0 + length roster) more))
-      ∙ ap (λ (bs : List B). bs ++ map f (map Empty (unused_places id (0 + length roster) more))) (homes_as id 0 roster homes)
+      ∙ ap (λ (bs : List B). bs ++ map f (map Empty (unused_places id (0 + length roster) more)))
+      (homes_as id 0 roster homes)
       ∙ ap (λ (bs : List B). map of_tenant roster ++ bs) (empty_as id (0 + length roster) more empties)
 
 -- the register fits them
-places_as : (roster : List Admitted) (n : ℕ) → map place_counts (map (λ tenant. occupied tenant.0 1) roster ++ replicate n (vacant 0)) ≡ map (λ tenant. (true, 1)) roster ++ replicate n (false, 0)
+places_as : (roster : List Admitted) (n : ℕ)
+    → map place_counts (map (λ tenant. occupied tenant.0 1) roster ++ replicate n (vacant 0)) ≡ map
+    (λ tenant. (true, 1)) roster ++ replicate n (false, 0)
 places_as [] zero = refl
 places_as [] (suc n) = ap (λ (cs : List (Bool × ℕ)). (false, 0) ∷ cs) (places_as [] n)
 places_as (tenant ∷ rest) n = ap (λ (cs : List (Bool × ℕ)). (true, 1) ∷ cs) (places_as rest n)
 
-pub fits_open : (id : QueueId) (roster : List Admitted) → Fits (first_places roster) (opening_seats id 0 roster (most_places - length roster))
+pub fits_open : (id : QueueId) (roster : List Admitted)
+    → Fits (first_places roster) (opening_seats id 0 roster (most_places - length roster))
 fits_open id roster =
-    seats_as seat_counts (λ tenant. (true, 1)) (false, 0) id roster (most_places - length roster) (λ k t. refl) (λ k. refl)
+    seats_as seat_counts (λ tenant. (true, 1)) (false, 0) id roster (most_places - length roster) (λ k t. refl)
+    (λ k. refl)
     ∙ sym (places_as roster (most_places - length roster))
 
-books_open : (marks : ℕ → Bool) (id : QueueId) (roster : List Admitted) → map (book_at marks) (opening_seats id 0 roster (most_places - length roster)) ≡ opening_books roster
-books_open marks id roster = seats_as (book_at marks) (λ tenant. Some (opening_book tenant.1)) None id roster (most_places - length roster) (λ k t. refl) (λ k. refl)
+books_open : (marks : ℕ → Bool) (id : QueueId) (roster : List Admitted)
+    → map (book_at marks) (opening_seats id 0 roster (most_places - length roster)) ≡ opening_books roster
+books_open marks id roster =
+    seats_as (book_at marks) (λ tenant. Some (opening_book tenant.1)) None id roster (most_places - length roster)
+    (λ k t. refl) (λ k. refl)
 
 -- nothing was asked yet
 none_asked : (id : QueueId) (at more : ℕ) → weigh asked_at (map Empty (unused_places id at more)) ≡ 0
 none_asked id at zero = refl
-none_asked id at (suc more) = let behind : weigh asked_at (map Empty (unused_places id (suc at) more)) ≡ 0 = none_asked id (suc at) more in omega arith
+none_asked id at (suc more) = let behind : weigh asked_at (map Empty (unused_places id (suc at) more)) ≡ 0 =
+    none_asked id (suc at) more in omega arith
 
-asked_open : (id : QueueId) (at : ℕ) (roster : List Admitted) (more : ℕ) → weigh asked_at (opening_seats id at roster more) ≡ 0
+asked_open : (id : QueueId) (at : ℕ) (roster : List Admitted) (more : ℕ)
+    → weigh asked_at (opening_seats id at roster more) ≡ 0
 asked_open id at [] more = none_asked id (at + 0) more
 asked_open id at (tenant ∷ rest) more =
     let behind : weigh asked_at (opening_seats id (suc at) rest more) ≡ 0 = asked_open id (suc at) rest more in
@@ -97,8 +122,10 @@ empties_wide : (id : QueueId) (at more : ℕ) → length (map Empty (unused_plac
 empties_wide id at zero = refl
 empties_wide id at (suc more) = ap suc (empties_wide id (suc at) more)
 
-pub long_open : (id : QueueId) (at : ℕ) (roster : List Admitted) (more : ℕ) → length (opening_seats id at roster more) ≡ length roster + more
-long_open id at [] more = empties_wide id (at + 0) more ∙ (let same : more ≡ length {A = Admitted} [] + more = omega arith in same)
+pub long_open : (id : QueueId) (at : ℕ) (roster : List Admitted) (more : ℕ)
+    → length (opening_seats id at roster more) ≡ length roster + more
+long_open id at [] more =
+    empties_wide id (at + 0) more ∙ (let same : more ≡ length {A = Admitted} [] + more = omega arith in same)
 long_open id at (tenant ∷ rest) more =
     let behind : length (opening_seats id (suc at) rest more) ≡ length rest + more = long_open id (suc at) rest more in
     let front = ap (λ (xs : List Seat). length xs) (one_tenant id at tenant rest more) in
@@ -108,39 +135,52 @@ empty_open : (id : QueueId) (at more place sum : ℕ) (default : Seat) → sum �
     → SeatIs id sum [] (get_or (map Empty (unused_places id at more)) place default)
 empty_open id at zero place sum default e low = absurd (omega arith)
 empty_open id at (suc more) zero sum default e low = (refl, (let same : at ≡ sum = omega arith in same), tt)
-empty_open id at (suc more) (suc place) sum default e low = empty_open id (suc at) more place sum default (omega arith) (omega arith)
+empty_open id at (suc more) (suc place) sum default e low =
+    empty_open id (suc at) more place sum default (omega arith) (omega arith)
 
-seat_open : (id : QueueId) (at : ℕ) (roster : List Admitted) (more place sum : ℕ) (default : Seat) → sum ≡ at + place → place < length roster + more
+seat_open : (id : QueueId) (at : ℕ) (roster : List Admitted) (more place sum : ℕ) (default : Seat) → sum ≡ at + place
+    → place < length roster + more
     → SeatIs id sum [] (get_or (opening_seats id at roster more) place default)
-seat_open id at [] more place sum default e low = empty_open id (at + 0) more place sum default (omega arith) (omega arith)
+seat_open id at [] more place sum default e low =
+    empty_open id (at + 0) more place sum default (omega arith) (omega arith)
 seat_open id at (tenant ∷ rest) more zero sum default e low = (refl, (let same : at ≡ sum = omega arith in same), tt)
 seat_open id at (tenant ∷ rest) more (suc place) sum default e low =
-    subst (λ (xs : List Seat). SeatIs id sum [] (get_or xs (suc place) default)) (sym (one_tenant id at tenant rest more))
+    subst (λ (xs : List Seat). SeatIs id sum [] (get_or xs (suc place) default))
+    (sym (one_tenant id at tenant rest more))
     (seat_open id (suc at) rest more place sum default (omega arith) (omega arith))
 
-pub seats_open : (id : QueueId) (roster : List Admitted) (seats : List Seat) (slots : List Slot) → length roster ≤ most_places
+pub seats_open : (id : QueueId) (roster : List Admitted) (seats : List Seat) (slots : List Slot)
+    → length roster ≤ most_places
     → seats ≡ opening_seats id 0 roster (most_places - length roster) → slots ≡ [] → AreSeats id slots seats
 seats_open id roster seats slots few is none =
     let whole : length roster + (most_places - length roster) ≡ most_places = omega arith in
     rw (is, none)
     (record {
       long = long_open id 0 roster (most_places - length roster) ∙ whole;
-      each = λ place default low. seat_open id 0 roster (most_places - length roster) place place default (omega arith) (omega arith);
+      each = λ place default low. seat_open id 0 roster (most_places - length roster) place place default (omega arith)
+          (omega arith);
     })
 
-pub tells_open : NothingIsTold → (id : QueueId) (roster : List Admitted) (seats : List Seat) (slots : List Slot) (output : List ℕ)
+pub tells_open : NothingIsTold
+    → (id : QueueId) (roster : List Admitted) (seats : List Seat) (slots : List Slot) (output : List ℕ)
     → seats ≡ opening_seats id 0 roster (most_places - length roster) → slots ≡ [] → output ≡ []
     → (written : Option (List ℕ)) → TellsParts roster (first_places roster) seats slots output [] written written
 tells_open nothing id roster seats slots output is none empty written marks =
     let more = most_places - length roster in
     let n = nothing roster written in
     let zero_lines : Counted 0 n.0.lines (answers_of roster n.0.lines) =
-    subst (λ (ls : List MarkedLine). Counted 0 ls (answers_of roster ls)) (sym n.1) (record { least = omega arith; most = omega arith }) in
-    let t : Tells (state_is roster (opening_tenants roster) []) 0 [] written written = record { told = n.0; counted = zero_lines } in
+    subst (λ (ls : List MarkedLine). Counted 0 ls (answers_of roster ls)) (sym n.1)
+    (record { least = omega arith; most = omega arith }) in
+    let t : Tells (state_is roster (opening_tenants roster) []) 0 [] written written =
+    record { told = n.0; counted = zero_lines } in
     rw (is, none, empty)
-    (subst (λ (k : ℕ). Tells (state_is roster (tenants_are (first_places roster) (map (book_at marks) (opening_seats id 0 roster more))) []) k [] written written)
+    (subst (λ (k : ℕ). Tells
+    (state_is roster (tenants_are (first_places roster) (map (book_at marks) (opening_seats id 0 roster more))) []) k
+    [] written written)
     (sym (asked_open id 0 roster more))
-    (subst (λ (bs : List (Option Book)). Tells (state_is roster (tenants_are (first_places roster) bs) []) 0 [] written written) (sym (books_open marks id roster)) t))
+    (subst (λ (bs : List (Option Book)). Tells
+    (state_is roster (tenants_are (first_places roster) bs) []) 0 [] written written)
+    (sym (books_open marks id roster)) t))
 
 -- what stands at each seat is of this hall
 seat_of : (id : QueueId) (place : ℕ) (slots : List Slot) (seat : Seat) → SeatIs id place slots seat → IsOf id seat
@@ -150,7 +190,8 @@ seat_of id place slots (Empty empty) is = is.0
 seat_of id place slots Gone is = absurd is
 
 pub all_of : (id : QueueId) (slots : List Slot) (seats : List Seat) → AreSeats id slots seats → All (IsOf id) seats
-all_of id slots seats are place default low = seat_of id place slots (get_or seats place default) (are.each place default (omega (arith, are.long)))
+all_of id slots seats are place default low =
+    seat_of id place slots (get_or seats place default) (are.each place default (omega (arith, are.long)))
 
 pub seated_of : (id : QueueId) (seat : Seat) → IsOf id seat → IsSeated seat
 seated_of id (Home desk) is = tt
@@ -159,7 +200,8 @@ seated_of id (Empty empty) is = tt
 seated_of id Gone is = absurd is
 
 -- one seat more is put away
-pub asked_more : (all rest : List Seat) (seat : Seat) (rounds asked total : ℕ) → all ≡ seat ∷ rest → asked ≡ asked_at seat → rounds + weigh asked_at all ≡ total
+pub asked_more : (all rest : List Seat) (seat : Seat) (rounds asked total : ℕ) → all ≡ seat ∷ rest
+    → asked ≡ asked_at seat → rounds + weigh asked_at all ≡ total
     → (rounds + asked) + weigh asked_at rest ≡ total
 asked_more all rest seat rounds asked total steps one sum =
     let before : weigh asked_at all ≡ asked_at seat + weigh asked_at rest = ap (weigh asked_at) steps in

@@ -1,12 +1,14 @@
 -- One line more is answered at a desk, or asks a round there.
-use Rattle.std.proofs.Common.{◌≡◌, ◌≢◌, ℕ, ◌+◌, ◌<◌, ◌≤◌, List, [], ◌∷◌, ◌++◌, length, set, get_or, refl, sym, ap, ◌∙◌, subst, arith, append_assoc, append-nil, ne_eqb, ⊎_elim}
+use Rattle.std.proofs.Common.{◌≡◌, ◌≢◌, ℕ, ◌+◌, ◌<◌, ◌≤◌, List, [], ◌∷◌, ◌++◌, length, set, get_or, refl, sym, ap, ◌∙◌}
+use Rattle.std.proofs.Common.{subst, arith, append_assoc, append-nil, ne_eqb, ⊎_elim}
 use Rattle.std.specs.Prelude.{Bool, true, false, ◌⊎◌, map, Option, Some, None, if◌then◌else◌}
 use Rattle.std.proofs.Math.Seq.{map-set_same}
 use Rattle.std.proofs.lemmas.List.{length-set, map-set, get_or-map}
 use Rattle.std.proofs.lemmas.Bool.{lt-leb}
 use Rattle.firm_rules.specs.Book.{Book}
 use Rattle.firm_rules.specs.declared.commands.Command.{Command}
-use Rattle.firm_rules.specs.declared.commands.Command.TheVariants.{AddMachine, AddJob, AddTask, Drain, CloseJob, Done, Find, Show, Costs, Round, Faulty}
+use Rattle.firm_rules.specs.declared.commands.Command.TheVariants.{AddMachine, AddJob, AddTask, Drain, CloseJob, Done}
+use Rattle.firm_rules.specs.declared.commands.Command.TheVariants.{Find, Show, Costs, Round, Faulty}
 use Rattle.firm_rules.specs.declared.replies.Reply.{Reply}
 use Rattle.firm_rules.specs.declared.replies.Outcome.TheVariants.{Refused}
 use Rattle.firm_rules.specs.declared.replies.Refusal.TheVariants.{Worn, Memory}
@@ -26,7 +28,8 @@ use Rattle.firm_table.specs.inner.Adding.{OneMoreIsTold, TenantsAreAnswered, Str
 use Rattle.firm_hall.specs.Desks.{DeskIs}
 use Rattle.firm_hall.specs.Counts.{round_in, is_round}
 use Rattle.firm_hall.specs.inner.Seats.{IsTaken, IsTakenAt, Answered, waits_for}
-use Rattle.firm_hall.specs.inner.Serving.{answer_in, held_text, book_at, asked_at, seat_counts, state_with, AreSeats, ArePlaced, SeatIs, IsPlaced, TellsParts}
+use Rattle.firm_hall.specs.inner.Serving.{answer_in, held_text, book_at, asked_at, seat_counts, state_with, AreSeats}
+use Rattle.firm_hall.specs.inner.Serving.{ArePlaced, SeatIs, IsPlaced, TellsParts}
 use Rattle.firm_hall.specs.declared.seats.Seat.{Seat}
 use Rattle.firm_hall.specs.declared.seats.Seat.TheVariants.{Home, Away, Empty, Gone}
 use Rattle.firm_hall.specs.declared.seats.Slot.{Slot}
@@ -36,24 +39,35 @@ use Rattle.firm_hall.proofs.Seating.{weigh_set, each_set, seat_push}
 use Rattle.firm_hall.proofs.Telling.{Adds, tells_more, held_push}
 
 -- what one line makes of the tenants and of what is held, however memory is granted to the rounds that are away
-pub record LineStep (register later_register : List Registered) (seats after : List Seat) (slots later : List Slot) (output : List ℕ) (line : Line) (marks : ℕ → Bool) : Type 0 where
-  pub answer : IsAnswer (tenants_are register (map (book_at marks) seats)) (tenants_are later_register (map (book_at marks) after)) line (output ++ held_text marks slots) (output ++ held_text marks later)
+pub record LineStep (register later_register : List Registered) (seats after : List Seat) (slots later : List Slot)
+    (output : List ℕ) (line : Line) (marks : ℕ → Bool) : Type 0 where
+  pub answer : IsAnswer (tenants_are register (map (book_at marks) seats))
+      (tenants_are later_register (map (book_at marks) after)) line (output ++ held_text marks slots)
+      (output ++ held_text marks later)
   pub adds : Adds (weigh asked_at seats) (weigh asked_at after) line answer.answer
 
-pub line_told : OneMoreIsTold → (roster : List Admitted) (register later_register : List Registered) (seats after : List Seat) (slots later : List Slot) (output : List ℕ) (line : Line)
+pub line_told : OneMoreIsTold
+    → (roster : List Admitted) (register later_register : List Registered) (seats after : List Seat)
+    (slots later : List Slot) (output : List ℕ) (line : Line)
     → ((marks : ℕ → Bool) → LineStep register later_register seats after slots later output line marks)
-    → (text text_after : List ℕ) (written now : Option (List ℕ)) → input_lines text_after ≡ input_lines text ++ line ∷ []
-    → TellsParts roster register seats slots output text written now → TellsParts roster later_register after later output text_after written now
-line_told one_more roster register later_register seats after slots later output line steps text text_after written now more told marks =
+    → (text text_after : List ℕ) (written now : Option (List ℕ))
+    → input_lines text_after ≡ input_lines text ++ line ∷ []
+    → TellsParts roster register seats slots output text written now
+    → TellsParts roster later_register after later output text_after written now
+line_told one_more roster register later_register seats after slots later output line steps text text_after written now
+    more told marks =
     let s = steps marks in
-    tells_more one_more (state_with marks roster register seats slots output) (tenants_are later_register (map (book_at marks) after)) (output ++ held_text marks later) line
+    tells_more one_more (state_with marks roster register seats slots output)
+    (tenants_are later_register (map (book_at marks) after)) (output ++ held_text marks later) line
     (weigh asked_at seats) (weigh asked_at after) text text_after written now more s.answer s.adds (told marks)
 
 -- an answer more is held behind the others
 pub text_push : (marks : ℕ → Bool) (slots : List Slot) (slot : Slot) (output : List ℕ)
-    → output ++ held_text marks (slots ++ slot ∷ []) ≡ (output ++ held_text marks slots) ++ text_of_answer (answer_in marks slot)
+    → output ++ held_text marks (slots ++ slot ∷ []) ≡ (output ++ held_text marks slots) ++ text_of_answer
+    (answer_in marks slot)
 text_push marks slots slot output =
-    ap (λ (l : List ℕ). output ++ l) (held_push marks slots slot) ∙ sym (append_assoc output (held_text marks slots) (text_of_answer (answer_in marks slot)))
+    ap (λ (l : List ℕ). output ++ l) (held_push marks slots slot)
+    ∙ sym (append_assoc output (held_text marks slots) (text_of_answer (answer_in marks slot)))
 
 -- lines that no tenant answers
 module _ (register : List Registered) (seats : List Seat) (slots : List Slot) (output : List ℕ) (marks : ℕ → Bool) where
@@ -99,15 +113,18 @@ module _ (register : List Registered) (seats : List Seat) (slots : List Slot) (o
   }
 
 -- a refused round counts only where memory was refused
-refused_counts : (command : Command) (reply : Reply) → (command ≡ Round → (reply.outcome ≡ Refused Worn) ⊎ (reply.outcome ≡ Refused Memory))
+refused_counts : (command : Command) (reply : Reply)
+    → (command ≡ Round → (reply.outcome ≡ Refused Worn) ⊎ (reply.outcome ≡ Refused Memory))
     → round_in command reply ≤ (if is_memory reply then 1 else 0)
-refused_counts command reply why = elim (is_round command) as (λ b. is_round command ≡ b → round_in command reply ≤ (if is_memory reply then 1 else 0)) [
-  | true ↦ λ e. ⊎_elim
-      (λ (worn : reply.outcome ≡ Refused Worn). rw (e, worn) (omega arith))
-      (λ (memory : reply.outcome ≡ Refused Memory). rw (e, memory) (omega arith))
-      (why (is_a_round command e))
-  | false ↦ λ e. rw e (omega arith)
-] refl
+refused_counts command reply why =
+    elim (is_round command) as (λ b. is_round command ≡ b
+    → round_in command reply ≤ (if is_memory reply then 1 else 0)) [
+      | true ↦ λ e. ⊎_elim
+          (λ (worn : reply.outcome ≡ Refused Worn). rw (e, worn) (omega arith))
+          (λ (memory : reply.outcome ≡ Refused Memory). rw (e, memory) (omega arith))
+          (why (is_a_round command e))
+      | false ↦ λ e. rw e (omega arith)
+    ] refl
   where
     is_a_round : (c : Command) → is_round c ≡ true → c ≡ Round
     is_a_round Round e = refl
@@ -127,8 +144,10 @@ round_counts : (b : Book) (mark : Bool) → b.given < b.rows.limits.life → rou
 round_counts b true left = rw (lt-leb b.rows.limits.life b.given left) refl
 round_counts b false left = rw (lt-leb b.rows.limits.life b.given left) refl
 
-module _ (register : List Registered) (queue : QueueId) (place : ℕ) (name : List ℕ) (command : Command) (slots : List Slot) (seats : List Seat) (output : List ℕ) (default : Seat) (desk : DeskIs)
-    (are : AreSeats queue slots seats) (home : Home desk ≡ get_or seats place default) (sound : AreSound register) (found : place_in register name ≡ Some place) (low : place < most_places) where
+module _ (register : List Registered) (queue : QueueId) (place : ℕ) (name : List ℕ) (command : Command)
+    (slots : List Slot) (seats : List Seat) (output : List ℕ) (default : Seat) (desk : DeskIs)
+    (are : AreSeats queue slots seats) (home : Home desk ≡ get_or seats place default) (sound : AreSound register)
+    (found : place_in register name ≡ Some place) (low : place < most_places) where
   within : place < length seats
   within = omega (arith, are.long)
 
@@ -144,30 +163,36 @@ module _ (register : List Registered) (queue : QueueId) (place : ℕ) (name : Li
       let put : asked_at (get_or seats place default) ≡ desk.put = sym (ap asked_at home) in
       omega (arith, turn, put)
 
-  counts_set : (after : DeskIs) → after.admissions ≡ desk.admissions → (last : Seat) → seat_counts last ≡ (true, after.admissions)
+  counts_set : (after : DeskIs) → after.admissions ≡ desk.admissions → (last : Seat)
+      → seat_counts last ≡ (true, after.admissions)
       → map seat_counts (set seats place last) ≡ map seat_counts seats
   counts_set after same last is =
       map-set_same seat_counts seats place last default (is ∙ ap (λ (n : ℕ). (true, n)) same ∙ ap seat_counts home)
 
   -- the step of the tenant, of whatever seat and answer stand for it
-  right_step : TenantsAreAnswered → (marks : ℕ → Bool) (last : Seat) (reply : Reply) (after : Book) → book_at marks last ≡ Some after
+  right_step : TenantsAreAnswered → (marks : ℕ → Bool) (last : Seat) (reply : Reply) (after : Book)
+      → book_at marks last ≡ Some after
       → (reply, after) ≡ step desk.book command (is_memory reply)
-      → IsRight (tenants_are register (map (book_at marks) seats)) (tenants_are register (map (book_at marks) (set seats place last))) (For name command) (replied name reply)
+      → IsRight (tenants_are register (map (book_at marks) seats))
+      (tenants_are register (map (book_at marks) (set seats place last))) (For name command) (replied name reply)
   right_step known marks last reply after is stepped =
       let tenants = tenants_are register (map (book_at marks) seats) in
       let books : map (book_at marks) (set seats place last) ≡ set (map (book_at marks) seats) place (Some after) =
       map-set (book_at marks) seats place last ∙ ap (set (map (book_at marks) seats) place) is in
-      subst (λ (bs : List (Option Book)). IsRight tenants (tenants_are register bs) (For name command) (replied name reply)) (sym books)
+      subst (λ (bs : List (Option Book)). IsRight tenants (tenants_are register bs) (For name command)
+      (replied name reply)) (sym books)
       (known tenants name command place desk.book after reply sound found (book_here marks) stepped)
 
   -- the seats behind a line, of which the answer is held last
-  seats_set : (slot : Slot) (last : Seat) → ((other : ℕ) → other ≢ place → waits_for other slot ≡ false) → SeatIs queue place (slots ++ slot ∷ []) last
+  seats_set : (slot : Slot) (last : Seat) → ((other : ℕ) → other ≢ place → waits_for other slot ≡ false)
+      → SeatIs queue place (slots ++ slot ∷ []) last
       → AreSeats queue (slots ++ slot ∷ []) (set seats place last)
   seats_set slot last out is =
       record {
         long = length-set seats place last ∙ are.long;
         each = λ j d l.
-            each_set (λ k (s : Seat). SeatIs queue k slots s) (λ k (s : Seat). SeatIs queue k (slots ++ slot ∷ []) s) seats place last d within is
+            each_set (λ k (s : Seat). SeatIs queue k slots s) (λ k (s : Seat). SeatIs queue k (slots ++ slot ∷ []) s)
+            seats place last d within is
             (λ k differ old. seat_push queue k slots slot (get_or seats k d) (out k differ) old)
             j (λ w. are.each j d l) (omega (arith, are.long));
       }
@@ -177,17 +202,25 @@ module _ (register : List Registered) (queue : QueueId) (place : ℕ) (name : Li
     pub seats_are : AreSeats queue (slots ++ slot ∷ []) (set seats place seat)
     pub counts : map seat_counts (set seats place seat) ≡ map seat_counts seats
     pub placed : IsPlaced slot
-    pub steps : (marks : ℕ → Bool) → LineStep register register seats (set seats place seat) slots (slots ++ slot ∷ []) output (For name command) marks
+    pub steps : (marks : ℕ → Bool)
+        → LineStep register register seats (set seats place seat) slots (slots ++ slot ∷ []) output
+        (For name command) marks
 
-  answered : TenantsAreAnswered → (after : DeskIs) (tenant : List ℕ) (reply : Reply) → Answered desk name command after tenant reply → Taken (Home after) (Replied tenant reply)
+  answered : TenantsAreAnswered → (after : DeskIs) (tenant : List ℕ) (reply : Reply)
+      → Answered desk name command after tenant reply → Taken (Home after) (Replied tenant reply)
   answered known after tenant reply a = record {
-    seats_are = seats_set (Replied tenant reply) (Home after) (λ other differ. refl)
-        (ap (λ (d : DeskIs). d.queue) a.stepped.same_desk ∙ here_is.0, ap (λ (d : DeskIs). d.place) a.stepped.same_desk ∙ here_is.1, none_push place slots (Replied tenant reply) here_is.2 refl);
+    seats_are = seats_set (Replied tenant reply) (Home after) (λ other differ. refl) (
+      ap (λ (d : DeskIs). d.queue) a.stepped.same_desk ∙ here_is.0,
+      ap (λ (d : DeskIs). d.place) a.stepped.same_desk
+          ∙ here_is.1,
+      none_push place slots (Replied tenant reply) here_is.2 refl,
+    );
     counts = counts_set after (ap (λ (d : DeskIs). d.admissions) a.stepped.same_desk) (Home after) refl;
     placed = tt;
     steps = λ marks.
         let put : after.put ≡ desk.put = ap (λ (d : DeskIs). d.put) a.stepped.same_desk in
-        let asked : weigh asked_at (set seats place (Home after)) ≡ weigh asked_at seats = omega (arith, asked_set (Home after), put) in
+        let asked : weigh asked_at (set seats place (Home after)) ≡ weigh asked_at seats =
+        omega (arith, asked_set (Home after), put) in
         record {
           answer = record {
             answer = replied name reply;
@@ -195,21 +228,27 @@ module _ (register : List Registered) (queue : QueueId) (place : ℕ) (name : Li
             text = text_push marks slots (Replied tenant reply) output
                 ∙ ap (λ (n : List ℕ). (output ++ held_text marks slots) ++ text_of_answer (replied n reply)) a.named;
           };
-          adds = record { least = omega (arith, asked); most = omega (arith, asked, refused_counts command reply a.why) };
+          adds = record {
+            least = omega (arith, asked);
+            most =
+                omega (arith, asked, refused_counts command reply a.why);
+          };
         };
   }
 
-  went : TenantsAreAnswered → RepliesTellTheirMarks → (asked : DeskIs) (slot : Slot) → IsTaken desk place name command (Away asked) slot → Taken (Away asked) slot
+  went : TenantsAreAnswered → RepliesTellTheirMarks → (asked : DeskIs) (slot : Slot)
+      → IsTaken desk place name command (Away asked) slot → Taken (Away asked) slot
   went answers tell asked TooLong w = absurd w
   went answers tell asked Stranger w = absurd w
   went answers tell asked (Replied tenant reply) w = absurd w
   went answers tell asked (Obeyed reply) w = absurd w
   went answers tell asked (Waiting at tenant known) w = record {
-    seats_are = seats_set (Waiting at tenant known) (Away asked) (λ other differ. ne_eqb at other (λ e. differ (sym e ∙ w.here))) (
-      ap (λ (d : DeskIs). d.queue) w.asked_is ∙ here_is.0,
-      ap (λ (d : DeskIs). d.place) w.asked_is ∙ here_is.1,
-      one_here place asked slots (Waiting at tenant known) here_is.2 (is_place at place w.here) w.known_is,
-    );
+    seats_are = seats_set (Waiting at tenant known) (Away asked)
+        (λ other differ. ne_eqb at other (λ e. differ (sym e ∙ w.here))) (
+          ap (λ (d : DeskIs). d.queue) w.asked_is ∙ here_is.0,
+          ap (λ (d : DeskIs). d.place) w.asked_is ∙ here_is.1,
+          one_here place asked slots (Waiting at tenant known) here_is.2 (is_place at place w.here) w.known_is,
+        );
     counts = counts_set asked (ap (λ (d : DeskIs). d.admissions) w.asked_is) (Away asked) refl;
     placed = subst (λ (p : ℕ). p < most_places) (sym w.here) low;
     steps = λ marks.
@@ -226,10 +265,13 @@ module _ (register : List Registered) (queue : QueueId) (place : ℕ) (name : Li
         let stepped : (reply, new) ≡ step desk.book command (is_memory reply) =
         sym (tell desk.book Round mark) ∙ ap (λ (c : Command). step desk.book c (is_memory reply)) (sym w.round) in
         let here : book_at marks (Away asked) ≡ Some new =
-        ap (λ (b : Book). Some (step b Round (marks asked.place)).1) asked_book ∙ ap (λ (p : ℕ). Some (step desk.book Round (marks p)).1) asked_place in
+        ap (λ (b : Book). Some (step b Round (marks asked.place)).1) asked_book
+        ∙ ap (λ (p : ℕ). Some (step desk.book Round (marks p)).1) asked_place in
         let put : asked.put ≡ desk.put + 1 = ap (λ (d : DeskIs). d.put) w.asked_is in
-        let asked_more : weigh asked_at (set seats place (Away asked)) ≡ weigh asked_at seats + 1 = omega (arith, asked_set (Away asked), put) in
-        let counts : round_in command reply ≡ 1 = ap (λ (c : Command). round_in c reply) w.round ∙ round_counts desk.book mark w.left in
+        let asked_more : weigh asked_at (set seats place (Away asked)) ≡ weigh asked_at seats + 1 =
+        omega (arith, asked_set (Away asked), put) in
+        let counts : round_in command reply ≡ 1 =
+        ap (λ (c : Command). round_in c reply) w.round ∙ round_counts desk.book mark w.left in
         record {
           answer = record {
             answer = replied name reply;
@@ -242,7 +284,8 @@ module _ (register : List Registered) (queue : QueueId) (place : ℕ) (name : Li
   }
 
   -- either
-  pub taken : TenantsAreAnswered → RepliesTellTheirMarks → (seat : Seat) (slot : Slot) → IsTaken desk place name command seat slot → Taken seat slot
+  pub taken : TenantsAreAnswered → RepliesTellTheirMarks → (seat : Seat) (slot : Slot)
+      → IsTaken desk place name command seat slot → Taken seat slot
   taken known tell (Home after) (Replied tenant reply) t = answered known after tenant reply t
   taken known tell (Away asked) slot t = went known tell asked slot t
   taken known tell (Home after) TooLong t = absurd t
@@ -253,60 +296,97 @@ module _ (register : List Registered) (queue : QueueId) (place : ℕ) (name : Li
   taken known tell Gone slot t = absurd t
 
 -- the same, of what a body knows of the seat that it put there and of the answers that it left
-pub record TakenBy (roster : List Admitted) (register : List Registered) (queue : QueueId) (slots later : List Slot) (seats after : List Seat) (output : List ℕ) (line : Line) : Type 0 where
+pub record TakenBy (roster : List Admitted) (register : List Registered) (queue : QueueId) (slots later : List Slot)
+    (seats after : List Seat) (output : List ℕ) (line : Line) : Type 0 where
   pub seats_are : AreSeats queue later after
   pub counts : map seat_counts after ≡ map seat_counts seats
   pub placed : ArePlaced later
-  pub takes : (text text_after : List ℕ) (written now : Option (List ℕ)) → input_lines text_after ≡ input_lines text ++ line ∷ []
-      → TellsParts roster register seats slots output text written now → TellsParts roster register after later output text_after written now
+  pub takes : (text text_after : List ℕ) (written now : Option (List ℕ))
+      → input_lines text_after ≡ input_lines text ++ line ∷ []
+      → TellsParts roster register seats slots output text written now
+      → TellsParts roster register after later output text_after written now
 
-pub taken_by : (roster : List Admitted) (register : List Registered) (queue : QueueId) (place : ℕ) (name : List ℕ) (command : Command) (slots later : List Slot) (seats : List Seat) (output : List ℕ)
+pub taken_by : (roster : List Admitted) (register : List Registered) (queue : QueueId) (place : ℕ) (name : List ℕ)
+    (command : Command) (slots later : List Slot) (seats : List Seat) (output : List ℕ)
     (default before last : Seat) (slot : Slot)
-    → AreSeats queue slots seats → ArePlaced slots → before ≡ get_or seats place default → AreSound register → place_in register name ≡ Some place
-    → later ≡ slots ++ slot ∷ [] → OneMoreIsTold → TenantsAreAnswered → RepliesTellTheirMarks → IsTakenAt before place name command last slot
-    → place < most_places → TakenBy roster register queue slots later seats (set seats place last) output (For name command)
-taken_by roster register queue place name command slots later seats output default (Home desk) last slot are placed at sound found held one_more known tell t low =
-    let done = taken register queue place name command slots seats output default desk are at sound found low known tell last slot t in
+    → AreSeats queue slots seats → ArePlaced slots → before ≡ get_or seats place default → AreSound register
+    → place_in register name ≡ Some place
+    → later ≡ slots ++ slot ∷ [] → OneMoreIsTold → TenantsAreAnswered → RepliesTellTheirMarks
+    → IsTakenAt before place name command last slot
+    → place < most_places
+    → TakenBy roster register queue slots later seats (set seats place last) output (For name command)
+taken_by roster register queue place name command slots later seats output default
+    (Home desk) last slot are placed at sound found held one_more known tell t low =
+    let done = taken register queue place name command slots seats output default desk are at sound found low known
+    tell last slot t in
     rw held
     (record {
       seats_are = done.seats_are;
       counts = done.counts;
       placed = placed_push slots slot placed done.placed;
       takes = λ text text_after written now more told.
-          line_told one_more roster register register seats (set seats place last) slots (slots ++ slot ∷ []) output (For name command) done.steps text text_after written now more told;
+          line_told one_more roster register register seats (set seats place last) slots (slots ++ slot ∷ []) output
+          (For name command) done.steps text text_after written now more told;
     })
-taken_by roster register queue place name command slots later seats output default (Away asked) last slot are placed at sound found held one_more known tell t low = absurd t
-taken_by roster register queue place name command slots later seats output default (Empty empty) last slot are placed at sound found held one_more known tell t low = absurd t
-taken_by roster register queue place name command slots later seats output default Gone last slot are placed at sound found held one_more known tell t low = absurd t
+taken_by roster register queue place name command slots later seats output default
+    (Away asked) last slot are placed at sound found held one_more known tell t low = absurd t
+taken_by roster register queue place name command slots later seats output default
+    (Empty empty) last slot are placed at sound found held one_more known tell t low = absurd t
+taken_by roster register queue place name command slots later seats output default Gone last slot are placed at sound
+    found held one_more known tell t low = absurd t
 
-module _ (one_more : OneMoreIsTold) (roster : List Admitted) (register : List Registered) (seats : List Seat) (slots later : List Slot) (output : List ℕ) (line : Line) where
-  pub nothing_follows : line ≡ Nothing → later ≡ slots → (text text_after : List ℕ) (written now : Option (List ℕ)) → input_lines text_after ≡ input_lines text ++ line ∷ []
-      → TellsParts roster register seats slots output text written now → TellsParts roster register seats later output text_after written now
-  nothing_follows is held = rw (is, held) (line_told one_more roster register register seats seats slots slots output Nothing (nothing_step register seats slots output))
+module _ (one_more : OneMoreIsTold) (roster : List Admitted) (register : List Registered) (seats : List Seat)
+    (slots later : List Slot) (output : List ℕ) (line : Line) where
+  pub nothing_follows : line ≡ Nothing → later ≡ slots → (text text_after : List ℕ) (written now : Option (List ℕ))
+      → input_lines text_after ≡ input_lines text ++ line ∷ []
+      → TellsParts roster register seats slots output text written now
+      → TellsParts roster register seats later output text_after written now
+  nothing_follows is held =
+      rw (is, held) (line_told one_more roster register register seats seats slots slots output Nothing
+      (nothing_step register seats slots output))
 
-  pub long_follows : line ≡ Long → later ≡ slots ++ TooLong ∷ [] → (text text_after : List ℕ) (written now : Option (List ℕ)) → input_lines text_after ≡ input_lines text ++ line ∷ []
-      → TellsParts roster register seats slots output text written now → TellsParts roster register seats later output text_after written now
-  long_follows is held = rw (is, held) (line_told one_more roster register register seats seats slots (slots ++ TooLong ∷ []) output Long (long_step register seats slots output))
+  pub long_follows : line ≡ Long → later ≡ slots ++ TooLong ∷ []
+      → (text text_after : List ℕ) (written now : Option (List ℕ))
+      → input_lines text_after ≡ input_lines text ++ line ∷ []
+      → TellsParts roster register seats slots output text written now
+      → TellsParts roster register seats later output text_after written now
+  long_follows is held =
+      rw (is, held) (line_told one_more roster register register seats seats slots (slots ++ TooLong ∷ []) output Long
+      (long_step register seats slots output))
 
-  pub nameless_follows : line ≡ Nameless → later ≡ slots ++ Stranger ∷ [] → (text text_after : List ℕ) (written now : Option (List ℕ)) → input_lines text_after ≡ input_lines text ++ line ∷ []
-      → TellsParts roster register seats slots output text written now → TellsParts roster register seats later output text_after written now
+  pub nameless_follows : line ≡ Nameless → later ≡ slots ++ Stranger ∷ []
+      → (text text_after : List ℕ) (written now : Option (List ℕ))
+      → input_lines text_after ≡ input_lines text ++ line ∷ []
+      → TellsParts roster register seats slots output text written now
+      → TellsParts roster register seats later output text_after written now
   nameless_follows is held =
-      rw (is, held) (line_told one_more roster register register seats seats slots (slots ++ Stranger ∷ []) output Nameless (nameless_step register seats slots output))
+      rw (is, held) (line_told one_more roster register register seats seats slots
+      (slots ++ Stranger ∷ []) output Nameless (nameless_step register seats slots output))
 
-  pub stranger_follows : StrangersAreAnswered → (name : List ℕ) (command : Command) → line ≡ For name command → place_in register name ≡ None → later ≡ slots ++ Stranger ∷ []
-      → (text text_after : List ℕ) (written now : Option (List ℕ)) → input_lines text_after ≡ input_lines text ++ line ∷ []
-      → TellsParts roster register seats slots output text written now → TellsParts roster register seats later output text_after written now
+  pub stranger_follows : StrangersAreAnswered → (name : List ℕ) (command : Command) → line ≡ For name command
+      → place_in register name ≡ None → later ≡ slots ++ Stranger ∷ []
+      → (text text_after : List ℕ) (written now : Option (List ℕ))
+      → input_lines text_after ≡ input_lines text ++ line ∷ []
+      → TellsParts roster register seats slots output text written now
+      → TellsParts roster register seats later output text_after written now
   stranger_follows strangers name command is none held =
       rw (is, held)
       (line_told one_more roster register register seats seats slots (slots ++ Stranger ∷ []) output (For name command)
       (λ marks. stranger_step register seats slots output marks strangers name command none))
 
 -- an answer that waits for nothing, behind the others
-pub known_seats : (queue : QueueId) (slots later : List Slot) (seats : List Seat) (slot : Slot) → later ≡ slots ++ slot ∷ [] → ((place : ℕ) → waits_for place slot ≡ false)
+pub known_seats : (queue : QueueId) (slots later : List Slot) (seats : List Seat) (slot : Slot)
+    → later ≡ slots ++ slot ∷ [] → ((place : ℕ) → waits_for place slot ≡ false)
     → AreSeats queue slots seats → AreSeats queue later seats
 known_seats queue slots later seats slot held out are =
     rw held
-    (record { long = are.long; each = λ place default low. seat_push queue place slots slot (get_or seats place default) (out place) (are.each place default low) })
+    (record {
+      long = are.long;
+      each =
+          λ place default low. seat_push queue place slots slot (get_or seats place default) (out place)
+          (are.each place default low);
+    })
 
-pub known_placed : (slots later : List Slot) (slot : Slot) → later ≡ slots ++ slot ∷ [] → IsPlaced slot → ArePlaced slots → ArePlaced later
+pub known_placed : (slots later : List Slot) (slot : Slot) → later ≡ slots ++ slot ∷ [] → IsPlaced slot
+    → ArePlaced slots → ArePlaced later
 known_placed slots later slot held is placed = rw held (placed_push slots slot placed is)

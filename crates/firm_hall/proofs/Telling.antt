@@ -1,5 +1,6 @@
 -- What is told, as one line more is answered, and as rounds come back.
-use Rattle.std.proofs.Common.{◌≡◌, ℕ, ◌+◌, ◌≤◌, List, [], ◌∷◌, ◌++◌, length, take, sym, ap, ◌∙◌, subst, arith, append_assoc, append-nil}
+use Rattle.std.proofs.Common.{◌≡◌, ℕ, ◌+◌, ◌≤◌, List, [], ◌∷◌, ◌++◌, length, take, sym, ap, ◌∙◌, subst, arith}
+use Rattle.std.proofs.Common.{append_assoc, append-nil}
 use Rattle.std.specs.Prelude.{Bool, map, Option}
 use Rattle.std.specs.List.{flat_map}
 use Rattle.std.specs.Io.KnownBytes.{Appends}
@@ -20,26 +21,31 @@ use Rattle.firm_hall.specs.inner.Serving.{answer_in, held_text, Tells}
 use Rattle.firm_hall.specs.declared.seats.Slot.{Slot}
 
 -- the counts, with one line more
-rounds_more : (lines : List MarkedLine) (answers : List Answer) (given : MarkedLine) (answer : Answer) → length lines ≡ length answers
+rounds_more : (lines : List MarkedLine) (answers : List Answer) (given : MarkedLine) (answer : Answer)
+    → length lines ≡ length answers
     → rounds_in (lines ++ given ∷ []) (answers ++ answer ∷ []) ≡ rounds_in lines answers + round_of given.0 answer
 rounds_more [] [] given answer long = omega arith
 rounds_more [] (a ∷ answers) given answer long = absurd (omega arith)
 rounds_more (l ∷ lines) [] given answer long = absurd (omega arith)
 rounds_more (l ∷ lines) (a ∷ answers) given answer long =
-    let rest : rounds_in (lines ++ given ∷ []) (answers ++ answer ∷ []) ≡ rounds_in lines answers + round_of given.0 answer =
+    let rest : rounds_in (lines ++ given ∷ []) (answers ++ answer ∷ [])
+    ≡ rounds_in lines answers + round_of given.0 answer =
     rounds_more lines answers given answer (omega arith) in omega arith
 
-refusals_more : (answers : List Answer) (answer : Answer) → refusals_in (answers ++ answer ∷ []) ≡ refusals_in answers + refusal_in answer
+refusals_more : (answers : List Answer) (answer : Answer)
+    → refusals_in (answers ++ answer ∷ []) ≡ refusals_in answers + refusal_in answer
 refusals_more [] answer = omega arith
 refusals_more (a ∷ answers) answer =
-    let rest : refusals_in (answers ++ answer ∷ []) ≡ refusals_in answers + refusal_in answer = refusals_more answers answer in omega arith
+    let rest : refusals_in (answers ++ answer ∷ []) ≡ refusals_in answers + refusal_in answer =
+    refusals_more answers answer in omega arith
 
 -- what one line more adds to the rounds that were asked
 pub record Adds (asked later : ℕ) (line : Line) (answer : Answer) : Type 0 where
   pub least : later ≤ asked + round_of line answer
   pub most : asked + round_of line answer ≤ later + refusal_in answer
 
-pub tells_more : OneMoreIsTold → (state : State) (tenants : Tenants) (pending : List ℕ) (line : Line) (asked later : ℕ) (text after : List ℕ)
+pub tells_more : OneMoreIsTold
+    → (state : State) (tenants : Tenants) (pending : List ℕ) (line : Line) (asked later : ℕ) (text after : List ℕ)
     (written now : Option (List ℕ)) → input_lines after ≡ input_lines text ++ line ∷ []
     → (a : IsAnswer state.tenants tenants line state.pending pending) → Adds asked later line a.answer
     → Tells state asked text written now → Tells (state_is state.roster tenants pending) later after written now
@@ -49,8 +55,10 @@ tells_more one_more state tenants pending line asked later text after written no
     let answers = answers_of state.roster old in
     let given : MarkedLine = (line, tells_memory a.answer) in
     let long : length old ≡ length answers =
-    sym (length-map old (λ (g : MarkedLine). g.1)) ∙ ap length tells.told.are_lines.marks ∙ length-map answers tells_memory in
-    let rounds : rounds_in q.0.lines (answers_of state.roster q.0.lines) ≡ rounds_in old answers + round_of line a.answer =
+    sym (length-map old (λ (g : MarkedLine). g.1)) ∙ ap length tells.told.are_lines.marks
+    ∙ length-map answers tells_memory in
+    let rounds : rounds_in q.0.lines (answers_of state.roster q.0.lines)
+    ≡ rounds_in old answers + round_of line a.answer =
     ap (λ (ls : List MarkedLine). rounds_in ls (answers_of state.roster q.0.lines)) q.1
     ∙ ap (λ (xs : List Answer). rounds_in (old ++ given ∷ []) xs) q.2
     ∙ rounds_more old answers given a.answer long in
@@ -66,15 +74,18 @@ tells_more one_more state tenants pending line asked later text after written no
     }
 
 -- one answer more is held
-pub held_push : (marks : ℕ → Bool) (slots : List Slot) (slot : Slot) → held_text marks (slots ++ slot ∷ []) ≡ held_text marks slots ++ text_of_answer (answer_in marks slot)
+pub held_push : (marks : ℕ → Bool) (slots : List Slot) (slot : Slot)
+    → held_text marks (slots ++ slot ∷ []) ≡ held_text marks slots ++ text_of_answer (answer_in marks slot)
 held_push marks slots slot =
     ap (flat_map text_of_answer) (map-append (answer_in marks) slots (slot ∷ []))
     ∙ flat_map-append text_of_answer (map (answer_in marks) slots) (answer_in marks slot ∷ [])
     ∙ ap (λ (l : List ℕ). held_text marks slots ++ l) (append-nil (text_of_answer (answer_in marks slot)))
 
 -- some of what is still to be written was
-pub tells_begins : (state : State) (asked : ℕ) (text : List ℕ) (written now later : Option (List ℕ)) (count : ℕ) (front held : List ℕ) → Tells state asked text written now
-    → state.pending ≡ front ++ held → count ≤ length front → Appends now later (take count front) → BeginsAnswers state.roster text written later
+pub tells_begins : (state : State) (asked : ℕ) (text : List ℕ) (written now later : Option (List ℕ)) (count : ℕ)
+    (front held : List ℕ) → Tells state asked text written now
+    → state.pending ≡ front ++ held → count ≤ length front → Appends now later (take count front)
+    → BeginsAnswers state.roster text written later
 tells_begins state asked text written now later count front held tells both few wrote = record {
   lines = tells.told.lines;
   are_lines = tells.told.are_lines;
@@ -82,17 +93,21 @@ tells_begins state asked text written now later count front held tells both few 
   wrote =
       let sent = tells.told.sent in
       let cut_off : take (length sent + count) (output_of state.roster tells.told.lines) ≡ sent ++ take count front =
-      ap (take (length sent + count)) (sym tells.told.whole ∙ ap (λ (l : List ℕ). sent ++ l) both) ∙ take-append-add sent (front ++ held) count
+      ap (take (length sent + count)) (sym tells.told.whole ∙ ap (λ (l : List ℕ). sent ++ l) both)
+      ∙ take-append-add sent (front ++ held) count
       ∙ ap (λ (l : List ℕ). sent ++ l) (take_front count front held few) in
-      subst (Appends written later) (sym cut_off) (Appends-trans written now later sent (take count front) tells.told.wrote wrote);
+      subst (Appends written later) (sym cut_off)
+      (Appends-trans written now later sent (take count front) tells.told.wrote wrote);
 }
   where
     take_front : (n : ℕ) (xs ys : List ℕ) → n ≤ length xs → take n (xs ++ ys) ≡ take n xs
     take_front n xs ys low = take-append-le n xs ys low
 
 -- the front of it was
-pub tells_written : (state : State) (asked : ℕ) (text : List ℕ) (written now later : Option (List ℕ)) (front held : List ℕ) → Tells state asked text written now
-    → state.pending ≡ front ++ held → Appends now later front → Tells (state_is state.roster state.tenants held) asked text written later
+pub tells_written : (state : State) (asked : ℕ) (text : List ℕ) (written now later : Option (List ℕ))
+    (front held : List ℕ) → Tells state asked text written now
+    → state.pending ≡ front ++ held → Appends now later front
+    → Tells (state_is state.roster state.tenants held) asked text written later
 tells_written state asked text written now later front held tells both wrote =
     let t = tells.told in
     record {

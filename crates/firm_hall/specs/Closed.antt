@@ -22,10 +22,13 @@ is_ticket one other = cond ((one.place == other.place) && (one.number == other.n
 abbrev pub taken_count : List PopIs → ℕ
 taken_count reports = weigh (λ r. length r.got) reports
 
--- The tickets that were asked at the desks and at the places that no tenant has any more are, each as often, those of the
--- reports and of the jobs that are left: however tickets are weighed, both weigh the same. And each ticket was asked once
+-- The tickets that were asked at the desks and at the places that no tenant has any more are, each as often, those of
+-- the
+-- reports and of the jobs that are left: however tickets are weighed, both weigh the same. And each ticket was asked
+-- once
 -- at most; so each stands exactly once in the reports and jobs.
-pub record IsClosed (desks : List DeskIs) (empty : List PlaceIs) (reports : List PopIs) (jobs : List JobIs) : Type 0 where
+pub record IsClosed (desks : List DeskIs) (empty : List PlaceIs) (reports : List PopIs)
+    (jobs : List JobIs) : Type 0 where
   pub as_often : (h : Ticket → ℕ)
       → asked_weight h desks + left_weight h empty ≡ got_weight h reports + job_weight h jobs
   pub once : (t : Ticket) → t.place < 2 ^ 32 → asked_weight (is_ticket t) desks + left_weight (is_ticket t) empty ≤ 1

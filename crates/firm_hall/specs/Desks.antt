@@ -60,7 +60,8 @@ pub record IsCounted (put admissions : ℕ) : Type 0 where
   pub few : admissions ≤ most_admissions
   pub asked : put ≤ rounds_of admissions
 
--- a tenant was given no more commands than its life has, and no more rounds were asked than it was given commands, beside
+-- a tenant was given no more commands than its life has, and no more rounds were asked than it was given commands,
+-- beside
 -- those that the tenants before it may have asked
 pub record IsLive (put admissions : ℕ) (book : Book) : Type 0 where
   pub asked : put + rounds_of 1 ≤ rounds_of admissions + book.given

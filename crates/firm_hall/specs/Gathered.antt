@@ -24,7 +24,8 @@ pub record Gave (old new : List Share) (reports : List PopIs) : Type 0 where
   pub places : (p : ℕ) → weigh (is_at p) old ≤ weigh (is_at p) new
 
 -- the shares that were handed in are these desks', these places' and these reports'
-pub record IsGathered (shares : List Share) (desks : List DeskIs) (empty : List PlaceIs) (reports : List PopIs) : Type 0 where
+pub record IsGathered (shares : List Share) (desks : List DeskIs) (empty : List PlaceIs)
+    (reports : List PopIs) : Type 0 where
   pub put : (h : Ticket → ℕ) → weigh (put_by h) shares ≡ asked_weight h desks + left_weight h empty
   pub got : (h : Ticket → ℕ) → weigh (got_by h) shares ≡ got_weight h reports
   pub count : length shares ≡ length desks + length empty + length reports

@@ -5,7 +5,8 @@ use Rattle.firm_text.specs.Rosters.{Admitted}
 use Rattle.firm_rounds.specs.Passes.{QueueId}
 use Rattle.firm_hall.specs.Desks.{DeskIs, desk_is, PlaceIs, place_is}
 
--- from this place on, a desk for each row of the roster, where nothing was asked, which was given once, and which has the
+-- from this place on, a desk for each row of the roster, where nothing was asked, which was given once, and which has
+-- the
 -- opening book of the row's limits
 abbrev pub opening_desks : QueueId → ℕ → List Admitted → List DeskIs
 opening_desks queue place [] = []

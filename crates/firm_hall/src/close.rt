@@ -32,9 +32,9 @@ pub enum CloseFault {
 }
 
 impl Hall {
-    /// Closes the hall, with its desks, empty ones too, and the reports of its workers. Ok says that the reports' tickets
-    /// are those that were asked at the desks, by whoever had their places, each exactly once, and how many they are. It
-    /// takes no memory.
+    /// Closes the hall, with its desks, empty ones too, and the reports of its workers. Ok says that the reports'
+    /// tickets are those that were asked at the desks, by whoever had their places, each exactly once, and how many
+    /// they are. It takes no memory.
     pub fn close<R: Wait>(
         self,
         rt: &R,

@@ -18,8 +18,8 @@ use std::alloc::{AllocError, Global};
 use std::marker::Model;
 use std::sync::Wait;
 
-/// A tenant at home: whoever holds the desk owns it. Contracts see its hall, its place, how many rounds were asked there
-/// and how often the place was given, whoever had it, and the tenant's book.
+/// A tenant at home: whoever holds the desk owns it. Contracts see its hall, its place, how many rounds were asked
+/// there and how often the place was given, whoever had it, and the tenant's book.
 #[derive(Drop)]
 pub struct Desk {
     tenant: Tenant,
@@ -123,8 +123,8 @@ impl Desk {
         Ok(Asked { side, place })
     }
 
-    /// The tenant leaves its place, and all that it had goes. The numbers of its tickets stay with the place. It waits for
-    /// nobody and takes no memory.
+    /// The tenant leaves its place, and all that it had goes. The numbers of its tickets stay with the place. It waits
+    /// for nobody and takes no memory.
     pub fn retire(self) -> EmptyDesk
         ensures { result ≡ place_is self.queue self.place self.put self.admissions }
     {

@@ -40,9 +40,9 @@ impl Model for Hall {
 }
 
 impl Hall {
-    /// A hall of 64 places for the tenants of the roster, which are admitted, and for 1 to 8 workers: a desk for each row,
-    /// in order, a pass for each worker, and an empty desk for each further place. All its memory is taken here; the error
-    /// comes for want of it alone.
+    /// A hall of 64 places for the tenants of the roster, which are admitted, and for 1 to 8 workers: a desk for each
+    /// row, in order, a pass for each worker, and an empty desk for each further place. All its memory is taken here;
+    /// the error comes for want of it alone.
     pub fn open(
         alloc: Global,
         roster: &Roster,

@@ -1,7 +1,8 @@
 //! What stands at a tenant's place while the hall serves, and the answers that are held.
 ghost use Rattle.std.specs.Prelude.{◌≡◌, MatchBool};
-ghost use Rattle.firm_hall.specs.inner.Seats.{IsSeated, IsBack, IsHome, IsHomeOf, IsFree, IsTurned, IsAdmitted, IsRetired};
-ghost use Rattle.firm_hall.specs.inner.Seats.{IsTaken, IsTakenAt, waits_for, waiting_place, answered};
+ghost use Rattle.firm_hall.specs.inner.Seats.{IsSeated, IsBack, IsHome, IsHomeOf, IsFree, IsTurned};
+ghost use Rattle.firm_hall.specs.inner.Seats.{IsAdmitted, IsRetired, IsTaken, IsTakenAt};
+ghost use Rattle.firm_hall.specs.inner.Seats.{waits_for, waiting_place, answered};
 ghost use Rattle.firm_rules.specs.declared.commands.Command.TheVariants.{Round};
 
 use crate::desks::{Asked, AskedPoll, Desk};

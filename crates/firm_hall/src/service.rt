@@ -27,9 +27,9 @@ use std::thread::{Scope, Threads};
 
 /// Answers the lines of an input of at most `most` bytes, 2^32 at most, for the tenants of the roster, which are
 /// admitted first, and for those that the operator admits meanwhile, up to 64 at a time. 1 to 8 workers solve their
-/// rounds, each on a thread of its own and after it passed the gate. Answers are written in the order of their lines. It
-/// waits for a round only where the next line is for its tenant or retires it, where 1,024 answers are held, or at the
-/// end of the input.
+/// rounds, each on a thread of its own and after it passed the gate. Answers are written in the order of their lines.
+/// It waits for a round only where the next line is for its tenant or retires it, where 1,024 answers are held, or at
+/// the end of the input.
 ///
 /// On `Ok` a read has found the end of the input, and what was written is the output for all of it. After a fault it is
 /// a prefix of the output for the bytes that were read. `Read` and `Write` come where a call of the reader or the

@@ -15,8 +15,8 @@ ghost use Rattle.firm_hall.specs.Opening.{opening_desks, unused_places};
 ghost use Rattle.firm_hall.specs.declared.seats.Seat.TheVariants.{Home, Empty};
 ghost use Rattle.firm_hall.specs.inner.Seats.{IsSeated, filled_if};
 ghost use Rattle.firm_hall.specs.inner.Serving.{answer_in, asked_at, AreOpen, IsOpen, TellsAll, Keeps, Takes, Obeys};
-ghost use Rattle.firm_hall.specs.inner.Serving.{Passes, Begins, FirstIsFor, FirstWaits, FirstIsKnown, IsBackAt, AllBack};
-ghost use Rattle.firm_hall.specs.inner.Serving.{IsWrittenOut, IsFinished};
+ghost use Rattle.firm_hall.specs.inner.Serving.{Passes, Begins, FirstIsFor, FirstWaits, FirstIsKnown};
+ghost use Rattle.firm_hall.specs.inner.Serving.{IsBackAt, AllBack, IsWrittenOut, IsFinished};
 ghost use Rattle.firm_rounds.specs.Passes.{QueueId};
 ghost use Rattle.firm_hall.specs.inner.Ending.{IsOf, AreOf};
 

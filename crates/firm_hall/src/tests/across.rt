@@ -55,8 +55,8 @@ fn waited<R: Wait>(rt: &R, asked: Asked) -> Reply {
     reply
 }
 
-/// The replies to the rounds of both desks: that which was asked first, which the gate holds, and the other, which comes
-/// meanwhile.
+/// The replies to the rounds of both desks: that which was asked first, which the gate holds, and the other, which
+/// comes meanwhile.
 fn ask_across<R: Wait>(
     rt: &R,
     alloc: Global,

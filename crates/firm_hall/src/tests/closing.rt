@@ -96,7 +96,8 @@ fn shut_first<R: Wait>(rt: &R, alloc: Global, hall: &Hall, pass: WorkerPass) -> 
     worker(rt, alloc, hall, pass, &Open)
 }
 
-/// How many rounds the reports of two workers count that start once the hall is shut, and how many it had when it closed.
+/// How many rounds the reports of two workers count that start once the hall is shut, and how many it had when it
+/// closed.
 fn shut_and_closed<R: Wait>(rt: &R, alloc: Global) -> Result<(u64, u64, Option<u64>), Fail> {
     let roster = roster_of(alloc, TWO)?;
     let (hall, desks, mut passes, empty) = Hall::open(alloc, &roster, 2)?;

@@ -16,7 +16,8 @@ open_desks-requires-clause-count c =
     let id = c.in_ok-queue.queue.id in
     let rows = length c.args.roster.now in
     ap (λ (ps : List PutIs). length ps) (front_of id rows c.args.places c.len.result c.in_ok-queue.puts.items
-    c.split_off.new.self.items c.len.ensures.length c.requires.places.0 c.in_ok-queue.ensures.passes.0 c.in_ok-rest.ensures.items)
+    c.split_off.new.self.items c.len.ensures.length c.requires.places.0 c.in_ok-queue.ensures.passes.0
+    c.in_ok-rest.ensures.items)
     ∙ puts_wide id rows
 
 pub open_desks-requires-clause-unused : goal.open_desks-requires-clause-unused
@@ -33,18 +34,21 @@ pub returns-clause-desks : goal.returns-clause-desks
 returns-clause-desks c =
     let id = c.in_ok-queue.queue.id in
     c.in_ok-desks.ensures id (front_of id (length c.args.roster.now) c.args.places c.len.result c.in_ok-queue.puts.items
-    c.split_off.new.self.items c.len.ensures.length c.requires.places.0 c.in_ok-queue.ensures.passes.0 c.in_ok-rest.ensures.items)
+    c.split_off.new.self.items c.len.ensures.length c.requires.places.0 c.in_ok-queue.ensures.passes.0
+    c.in_ok-rest.ensures.items)
 
 pub returns-clause-empty : goal.returns-clause-empty
 returns-clause-empty c =
     c.in_ok-empty.ensures
-    ∙ rest_of c.in_ok-queue.queue.id (length c.args.roster.now) c.args.places c.len.result c.in_ok-queue.puts.items c.in_ok-rest.rest.items
+    ∙ rest_of c.in_ok-queue.queue.id (length c.args.roster.now) c.args.places c.len.result c.in_ok-queue.puts.items
+    c.in_ok-rest.rest.items
     c.len.ensures.length c.requires.places.0 c.in_ok-queue.ensures.passes.0 c.in_ok-rest.ensures.tail
 
 pub returns-clause-of_this : goal.returns-clause-of_this
 returns-clause-of_this c =
     let id = c.in_ok-queue.queue.id in
-    let front = front_of id (length c.args.roster.now) c.args.places c.len.result c.in_ok-queue.puts.items c.split_off.new.self.items
+    let front = front_of id (length c.args.roster.now) c.args.places c.len.result c.in_ok-queue.puts.items
+    c.split_off.new.self.items
     c.len.ensures.length c.requires.places.0 c.in_ok-queue.ensures.passes.0 c.in_ok-rest.ensures.items in
     let desks : c.in_ok-desks.desks.items ≡ opening_desks id 0 c.args.roster.now = c.in_ok-desks.ensures id front in (
       subst (All (λ (d : DeskIs). d.queue ≡ id)) (sym desks) (desks_of id 0 c.args.roster.now),

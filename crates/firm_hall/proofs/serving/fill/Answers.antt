@@ -15,8 +15,10 @@ loop-at-preserved c =
 pub returns-then-waits_for-clause-filled : goal.returns-then-waits_for-clause-filled
 returns-then-waits_for-clause-filled c =
     let here : c.waits_for.result ≡ true = search rules in
-    found_at c.args.place c.args.reply c.in-Some.reply c.args.slots.now.items c.loop-at.slots.items c.loop-at.at c.index.result.now c.index_mut.result.now c.answer.new.self
-    c.in-Some.is (ap (λ s. s.items) c.loop-at.invariant.same) c.loop-at.invariant.none (search rules) c.index.ensures c.index_mut.ensures.value
+    found_at c.args.place c.args.reply c.in-Some.reply c.args.slots.now.items c.loop-at.slots.items c.loop-at.at
+    c.index.result.now c.index_mut.result.now c.answer.new.self
+    c.in-Some.is (ap (λ s. s.items) c.loop-at.invariant.same) c.loop-at.invariant.none
+    (search rules) c.index.ensures c.index_mut.ensures.value
     (sym c.waits_for.ensures ∙ here) c.answer.ensures
 
 pub returns-clause-filled : goal.returns-clause-filled

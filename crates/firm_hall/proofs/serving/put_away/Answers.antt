@@ -6,7 +6,11 @@ use Rattle.firm_hall.proofs.serving.put_away.Goals as goal
 pub returns-in-Home-clause-of : goal.returns-in-Home-clause-of
 returns-in-Home-clause-of g c id is are =
     let of = rw c.in-Home.is at is in
-    record { each = all_push (λ (d : DeskIs). d.queue ≡ id) _ _ _ c.put_desk.ensures.items are.each of; places = are.places }
+    record {
+      each = all_push (λ (d : DeskIs). d.queue ≡ id) _ _ _ c.put_desk.ensures.items are.each of;
+      places =
+          are.places;
+    }
 
 pub returns-in-Away-clause-of : goal.returns-in-Away-clause-of
 returns-in-Away-clause-of g c id is are =

@@ -4,4 +4,5 @@ use Rattle.firm_hall.specs.declared.seats.Seat.TheVariants.{Home}
 use Rattle.firm_hall.proofs.serving.put_desks.Given as goal
 
 abbrev pub invariant-loop-desk : goal.invariant-loop-desk
-invariant-loop-desk l = l.seats.items ++ map Home (into_iter_items l.desk-iterator) ≡ l.fn.seats.items ++ map Home l.fn.desks.items
+invariant-loop-desk l =
+    l.seats.items ++ map Home (into_iter_items l.desk-iterator) ≡ l.fn.seats.items ++ map Home l.fn.desks.items

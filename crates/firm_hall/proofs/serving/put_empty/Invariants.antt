@@ -4,4 +4,5 @@ use Rattle.firm_hall.specs.declared.seats.Seat.TheVariants.{Empty}
 use Rattle.firm_hall.proofs.serving.put_empty.Given as goal
 
 abbrev pub invariant-loop-place : goal.invariant-loop-place
-invariant-loop-place l = l.seats.items ++ map Empty (into_iter_items l.place-iterator) ≡ l.fn.seats.items ++ map Empty l.fn.empty.items
+invariant-loop-place l =
+    l.seats.items ++ map Empty (into_iter_items l.place-iterator) ≡ l.fn.seats.items ++ map Empty l.fn.empty.items

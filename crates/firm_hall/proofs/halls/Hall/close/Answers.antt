@@ -48,7 +48,8 @@ returns g c =
           c.gather-closing.ensures.desks c.as_mut_slice.ensures.value (search rules),
       whole_back spent_pop c.args.reports.len all c.as_mut_slice-2.result.now c.gather-closing.new.reports _
           c.gather-closing.ensures.reports c.as_mut_slice-2.ensures.value (search rules),
-      whole_back spent_place c.args.empty.len c.args.empty.items c.as_mut_slice-3.result.now c.gather-closing.new.empty _
+      whole_back spent_place c.args.empty.len c.args.empty.items c.as_mut_slice-3.result.now c.gather-closing.new.empty
+          _
           c.gather-closing.ensures.empty c.as_mut_slice-3.ensures.value (search rules),
       search rules,
       shut_in c.gather-closing.result.shares c.args.desks.items c.as_mut_slice.result.now c.args.empty.items

@@ -8,14 +8,22 @@ pub returns-in-Err-clause-obeys : goal.returns-in-Err-clause-obeys
 returns-in-Err-clause-obeys c text after written now more told =
     let s = c.args.self.now in
     rw c.in-Err.ensures.unchanged
-    (admission_refused c.answers_add_up.ensures.one_more c.answers_add_up.ensures.not_admitted s.roster.now s.register s.seats.items s.slots.items s.output.items
+    (admission_refused c.answers_add_up.ensures.one_more c.answers_add_up.ensures.not_admitted s.roster.now s.register
+    s.seats.items s.slots.items s.output.items
     c.args.name c.args.limits c.in-Err.refusal (sym c.in-Err.ensures.place) text after written now more told)
 
 pub returns-in-Err-clause-open : goal.returns-in-Err-clause-open
 returns-in-Err-clause-open c =
     let o = c.requires.stands in
     record {
-      stands = record { seats = o.seats; fits = rw c.in-Err.ensures.unchanged o.fits; placed = o.placed; few = o.few; room = o.room };
+      stands = record {
+        seats = o.seats;
+        fits = rw c.in-Err.ensures.unchanged o.fits;
+        placed = o.placed;
+        few =
+            o.few;
+        room = o.room;
+      };
       more = c.requires.more;
     }
 
@@ -23,11 +31,20 @@ pub admit-requires-2 : goal.admit-requires-2
 admit-requires-2 c =
     let s = c.args.self.now in
     let o = c.requires.stands in
-    free_of s.hall.now.id s.register s.slots.items s.seats.items o.seats o.fits c.in-Ok.place c.index_mut.result.now _ c.in-Ok.ensures.within c.index_mut.ensures.value
+    free_of s.hall.now.id s.register s.slots.items s.seats.items o.seats o.fits c.in-Ok.place c.index_mut.result.now _
+    c.in-Ok.ensures.within c.index_mut.ensures.value
     c.args.name (sym c.in-Ok.ensures.place)
 
 pub undo-requires : goal.undo-requires
-undo-requires c = (c.args.self.now.register, c.args.name, record { given = sym c.in-Ok.ensures.place; led = c.in-Ok.ensures.admitted })
+undo-requires c = (
+  c.args.self.now.register,
+  c.args.name,
+  record {
+    given = sym c.in-Ok.ensures.place;
+    led =
+        c.in-Ok.ensures.admitted;
+  },
+)
 
 pub returns-then-admit-clause-obeys : goal.returns-then-admit-clause-obeys
 returns-then-admit-clause-obeys c text after written now more told =
@@ -36,10 +53,12 @@ returns-then-admit-clause-obeys c text after written now more told =
     let before = c.index_mut.result.now in
     let last = c.admit-2.new.self in
     let admitted : IsAdmitted before c.args.limits true last = rw c.if-admit.true at c.admit-2.ensures in
-    let change = came s.hall.now.id s.register s.slots.items s.seats.items o.seats o.fits c.in-Ok.place before _ c.in-Ok.ensures.within c.index_mut.ensures.value
+    let change = came s.hall.now.id s.register s.slots.items s.seats.items o.seats o.fits c.in-Ok.place before _
+    c.in-Ok.ensures.within c.index_mut.ensures.value
     c.args.name c.args.limits last admitted in
     rw c.in-Ok.ensures.admitted
-    (admission_told c.answers_add_up.ensures.one_more c.answers_add_up.ensures.admitted s.roster.now s.register s.seats.items _ s.slots.items s.output.items c.args.name
+    (admission_told c.answers_add_up.ensures.one_more c.answers_add_up.ensures.admitted s.roster.now s.register
+    s.seats.items _ s.slots.items s.output.items c.args.name
     c.args.limits c.in-Ok.place (sym c.in-Ok.ensures.place) change.asked change.books text after written now more told)
 
 pub returns-then-admit-clause-open : goal.returns-then-admit-clause-open
@@ -49,10 +68,18 @@ returns-then-admit-clause-open c =
     let before = c.index_mut.result.now in
     let last = c.admit-2.new.self in
     let admitted : IsAdmitted before c.args.limits true last = rw c.if-admit.true at c.admit-2.ensures in
-    let change = came s.hall.now.id s.register s.slots.items s.seats.items o.seats o.fits c.in-Ok.place before _ c.in-Ok.ensures.within c.index_mut.ensures.value
+    let change = came s.hall.now.id s.register s.slots.items s.seats.items o.seats o.fits c.in-Ok.place before _
+    c.in-Ok.ensures.within c.index_mut.ensures.value
     c.args.name c.args.limits last admitted in
     record {
-      stands = record { seats = change.seats_are; fits = rw c.in-Ok.ensures.admitted change.fits; placed = o.placed; few = o.few; room = o.room };
+      stands = record {
+        seats = change.seats_are;
+        fits = rw c.in-Ok.ensures.admitted change.fits;
+        placed =
+            o.placed;
+        few = o.few;
+        room = o.room;
+      };
       more = c.requires.more;
     }
 
@@ -63,11 +90,17 @@ returns-clause-obeys c text after written now more told =
     let before = c.index_mut.result.now in
     let last = c.admit-2.new.self in
     let nobody : IsAdmitted before c.args.limits false last = rw c.if-admit.false at c.admit-2.ensures in
-    let whole = nobody_came s.hall.now.id s.register s.slots.items s.seats.items o.seats o.fits c.in-Ok.place before _ c.in-Ok.ensures.within c.index_mut.ensures.value
+    let whole = nobody_came s.hall.now.id s.register s.slots.items s.seats.items o.seats o.fits c.in-Ok.place before _
+    c.in-Ok.ensures.within c.index_mut.ensures.value
     c.args.limits last nobody in
-    let back = c.undo.ensures s.register c.args.name (record { given = sym c.in-Ok.ensures.place; led = c.in-Ok.ensures.admitted }) in
+    let back = c.undo.ensures s.register c.args.name (record {
+      given = sym c.in-Ok.ensures.place;
+      led =
+          c.in-Ok.ensures.admitted;
+    }) in
     rw (whole, back)
-    (admission_found_no_memory c.answers_add_up.ensures.one_more c.answers_add_up.ensures.no_memory s.roster.now s.register s.seats.items s.slots.items s.output.items c.args.name
+    (admission_found_no_memory c.answers_add_up.ensures.one_more c.answers_add_up.ensures.no_memory s.roster.now
+    s.register s.seats.items s.slots.items s.output.items c.args.name
     c.args.limits c.in-Ok.place (sym c.in-Ok.ensures.place) text after written now more told)
 
 pub returns-clause-open : goal.returns-clause-open
@@ -77,10 +110,22 @@ returns-clause-open c =
     let before = c.index_mut.result.now in
     let last = c.admit-2.new.self in
     let nobody : IsAdmitted before c.args.limits false last = rw c.if-admit.false at c.admit-2.ensures in
-    let whole = nobody_came s.hall.now.id s.register s.slots.items s.seats.items o.seats o.fits c.in-Ok.place before _ c.in-Ok.ensures.within c.index_mut.ensures.value
+    let whole = nobody_came s.hall.now.id s.register s.slots.items s.seats.items o.seats o.fits c.in-Ok.place before _
+    c.in-Ok.ensures.within c.index_mut.ensures.value
     c.args.limits last nobody in
-    let back = c.undo.ensures s.register c.args.name (record { given = sym c.in-Ok.ensures.place; led = c.in-Ok.ensures.admitted }) in
+    let back = c.undo.ensures s.register c.args.name (record {
+      given = sym c.in-Ok.ensures.place;
+      led =
+          c.in-Ok.ensures.admitted;
+    }) in
     record {
-      stands = record { seats = rw whole o.seats; fits = rw (whole, back) o.fits; placed = o.placed; few = o.few; room = o.room };
+      stands = record {
+        seats = rw whole o.seats;
+        fits = rw (whole, back) o.fits;
+        placed = o.placed;
+        few =
+            o.few;
+        room = o.room;
+      };
       more = c.requires.more;
     }

@@ -5,7 +5,8 @@ use Rattle.firm_hall.proofs.serving.Serving.answer.Goals as goal
 pub returns-clause-told : goal.returns-clause-told
 returns-clause-told g c =
     on_ok_weaker c.make_room.result
-    (λ passes. λ text after written more told. passes after written (c.take_line.ensures.takes text after written _ more told))
+    (λ passes. λ text after written more told. passes after written
+    (c.take_line.ensures.takes text after written _ more told))
     c.make_room.ensures.told
 
 pub returns-clause-begins : goal.returns-clause-begins

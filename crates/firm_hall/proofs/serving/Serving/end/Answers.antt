@@ -12,10 +12,20 @@ loop-seat-init g c =
     let s = c.args.self in
     let items = c.into_iter-seat-iterator.ensures.into_iter_gives.0 in
     record {
-      seats = subst (All (IsOf s.hall.now.id)) (sym items) (all_of s.hall.now.id s.slots.items s.seats.items c.requires.open.seats);
-      desks = record { each = rw c.requires.room.0 (λ k d low. absurd (omega arith)); places = rw c.requires.empty_room.0 (λ k d low. absurd (omega arith)) };
+      seats = subst (All (IsOf s.hall.now.id)) (sym items)
+          (all_of s.hall.now.id s.slots.items s.seats.items c.requires.open.seats);
+      desks = record {
+        each = rw c.requires.room.0 (λ k d low. absurd (omega arith));
+        places =
+            rw c.requires.empty_room.0 (λ k d low. absurd (omega arith));
+      };
       asked = omega (arith, ap (weigh asked_at) items);
-      few = omega (arith, c.into_iter-seat-iterator.ensures.into_iter_gives.1, s.seats.ok.0, c.requires.open.seats.long);
+      few = omega (
+        arith,
+        c.into_iter-seat-iterator.ensures.into_iter_gives.1,
+        s.seats.ok.0,
+        c.requires.open.seats.long,
+      );
       count = omega (
         arith,
         c.into_iter-seat-iterator.ensures.into_iter_gives.1,

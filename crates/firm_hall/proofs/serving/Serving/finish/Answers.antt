@@ -11,21 +11,24 @@ pub returns-in_err-write_held-clause-begins : goal.returns-in_err-write_held-cla
 returns-in_err-write_held-clause-begins g c text written told =
     let s = c.put_all.new.self in
     let part = c.in_err-write_held.ensures.err in
-    let begins = partly s.roster.now s.register s.seats.items s.slots.items s.output.items text written _ _ part.0 part.1 part.2
+    let begins = partly s.roster.now s.register s.seats.items s.slots.items s.output.items text written _ _ part.0
+    part.1 part.2
     (c.in-Ok.ensures.keeps text written _ (c.all_come_home.ensures.keeps text written _ told)) in
     rw (c.put_all.ensures.roster ∙ c.all_come_home.ensures.roster) at begins
 
 pub returns-clause-begins : goal.returns-clause-begins
 returns-clause-begins g c text written told =
     let s = c.put_all.new.self in
-    let begins = wholly s.roster.now s.register s.seats.items s.slots.items s.output.items text written _ _ c.in_ok-write_held.ensures.ok
+    let begins = wholly s.roster.now s.register s.seats.items s.slots.items s.output.items text written _ _
+    c.in_ok-write_held.ensures.ok
     (c.in-Ok.ensures.keeps text written _ (c.all_come_home.ensures.keeps text written _ told)) in
     rw (c.put_all.ensures.roster ∙ c.all_come_home.ensures.roster) at begins
 
 pub returns-clause-told : goal.returns-clause-told
 returns-clause-told g c text written told =
     let s = c.put_all.new.self in
-    written_all s.roster.now s.register s.seats.items s.slots.items s.output.items _ text written _ _ c.in_ok-write_held.ensures.empty c.in_ok-write_held.ensures.ok
+    written_all s.roster.now s.register s.seats.items s.slots.items s.output.items _ text written _ _
+    c.in_ok-write_held.ensures.empty c.in_ok-write_held.ensures.ok
     (c.in-Ok.ensures.keeps text written _ (c.all_come_home.ensures.keeps text written _ told))
 
 pub returns-clause-finished : goal.returns-clause-finished

@@ -15,11 +15,13 @@ returns-in_default-clause-begins g c text written told =
 
 pub returns-clause-begins : goal.returns-clause-begins
 returns-clause-begins g c text written told =
-    let begins = c.write_out.ensures.begins text written (c.in-Ok.ensures.keeps text written _ (c.first_comes_home.ensures.keeps text written _ told)) in
+    let begins = c.write_out.ensures.begins text written
+    (c.in-Ok.ensures.keeps text written _ (c.first_comes_home.ensures.keeps text written _ told)) in
     rw (c.put_first.ensures.roster ∙ c.first_comes_home.ensures.roster) at begins
 
 pub returns-clause-told : goal.returns-clause-told
 returns-clause-told g c =
     on_ok_weaker c.write_out.result
-    (λ passes. λ text written told. passes text written (c.in-Ok.ensures.keeps text written _ (c.first_comes_home.ensures.keeps text written _ told)))
+    (λ passes. λ text written told. passes text written
+    (c.in-Ok.ensures.keeps text written _ (c.first_comes_home.ensures.keeps text written _ told)))
     c.write_out.ensures.told

@@ -5,7 +5,8 @@ use Rattle.firm_hall.proofs.serving.Serving.put_all.Goals as goal
 pub put_first-requires-clause-first : goal.put_first-requires-clause-first
 put_first-requires-clause-first c =
     let s = c.loop-self.self in
-    all_known s.hall.now.id s.slots.items s.seats.items c.loop-self.invariant.stands.seats c.loop-self.invariant.stands.placed c.loop-self.invariant.back (search rules)
+    all_known s.hall.now.id s.slots.items s.seats.items c.loop-self.invariant.stands.seats
+    c.loop-self.invariant.stands.placed c.loop-self.invariant.back (search rules)
 
 pub loop-self-preserved : goal.loop-self-preserved
 loop-self-preserved c =
