@@ -4,7 +4,7 @@ ghost use Rattle.std.specs.Prelude.{◌≡◌, All, IfSome};
 
 use super::closing::rounds_at_close;
 use super::{is_idle_round, last_empty, last_pass, roster_of};
-use crate::{AdmitFault, Desk, EmptyDesk, Gate, Hall, Report, WorkerPass, worker};
+use crate::{AdmitFault, Asked, Desk, EmptyDesk, Gate, Hall, Report, WorkerPass, worker};
 use firm_rules::{Limits, Reply, Ticket};
 use firm_text::MOST_ADMISSIONS;
 use std::alloc::Global;
@@ -51,6 +51,39 @@ struct Stay {
     report: Report,
 }
 
+/// The desk of a tenant with these limits that comes. None for want of memory.
+fn admitted(alloc: Global, hall: &Hall, limits: Limits, empty: EmptyDesk) -> Option<Desk>
+    requires { empty.queue ≡ hall.now.id }
+    ensures { IfSome result (λ d. d.queue ≡ hall.now.id) }
+{
+    let _ = hall;
+    match empty.admit(alloc, limits) {
+        Ok(desk) => Some(desk),
+        Err(_fault) => None,
+    }
+}
+
+/// The token for the desk's round. None for want of memory.
+fn asked_round<R: Wait>(rt: &R, alloc: Global, hall: &Hall, desk: Desk) -> Option<Asked>
+    requires { desk.queue ≡ hall.now.id }
+    ensures { IfSome result (λ a. a.queue ≡ hall.now.id) }
+{
+    match desk.ask(rt, alloc, hall) {
+        Ok(asked) => Some(asked),
+        Err(_refused) => None,
+    }
+}
+
+/// The reply to the round that was asked, and the place once its tenant has left.
+fn retired<R: Wait>(rt: &R, hall: &Hall, asked: Asked) -> (EmptyDesk, Reply)
+    requires { asked.queue ≡ hall.now.id }
+    ensures { result.0.queue ≡ hall.now.id }
+{
+    let _ = hall;
+    let (desk, reply) = asked.wait(rt);
+    (desk.retire(), reply)
+}
+
 /// A tenant with these limits comes, asks a round, which a worker solves on this thread, and leaves.
 fn stay_one_round<R: Wait>(
     rt: &R,
@@ -65,16 +98,38 @@ fn stay_one_round<R: Wait>(
     requires pass { pass.queue ≡ hall.now.id }
     ensures { IfSome result (λ s. (s.empty.queue ≡ hall.now.id) × (s.report.queue ≡ hall.now.id)) }
 {
-    let desk = empty.admit(alloc, limits).ok()?;
-    let asked = desk.ask(rt, alloc, hall).ok()?;
+    let desk = admitted(alloc, hall, limits, empty)?;
+    let asked = asked_round(rt, alloc, hall, desk)?;
     let report = worker(rt, alloc, hall, pass, notes);
-    let (desk, reply) = asked.wait(rt);
-    let empty = desk.retire();
+    let (empty, reply) = retired(rt, hall, asked);
     Some(Stay {
         empty,
         reply,
         report,
     })
+}
+
+/// How many rounds a hall had that is closed with this place, which was used, among its empty ones.
+fn closes_after<R: Wait>(
+    rt: &R,
+    alloc: Global,
+    hall: Hall,
+    desks: Vec<Desk>,
+    mut empty: Vec<EmptyDesk>,
+    place: EmptyDesk,
+    first: Report,
+    second: Report,
+) -> Option<u64>
+    requires desks { All (λ d. d.queue ≡ hall.id) desks.items }
+    requires empty { All (λ e. e.queue ≡ hall.id) empty.items }
+    requires place { place.queue ≡ hall.id }
+    requires reports { (first.queue ≡ hall.id) × (second.queue ≡ hall.id) }
+{
+    empty.push(place).ok()?;
+    let mut reports = Vec::with_capacity(alloc, 2).ok()?;
+    reports.push_reserved(first);
+    reports.push_reserved(second);
+    rounds_at_close(rt, alloc, hall, desks, reports, empty)
 }
 
 /// What two stays leave that followed one another at the last place, the tickets of their rounds, and how many rounds
@@ -87,7 +142,7 @@ struct Two {
     rounds: Option<u64>,
 }
 
-fn stay_twice<R: Wait>(rt: &R, alloc: Global) -> Result<Option<Two>, Fail> {
+fn stay_twice<R: Wait>(rt: &R, alloc: Global) -> Result<Two, Fail> {
     let roster = roster_of(alloc, "a,2,0,5,0,0")?;
     let (_, limits) = roster.get(0).ok_or("a row")?;
     let (hall, desks, mut passes, mut empty) = Hall::open(alloc, &roster, 2)?;
@@ -101,22 +156,27 @@ fn stay_twice<R: Wait>(rt: &R, alloc: Global) -> Result<Option<Two>, Fail> {
     let second = stay_one_round(rt, alloc, &hall, limits, first.empty, other, &notes).ok_or(
         "a second stay",
     )?;
-    empty.push(second.empty)?;
-    let mut reports = Vec::with_capacity(alloc, 2)?;
-    reports.push_reserved(first.report);
-    reports.push_reserved(second.report);
-    let rounds = rounds_at_close(rt, alloc, hall, desks, reports, empty);
-    Ok(Some(Two {
+    let rounds = closes_after(
+        rt,
+        alloc,
+        hall,
+        desks,
+        empty,
+        second.empty,
+        first.report,
+        second.report,
+    );
+    Ok(Two {
         first: first.reply,
         second: second.reply,
         tickets: [one, notes.last()],
         rounds,
-    }))
+    })
 }
 
 #[test]
 fn the_next_stay_begins_anew_and_its_tickets_go_on(rt: HostRuntime) -> Result<(), Fail> {
-    let two = stay_twice(&rt, rt.alloc())?.ok_or("two stays")?;
+    let two = stay_twice(&rt, rt.alloc())?;
     assert!(rt; is_idle_round(&two.first, 1), "{:?}", two.first);
     assert!(rt; is_idle_round(&two.second, 1), "{:?}", two.second);
     assert_eq!(rt; two.tickets, [(63, 1), (63, 2)]);
