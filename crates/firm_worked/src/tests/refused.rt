@@ -5,11 +5,9 @@
 ghost use Rattle.std.specs.Prelude.{◌≡◌, false};
 
 use super::{Dripping, MOST, WAYS, Way, roster_of, serve_by};
-use firm_rules::{Command, Limits};
-use firm_table::{Answer, Event, ServeFault, Table};
-use firm_text::{Failed, PLACES, Roster, Sink};
+use firm_table::ServeFault;
+use firm_text::{Failed, Roster, Sink};
 use std::alloc::Global;
-use std::process::Abort;
 use std::sync::Wait;
 use std::test::Fail;
 use std::thread::Threads;
@@ -118,37 +116,6 @@ fn an_admission_that_finds_no_memory_is_refused(rt: HostRuntime) -> Result<(), F
             may_end_so(written, ended),
             "{way:?}: {ended:?} behind {written:?}"
         );
-    }
-    Ok(())
-}
-
-/// Admits a tenant to an empty place of the table. Where it finds no memory nobody is there, and the next try finds it.
-fn admit_to(rt: &impl Abort, alloc: Global, table: &mut Table, place: usize, limits: Limits) {
-    let admit = Event::Admit(place, limits);
-    let first = table.event(alloc, admit);
-    if first != Answer::Admitted {
-        assert_eq!(rt; first, Answer::NoMemory);
-        assert_eq!(rt;
-            table.event(alloc, Event::Post(place, Command::Show)),
-            Answer::NotNow
-        );
-        assert_eq!(rt; table.event(alloc, Event::Retire(place)), Answer::NotNow);
-        assert_eq!(rt; table.event(alloc, admit), Answer::Admitted);
-    }
-    assert_eq!(rt; table.event(alloc, admit), Answer::NotNow);
-}
-
-#[test]
-fn an_admission_that_finds_no_memory_leaves_its_place_empty(rt: HostRuntime) -> Result<(), Fail> {
-    let alloc = rt.alloc();
-    let mut table = Table::open(alloc, &roster_of(alloc, "a,2,0,1,0,0")?, 1)?;
-    let limits = Limits::check(8, 30, 9, 0, 0, 0).ok_or("not limits")?;
-    for place in 1..PLACES {
-        admit_to(&rt, alloc, &mut table, place, limits);
-    }
-    for place in 1..PLACES {
-        let retired = table.event(alloc, Event::Retire(place));
-        assert_eq!(rt; retired, Answer::Retired);
     }
     Ok(())
 }
