@@ -5,8 +5,9 @@
 ghost use Rattle.std.specs.Prelude.{◌≡◌, false};
 
 use super::{Dripping, MOST, WAYS, Way, roster_of, serve_by};
-use firm_table::ServeFault;
-use firm_text::{Failed, Roster, Sink};
+use firm_rules::{Command, Limits};
+use firm_table::{Answer, Event, ServeFault, Table};
+use firm_text::{Failed, PLACES, Roster, Sink};
 use std::alloc::Global;
 use std::sync::Wait;
 use std::test::Fail;
@@ -116,6 +117,42 @@ fn an_admission_that_finds_no_memory_is_refused(rt: HostRuntime) -> Result<(), F
             may_end_so(written, ended),
             "{way:?}: {ended:?} behind {written:?}"
         );
+    }
+    Ok(())
+}
+
+/// Whether the table answers the event so.
+fn answers(alloc: Global, table: &mut Table, event: Event, wanted: Answer) -> bool {
+    let answer = table.event(alloc, event);
+    answer == wanted
+}
+
+/// Admits a tenant to an empty place of the table. Where it finds no memory nobody is there, and the next try finds it.
+fn admit_to(alloc: Global, table: &mut Table, place: usize, limits: Limits) -> bool {
+    if answers(alloc, table, Event::Admit(place, limits), Answer::NoMemory) {
+        return answers(
+            alloc,
+            table,
+            Event::Post(place, Command::Show),
+            Answer::NotNow,
+        ) && answers(alloc, table, Event::Retire(place), Answer::NotNow)
+            && answers(alloc, table, Event::Admit(place, limits), Answer::Admitted);
+    }
+    answers(alloc, table, Event::Admit(place, limits), Answer::NotNow)
+}
+
+#[test]
+fn an_admission_that_finds_no_memory_leaves_its_place_empty(rt: HostRuntime) -> Result<(), Fail> {
+    let alloc = rt.alloc();
+    let mut table = Table::open(alloc, &roster_of(alloc, "a,2,0,1,0,0")?, 1)?;
+    let limits = Limits::check(8, 30, 9, 0, 0, 0).ok_or("not limits")?;
+    for place in 1..PLACES {
+        let is_right = admit_to(alloc, &mut table, place, limits);
+        assert!(rt; is_right, "{place}");
+    }
+    for place in 1..PLACES {
+        let retired = table.event(alloc, Event::Retire(place));
+        assert_eq!(rt; retired, Answer::Retired);
     }
     Ok(())
 }
