@@ -1,5 +1,6 @@
 //! The pool of a tenant: its graph and the costs of its rounds, and what each command makes of them.
 ghost use Rattle.std.specs.Prelude.{◌≡◌, ◌+◌, ◌^◌, ◌<◌, ◌≤◌, ℕ, true, IfOk, MatchResult, [], length};
+ghost use Rattle.firm_paths.specs.NetArcs.{limits_of};
 ghost use Rattle.firm_rules.specs.Book.{opening_rows};
 ghost use Rattle.firm_rules.specs.Placement.{is_legal};
 ghost use Rattle.firm_rules.specs.Round.{case_of, round_placement};
@@ -10,6 +11,7 @@ ghost use Rattle.firm_tenant.specs.Pools.{book_of, placed_in};
 use circular_buffer::HeapCircularBuffer;
 use firm_canon::first_best;
 use firm_graph::{Graph, GraphRefusal};
+use firm_net::Net;
 use firm_paths::{Prices, Scratch};
 use firm_rules::{
     Choice, Command, Limits, Name, Outcome, Preferred, RecentCosts, Refusal, Rows, Slots, Weight,
@@ -47,14 +49,14 @@ impl Pool {
     pub(crate) fn open(alloc: Global, limits: Limits) -> Result<Pool, AllocError>
         ensures { IfOk result (λ pool. pool ≡ record { rows = opening_rows limits; costs = []; asked = 0 }) }
     {
+        let costs = HeapCircularBuffer::with_capacity(alloc, MOST_COSTS)?;
         let graph = Graph::open(alloc, limits)?;
-        let prices = Prices::new(alloc, graph.net())?;
-        let scratch = Scratch::new(alloc, graph.net())?;
+        let (prices, scratch) = workspace(alloc, graph.net())?;
         Ok(Pool {
             graph,
             prices,
             scratch,
-            costs: HeapCircularBuffer::with_capacity(alloc, MOST_COSTS)?,
+            costs,
         })
     }
 
@@ -266,6 +268,14 @@ impl Pool {
             arcs_limit: limits.arcs(),
         }
     }
+}
+
+// The workspace of the rounds of a net.
+fn workspace(alloc: Global, net: &Net) -> Result<(Prices, Scratch), AllocError>
+    ensures { IfOk result (λ made. (made.0.limits ≡ limits_of net.now) × (made.1.limits ≡ limits_of net.now)) }
+{
+    let prices = Prices::new(alloc, net)?;
+    Ok((prices, Scratch::new(alloc, net)?))
 }
 
 // What came of a row that was to be added.

@@ -13,7 +13,7 @@ use std::marker::Model;
 /// given.
 #[derive(Drop)]
 pub struct Tenant {
-    pool: Pool,
+    pool: Box<Pool>,
     given: u64,
 }
 
@@ -24,9 +24,9 @@ impl Model for Tenant {
 
     ghost Value = { Book };
 
-    ghost view = { λ t. book_of t.pool t.given };
+    ghost view = { λ t. book_of t.pool.value t.given };
 
-    ghost invariant = { λ t. (t.given ≤ t.pool.rows.limits.life) × (t.pool.asked ≤ t.given) };
+    ghost invariant = { λ t. (t.given ≤ t.pool.value.rows.limits.life) × (t.pool.value.asked ≤ t.given) };
 }
 
 impl Tenant {
@@ -36,7 +36,7 @@ impl Tenant {
         ensures { IfOk result (λ tenant. tenant ≡ opening_book limits) }
     {
         Ok(Tenant {
-            pool: Pool::open(alloc, limits)?,
+            pool: Box::new(alloc, Pool::open(alloc, limits)?)?,
             given: 0,
         })
     }
