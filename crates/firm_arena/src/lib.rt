@@ -8,8 +8,6 @@ ghost use Rattle.firm_arena.specs.Steps.{Step, after};
 
 mod block;
 mod slot;
-#[cfg(test)]
-mod tests;
 
 use block::Block;
 use slot::{Slot, claim, unhold};

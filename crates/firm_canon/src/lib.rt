@@ -8,8 +8,6 @@ mod cuts;
 mod holds;
 mod preferences;
 mod reads;
-#[cfg(test)]
-mod tests;
 mod turns;
 
 pub use best::first_best;

@@ -19,6 +19,3 @@ pub use empty::{AdmitFault, EmptyDesk};
 pub use halls::Hall;
 pub use service::serve;
 pub use workers::{Gate, Open, Report, WorkerPass, worker};
-
-#[cfg(test)]
-mod tests;

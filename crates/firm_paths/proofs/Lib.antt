@@ -17,5 +17,4 @@ pub mod Turns
 pub mod Offsets
 pub mod Raised
 pub mod Spreading
-pub mod FromZero
 mod Examples

@@ -7,8 +7,6 @@ mod queue;
 mod scratch;
 mod search;
 mod shortest;
-#[cfg(test)]
-mod tests;
 mod tight;
 mod turn;
 

@@ -4,4 +4,3 @@ pub mod Fairs
 pub mod Cutting
 pub mod Gathered
 pub mod Opened
-pub mod Alls

@@ -13,6 +13,3 @@ pub use closing::Closing;
 pub use job::Job;
 pub use passes::{PopPass, PutPass};
 pub use queue::{Queue, QueueFault};
-
-#[cfg(test)]
-mod tests;

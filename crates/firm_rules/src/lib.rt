@@ -13,12 +13,8 @@ mod placements;
 mod preferences;
 mod recent;
 mod replies;
-#[cfg(test)]
-mod round_tests;
 mod rounds;
 mod tables;
-#[cfg(test)]
-mod tests;
 mod tickets;
 
 pub use amounts::{Slots, Weight};

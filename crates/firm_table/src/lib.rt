@@ -21,6 +21,3 @@ pub use laws::{answers_add_up, isolation};
 pub use reading::serve_lines;
 pub use serving::serve_one;
 pub use table::Table;
-
-#[cfg(test)]
-mod tests;

@@ -4,8 +4,6 @@
 mod laws;
 mod pools;
 mod tenants;
-#[cfg(test)]
-mod tests;
 
 pub use laws::{
     one_more_command_adds_one_step, replies_tell_their_marks, steps_count_once,

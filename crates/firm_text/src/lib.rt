@@ -32,6 +32,3 @@ pub use reading::line;
 pub use registers::{MOST_ADMISSIONS, PLACES, Register};
 pub use replies::{put_operator_reply, put_reply, reply_text};
 pub use rosters::Roster;
-
-#[cfg(test)]
-mod tests;

@@ -4,8 +4,6 @@
 mod laws;
 mod protocol;
 mod sides;
-#[cfg(test)]
-mod tests;
 
 pub use laws::trays_are_read_aloud;
 pub use protocol::Solved;

@@ -1,0 +1,50 @@
+//! Rows are data, and a helper has no clause: what a test calls is of no use to the prover, and each goal stays small.
+//! A helper stands for each answer that is expected, so that no test has a branch.
+mod devices;
+mod events;
+mod inputs;
+mod names;
+mod operators;
+mod pieces;
+mod registers;
+mod replies;
+mod rosters;
+mod rounds;
+mod rows;
+mod tenants;
+
+use firm_rules::{Limits, Name, Preferred, Slots, Weight};
+use firm_text::{Roster, roster};
+use std::alloc::Global;
+use std::process::Abort;
+
+fn name(rt: &impl Abort, bytes: &[u8]) -> Name {
+    Name::read(bytes).expect(rt, "a name")
+}
+
+fn slots(rt: &impl Abort, number: u64) -> Slots {
+    Slots::check(number).expect(rt, "slots")
+}
+
+fn weight(rt: &impl Abort, number: u64) -> Weight {
+    Weight::check(number).expect(rt, "a weight")
+}
+
+/// The limits of nodes, arcs, life, spread, churn and remote.
+fn limits(rt: &impl Abort, numbers: &[u64; 6]) -> Limits {
+    let [nodes, arcs, life, spread, churn, remote] = *numbers;
+    Limits::check(nodes, arcs, life, spread, churn, remote).expect(rt, "limits")
+}
+
+fn preferring(rt: &impl Abort, machines: &[&[u8]]) -> Preferred {
+    let mut preferred = Preferred::new();
+    for machine in machines {
+        assert!(rt; preferred.len() < 4);
+        preferred.add(name(rt, machine));
+    }
+    preferred
+}
+
+fn admitted(rt: &impl Abort, alloc: Global, text: &[u8]) -> Roster {
+    roster(alloc, text).ok().expect(rt, "a roster")
+}

@@ -1,0 +1,10 @@
+//! Worked cases of each crate of the solver, and random ones beside slow searches.
+
+mod arena;
+mod canon;
+mod flow;
+mod graph;
+mod net;
+mod paths;
+mod random;
+mod worlds;

@@ -1,0 +1,175 @@
+//! Networks of a few nodes and arcs, given by numbers.
+ghost use Rattle.std.specs.Prelude.{◌≡◌, ℕ, ◌<◌, IsTrue};
+ghost use Rattle.firm_paths.specs.Network.{AreValid};
+ghost use Rattle.firm_paths.specs.NetArcs.{arcs_of, limits_of};
+ghost use Rattle.firm_paths.specs.Paths.{IsHighest};
+ghost use Rattle.firm_paths.specs.PriceTable.{price_of};
+
+use firm_net::{ArcId, ArcRow, Net, NodeId};
+use firm_paths::{Prices, Scratch};
+use std::alloc::Global;
+use std::process::Abort;
+
+/// An arc between two nodes of a world, which are given by their numbers.
+#[derive(Clone, Copy)]
+pub struct Link {
+    pub tail: usize,
+    pub head: usize,
+    pub low: u32,
+    pub cap: u32,
+    pub cost: u32,
+    pub flow: u32,
+}
+
+/// An arc that carries its lower bound.
+pub fn arc(tail: usize, head: usize, low: u32, cap: u32, cost: u32) -> Link {
+    Link {
+        tail,
+        head,
+        low,
+        cap,
+        cost,
+        flow: low,
+    }
+}
+
+/// An arc of one unit that carries nothing.
+pub fn unit(tail: usize, head: usize, cost: u32) -> Link {
+    arc(tail, head, 0, 1, cost)
+}
+
+/// An arc of a world that carries one unit and costs nothing.
+pub fn carrying(tail: usize, head: usize, low: u32) -> Link {
+    Link {
+        tail,
+        head,
+        low,
+        cap: 1,
+        cost: 0,
+        flow: 1,
+    }
+}
+
+/// A net with room for 8 nodes and 16 arcs, its prices, and the room for searches in it.
+#[derive(Drop)]
+pub struct World {
+    pub net: Net,
+    pub prices: Prices,
+    pub scratch: Scratch,
+    pub nodes: Vec<NodeId>,
+    pub arcs: Vec<ArcId>,
+}
+
+/// Whether the net has the room that a world's has.
+pub fn has_room(net: &Net) -> bool
+    ensures { IsTrue result → limits_of net.now ≡ (8, 16) }
+{
+    net.limits() == (8, 16)
+}
+
+/// Whether what flows along the arc past its lower bound costs nothing.
+fn is_free(row: ArcRow) -> bool
+    ensures { IsTrue result → row.low < row.flow → row.cost ≡ 0 }
+{
+    row.flow() <= row.low() || row.cost() == 0
+}
+
+fn add_nodes(rt: &impl Abort, alloc: Global, net: &mut Net, count: u32) -> Vec<NodeId>
+    requires valid { AreValid (arcs_of net.old) (λ _. 0) }
+    ensures valid { AreValid (arcs_of net.new) (λ _. 0) }
+{
+    let mut nodes = Vec::new(alloc);
+    for _ in 0..count {
+        assert!(rt; net.added() < 1_000);
+        let node = net.add_node().expect(rt, "there is room");
+        nodes.push(node).expect(rt, "memory");
+    }
+    nodes
+}
+
+fn row(rt: &impl Abort, nodes: &[NodeId], link: &Link) -> ArcRow
+    ensures { result.low < result.flow → result.cost ≡ 0 }
+{
+    let tail = nodes
+        .get(link.tail)
+        .copied()
+        .expect(rt, "the tail is there");
+    let head = nodes
+        .get(link.head)
+        .copied()
+        .expect(rt, "the head is there");
+    let row = ArcRow::new(tail, head, link.low, link.cap, link.cost, link.flow);
+    let row = row.expect(rt, "the numbers are in range");
+    assert!(rt; is_free(row));
+    row
+}
+
+/// Adds an arc that carries more than its lower bound only where it costs nothing, so that prices of 0 stay valid.
+fn add(rt: &impl Abort, net: &mut Net, row: ArcRow) -> ArcId
+    requires free { row.low < row.flow → row.cost ≡ 0 }
+    requires valid { AreValid (arcs_of net.old) (λ _. 0) }
+    ensures valid { AreValid (arcs_of net.new) (λ _. 0) }
+{
+    assert!(rt; net.added() < 1_000);
+    net.add_arc(row).expect(rt, "there is room")
+}
+
+fn add_arcs(
+    rt: &impl Abort,
+    alloc: Global,
+    net: &mut Net,
+    nodes: &[NodeId],
+    links: &[Link],
+) -> Vec<ArcId>
+    requires valid { AreValid (arcs_of net.old) (λ _. 0) }
+    ensures valid { AreValid (arcs_of net.new) (λ _. 0) }
+{
+    let mut arcs = Vec::new(alloc);
+    for link in links {
+        let arc = add(rt, net, row(rt, nodes, link));
+        arcs.push(arc).expect(rt, "memory");
+    }
+    arcs
+}
+
+/// A world whose prices are 0. What is owned here is made in a straight line: a way out between would drop it all.
+pub fn build(rt: &impl Abort, alloc: Global, nodes: u32, links: &[Link]) -> World
+    ensures limits { (result.prices.limits ≡ (8, 16)) × (result.scratch.limits ≡ (8, 16)) }
+    ensures valid { AreValid (arcs_of result.net) (price_of result.prices) }
+    ensures zero { (v : ℕ) → price_of result.prices v ≡ 0 }
+    ensures highest { (to : ℕ) → IsHighest result.net (price_of result.prices) to }
+{
+    let mut net = Net::new(alloc, 8, 16).expect(rt, "memory");
+    let nodes = add_nodes(rt, alloc, &mut net, nodes);
+    let arcs = add_arcs(rt, alloc, &mut net, &nodes, links);
+    assert!(rt; has_room(&net));
+    let prices = Prices::new(alloc, &net).expect(rt, "memory");
+    let scratch = Scratch::new(alloc, &net).expect(rt, "memory");
+    World {
+        net,
+        prices,
+        scratch,
+        nodes,
+        arcs,
+    }
+}
+
+pub fn node(rt: &impl Abort, world: &World, number: usize) -> NodeId {
+    world
+        .nodes
+        .get(number)
+        .copied()
+        .expect(rt, "the node is there")
+}
+
+pub fn read_prices(rt: &impl Abort, alloc: Global, world: &World) -> Vec<u64>
+    requires { world.now.prices.limits ≡ limits_of world.now.net }
+{
+    let mut prices = Vec::new(alloc);
+    for node in &world.nodes {
+        let price = world.prices.get(&world.net, *node);
+        let price = price.expect(rt, "the node is there");
+        prices.push(price).expect(rt, "memory");
+    }
+    prices
+}

@@ -1,0 +1,136 @@
+//! A hall that is shut before its workers start, and what is missing where it is closed.
+
+ghost use Rattle.std.specs.Prelude.{◌≡◌, All};
+
+use super::{TWO, finish_all, last_empty, last_pass, opened};
+use firm_hall::{CloseFault, Desk, EmptyDesk, Hall, Open, Report, WorkerPass, worker};
+use std::alloc::Global;
+use std::process::Abort;
+use std::sync::Wait;
+
+/// How many rounds a closed hall had. None where it is not closed.
+pub fn rounds_at_close<R: Wait>(
+    rt: &R,
+    alloc: Global,
+    hall: Hall,
+    desks: Vec<Desk>,
+    reports: Vec<Report>,
+    empty: Vec<EmptyDesk>,
+) -> Option<u64>
+    requires desks { All (λ d. d.queue ≡ hall.id) desks.items }
+    requires reports { All (λ r. r.queue ≡ hall.id) reports.items }
+    requires empty { All (λ e. e.queue ≡ hall.id) empty.items }
+{
+    match hall.close(rt, desks, reports, empty) {
+        Ok(totals) => Some(totals.rounds),
+        Err(CloseFault::Missing(_hall, _desks, _reports, _empty)) => None,
+        Err(CloseFault::Left(_desks, _reports, jobs, _empty)) => {
+            finish_all(alloc, jobs);
+            None
+        }
+    }
+}
+
+/// How many rounds a hall had that is closed once a report was missing.
+fn closes_without_a_report<R: Abort + Wait>(
+    rt: &R,
+    alloc: Global,
+    hall: Hall,
+    desks: Vec<Desk>,
+    reports: Vec<Report>,
+    empty: Vec<EmptyDesk>,
+    report: Report,
+) -> Option<u64>
+    requires desks { All (λ d. d.queue ≡ hall.id) desks.items }
+    requires reports { All (λ r. r.queue ≡ hall.id) reports.items }
+    requires empty { All (λ e. e.queue ≡ hall.id) empty.items }
+    requires report { report.queue ≡ hall.id }
+{
+    match hall.close(rt, desks, reports, empty) {
+        Ok(_totals) => None,
+        Err(CloseFault::Missing(hall, desks, mut reports, empty)) => {
+            reports.push(report).expect(rt, "memory");
+            rounds_at_close(rt, alloc, hall, desks, reports, empty)
+        }
+        Err(CloseFault::Left(_desks, _reports, jobs, _empty)) => {
+            finish_all(alloc, jobs);
+            None
+        }
+    }
+}
+
+/// How many rounds a hall had that is closed once an empty desk was missing.
+fn closes_without_an_empty_desk<R: Abort + Wait>(
+    rt: &R,
+    alloc: Global,
+    hall: Hall,
+    desks: Vec<Desk>,
+    reports: Vec<Report>,
+    mut empty: Vec<EmptyDesk>,
+) -> Option<u64>
+    requires desks { All (λ d. d.queue ≡ hall.id) desks.items }
+    requires reports { All (λ r. r.queue ≡ hall.id) reports.items }
+    requires empty { All (λ e. e.queue ≡ hall.id) empty.items }
+{
+    let place = last_empty(rt, &hall, &mut empty);
+    match hall.close(rt, desks, reports, empty) {
+        Ok(_totals) => None,
+        Err(CloseFault::Missing(hall, desks, reports, mut empty)) => {
+            empty.push(place).expect(rt, "memory");
+            rounds_at_close(rt, alloc, hall, desks, reports, empty)
+        }
+        Err(CloseFault::Left(_desks, _reports, jobs, _empty)) => {
+            finish_all(alloc, jobs);
+            None
+        }
+    }
+}
+
+/// The report of a worker that starts once the hall is shut.
+fn shut_first<R: Wait>(rt: &R, alloc: Global, hall: &Hall, pass: WorkerPass) -> Report
+    requires { pass.queue ≡ hall.now.id }
+    ensures { result.queue ≡ hall.now.id }
+{
+    hall.shut();
+    worker(rt, alloc, hall, pass, &Open)
+}
+
+/// A list of this report alone.
+fn alone(rt: &impl Abort, alloc: Global, hall: &Hall, report: Report) -> Vec<Report>
+    requires { report.queue ≡ hall.now.id }
+    ensures { All (λ r. r.queue ≡ hall.now.id) result.items }
+{
+    let _ = hall;
+    let mut reports = Vec::with_capacity(alloc, 1).expect(rt, "memory");
+    reports.push_reserved(report);
+    reports
+}
+
+fn expect_no_rounds(rt: &impl Abort, report: &Report) {
+    assert_eq!(rt; report.count(), 0);
+}
+
+// The reports of two workers that start once the hall is shut count no round, and neither does the hall.
+#[test]
+fn a_hall_that_is_shut_first_closes_with_all_its_reports(rt: HostRuntime) {
+    let (hall, desks, mut passes, empty) = opened(&rt, rt.alloc(), TWO, 2);
+    let first = last_pass(&rt, &hall, &mut passes);
+    let second = last_pass(&rt, &hall, &mut passes);
+    let first = shut_first(&rt, rt.alloc(), &hall, first);
+    let second = shut_first(&rt, rt.alloc(), &hall, second);
+    expect_no_rounds(&rt, &first);
+    expect_no_rounds(&rt, &second);
+    let reports = alone(&rt, rt.alloc(), &hall, first);
+    let rounds = closes_without_a_report(&rt, rt.alloc(), hall, desks, reports, empty, second);
+    assert_eq!(rt; rounds, Some(0));
+}
+
+#[test]
+fn a_hall_closes_with_all_its_empty_desks(rt: HostRuntime) {
+    let (hall, desks, mut passes, empty) = opened(&rt, rt.alloc(), TWO, 1);
+    let pass = last_pass(&rt, &hall, &mut passes);
+    let report = shut_first(&rt, rt.alloc(), &hall, pass);
+    let reports = alone(&rt, rt.alloc(), &hall, report);
+    let rounds = closes_without_an_empty_desk(&rt, rt.alloc(), hall, desks, reports, empty);
+    assert_eq!(rt; rounds, Some(0));
+}
