@@ -1,0 +1,58 @@
+#!/usr/bin/env python3
+"""Lists where the time of a crate's check goes, module by module, after a `rt check` of it.
+
+usage: bench/modules.py CRATE [CRATE ...] [--most N] [--since SECONDS]
+A check keeps each module that it has checked in the crate's out/incremental, as a file written when the module was
+done. The gap between two files is the later one's time, on the clock: exact where the check had one job and the machine
+to itself (`rt check --jobs 1` with out/incremental removed), a share of the whole otherwise. A name that ends in Lts is
+the part of a function in which every field of each value is followed on every way out of it, Tie joins it to the
+contract, and Proof searches for what no answer says.
+"""
+
+import argparse
+import sys
+from pathlib import Path
+from typing import NamedTuple
+
+ROOT = Path(__file__).resolve().parent.parent
+
+
+class Module(NamedTuple):
+    """A checked module, and the seconds between the end of the one before it and its own."""
+
+    name: str
+    seconds: float
+
+
+def modules_of(crate: str, since: float) -> list[Module]:
+    """The modules that the crate's checks kept, in the order of their ends; those of the last `since` seconds alone."""
+    kept = ROOT / "crates" / crate / "out" / "incremental"
+    ends = sorted((file.stat().st_mtime, file.stem) for file in kept.rglob("*.oantt"))
+    if since and ends:
+        ends = [end for end in ends if ends[-1][0] - since <= end[0]]
+    return [Module(name.removeprefix("Rattle-"), end - before) for (before, _), (end, name) in zip(ends, ends[1:])]
+
+
+def report(crate: str, most: int, since: float) -> None:
+    """Prints the crate's dearest modules, with their shares of it."""
+    modules = modules_of(crate, since)
+    if not modules:
+        sys.exit(f"modules.py: nothing is kept of {crate}: run rt check in crates/{crate} first")
+    whole = sum(module.seconds for module in modules)
+    print(f"{crate}: {len(modules)} modules, {whole:.0f} s")
+    for name, seconds in sorted(modules, key=lambda module: -module.seconds)[:most]:
+        print(f"  {seconds:7.1f} s  {seconds / whole:6.1%}  {name}")
+
+
+def main() -> None:
+    parser = argparse.ArgumentParser(description=__doc__.splitlines()[0])
+    parser.add_argument("crates", nargs="+", metavar="CRATE", help="a crate that was checked, as firm_rules")
+    parser.add_argument("--most", type=int, default=10, help="modules shown of each crate (default: %(default)s)")
+    parser.add_argument("--since", type=float, default=0, help="only modules of the last so many seconds of the check")
+    words = parser.parse_args()
+    for crate in words.crates:
+        report(crate, words.most, words.since)
+
+
+if __name__ == "__main__":
+    main()
