@@ -1,5 +1,5 @@
-//! Rows are data, and a helper has no clause: what a test calls is of no use to the prover, and each goal stays small.
-//! A helper stands for each answer that is expected, so that no test has a branch.
+//! Rules, formats, one tenant and the table of tenants. Rows are data, and a helper stands for each answer that is expected.
+
 mod devices;
 mod events;
 mod inputs;
