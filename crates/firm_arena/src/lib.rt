@@ -1,9 +1,9 @@
 #![tactic(auto)]
 //! A bounded map from ids to values in one block of memory, taken whole by the constructor.
-ghost use Rattle.std.specs.Prelude.{◌≡◌, ℕ, ◌+◌, ◌<◌, ◌^◌, ◌↔◌, IsOk, IsSome, OnSome, IfSome, IfNone, IfOk, IfErr, OnOk, OnErr, List, Some, None, option_copied};
+ghost use Rattle.std.specs.Prelude.{◌≡◌, ℕ, ◌+◌, ◌<◌, ◌≤◌, ◌^◌, ◌↔◌, IsOk, IsSome, OnSome, IfSome, IfNone, IfOk, IfErr, OnOk, OnErr, List, Some, None, option_copied};
 ghost use Rattle.std.specs.Option.{option_copied_mut};
 ghost use Rattle.std.specs.Borrow.{sem};
-ghost use Rattle.firm_arena.specs.Arena.{find, len_of, capacity_of, id_under, vacant, with_put, without, IsVacant, Refuses, IsBoundedMap, SameOthers};
+ghost use Rattle.firm_arena.specs.Arena.{find, held_at, len_of, capacity_of, id_under, vacant, with_put, without, IsVacant, Refuses, IsBoundedMap, SameOthers};
 ghost use Rattle.firm_arena.specs.Steps.{Step, after};
 
 mod block;
@@ -191,6 +191,15 @@ impl<T> Arena<T> {
             }),
             Slot::Free(_) => None,
         }
+    }
+
+    /// A place behind those of all values. Places that were never written are behind it too, so that a pass over the
+    /// values need not go over all places.
+    pub fn used(&self) -> u32
+        ensures nothing { (place : ℕ) → result ≤ place → held_at self.now place ≡ None }
+        ensures within { result ≤ capacity_of self.now }
+    {
+        self.used
     }
 
     /// How many values are held.

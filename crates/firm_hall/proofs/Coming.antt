@@ -1,10 +1,11 @@
 -- A round that comes back leaves what was told.
 use Rattle.std.proofs.Common.{◌≡◌, ℕ, ◌<◌, List, [], ◌∷◌, ◌++◌, length, set, get_or, refl, sym, ap, ◌∙◌, subst, arith}
-use Rattle.std.specs.Prelude.{Bool, map, Option, Some, None, is_some, MatchBool}
+use Rattle.std.specs.Prelude.{Bool, map, Option, Some, None, true}
 use mathlib.Core.Logic.{dite}
 use native.Mathlib.Decide.{ℕ_discrete}
 use Rattle.std.specs.List.{flat_map}
-use Rattle.std.proofs.lemmas.List.{set-get_or, length-set, get_or-set_same, get_or-set_other}
+use Rattle.std.proofs.lemmas.List.{get_or_default, set-get_or, length-set, get_or-set_same, get_or-set_other}
+use Rattle.std.proofs.lemmas.Bool.{eqb-true}
 use Rattle.firm_rules.specs.Book.{Book}
 use Rattle.firm_rules.specs.declared.commands.Command.TheVariants.{Round}
 use Rattle.firm_rules.specs.declared.replies.Reply.{Reply}
@@ -17,16 +18,25 @@ use Rattle.firm_rounds.specs.Rounds.{weigh}
 use Rattle.firm_rounds.specs.Passes.{QueueId}
 use Rattle.firm_table.specs.inner.Line.{State, state_is, tenants_are}
 use Rattle.firm_hall.specs.Desks.{DeskIs, IsStep}
-use Rattle.firm_hall.specs.inner.Seats.{IsSeated, IsBack, IsTurned, waiting_place, filled, filled_if}
-use Rattle.firm_hall.specs.inner.Serving.{held_text, book_at, asked_at, seat_counts, AreSeats, IsPlaced, ArePlaced}
-use Rattle.firm_hall.specs.inner.Serving.{SeatIs, NoneWaits, OneWaits, Tells, TellsParts, IsBackAt, FirstIsFor}
-use Rattle.firm_hall.specs.inner.Serving.{FirstIsKnown, FirstWaits}
+use Rattle.firm_hall.specs.inner.Held.{FirstIsFor, FirstIsKnown, FirstWaits, NoneWaits, OneWaits, filled, held_text}
+use Rattle.firm_hall.specs.inner.Held.{waits_for}
+use Rattle.firm_hall.specs.inner.Held.{HeldIs, held_is}
+use Rattle.firm_hall.specs.inner.Seats.{IsSeated, IsBack, IsAway, IsTurned}
+use Rattle.firm_hall.specs.inner.Serving.{book_at, asked_at, seat_counts, AreSeats, IsPlaced, ArePlaced}
+use Rattle.firm_hall.specs.inner.Serving.{SeatIs, Tells, TellsParts, IsBackAt}
+use Rattle.firm_hall.specs.inner.Serving.{ServingIs, Stands, Follows, IsOpen, Keeps, serving_is}
 use Rattle.firm_hall.specs.declared.seats.Seat.{Seat}
 use Rattle.firm_hall.specs.declared.seats.Seat.TheVariants.{Home, Away, Empty, Gone}
-use Rattle.firm_hall.specs.declared.seats.Slot.{Slot}
-use Rattle.firm_hall.specs.declared.seats.Slot.TheVariants.{TooLong, Stranger, Replied, Waiting, Obeyed}
+use Rattle.firm_hall.specs.declared.held.Slot.{Slot}
+use Rattle.firm_hall.specs.declared.held.Slot.TheVariants.{Known, Waiting}
 use Rattle.firm_hall.proofs.Slots.{is_place, with_mark, answers_filled, placed_filled, first_filled}
+use Rattle.firm_hall.proofs.Slots.{length_filled}
 use Rattle.firm_hall.proofs.Seating.{here_is, seats_back, books_back, counts_back, asked_back}
+
+-- the answers once a reply came to the place, if one did
+abbrev pub filled_if : ℕ → Option Reply → List Slot → List Slot
+filled_if place None slots = slots
+filled_if place (Some reply) slots = filled place reply slots
 
 -- what still holds of other seats and answers
 pub record Turned (roster : List Admitted) (register : List Registered) (queue : QueueId) (slots later : List Slot)
@@ -96,15 +106,6 @@ module _ (roster : List Admitted) (register : List Registered) (queue : QueueId)
   turned (Empty empty) last (Some reply) at turn = absurd turn
   turned Gone last (Some reply) at turn = absurd turn
 
--- the same, of what a body knows of the answers that it left
-pub turned_by : (roster : List Admitted) (register : List Registered) (queue : QueueId) (place : ℕ)
-    (slots later : List Slot) (seats : List Seat) (default before last : Seat) (reply : Option Reply)
-    → AreSeats queue slots seats → ArePlaced slots → place < most_places → before ≡ get_or seats place default
-    → later ≡ filled_if place reply slots
-    → IsTurned before last reply → Turned roster register queue slots later seats (set seats place last)
-turned_by roster register queue place slots later seats default before last reply are placed low at filled_is turn =
-    rw filled_is (turned roster register queue place slots seats default are placed low before last reply at turn)
-
 -- something stands at each place
 pub seated : (queue : QueueId) (place : ℕ) (slots : List Slot) (seat : Seat) → SeatIs queue place slots seat
     → IsSeated seat
@@ -120,23 +121,24 @@ seated_at queue place slots seats before default are low at =
     subst IsSeated (sym at) (seated queue place slots (get_or seats place default) (are.each place default low))
 
 -- no round is away from a place where one came back, nor from others where none was
-pub back_set : (seats : List Seat) (place : ℕ) (put : Seat) → IsBack put → IsBackAt place (set seats place put)
-back_set seats place put back default low =
-    let low' : place < length seats = omega (arith, length-set seats place put) in
+pub back_set : (seats : List Seat) (place : ℕ) (put : Seat) → length seats ≡ most_places → IsBack put
+    → IsBackAt place (set seats place put)
+back_set seats place put long back default low =
+    let low' : place < length seats = omega (arith, long) in
     subst IsBack (sym (get_or-set_same seats place put default low')) back
 
-pub back_here : (seats : List Seat) (place : ℕ) (seat default : Seat) → seat ≡ get_or seats place default → IsBack seat
-    → IsBackAt place seats
-back_here seats place seat default at back =
-    subst (IsBackAt place) (ap (set seats place) at ∙ set-get_or seats place default) (back_set seats place seat back)
+pub back_here : (seats : List Seat) (place : ℕ) (seat default : Seat) → length seats ≡ most_places
+    → seat ≡ get_or seats place default → IsBack seat → IsBackAt place seats
+back_here seats place seat default long at back =
+    subst (IsBackAt place) (ap (set seats place) at ∙ set-get_or seats place default)
+    (back_set seats place seat long back)
 
-pub back_others : (seats : List Seat) (place other : ℕ) (put : Seat) → IsBack put → IsBackAt other seats
-    → IsBackAt other (set seats place put)
-back_others seats place other put is back default low = dite (ℕ_discrete other place)
+pub back_others : (seats : List Seat) (place other : ℕ) (put : Seat) → length seats ≡ most_places → IsBack put
+    → IsBackAt other seats → IsBackAt other (set seats place put)
+back_others seats place other put long is back default low = dite (ℕ_discrete other place)
     (λ same. subst (λ (j : ℕ). IsBack (get_or (set seats place put) j default)) (sym same)
-    (back_set seats place put is default (subst (λ (j : ℕ). j < length (set seats place put)) same low)))
-    (λ differ. subst IsBack (sym (get_or-set_other seats place other put default differ))
-    (back default (omega (arith, length-set seats place put))))
+    (back_set seats place put long is default (subst (λ (j : ℕ). j < most_places) same low)))
+    (λ differ. subst IsBack (sym (get_or-set_other seats place other put default differ)) (back default low))
 
 -- what the first answer is, once its round came back
 first_not : {X : Type 0} (place : ℕ) (slots : List Slot) → NoneWaits place slots → FirstIsFor place slots → X
@@ -163,59 +165,94 @@ first_comes queue place slots later seats before last default reply are low at f
     (first_back queue place slots before last reply
     (subst (SeatIs queue place slots) (sym at) (are.each place default low)) turn back here)
 
-first_waits : (place : ℕ) (slots : List Slot) → FirstIsFor place slots → FirstWaits slots
+pub first_waits : (place : ℕ) (slots : List Slot) → FirstIsFor place slots → FirstWaits slots
 first_waits place [] here = absurd here
-first_waits place (TooLong ∷ rest) here = cc
-first_waits place (Stranger ∷ rest) here = cc
-first_waits place (Replied name reply ∷ rest) here = cc
 first_waits place (Waiting at name asked ∷ rest) here = tt
-first_waits place (Obeyed reply ∷ rest) here = cc
+first_waits place (Known answer ∷ rest) here = cc
 
-pub first_looked : (place : ℕ) (slots later : List Slot) (reply : Option Reply) (is_back : Bool)
-    → later ≡ filled_if place reply slots → is_back ≡ is_some reply → FirstIsFor place slots
-    → MatchBool is_back (FirstIsKnown later) (FirstWaits later)
-first_looked place slots later None is_back filled_is back here = rw (back, filled_is) (first_waits place slots here)
-first_looked place slots later (Some reply) is_back filled_is back here =
-    rw (back, filled_is) (first_filled place reply slots here)
+waits_low : (place : ℕ) (slot : Slot) → waits_for place slot ≡ true → IsPlaced slot → place < most_places
+waits_low place (Known answer) here is = cc
+waits_low place (Waiting at name asked) here is = subst (λ (p : ℕ). p < most_places) (eqb-true at place here) is
 
--- the first of the answers that are held
-pub first_of : (slots : List Slot) (slot : Slot) → 0 < length slots → slot ≡ get_or slots 0 slot
-    → (rest : List Slot) × (slots ≡ slot ∷ rest)
-first_of [] slot some at = absurd (omega arith)
-first_of (first ∷ rest) slot some at = (rest, ap (λ (s : Slot). s ∷ rest) (sym at))
+-- the first answer waits for a place that there is
+pub first_low : (place : ℕ) (slots : List Slot) → FirstIsFor place slots → ArePlaced slots → place < most_places
+first_low place [] here placed = absurd here
+first_low place (slot ∷ rest) here placed = waits_low place slot here placed.0
 
-waiting_here : (place : ℕ) (slot : Slot) (rest : List Slot) → waiting_place slot ≡ Some place
-    → FirstIsFor place (slot ∷ rest)
-waiting_here place TooLong rest e = cc
-waiting_here place Stranger rest e = cc
-waiting_here place (Replied name reply) rest e = cc
-waiting_here place (Obeyed reply) rest e = cc
-waiting_here place (Waiting at name asked) rest e = let same : at ≡ place = cc in is_place at place same
+-- whose round is away
+away_there : (queue : QueueId) (place : ℕ) (slots : List Slot) (seat : Seat) → SeatIs queue place slots seat
+    → FirstIsFor place slots → IsAway seat
+away_there queue place slots (Home desk) is here = first_not place slots is.2 here
+away_there queue place slots (Away asked) is here = tt
+away_there queue place slots (Empty empty) is here = first_not place slots is.2 here
+away_there queue place slots Gone is here = absurd is
 
-waiting_low : (place : ℕ) (slot : Slot) → waiting_place slot ≡ Some place → IsPlaced slot → place < most_places
-waiting_low place TooLong e is = cc
-waiting_low place Stranger e is = cc
-waiting_low place (Replied name reply) e is = cc
-waiting_low place (Obeyed reply) e is = cc
-waiting_low place (Waiting at name asked) e is = let same : at ≡ place =
-    cc in subst (λ (p : ℕ). p < most_places) same is
+pub first_away : (queue : QueueId) (place : ℕ) (slots : List Slot) (seats : List Seat) (before default : Seat)
+    → AreSeats queue slots seats → place < most_places → before ≡ get_or seats place default
+    → FirstIsFor place slots → IsAway before
+first_away queue place slots seats before default are low at here =
+    away_there queue place slots before (subst (SeatIs queue place slots) (sym at) (are.each place default low)) here
 
-waiting_none : (slot : Slot) (rest : List Slot) → waiting_place slot ≡ None → FirstIsKnown (slot ∷ rest)
-waiting_none TooLong rest e = tt
-waiting_none Stranger rest e = tt
-waiting_none (Replied name reply) rest e = tt
-waiting_none (Waiting at name asked) rest e = cc
-waiting_none (Obeyed reply) rest e = tt
+-- an answer waits for a round that is away
+one_there : (queue : QueueId) (place : ℕ) (slots : List Slot) (seat : Seat) → SeatIs queue place slots seat
+    → IsAway seat → (asked : DeskIs) × OneWaits place asked slots
+one_there queue place slots (Home desk) is away = absurd away
+one_there queue place slots (Away asked) is away = (asked, is.2)
+one_there queue place slots (Empty empty) is away = absurd away
+one_there queue place slots Gone is away = absurd away
 
-pub first_place : (place : ℕ) (slots : List Slot) (slot : Slot) → 0 < length slots → slot ≡ get_or slots 0 slot
-    → waiting_place slot ≡ Some place → ArePlaced slots
-    → (place < most_places) × FirstIsFor place slots
-first_place place slots slot some at e placed =
-    let f = first_of slots slot some at in
-    let placed' = subst ArePlaced f.1 placed in
-    (waiting_low place slot e placed'.0, subst (FirstIsFor place) (sym f.1) (waiting_here place slot f.0 e))
+pub one_waits : (queue : QueueId) (place : ℕ) (slots : List Slot) (seats : List Seat) (before default : Seat)
+    → AreSeats queue slots seats → place < most_places → before ≡ get_or seats place default
+    → IsAway before → (asked : DeskIs) × OneWaits place asked slots
+one_waits queue place slots seats before default are low at away =
+    one_there queue place slots before (subst (SeatIs queue place slots) (sym at) (are.each place default low)) away
 
-pub first_known : (slots : List Slot) (slot : Slot) → 0 < length slots → slot ≡ get_or slots 0 slot
-    → waiting_place slot ≡ None → FirstIsKnown slots
-first_known slots slot some at e = let f =
-    first_of slots slot some at in subst FirstIsKnown (sym f.1) (waiting_none slot f.0 e)
+-- one place has one seat
+pub same_seat : (seats : List Seat) (place : ℕ) (first second one other : Seat) → place < length seats
+    → first ≡ get_or seats place one → second ≡ get_or seats place other → second ≡ first
+same_seat seats place first second one other low first_is second_is =
+    second_is ∙ sym (first_is ∙ get_or_default seats place one other low)
+
+-- the service once the reply to a round came to its place
+pub record CameBack (old new : ServingIs) : Type 0 where
+  pub stands : Stands new
+  pub follows : Follows old new
+  pub keeps : Keeps old new
+
+pub came_back : (queue : QueueId) (register : List Registered) (seats : List Seat) (held : HeldIs) (place : ℕ)
+    (before last default : Seat) (reply : Reply) → Stands (serving_is queue register seats held) → place < most_places
+    → before ≡ get_or seats place default → IsTurned before last (Some reply)
+    → CameBack (serving_is queue register seats held)
+    (serving_is queue register (set seats place last) (held_is (filled place reply held.slots) held.output))
+came_back queue register seats held place before last default reply stands low at turn =
+    let turn_of = λ (roster : List Admitted).
+    turned roster register queue place held.slots seats default stands.seats stands.placed low before last
+    (Some reply) at turn in
+    record {
+      stands = record {
+        seats = (turn_of []).seats_are;
+        fits = (turn_of []).counts ∙ stands.fits;
+        placed = (turn_of []).placed;
+      };
+      follows = record { same_hall = refl; fewer = omega (arith, length_filled place reply held.slots) };
+      keeps = λ roster text written now told. (turn_of roster).keeps held.output text written now told;
+    }
+
+-- and where none came
+pub stayed_away : (seats : List Seat) (place : ℕ) (before last default : Seat) → before ≡ get_or seats place default
+    → IsTurned before last None → set seats place last ≡ seats
+stayed_away seats place before last default at same =
+    ap (set seats place) (same ∙ at) ∙ set-get_or seats place default
+
+-- one change behind another
+pub follows_self : {old : ServingIs} → Follows old old
+follows_self = record { same_hall = refl; fewer = omega arith }
+
+pub follows_then : {old between new : ServingIs} → Follows old between → Follows between new → Follows old new
+follows_then first second =
+    record { same_hall = second.same_hall ∙ first.same_hall; fewer = omega (arith, first.fewer, second.fewer) }
+
+-- a service with no answer more held is open still
+pub stays_open : {id : QueueId} {old new : ServingIs} → Follows old new → IsOpen id old → IsOpen id new
+stays_open follows before =
+    record { same_hall = follows.same_hall ∙ before.same_hall; room = omega (arith, follows.fewer, before.room) }

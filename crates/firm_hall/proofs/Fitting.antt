@@ -15,7 +15,7 @@ use Rattle.firm_hall.specs.inner.Seats.{IsBack, IsHome, IsHomeOf, IsFree}
 use Rattle.firm_hall.specs.inner.Serving.{AreSeats, Fits, IsBackAt, SeatIs, place_counts, seat_counts}
 use Rattle.firm_hall.specs.declared.seats.Seat.{Seat}
 use Rattle.firm_hall.specs.declared.seats.Seat.TheVariants.{Home, Away, Empty, Gone}
-use Rattle.firm_hall.specs.declared.seats.Slot.{Slot}
+use Rattle.firm_hall.specs.declared.held.Slot.{Slot}
 
 module _ (register : List Registered) (seats : List Seat) (fits : Fits register seats) (place : ℕ)
     (before default : Seat) (low : place < length seats)
@@ -102,7 +102,7 @@ module _ (queue : QueueId) (register : List Registered) (slots : List Slot) (sea
 
   pub home_of : (name : List ℕ) → place_in register name ≡ Some place → IsBackAt place seats → IsHomeOf queue before
   home_of name found back =
-      home_there queue place slots before here (subst IsBack (sym at) (back default within))
+      home_there queue place slots before here (subst IsBack (sym at) (back default low))
       (has_tenant register seats fits place before default within at name found)
 
   pub free_of : (name : List ℕ) → place_for register name ≡ Ok place → IsFree before

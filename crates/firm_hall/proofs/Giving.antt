@@ -12,13 +12,16 @@ use Rattle.firm_table.specs.Service.{Answers, BeginsAnswers}
 use Rattle.firm_table.specs.inner.Line.{state_is, tenants_are}
 use Rattle.firm_rounds.specs.Rounds.{weigh}
 use Rattle.firm_rounds.specs.Passes.{QueueId}
+use Rattle.firm_hall.specs.inner.Held.{FirstIsKnown, NoneWaits, answer_in, held_text}
 use Rattle.firm_hall.specs.inner.Seats.{IsBack}
-use Rattle.firm_hall.specs.inner.Serving.{answer_in, held_text, book_at, asked_at, state_with, AreSeats, ArePlaced}
-use Rattle.firm_hall.specs.inner.Serving.{SeatIs, Tells, TellsParts, FirstIsKnown, AllBack, NoneWaits}
+use Rattle.firm_hall.specs.inner.Held.{HeldIs}
+use Rattle.firm_hall.specs.inner.Serving.{ServingIs, Stands, Keeps, Passes, Begins, serving_is}
+use Rattle.firm_hall.specs.inner.Serving.{book_at, asked_at, state_with, AreSeats, ArePlaced}
+use Rattle.firm_hall.specs.inner.Serving.{SeatIs, Tells, TellsParts, AllBack}
 use Rattle.firm_hall.specs.declared.seats.Seat.{Seat}
 use Rattle.firm_hall.specs.declared.seats.Seat.TheVariants.{Home, Away, Empty, Gone}
-use Rattle.firm_hall.specs.declared.seats.Slot.{Slot}
-use Rattle.firm_hall.specs.declared.seats.Slot.TheVariants.{TooLong, Stranger, Replied, Waiting, Obeyed}
+use Rattle.firm_hall.specs.declared.held.Slot.{Slot}
+use Rattle.firm_hall.specs.declared.held.Slot.TheVariants.{Known, Waiting}
 use Rattle.firm_hall.proofs.Slots.{is_place, known_waits}
 use Rattle.firm_hall.proofs.Seating.{seat_pop}
 use Rattle.firm_hall.proofs.Telling.{tells_begins, tells_written}
@@ -102,12 +105,9 @@ pub all_known : (queue : QueueId) (slots : List Slot) (seats : List Seat) → Ar
     → ArePlaced slots → AllBack seats → 0 < length slots
     → FirstIsKnown slots
 all_known queue [] seats are placed back some = absurd (omega arith)
-all_known queue (TooLong ∷ rest) seats are placed back some = tt
-all_known queue (Stranger ∷ rest) seats are placed back some = tt
-all_known queue (Replied name reply ∷ rest) seats are placed back some = tt
-all_known queue (Obeyed reply ∷ rest) seats are placed back some = tt
+all_known queue (Known answer ∷ rest) seats are placed back some = tt
 all_known queue (Waiting place name asked ∷ rest) seats are placed back some =
-    let none = waits_none (get_or seats place Gone) (back place Gone (omega (arith, are.long, placed.0)))
+    let none = waits_none (get_or seats place Gone) (back place Gone placed.0)
     (are.each place Gone placed.0) in
     let here = is_place place place refl in
     absurd (not_both here none.0)
@@ -146,3 +146,54 @@ on_err_always (Err e) p = p
 pub both_ok : {T E : Type 0} (r : Result T E) (P Q : Type 0) → OnOk r P → OnOk r Q → OnOk r (P × Q)
 both_ok (Ok x) P Q p q = (p, q)
 both_ok (Err e) P Q p q = tt
+
+-- what a write leaves of the service
+pub record Wrote {T E : Type 0} (r : Result T E) (old new : ServingIs) (now later : Option (List ℕ)) : Type 0 where
+  pub passes : OnOk r (Passes old new now later)
+  pub begins : Begins old now later
+
+pub wrote : {T E : Type 0} (r : Result T E) (queue : QueueId) (register : List Registered) (seats : List Seat)
+    (held after : HeldIs) (now later : Option (List ℕ)) → OnOk r (Appends now later held.output)
+    → OnOk r (after.output ≡ []) → after.slots ≡ held.slots
+    → OnErr r ((count : ℕ) × (count ≤ length held.output) × Appends now later (take count held.output))
+    → Wrote r (serving_is queue register seats held) (serving_is queue register seats after) now later
+wrote (Ok x) queue register seats held after now later all none same part = record {
+  passes = λ roster text written told.
+      subst (λ (xs : List Slot). TellsParts roster register seats xs after.output text written later) (sym same)
+      (written_all roster register seats held.slots held.output after.output text written now later none all told);
+  begins = λ roster text written told.
+      wholly roster register seats held.slots held.output text written now later all told;
+}
+wrote (Err e) queue register seats held after now later all none same part = record {
+  passes = tt;
+  begins = λ roster text written told.
+      partly roster register seats held.slots held.output text written now later part.0 part.1 part.2 told;
+}
+
+-- nothing is written yet
+pub nothing_written : (old : ServingIs) (now : Option (List ℕ)) → Begins old now now
+nothing_written old now roster text written told =
+    begun roster old.register old.seats old.slots old.output text written now told
+
+-- the first answer is put behind the output
+pub popped_stands : (queue : QueueId) (register : List Registered) (seats : List Seat) (held after : HeldIs)
+    (first : Slot) → Stands (serving_is queue register seats held) → held.slots ≡ first ∷ after.slots
+    → FirstIsKnown held.slots → Stands (serving_is queue register seats after)
+popped_stands queue register seats held after first stands is known = record {
+  seats = popped_seats queue held.slots after.slots first seats is known stands.seats;
+  fits = stands.fits;
+  placed = popped_placed held.slots after.slots first is stands.placed;
+}
+
+pub popped_keeps : (queue : QueueId) (register : List Registered) (seats : List Seat) (held after : HeldIs)
+    (first : Slot) → held.slots ≡ first ∷ after.slots
+    → ((marks : ℕ → Bool) → after.output ≡ held.output ++ text_of_answer (answer_in marks first))
+    → Keeps (serving_is queue register seats held) (serving_is queue register seats after)
+popped_keeps queue register seats held after first is put roster text written now told =
+    popped_tells roster register seats held.slots after.slots first held.output after.output is put text written now
+    told
+
+-- what follows where a call failed
+pub on_err_weaker : {T E P Q : Type 0} (r : Result T E) → (P → Q) → OnErr r P → OnErr r Q
+on_err_weaker (Ok x) weaker p = tt
+on_err_weaker (Err e) weaker p = weaker p

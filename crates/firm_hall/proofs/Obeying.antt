@@ -18,7 +18,7 @@ use Rattle.firm_text.specs.declared.operator.OperatorRefusal.TheVariants.{NoSuch
 use Rattle.firm_text.specs.declared.operator.OperatorReply.{OperatorReply}
 use Rattle.firm_text.specs.declared.operator.OperatorReply.TheVariants.{Admitted as WasAdmitted, Retired, Refused}
 use Rattle.firm_text.specs.declared.registers.Place.{Place as Registered}
-use Rattle.firm_table.specs.Answers.{told_operator}
+use Rattle.firm_table.specs.declared.answers.LineAnswer.TheVariants.{ToOperator}
 use Rattle.firm_table.specs.inner.Line.{IsRight, tenants_are}
 use Rattle.firm_table.specs.inner.Adding.{OneMoreIsTold, AdmissionsAreAnswered, AdmissionsFindNoMemory}
 use Rattle.firm_table.specs.inner.Adding.{AdmissionsAreRefused, RetirementsAreAnswered, RetirementsAreRefused}
@@ -29,8 +29,8 @@ use Rattle.firm_hall.specs.inner.Serving.{book_at, asked_at, seat_counts, place_
 use Rattle.firm_hall.specs.inner.Serving.{TellsParts}
 use Rattle.firm_hall.specs.declared.seats.Seat.{Seat}
 use Rattle.firm_hall.specs.declared.seats.Seat.TheVariants.{Home, Away, Empty, Gone}
-use Rattle.firm_hall.specs.declared.seats.Slot.{Slot}
-use Rattle.firm_hall.specs.declared.seats.Slot.TheVariants.{Obeyed}
+use Rattle.firm_hall.specs.declared.held.Slot.{Slot}
+use Rattle.firm_hall.specs.declared.held.Slot.TheVariants.{Known}
 use Rattle.firm_hall.proofs.Fitting.{counts_at}
 use Rattle.firm_hall.proofs.Seating.{weigh_set, each_set}
 use Rattle.firm_hall.proofs.Taking.{line_told, text_push}
@@ -42,23 +42,24 @@ Told roster register later seats after slots output asked reply =
     (text text_after : List ℕ) (written now : Option (List ℕ))
     → input_lines text_after ≡ input_lines text ++ Operator asked ∷ []
     → TellsParts roster register seats slots output text written now
-    → TellsParts roster later after (slots ++ Obeyed reply ∷ []) output text_after written now
+    → TellsParts roster later after (slots ++ Known (ToOperator reply) ∷ []) output text_after written now
 
 obeyed_told : OneMoreIsTold
     → (roster : List Admitted) (register later : List Registered) (seats after : List Seat) (slots : List Slot)
     (output : List ℕ) (asked : OperatorLine) (reply : OperatorReply)
     → ((marks : ℕ → Bool)
     → IsRight (tenants_are register (map (book_at marks) seats)) (tenants_are later (map (book_at marks) after))
-    (Operator asked) (told_operator reply))
+    (Operator asked) (ToOperator reply))
     → weigh asked_at after ≡ weigh asked_at seats → Told roster register later seats after slots output asked reply
 obeyed_told one_more roster register later seats after slots output asked reply right same =
-    line_told one_more roster register later seats after slots (slots ++ Obeyed reply ∷ []) output (Operator asked)
+    line_told one_more roster register later seats after slots (slots ++ Known (ToOperator reply) ∷ []) output
+    (Operator asked)
     (λ marks. record {
       answer = record {
-        answer = told_operator reply;
+        answer = ToOperator reply;
         right = right marks;
         text =
-            text_push marks slots (Obeyed reply) output;
+            text_push marks slots (Known (ToOperator reply)) output;
       };
       adds = record { least = omega (arith, same); most = omega (arith, same) };
     })

@@ -14,11 +14,11 @@ use Rattle.firm_text.specs.Registers.{most_places}
 use Rattle.firm_rounds.specs.Rounds.{weigh}
 use Rattle.firm_rounds.specs.Passes.{QueueId}
 use Rattle.firm_hall.specs.Desks.{DeskIs, IsStep}
-use Rattle.firm_hall.specs.inner.Seats.{waits_for, filled}
+use Rattle.firm_hall.specs.inner.Held.{filled, waits_for}
 use Rattle.firm_hall.specs.inner.Serving.{book_at, asked_at, seat_counts, SeatIs, AreSeats}
 use Rattle.firm_hall.specs.declared.seats.Seat.{Seat}
 use Rattle.firm_hall.specs.declared.seats.Seat.TheVariants.{Home, Away, Empty, Gone}
-use Rattle.firm_hall.specs.declared.seats.Slot.{Slot}
+use Rattle.firm_hall.specs.declared.held.Slot.{Slot}
 use Rattle.firm_hall.proofs.Slots.{with_mark, with_here, with_other, none_push, one_push, none_filled, none_other}
 use Rattle.firm_hall.proofs.Slots.{one_other}
 

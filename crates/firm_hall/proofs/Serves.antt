@@ -1,18 +1,22 @@
 -- What serving comes to.
-use Rattle.std.proofs.Common.{◌≡◌, ℕ, List, [], ◌++◌, refl, sym, ap, subst, ◌∙◌, append-nil, arith, inl}
+use Rattle.std.proofs.Common.{◌≡◌, ℕ, zero, suc, List, [], ◌∷◌, ◌++◌, length, refl, sym, ap, subst, ◌∙◌, append-nil, length-append}
+use Rattle.std.proofs.Common.{arith, inl}
 use Rattle.std.specs.Prelude.{Bool, false, Option}
 use Rattle.std.specs.Io.KnownBytes.{Appends}
 use Rattle.std.proofs.KnownBytes.{Appends-nil, Appends-kept, Consumes-nil}
 use Rattle.firm_text.specs.Rosters.{Admitted}
 use Rattle.firm_text.specs.declared.registers.Place.{Place as Registered}
 use Rattle.firm_table.specs.Output.{output_of}
-use Rattle.firm_table.specs.Service.{Device, device, Served, Stopped, ToldToTheEnd}
+use Rattle.firm_table.specs.Service.{Device, device, Served, Stopped}
+use Rattle.firm_table.specs.Telling.{ToldToTheEnd}
 use Rattle.firm_table.specs.declared.faults.ServeFault.TheVariants.{Memory}
 use Rattle.firm_rounds.specs.Rounds.{weigh}
+use Rattle.firm_rounds.specs.Passes.{QueueId, pop_is, new_pops}
 use Rattle.firm_hall.specs.Counts.{ServedWith}
-use Rattle.firm_hall.specs.inner.Serving.{asked_at, held_text, TellsParts}
+use Rattle.firm_hall.specs.inner.Held.{held_text}
+use Rattle.firm_hall.specs.inner.Serving.{asked_at, TellsParts}
 use Rattle.firm_hall.specs.declared.seats.Seat.{Seat}
-use Rattle.firm_hall.specs.declared.seats.Slot.{Slot}
+use Rattle.firm_hall.specs.declared.held.Slot.{Slot}
 
 -- nothing was read yet
 pub unread : (roster : List Admitted) (most : ℕ) (left written : Option (List ℕ)) (read_failed write_failed : Bool)
@@ -78,3 +82,8 @@ served_by roster own now register seats slots output most asked reader writer is
     (subst (λ (r : List Admitted). Served r most reader writer) (sym same) served) in
     subst (λ (r : List Admitted). ServedWith r most reader writer asked) (same ∙ is)
     (subst (λ (n : ℕ). ServedWith now most reader writer n) (sym all) here)
+
+-- a pass for each worker
+pub pops_wide : (id : QueueId) (n : ℕ) → length (new_pops id n) ≡ n
+pops_wide id zero = refl
+pops_wide id (suc n) = omega (arith, pops_wide id n, length-append (new_pops id n) (pop_is id [] ∷ []))

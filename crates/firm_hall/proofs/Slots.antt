@@ -1,20 +1,21 @@
 -- The answers that are held, as one is added, becomes known, or is taken off the front.
 use Rattle.std.proofs.Common.{◌≡◌, ◌≢◌, ℕ, zero, suc, ◌+◌, ◌<◌, ◌≤◌, List, [], ◌∷◌, ◌++◌, length, take, set, get_or}
 use Rattle.std.proofs.Common.{refl, sym, ap, ◌∙◌, subst, arith, ne_eqb, add-one}
-use Rattle.std.specs.Prelude.{Bool, true, false, ◌==◌, map, Option, Some, if◌then◌else◌}
+use Rattle.std.specs.Prelude.{Bool, true, false, ◌==◌, map, if◌then◌else◌}
 use Rattle.std.proofs.lemmas.Bool.{eqb-true}
 use Rattle.std.proofs.lemmas.Bool.Decides.{nat_tests}
-use Rattle.std.proofs.lemmas.List.{take_all}
+use Rattle.std.proofs.lemmas.List.{take_all, get_or_default}
 use Rattle.firm_rules.specs.declared.commands.Command.TheVariants.{Round}
 use Rattle.firm_rules.specs.declared.replies.Reply.{Reply}
 use Rattle.firm_tenant.specs.Step.{step}
-use Rattle.firm_table.specs.Answers.{Answer, replied}
+use Rattle.firm_table.specs.declared.answers.LineAnswer.{LineAnswer}
+use Rattle.firm_table.specs.declared.answers.LineAnswer.TheVariants.{Replied}
 use Rattle.firm_hall.specs.Desks.{DeskIs}
-use Rattle.firm_hall.specs.inner.Seats.{waits_for, answered, filled, filled_if}
-use Rattle.firm_hall.specs.inner.Serving.{answer_in, NoneWaits, OneWaits, IsFor, IsPlaced, ArePlaced, FirstIsFor}
-use Rattle.firm_hall.specs.inner.Serving.{FirstIsKnown}
-use Rattle.firm_hall.specs.declared.seats.Slot.{Slot}
-use Rattle.firm_hall.specs.declared.seats.Slot.TheVariants.{TooLong, Stranger, Replied, Waiting, Obeyed}
+use Rattle.firm_hall.specs.inner.Held.{FirstIsFor, FirstIsKnown, IsFor, NoneWaits, OneWaits, answer_in, answered}
+use Rattle.firm_hall.specs.inner.Held.{filled, waits_for}
+use Rattle.firm_hall.specs.inner.Serving.{IsPlaced, ArePlaced}
+use Rattle.firm_hall.specs.declared.held.Slot.{Slot}
+use Rattle.firm_hall.specs.declared.held.Slot.TheVariants.{Known, Waiting}
 
 -- a place is itself
 pub is_place : (place same : ℕ) → place ≡ same → (place == same) ≡ true
@@ -22,19 +23,13 @@ is_place place same e = grind (arith, nat_tests)
 
 -- an answer that is known waits for nothing
 pub answered_waits : (place : ℕ) (reply : Reply) (slot : Slot) → waits_for place (answered reply slot) ≡ false
-answered_waits place reply TooLong = refl
-answered_waits place reply Stranger = refl
-answered_waits place reply (Replied name same) = refl
 answered_waits place reply (Waiting other name asked) = refl
-answered_waits place reply (Obeyed same) = refl
+answered_waits place reply (Known answer) = refl
 
 -- an answer waits for one place alone
 waits_once : (place other : ℕ) (slot : Slot) → other ≢ place → waits_for place slot ≡ true
     → waits_for other slot ≡ false
-waits_once place other TooLong differ here = cc
-waits_once place other Stranger differ here = cc
-waits_once place other (Replied name reply) differ here = cc
-waits_once place other (Obeyed reply) differ here = cc
+waits_once place other (Known answer) differ here = cc
 waits_once place other (Waiting at name asked) differ here =
     let same : at ≡ place = eqb-true at place here in ne_eqb at other (λ e. differ (sym e ∙ same))
 
@@ -68,11 +63,8 @@ placed_push (first ∷ rest) slot are is = (are.0, placed_push rest slot are.1 i
 -- the first is taken, which is known
 pub known_waits : (place : ℕ) (slot : Slot) (rest : List Slot) → FirstIsKnown (slot ∷ rest)
     → waits_for place slot ≡ false
-known_waits place TooLong rest known = refl
-known_waits place Stranger rest known = refl
-known_waits place (Replied name reply) rest known = refl
 known_waits place (Waiting at name asked) rest known = absurd known
-known_waits place (Obeyed reply) rest known = refl
+known_waits place (Known answer) rest known = refl
 
 pub one_pop : (place : ℕ) (asked : DeskIs) (slot : Slot) (rest : List Slot) → FirstIsKnown (slot ∷ rest)
     → OneWaits place asked (slot ∷ rest) → OneWaits place asked rest
@@ -117,11 +109,8 @@ one_other place other asked reply (slot ∷ rest) differ one =
     behind false f more = let there = rw f at one in rw f (more there)
 
 answered_placed : (reply : Reply) (slot : Slot) → IsPlaced slot → IsPlaced (answered reply slot)
-answered_placed reply TooLong is = tt
-answered_placed reply Stranger is = tt
-answered_placed reply (Replied name same) is = tt
 answered_placed reply (Waiting at name asked) is = tt
-answered_placed reply (Obeyed same) is = tt
+answered_placed reply (Known answer) is = tt
 
 pub placed_filled : (place : ℕ) (reply : Reply) (slots : List Slot) → ArePlaced slots
     → ArePlaced (filled place reply slots)
@@ -134,11 +123,8 @@ placed_filled place reply (slot ∷ rest) are =
 
 answered_known : (place : ℕ) (reply : Reply) (slot : Slot) (rest : List Slot) → waits_for place slot ≡ true
     → FirstIsKnown (answered reply slot ∷ rest)
-answered_known place reply TooLong rest here = tt
-answered_known place reply Stranger rest here = tt
-answered_known place reply (Replied name same) rest here = tt
 answered_known place reply (Waiting at name asked) rest here = tt
-answered_known place reply (Obeyed same) rest here = tt
+answered_known place reply (Known answer) rest here = tt
 
 pub first_filled : (place : ℕ) (reply : Reply) (slots : List Slot) → FirstIsFor place slots
     → FirstIsKnown (filled place reply slots)
@@ -189,30 +175,24 @@ with_other place mark marks other differ = rw (ne_eqb other place differ) refl
 
 answer_same : (place : ℕ) (mark : Bool) (marks : ℕ → Bool) (slot : Slot) → waits_for place slot ≡ false
     → answer_in (with_mark place mark marks) slot ≡ answer_in marks slot
-answer_same place mark marks TooLong out = refl
-answer_same place mark marks Stranger out = refl
-answer_same place mark marks (Replied name reply) out = refl
 answer_same place mark marks (Waiting at name asked) out = rw out refl
-answer_same place mark marks (Obeyed reply) out = refl
+answer_same place mark marks (Known answer) out = refl
 
 pub answers_same : (place : ℕ) (mark : Bool) (marks : ℕ → Bool) (slots : List Slot) → NoneWaits place slots
     → map (answer_in (with_mark place mark marks)) slots ≡ map (answer_in marks) slots
 answers_same place mark marks [] none = refl
 answers_same place mark marks (slot ∷ rest) none =
-    ap (λ (x : Answer). x ∷ map (answer_in (with_mark place mark marks)) rest)
+    ap (λ (x : LineAnswer). x ∷ map (answer_in (with_mark place mark marks)) rest)
     (answer_same place mark marks slot none.0)
-    ∙ ap (λ (xs : List Answer). answer_in marks slot ∷ xs) (answers_same place mark marks rest none.1)
+    ∙ ap (λ (xs : List LineAnswer). answer_in marks slot ∷ xs) (answers_same place mark marks rest none.1)
 
 answer_known : (place : ℕ) (asked : DeskIs) (reply : Reply) (mark : Bool) (marks : ℕ → Bool) (slot : Slot)
     → waits_for place slot ≡ true → IsFor asked slot
     → reply ≡ (step asked.book Round mark).0
     → answer_in marks (answered reply slot) ≡ answer_in (with_mark place mark marks) slot
-answer_known place asked reply mark marks TooLong here is e = absurd is
-answer_known place asked reply mark marks Stranger here is e = absurd is
-answer_known place asked reply mark marks (Replied name same) here is e = absurd is
-answer_known place asked reply mark marks (Obeyed same) here is e = absurd is
+answer_known place asked reply mark marks (Known answer) here is e = absurd is
 answer_known place asked reply mark marks (Waiting at name known) here is e =
-    rw here (ap (replied name) (e ∙ ap (λ (d : DeskIs). (step d.book Round mark).0) (sym is)))
+    rw here (ap (Replied name) (e ∙ ap (λ (d : DeskIs). (step d.book Round mark).0) (sym is)))
 
 -- the reply that came is the one that its mark tells
 pub answers_filled : (place : ℕ) (asked : DeskIs) (reply : Reply) (mark : Bool) (marks : ℕ → Bool) (slots : List Slot)
@@ -226,39 +206,49 @@ answers_filled place asked reply mark marks (slot ∷ rest) one e =
     (slot ∷ rest)) [
       | true ↦ λ f. let here = rw f at one in
           rw f
-          (ap (λ (x : Answer). x ∷ map (answer_in marks) rest)
+          (ap (λ (x : LineAnswer). x ∷ map (answer_in marks) rest)
           (answer_known place asked reply mark marks slot f here.0 e)
-          ∙ ap (λ (xs : List Answer). answer_in (with_mark place mark marks) slot ∷ xs)
+          ∙ ap (λ (xs : List LineAnswer). answer_in (with_mark place mark marks) slot ∷ xs)
           (sym (answers_same place mark marks rest here.1)))
       | false ↦ λ f. let there = rw f at one in
           rw f
-          (ap (λ (x : Answer). x ∷ map (answer_in marks) (filled place reply rest))
+          (ap (λ (x : LineAnswer). x ∷ map (answer_in marks) (filled place reply rest))
           (sym (answer_same place mark marks slot f))
-          ∙ ap (λ (xs : List Answer). answer_in (with_mark place mark marks) slot ∷ xs)
+          ∙ ap (λ (xs : List LineAnswer). answer_in (with_mark place mark marks) slot ∷ xs)
           (answers_filled place asked reply mark marks rest there e))
     ] refl
 
--- what a search leaves that found the answer, and one that found none
-pub found_at : (place : ℕ) (maybe : Option Reply) (reply : Reply) (slots same : List Slot) (at : ℕ)
-    (seen there new : Slot) → maybe ≡ Some reply → same ≡ slots
+-- what a search leaves that found the answer
+pub found_at : (place : ℕ) (reply : Reply) (slots same : List Slot) (at : ℕ) (seen there new : Slot) → same ≡ slots
     → NoneWaits place (take at same) → at < length same → seen ≡ get_or same at seen → there ≡ get_or same at there
     → waits_for place seen ≡ true → new ≡ answered reply there
-    → set same at new ≡ filled_if place maybe slots
-found_at place maybe reply slots same at seen there new is whole none low seen_is there_is here new_is =
-    let equal : there ≡ get_or same at seen = there_is ∙ default_of same at there seen low in
-    rw is
-    (ap (set same at) (new_is ∙ ap (answered reply) equal)
+    → set same at new ≡ filled place reply slots
+found_at place reply slots same at seen there new whole none low seen_is there_is here new_is =
+    let equal : there ≡ get_or same at seen = there_is ∙ get_or_default same at there seen low in
+    ap (set same at) (new_is ∙ ap (answered reply) equal)
     ∙ sym (filled_at place reply same at seen none low (ap (waits_for place) (sym seen_is) ∙ here))
-    ∙ ap (filled place reply) whole)
-  where
-    default_of : (xs : List Slot) (i : ℕ) (d e : Slot) → i < length xs → get_or xs i d ≡ get_or xs i e
-    default_of [] i d e l = absurd (omega arith)
-    default_of (x ∷ xs) zero d e l = refl
-    default_of (x ∷ xs) (suc i) d e l = default_of xs i d e (omega arith)
+    ∙ ap (filled place reply) whole
 
-pub none_left : (place : ℕ) (maybe : Option Reply) (reply : Reply) (slots same : List Slot) (at : ℕ)
-    → maybe ≡ Some reply → same ≡ slots → NoneWaits place (take at same)
-    → length same ≤ at → same ≡ filled_if place maybe slots
-none_left place maybe reply slots same at is whole none long =
-    rw is (sym (filled_nowhere place reply same (subst (NoneWaits place) (take_all at same long) none))
-    ∙ ap (filled place reply) whole)
+-- and it finds one, if one waits
+not_none : {X : Type 0} (place : ℕ) (asked : DeskIs) (slots : List Slot) → OneWaits place asked slots
+    → NoneWaits place slots → X
+not_none place asked [] one none = absurd one
+not_none place asked (slot ∷ rest) one none = let there = rw none.0 at one in
+    not_none place asked rest there none.1
+
+pub none_left : {X : Type 0} (place : ℕ) (asked : DeskIs) (slots same : List Slot) (at : ℕ) → same ≡ slots
+    → NoneWaits place (take at same) → length same ≤ at → OneWaits place asked slots → X
+none_left place asked slots same at whole none long one =
+    not_none place asked same (subst (OneWaits place asked) (sym whole) one)
+    (subst (NoneWaits place) (take_all at same long) none)
+
+-- as many answers are held as before
+pub length_filled : (place : ℕ) (reply : Reply) (slots : List Slot)
+    → length (filled place reply slots) ≡ length slots
+length_filled place reply [] = refl
+length_filled place reply (slot ∷ rest) =
+    elim (waits_for place slot) as (λ b. waits_for place slot ≡ b
+    → length (filled place reply (slot ∷ rest)) ≡ length (slot ∷ rest)) [
+      | true ↦ λ e. rw e refl
+      | false ↦ λ e. rw e (ap suc (length_filled place reply rest))
+    ] refl

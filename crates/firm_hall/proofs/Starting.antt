@@ -21,7 +21,7 @@ use Rattle.firm_hall.specs.inner.Serving.{TellsParts}
 use Rattle.firm_hall.specs.inner.Ending.{IsOf}
 use Rattle.firm_hall.specs.declared.seats.Seat.{Seat}
 use Rattle.firm_hall.specs.declared.seats.Seat.TheVariants.{Home, Away, Empty, Gone}
-use Rattle.firm_hall.specs.declared.seats.Slot.{Slot}
+use Rattle.firm_hall.specs.declared.held.Slot.{Slot}
 
 -- the seats before the first line, from this place on: so many empty ones behind those of the roster's tenants
 abbrev pub opening_seats : QueueId → ℕ → List Admitted → ℕ → List Seat

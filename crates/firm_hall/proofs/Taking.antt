@@ -20,20 +20,25 @@ use Rattle.firm_text.specs.Rosters.{Admitted}
 use Rattle.firm_text.specs.declared.inputs.Line.{Line}
 use Rattle.firm_text.specs.declared.inputs.Line.TheVariants.{Nothing, Long, Nameless, For}
 use Rattle.firm_text.specs.declared.registers.Place.{Place as Registered}
-use Rattle.firm_table.specs.Answers.{Answer, silent, too_long, unknown_tenant, replied, text_of_answer}
+use Rattle.firm_table.specs.Answers.{text_of_answer}
+use Rattle.firm_table.specs.declared.answers.LineAnswer.{LineAnswer}
+use Rattle.firm_table.specs.declared.answers.LineAnswer.TheVariants.{Silent, LineTooLong, UnknownTenant, Replied}
 use Rattle.firm_table.specs.inner.Line.{IsAnswer, IsRight, tenants_are}
 use Rattle.firm_rounds.specs.Rounds.{weigh}
 use Rattle.firm_rounds.specs.Passes.{QueueId}
 use Rattle.firm_table.specs.inner.Adding.{OneMoreIsTold, TenantsAreAnswered, StrangersAreAnswered}
 use Rattle.firm_hall.specs.Desks.{DeskIs}
 use Rattle.firm_hall.specs.Counts.{round_in, is_round}
-use Rattle.firm_hall.specs.inner.Seats.{IsTaken, IsTakenAt, Answered, waits_for}
-use Rattle.firm_hall.specs.inner.Serving.{answer_in, held_text, book_at, asked_at, seat_counts, state_with, AreSeats}
+use Rattle.firm_hall.specs.inner.Held.{answer_in, held_text, waits_for}
+use Rattle.firm_hall.specs.inner.Seats.{IsTaken, IsTakenAt, Answered}
+use Rattle.firm_hall.specs.inner.Held.{HeldIs, held_is}
+use Rattle.firm_hall.specs.inner.Serving.{Stands, serving_is}
+use Rattle.firm_hall.specs.inner.Serving.{book_at, asked_at, seat_counts, state_with, AreSeats}
 use Rattle.firm_hall.specs.inner.Serving.{ArePlaced, SeatIs, IsPlaced, TellsParts}
 use Rattle.firm_hall.specs.declared.seats.Seat.{Seat}
 use Rattle.firm_hall.specs.declared.seats.Seat.TheVariants.{Home, Away, Empty, Gone}
-use Rattle.firm_hall.specs.declared.seats.Slot.{Slot}
-use Rattle.firm_hall.specs.declared.seats.Slot.TheVariants.{TooLong, Stranger, Replied, Waiting, Obeyed}
+use Rattle.firm_hall.specs.declared.held.Slot.{Slot}
+use Rattle.firm_hall.specs.declared.held.Slot.TheVariants.{Known, Waiting}
 use Rattle.firm_hall.proofs.Slots.{is_place, none_push, one_here, placed_push}
 use Rattle.firm_hall.proofs.Seating.{weigh_set, each_set, seat_push}
 use Rattle.firm_hall.proofs.Telling.{Adds, tells_more, held_push}
@@ -74,40 +79,40 @@ module _ (register : List Registered) (seats : List Seat) (slots : List Slot) (o
   nothing_step : LineStep register register seats seats slots slots output Nothing marks
   nothing_step = record {
     answer = record {
-      answer = silent;
+      answer = Silent;
       right = record { answers = λ places shows. refl; leaves = λ places shows. shows };
       text = sym (append-nil (output ++ held_text marks slots));
     };
     adds = record { least = omega arith; most = omega arith };
   }
 
-  long_step : LineStep register register seats seats slots (slots ++ TooLong ∷ []) output Long marks
+  long_step : LineStep register register seats seats slots (slots ++ Known LineTooLong ∷ []) output Long marks
   long_step = record {
     answer = record {
-      answer = too_long;
+      answer = LineTooLong;
       right = record { answers = λ places shows. refl; leaves = λ places shows. shows };
-      text = text_push marks slots TooLong output;
+      text = text_push marks slots (Known LineTooLong) output;
     };
     adds = record { least = omega arith; most = omega arith };
   }
 
-  nameless_step : LineStep register register seats seats slots (slots ++ Stranger ∷ []) output Nameless marks
+  nameless_step : LineStep register register seats seats slots (slots ++ Known UnknownTenant ∷ []) output Nameless marks
   nameless_step = record {
     answer = record {
-      answer = unknown_tenant;
+      answer = UnknownTenant;
       right = record { answers = λ places shows. refl; leaves = λ places shows. shows };
-      text = text_push marks slots Stranger output;
+      text = text_push marks slots (Known UnknownTenant) output;
     };
     adds = record { least = omega arith; most = omega arith };
   }
 
   stranger_step : StrangersAreAnswered → (name : List ℕ) (command : Command) → place_in register name ≡ None
-      → LineStep register register seats seats slots (slots ++ Stranger ∷ []) output (For name command) marks
+      → LineStep register register seats seats slots (slots ++ Known UnknownTenant ∷ []) output (For name command) marks
   stranger_step strangers name command none = record {
     answer = record {
-      answer = unknown_tenant;
+      answer = UnknownTenant;
       right = strangers (tenants_are register (map (book_at marks) seats)) name command none;
-      text = text_push marks slots Stranger output;
+      text = text_push marks slots (Known UnknownTenant) output;
     };
     adds = record { least = omega arith; most = omega arith };
   }
@@ -174,13 +179,13 @@ module _ (register : List Registered) (queue : QueueId) (place : ℕ) (name : Li
       → book_at marks last ≡ Some after
       → (reply, after) ≡ step desk.book command (is_memory reply)
       → IsRight (tenants_are register (map (book_at marks) seats))
-      (tenants_are register (map (book_at marks) (set seats place last))) (For name command) (replied name reply)
+      (tenants_are register (map (book_at marks) (set seats place last))) (For name command) (Replied name reply)
   right_step known marks last reply after is stepped =
       let tenants = tenants_are register (map (book_at marks) seats) in
       let books : map (book_at marks) (set seats place last) ≡ set (map (book_at marks) seats) place (Some after) =
       map-set (book_at marks) seats place last ∙ ap (set (map (book_at marks) seats) place) is in
       subst (λ (bs : List (Option Book)). IsRight tenants (tenants_are register bs) (For name command)
-      (replied name reply)) (sym books)
+      (Replied name reply)) (sym books)
       (known tenants name command place desk.book after reply sound found (book_here marks) stepped)
 
   -- the seats behind a line, of which the answer is held last
@@ -206,14 +211,14 @@ module _ (register : List Registered) (queue : QueueId) (place : ℕ) (name : Li
         → LineStep register register seats (set seats place seat) slots (slots ++ slot ∷ []) output
         (For name command) marks
 
-  answered : TenantsAreAnswered → (after : DeskIs) (tenant : List ℕ) (reply : Reply)
-      → Answered desk name command after tenant reply → Taken (Home after) (Replied tenant reply)
-  answered known after tenant reply a = record {
-    seats_are = seats_set (Replied tenant reply) (Home after) (λ other differ. refl) (
+  answered : TenantsAreAnswered → (after : DeskIs) (reply : Reply) → Answered desk command after reply
+      → Taken (Home after) (Known (Replied name reply))
+  answered known after reply a = record {
+    seats_are = seats_set (Known (Replied name reply)) (Home after) (λ other differ. refl) (
       ap (λ (d : DeskIs). d.queue) a.stepped.same_desk ∙ here_is.0,
       ap (λ (d : DeskIs). d.place) a.stepped.same_desk
           ∙ here_is.1,
-      none_push place slots (Replied tenant reply) here_is.2 refl,
+      none_push place slots (Known (Replied name reply)) here_is.2 refl,
     );
     counts = counts_set after (ap (λ (d : DeskIs). d.admissions) a.stepped.same_desk) (Home after) refl;
     placed = tt;
@@ -223,10 +228,9 @@ module _ (register : List Registered) (queue : QueueId) (place : ℕ) (name : Li
         omega (arith, asked_set (Home after), put) in
         record {
           answer = record {
-            answer = replied name reply;
+            answer = Replied name reply;
             right = right_step known marks (Home after) reply after.book refl a.stepped.stepped;
-            text = text_push marks slots (Replied tenant reply) output
-                ∙ ap (λ (n : List ℕ). (output ++ held_text marks slots) ++ text_of_answer (replied n reply)) a.named;
+            text = text_push marks slots (Known (Replied name reply)) output;
           };
           adds = record {
             least = omega (arith, asked);
@@ -238,10 +242,7 @@ module _ (register : List Registered) (queue : QueueId) (place : ℕ) (name : Li
 
   went : TenantsAreAnswered → RepliesTellTheirMarks → (asked : DeskIs) (slot : Slot)
       → IsTaken desk place name command (Away asked) slot → Taken (Away asked) slot
-  went answers tell asked TooLong w = absurd w
-  went answers tell asked Stranger w = absurd w
-  went answers tell asked (Replied tenant reply) w = absurd w
-  went answers tell asked (Obeyed reply) w = absurd w
+  went answers tell asked (Known answer) w = absurd w
   went answers tell asked (Waiting at tenant known) w = record {
     seats_are = seats_set (Waiting at tenant known) (Away asked)
         (λ other differ. ne_eqb at other (λ e. differ (sym e ∙ w.here))) (
@@ -257,11 +258,11 @@ module _ (register : List Registered) (queue : QueueId) (place : ℕ) (name : Li
         let new : Book = (step desk.book Round mark).1 in
         let asked_book : asked.book ≡ desk.book = ap (λ (d : DeskIs). d.book) w.asked_is in
         let asked_place : asked.place ≡ place = ap (λ (d : DeskIs). d.place) w.asked_is ∙ here_is.1 in
-        let waits : answer_in marks (Waiting at tenant known) ≡ replied name reply =
-        ap (λ (n : List ℕ). replied n (step known.value.book Round (marks at)).0) w.named
-        ∙ ap (λ (d : DeskIs). replied name (step d.book Round (marks at)).0) w.known_is
-        ∙ ap (λ (b : Book). replied name (step b Round (marks at)).0) asked_book
-        ∙ ap (λ (p : ℕ). replied name (step desk.book Round (marks p)).0) w.here in
+        let waits : answer_in marks (Waiting at tenant known) ≡ Replied name reply =
+        ap (λ (n : List ℕ). Replied n (step known.value.book Round (marks at)).0) w.named
+        ∙ ap (λ (d : DeskIs). Replied name (step d.book Round (marks at)).0) w.known_is
+        ∙ ap (λ (b : Book). Replied name (step b Round (marks at)).0) asked_book
+        ∙ ap (λ (p : ℕ). Replied name (step desk.book Round (marks p)).0) w.here in
         let stepped : (reply, new) ≡ step desk.book command (is_memory reply) =
         sym (tell desk.book Round mark) ∙ ap (λ (c : Command). step desk.book c (is_memory reply)) (sym w.round) in
         let here : book_at marks (Away asked) ≡ Some new =
@@ -274,10 +275,10 @@ module _ (register : List Registered) (queue : QueueId) (place : ℕ) (name : Li
         ap (λ (c : Command). round_in c reply) w.round ∙ round_counts desk.book mark w.left in
         record {
           answer = record {
-            answer = replied name reply;
+            answer = Replied name reply;
             right = right_step answers marks (Away asked) reply new here stepped;
             text = text_push marks slots (Waiting at tenant known) output
-                ∙ ap (λ (x : Answer). (output ++ held_text marks slots) ++ text_of_answer x) waits;
+                ∙ ap (λ (x : LineAnswer). (output ++ held_text marks slots) ++ text_of_answer x) waits;
           };
           adds = record { least = omega (arith, asked_more, counts); most = omega (arith, asked_more, counts) };
         };
@@ -286,12 +287,10 @@ module _ (register : List Registered) (queue : QueueId) (place : ℕ) (name : Li
   -- either
   pub taken : TenantsAreAnswered → RepliesTellTheirMarks → (seat : Seat) (slot : Slot)
       → IsTaken desk place name command seat slot → Taken seat slot
-  taken known tell (Home after) (Replied tenant reply) t = answered known after tenant reply t
+  taken known tell (Home after) (Known answer) t =
+      subst (λ (x : LineAnswer). Taken (Home after) (Known x)) (sym t.1) (answered known after t.0 t.2)
   taken known tell (Away asked) slot t = went known tell asked slot t
-  taken known tell (Home after) TooLong t = absurd t
-  taken known tell (Home after) Stranger t = absurd t
   taken known tell (Home after) (Waiting at tenant snapshot) t = absurd t
-  taken known tell (Home after) (Obeyed reply) t = absurd t
   taken known tell (Empty after) slot t = absurd t
   taken known tell Gone slot t = absurd t
 
@@ -345,33 +344,35 @@ module _ (one_more : OneMoreIsTold) (roster : List Admitted) (register : List Re
       rw (is, held) (line_told one_more roster register register seats seats slots slots output Nothing
       (nothing_step register seats slots output))
 
-  pub long_follows : line ≡ Long → later ≡ slots ++ TooLong ∷ []
+  pub long_follows : line ≡ Long → later ≡ slots ++ Known LineTooLong ∷ []
       → (text text_after : List ℕ) (written now : Option (List ℕ))
       → input_lines text_after ≡ input_lines text ++ line ∷ []
       → TellsParts roster register seats slots output text written now
       → TellsParts roster register seats later output text_after written now
   long_follows is held =
-      rw (is, held) (line_told one_more roster register register seats seats slots (slots ++ TooLong ∷ []) output Long
+      rw (is, held) (line_told one_more roster register register seats seats slots (slots ++ Known LineTooLong ∷ [])
+      output Long
       (long_step register seats slots output))
 
-  pub nameless_follows : line ≡ Nameless → later ≡ slots ++ Stranger ∷ []
+  pub nameless_follows : line ≡ Nameless → later ≡ slots ++ Known UnknownTenant ∷ []
       → (text text_after : List ℕ) (written now : Option (List ℕ))
       → input_lines text_after ≡ input_lines text ++ line ∷ []
       → TellsParts roster register seats slots output text written now
       → TellsParts roster register seats later output text_after written now
   nameless_follows is held =
       rw (is, held) (line_told one_more roster register register seats seats slots
-      (slots ++ Stranger ∷ []) output Nameless (nameless_step register seats slots output))
+      (slots ++ Known UnknownTenant ∷ []) output Nameless (nameless_step register seats slots output))
 
   pub stranger_follows : StrangersAreAnswered → (name : List ℕ) (command : Command) → line ≡ For name command
-      → place_in register name ≡ None → later ≡ slots ++ Stranger ∷ []
+      → place_in register name ≡ None → later ≡ slots ++ Known UnknownTenant ∷ []
       → (text text_after : List ℕ) (written now : Option (List ℕ))
       → input_lines text_after ≡ input_lines text ++ line ∷ []
       → TellsParts roster register seats slots output text written now
       → TellsParts roster register seats later output text_after written now
   stranger_follows strangers name command is none held =
       rw (is, held)
-      (line_told one_more roster register register seats seats slots (slots ++ Stranger ∷ []) output (For name command)
+      (line_told one_more roster register register seats seats slots (slots ++ Known UnknownTenant ∷ []) output
+      (For name command)
       (λ marks. stranger_step register seats slots output marks strangers name command none))
 
 -- an answer that waits for nothing, behind the others
@@ -390,3 +391,12 @@ known_seats queue slots later seats slot held out are =
 pub known_placed : (slots later : List Slot) (slot : Slot) → later ≡ slots ++ slot ∷ [] → IsPlaced slot
     → ArePlaced slots → ArePlaced later
 known_placed slots later slot held is placed = rw held (placed_push slots slot placed is)
+
+pub known_stands : (queue : QueueId) (register : List Registered) (seats : List Seat) (held : HeldIs) (slot : Slot)
+    → ((place : ℕ) → waits_for place slot ≡ false) → IsPlaced slot → Stands (serving_is queue register seats held)
+    → Stands (serving_is queue register seats (held_is (held.slots ++ slot ∷ []) held.output))
+known_stands queue register seats held slot out is stands = record {
+  seats = known_seats queue held.slots (held.slots ++ slot ∷ []) seats slot refl out stands.seats;
+  fits = stands.fits;
+  placed = known_placed held.slots (held.slots ++ slot ∷ []) slot refl is stands.placed;
+}

@@ -11,17 +11,19 @@ use Rattle.std.proofs.Math.Seq.{take-append-add}
 use Rattle.firm_text.specs.Inputs.{input_lines}
 use Rattle.firm_text.specs.declared.inputs.Line.{Line}
 use Rattle.firm_table.specs.Places.{MarkedLine}
-use Rattle.firm_table.specs.Answers.{Answer, tells_memory, text_of_answer}
+use Rattle.firm_table.specs.Answers.{tells_memory, text_of_answer}
+use Rattle.firm_table.specs.declared.answers.LineAnswer.{LineAnswer}
 use Rattle.firm_table.specs.Output.{answers_of, output_of}
 use Rattle.firm_table.specs.Service.{BeginsAnswers}
 use Rattle.firm_table.specs.inner.Line.{State, Tenants, IsAnswer, state_is}
 use Rattle.firm_table.specs.inner.Adding.{OneMoreIsTold}
 use Rattle.firm_hall.specs.Counts.{rounds_in, round_of, refusal_in, refusals_in}
-use Rattle.firm_hall.specs.inner.Serving.{answer_in, held_text, Tells}
-use Rattle.firm_hall.specs.declared.seats.Slot.{Slot}
+use Rattle.firm_hall.specs.inner.Held.{answer_in, held_text}
+use Rattle.firm_hall.specs.inner.Serving.{Tells}
+use Rattle.firm_hall.specs.declared.held.Slot.{Slot}
 
 -- the counts, with one line more
-rounds_more : (lines : List MarkedLine) (answers : List Answer) (given : MarkedLine) (answer : Answer)
+rounds_more : (lines : List MarkedLine) (answers : List LineAnswer) (given : MarkedLine) (answer : LineAnswer)
     → length lines ≡ length answers
     → rounds_in (lines ++ given ∷ []) (answers ++ answer ∷ []) ≡ rounds_in lines answers + round_of given.0 answer
 rounds_more [] [] given answer long = omega arith
@@ -32,7 +34,7 @@ rounds_more (l ∷ lines) (a ∷ answers) given answer long =
     ≡ rounds_in lines answers + round_of given.0 answer =
     rounds_more lines answers given answer (omega arith) in omega arith
 
-refusals_more : (answers : List Answer) (answer : Answer)
+refusals_more : (answers : List LineAnswer) (answer : LineAnswer)
     → refusals_in (answers ++ answer ∷ []) ≡ refusals_in answers + refusal_in answer
 refusals_more [] answer = omega arith
 refusals_more (a ∷ answers) answer =
@@ -40,7 +42,7 @@ refusals_more (a ∷ answers) answer =
     refusals_more answers answer in omega arith
 
 -- what one line more adds to the rounds that were asked
-pub record Adds (asked later : ℕ) (line : Line) (answer : Answer) : Type 0 where
+pub record Adds (asked later : ℕ) (line : Line) (answer : LineAnswer) : Type 0 where
   pub least : later ≤ asked + round_of line answer
   pub most : asked + round_of line answer ≤ later + refusal_in answer
 
@@ -60,7 +62,7 @@ tells_more one_more state tenants pending line asked later text after written no
     let rounds : rounds_in q.0.lines (answers_of state.roster q.0.lines)
     ≡ rounds_in old answers + round_of line a.answer =
     ap (λ (ls : List MarkedLine). rounds_in ls (answers_of state.roster q.0.lines)) q.1
-    ∙ ap (λ (xs : List Answer). rounds_in (old ++ given ∷ []) xs) q.2
+    ∙ ap (λ (xs : List LineAnswer). rounds_in (old ++ given ∷ []) xs) q.2
     ∙ rounds_more old answers given a.answer long in
     let refusals : refusals_in (answers_of state.roster q.0.lines) ≡ refusals_in answers + refusal_in a.answer =
     ap refusals_in q.2 ∙ refusals_more answers a.answer in

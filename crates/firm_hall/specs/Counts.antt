@@ -13,7 +13,9 @@ use Rattle.firm_text.specs.Rosters.{Admitted}
 use Rattle.firm_table.specs.Places.{MarkedLine}
 use Rattle.firm_table.specs.Output.{answers_of}
 use Rattle.firm_table.specs.Service.{Device, Served}
-use Rattle.firm_table.specs.Answers.{Answer, silent, too_long, unknown_tenant, replied, told_operator}
+use Rattle.firm_table.specs.declared.answers.LineAnswer.{LineAnswer}
+use Rattle.firm_table.specs.declared.answers.LineAnswer.TheVariants.{Silent, LineTooLong, UnknownTenant, Replied}
+use Rattle.firm_table.specs.declared.answers.LineAnswer.TheVariants.{ToOperator}
 
 -- whether a command is a round
 abbrev pub is_round : Command → Bool
@@ -30,38 +32,38 @@ abbrev pub round_in : Command → Reply → ℕ
 round_in command reply = if is_round command then (if is_worn reply.outcome then 0 else 1) else 0
 
 -- the same of a line and its answer
-abbrev pub round_of : Line → Answer → ℕ
+abbrev pub round_of : Line → LineAnswer → ℕ
 round_of Nothing answer = 0
 round_of Long answer = 0
 round_of Nameless answer = 0
-round_of (For name command) silent = 0
-round_of (For name command) too_long = 0
-round_of (For name command) unknown_tenant = 0
-round_of (For name command) (replied tenant reply) = round_in command reply
-round_of (For name command) (told_operator reply) = 0
+round_of (For name command) Silent = 0
+round_of (For name command) LineTooLong = 0
+round_of (For name command) UnknownTenant = 0
+round_of (For name command) (Replied tenant reply) = round_in command reply
+round_of (For name command) (ToOperator reply) = 0
 round_of (Operator asked) answer = 0
 
 -- how many rounds these lines tell, which have these answers: those of tenants that had life for them, over all stays
-abbrev pub rounds_in : List MarkedLine → List Answer → ℕ
+abbrev pub rounds_in : List MarkedLine → List LineAnswer → ℕ
 rounds_in [] answers = 0
 rounds_in (given ∷ rest) [] = 0
 rounds_in (given ∷ rest) (answer ∷ answers) = round_of given.0 answer + rounds_in rest answers
 
 -- 1 for a tenant's reply that says that memory was refused, and 0 for each other answer
-abbrev pub refusal_in : Answer → ℕ
-refusal_in silent = 0
-refusal_in too_long = 0
-refusal_in unknown_tenant = 0
-refusal_in (replied tenant reply) = if is_memory reply then 1 else 0
-refusal_in (told_operator reply) = 0
+abbrev pub refusal_in : LineAnswer → ℕ
+refusal_in Silent = 0
+refusal_in LineTooLong = 0
+refusal_in UnknownTenant = 0
+refusal_in (Replied tenant reply) = if is_memory reply then 1 else 0
+refusal_in (ToOperator reply) = 0
 
 -- how many of these answers say that memory was refused to a tenant
-abbrev pub refusals_in : List Answer → ℕ
+abbrev pub refusals_in : List LineAnswer → ℕ
 refusals_in [] = 0
 refusals_in (answer ∷ answers) = refusal_in answer + refusals_in answers
 
 -- So many rounds were asked: all that the lines tell, but for some to which memory was refused.
-pub record Counted (asked : ℕ) (lines : List MarkedLine) (answers : List Answer) : Type 0 where
+pub record Counted (asked : ℕ) (lines : List MarkedLine) (answers : List LineAnswer) : Type 0 where
   pub least : asked ≤ rounds_in lines answers
   pub most : rounds_in lines answers ≤ asked + refusals_in answers
 

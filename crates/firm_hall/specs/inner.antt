@@ -1,3 +1,4 @@
+pub mod Held
 pub mod Seats
 pub mod Serving
 pub mod Ending

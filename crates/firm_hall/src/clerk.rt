@@ -1,49 +1,128 @@
-//! The hall as a clerk: who answers lines while rounds are away.
-ghost use Rattle.std.specs.Prelude.{◌≡◌, ℕ, ◌++◌, ◌∷◌, List, Option, [], false, OnOk, OnErr, IfErr};
+//! The hall as a clerk: lines are answered while rounds are away.
+ghost use Rattle.std.specs.Prelude.{◌≡◌, ℕ, ◌+◌, ◌-◌, ◌++◌, ◌∷◌, IfErr, IfOk, List, OnErr, OnOk, Option, [], false};
+ghost use Rattle.std.specs.Prelude.{length, vec_capacity};
 ghost use Rattle.firm_text.specs.Inputs.{input_lines};
+ghost use Rattle.firm_text.specs.Registers.{most_places};
 ghost use Rattle.firm_table.specs.Service.{Answers, BeginsAnswers};
 ghost use Rattle.firm_table.specs.inner.Faults.{IsWritingFault};
 ghost use Rattle.firm_rounds.specs.Passes.{QueueIs};
-ghost use Rattle.firm_hall.specs.inner.Serving.{IsOpen, TellsAll, IsWrittenOut, IsFinished};
+ghost use Rattle.firm_rounds.specs.Rounds.{weigh};
+ghost use Rattle.firm_hall.specs.Opening.{opening_desks, unused_places};
+ghost use Rattle.firm_hall.specs.inner.Ending.{AreOf};
+ghost use Rattle.firm_hall.specs.inner.Serving.{IsFinished, IsOpen, IsReserved, IsWrittenOut, TellsAll, asked_at};
 
+use crate::desks::Desk;
+use crate::empty::EmptyDesk;
+use crate::ending::Ended;
 use crate::serving::Serving;
+use crate::setting::Setting;
+use crate::workers::rest;
 use firm_table::{Clerk, ServeFault};
-use firm_text::{Line, Sink};
-use std::alloc::Global;
+use firm_text::{Line, PLACES, Sink, Source};
+use std::alloc::AllocError;
 use std::sync::Wait;
 
-/// A hall that serves, with what it needs to wait and to take memory.
+// How often the clerk looks for a missing answer in vain before it sleeps until there is one, or input: for some ten
+// microseconds, as long as a small round takes.
+const LOOKS_BEFORE_SLEEP: u32 = 1_024;
+
+/// A hall that serves, and the rooms that are reserved for its desks at the end.
 #[derive(Drop)]
 pub(crate) struct HallClerk<'h, R: Wait> {
-    pub(crate) rt: &'h R,
-    pub(crate) alloc: Global,
-    pub(crate) serving: Serving<'h>,
+    pub(crate) setting: Setting<'h, R>,
+    pub(crate) serving: Serving,
+    desks: Vec<Desk>,
+    empty: Vec<EmptyDesk>,
+    ghost desks_room: { IsReserved desks.items (vec_capacity desks) },
+    ghost empty_room: { IsReserved empty.items (vec_capacity empty) },
+}
+
+impl<'h, R: Wait> HallClerk<'h, R> {
+    /// The clerk before the first line, with all tenants at home. All memory of its own is taken here; the error comes
+    /// for want of it alone.
+    pub(crate) fn open(
+        setting: Setting<'h, R>,
+        desks: Vec<Desk>,
+        empty: Vec<EmptyDesk>,
+    ) -> Result<HallClerk<'h, R>, AllocError>
+        requires desks { desks.items ≡ opening_desks setting.hall.now.id 0 setting.roster.now }
+        requires empty { empty.items ≡ unused_places setting.hall.now.id (length setting.roster.now)
+            (most_places - length setting.roster.now) }
+        ensures open { IfOk result (λ clerk. IsOpen clerk.setting.hall.now.id clerk.serving) }
+        ensures told { IfOk result (λ clerk. (written : Option (List ℕ))
+            → TellsAll clerk.setting.roster.now clerk.serving [] written written) }
+        ensures hall { IfOk result (λ clerk. clerk.setting.hall.now ≡ setting.entry.hall.now) }
+        ensures roster { IfOk result (λ clerk. clerk.setting.roster.now ≡ setting.entry.roster.now) }
+    {
+        let room = Vec::with_capacity(setting.alloc, PLACES)?;
+        let empty_room = Vec::with_capacity(setting.alloc, PLACES)?;
+        let serving = Serving::open(&setting, desks, empty)?;
+        Ok(HallClerk {
+            setting,
+            serving,
+            desks: room,
+            empty: empty_room,
+        })
+    }
+
+    /// Ends the service once each desk is home.
+    pub(crate) fn end(self) -> Ended
+        requires open { IsOpen self.setting.hall.now.id self.serving }
+        ensures of { AreOf self.entry.setting.hall.now.id result.desks.items result.empty.items }
+        ensures all { length result.desks.items + length result.empty.items ≡ most_places }
+        ensures rounds { result.rounds ≡ weigh asked_at self.entry.serving.seats }
+    {
+        let HallClerk {
+            setting,
+            serving,
+            desks,
+            empty,
+        } = self;
+        serving.end(setting.rt, desks, empty)
+    }
 }
 
 impl<'h, R: Wait> Clerk for HallClerk<'h, R> {
     ghost Kept = { QueueIs };
 
-    ghost kept = { λ clerk. clerk.serving.hall.now };
+    ghost kept = { λ clerk. clerk.setting.hall.now };
 
-    ghost roster = { λ clerk. clerk.serving.roster.now };
+    ghost roster = { λ clerk. clerk.setting.roster.now };
 
-    ghost is_open = { λ clerk. IsOpen clerk.serving };
+    ghost is_open = { λ clerk. IsOpen clerk.setting.hall.now.id clerk.serving };
 
-    ghost told = { λ clerk text written now. TellsAll clerk.serving text written now };
+    ghost told = { λ clerk text written now. TellsAll clerk.setting.roster.now clerk.serving text written now };
 
     ghost is_written_out = { λ clerk. IsWrittenOut clerk.serving };
 
     ghost is_finished = { λ clerk. IsFinished clerk.serving };
 
     fn answer<W: Sink>(&mut self, writer: &mut W, line: Line) -> Result<(), ServeFault> {
-        self.serving.answer(self.rt, self.alloc, writer, line)
+        self.serving.answer(&self.setting, writer, line)
     }
 
-    fn write_out<W: Sink>(&mut self, writer: &mut W) -> Result<(), ServeFault> {
-        self.serving.write_out(writer)
+    fn write_out<S: Source, W: Sink>(
+        &mut self,
+        reader: &S,
+        writer: &mut W,
+    ) -> Result<(), ServeFault> {
+        let rt = self.setting.rt;
+        let answers = self.setting.hall.answers();
+        let mut looks = 0u32;
+        for _ in rt.forever() {
+            // Whatever this look misses, answer or input, arrives after the announcement and so ends the sleep.
+            let announced = (LOOKS_BEFORE_SLEEP <= looks).then(|| answers.prepare_wait());
+            self.serving.write_out(writer)?;
+            let waker = announced.is_some().then_some(answers);
+            if self.serving.is_idle() || reader.is_ready(waker) {
+                return Ok(());
+            }
+            looks = rest(rt, announced, looks);
+        }
+        unreachable!()
     }
 
     fn finish<W: Sink>(&mut self, writer: &mut W) -> Result<(), ServeFault> {
-        self.serving.finish(self.rt, writer)
+        self.serving.finish(self.setting.rt, writer)
     }
 }

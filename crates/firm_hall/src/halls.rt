@@ -9,19 +9,15 @@ ghost use Rattle.firm_hall.specs.Opening.{opening_desks, unused_places};
 use crate::desks::Desk;
 use crate::empty::EmptyDesk;
 use crate::places::Place;
-use crate::workers::WorkerPass;
+use crate::workers::{LOOKS_BEFORE_SLEEP, WorkerPass};
 use crossbeam_utils::CachePadded;
+use crossbeam_utils::sync::{EventCount, Key};
 use firm_rounds::{Job, PopPass, PutPass, Queue};
 use firm_text::{PLACES, Roster};
 use std::alloc::{AllocError, Global};
 use std::marker::Model;
-use std::sync::Wait;
 use std::sync::atomic::{AtomicU64, Ordering};
-use std::thread;
-use std::time::Duration;
-
-// How often a worker looks and yields in vain before it also sleeps between looks.
-const TRIES_BEFORE_REST: u32 = 10_000;
+use std::sync::{Arc, Wait};
 
 /// What desks and workers share. Contracts see which queue it has, and how many desks and workers.
 #[derive(Drop)]
@@ -29,6 +25,10 @@ pub struct Hall {
     queue: Queue,
     // 1 once the hall is shut. Each worker reads it at every turn, so nothing else lies on its cache line.
     stop: CachePadded<AtomicU64>,
+    // Notified of each round that is put, and once the hall is shut. Workers without a round sleep on it.
+    work: CachePadded<EventCount>,
+    // Notified of each round that is solved. The clerk sleeps on it, for an answer or for input.
+    answers: Arc<EventCount, Global>,
 }
 
 impl Model for Hall {
@@ -66,21 +66,22 @@ impl Hall {
     /// Tells the workers to end once the queue is empty. It takes no memory.
     pub fn shut(&self) {
         self.stop.store(1, Ordering::SeqCst);
-        self.stop.wake_all();
+        self.work.notify_all();
     }
 
     pub(crate) fn is_shut(&self) -> bool {
         self.stop.load(Ordering::SeqCst) == 1
     }
 
-    // Yields, and after many tries in vain sleeps for a millisecond at most. Gives the number of tries, with this one.
-    pub(crate) fn rest<R: Wait>(&self, rt: &R, tries: u32) -> u32 {
-        if tries < TRIES_BEFORE_REST {
-            thread::yield_now();
-            return tries + 1;
-        }
-        self.stop.park_timeout(rt, 0, Duration::from_millis(1));
-        tries
+    // After enough looks in vain a worker announces its sleep and looks once more. A round put after that look, or a shut after
+    // that read, follows the announcement, so its notification ends the sleep.
+    pub(crate) fn announce(&self, looks: u32) -> Option<Key<'_>> {
+        (LOOKS_BEFORE_SLEEP <= looks).then(|| self.work.prepare_wait())
+    }
+
+    // What is notified of each round that is solved.
+    pub(crate) fn answers(&self) -> &Arc<EventCount, Global> {
+        &self.answers
     }
 
     pub(crate) fn put<R: Wait>(&self, rt: &R, pass: &mut PutPass, job: Job)
@@ -90,6 +91,7 @@ impl Hall {
         ensures { pass.new ≡ put_is pass.old.queue pass.old.place (pass.old.put + 1) }
     {
         self.queue.put(rt, pass, job);
+        self.work.notify_one();
     }
 
     pub(crate) fn pop<R: Wait>(&self, rt: &R, pass: &mut PopPass) -> Option<Job>
@@ -110,7 +112,7 @@ impl Hall {
     pub(crate) fn into_queue(self) -> Queue
         ensures { result ≡ self }
     {
-        let Hall { queue, stop: _ } = self;
+        let Hall { queue, .. } = self;
         queue
     }
 }
@@ -138,9 +140,12 @@ fn open_hall(
     let desks = open_desks(alloc, roster, puts)?;
     let empty = open_empty(alloc, rest)?;
     let passes = open_passes(alloc, pops)?;
+    let answers = Arc::new(alloc, EventCount::new())?;
     let hall = Hall {
         queue,
         stop: CachePadded::new(AtomicU64::new(0)),
+        work: CachePadded::new(EventCount::new()),
+        answers,
     };
     Ok((hall, desks, passes, empty))
 }

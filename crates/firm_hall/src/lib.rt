@@ -5,12 +5,16 @@ mod clerk;
 mod close;
 mod desks;
 mod empty;
+mod ending;
 mod halls;
+mod held;
 mod places;
 mod seats;
 mod service;
 mod serving;
+mod setting;
 mod team;
+mod tenancy;
 mod workers;
 
 pub use close::{CloseFault, Totals};

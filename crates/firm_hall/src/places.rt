@@ -1,4 +1,4 @@
-//! The places of a hall: what stays there, whoever has it.
+//! The places of a hall: what each keeps from one tenant to the next.
 ghost use Rattle.std.specs.Prelude.{◌≡◌, ◌+◌, ◌<◌, ◌≤◌, ◌^◌, [], ◌∷◌, ◌++◌, MatchBool};
 ghost use Rattle.firm_rounds.specs.Passes.{closing_is};
 ghost use Rattle.firm_rounds.specs.Rounds.{ticket, share};

@@ -1,10 +1,10 @@
 //! One to eight workers, each on a thread of its own.
-ghost use Rattle.std.specs.Prelude.{◌≡◌, ◌≤◌, [], true, All, vec_capacity, vec_len};
+ghost use Rattle.std.specs.Prelude.{◌≡◌, ◌≤◌, [], All, IfOk, length, true, vec_capacity, vec_len};
 ghost use Rattle.std.specs.Thread.{IsSync};
 
 use crate::halls::Hall;
 use crate::workers::{Gate, Report, WorkerPass, worker};
-use std::alloc::Global;
+use std::alloc::{AllocError, Global};
 use std::snapshot::Snapshot;
 use std::sync::Wait;
 use std::thread::{Promise, PromisedHandle, Scope, Threads};
@@ -17,55 +17,121 @@ impl Promise<Report> for OfHall {
     ghost kept_by = { λ p r. r.queue ≡ p.0.value.id };
 }
 
-// Starts a worker for each pass. Where one cannot be started, the others stay as they are. Tells whether all were.
-pub(crate) fn start<'s, E: 's, R: Threads + Wait + Sync, G: Gate + Sync>(
-    scope: &Scope<'s, E>,
-    rt: &'s R,
+/// The workers of a hall before they start: a pass for each, and room for what comes of it.
+#[derive(Drop)]
+pub(crate) struct Team<'s, R, G> {
+    pub(crate) rt: &'s R,
     alloc: Global,
-    hall: &'s Hall,
-    passes: Vec<WorkerPass>,
+    pub(crate) hall: &'s Hall,
     gate: &'s G,
-    room: Vec<PromisedHandle<Report, OfHall>>,
-) -> (Vec<PromisedHandle<Report, OfHall>>, bool)
-    requires passes { All (λ p. p.queue ≡ hall.now.id) passes.items }
-    requires room { (room.items ≡ []) × (vec_len passes ≤ vec_capacity room) }
-    ensures handles { All (λ h. h.promise.0.value.id ≡ hall.now.id) result.0.items }
-    ensures few { vec_len result.0 ≤ vec_len passes }
-    ensures all { result.1 ≡ true → vec_len result.0 ≡ vec_len passes }
-{
-    let mut handles = room;
-    for pass in passes {
-        let promise = OfHall(Snapshot::of(hall));
-        let Ok(handle) = scope.spawn_with(
-            promise,
-            move ||
-                requires { pass.queue ≡ hall.now.id }
-                ensures { result.queue ≡ hall.entry.now.id }
-            { worker(rt, alloc, hall, pass, gate) },
-        ) else {
-            return (handles, false);
-        };
-        handles.push_reserved(handle);
-    }
-    (handles, true)
+    pub(crate) passes: Vec<WorkerPass>,
+    handles: Vec<PromisedHandle<Report, OfHall>>,
+    reports: Vec<Report>,
+    ghost of_hall: { All (λ p. p.queue ≡ hall.now.id) passes.items },
+    ghost no_handles: { handles.items ≡ [] },
+    ghost room: { vec_len passes ≤ vec_capacity handles },
+    ghost no_reports: { reports.items ≡ [] },
+    ghost reports_room: { vec_len passes ≤ vec_capacity reports },
 }
 
-// Joins all workers.
-pub(crate) fn join_all<R: Threads>(
-    rt: &R,
-    hall: &Hall,
+/// The workers that run, and room for their reports.
+#[derive(Drop)]
+pub(crate) struct Running<'s, R> {
+    rt: &'s R,
+    hall: &'s Hall,
     handles: Vec<PromisedHandle<Report, OfHall>>,
-    room: Vec<Report>,
-) -> Vec<Report>
-    requires handles { All (λ h. h.promise.0.value.id ≡ hall.now.id) handles.items }
-    requires room { (room.items ≡ []) × (vec_len handles ≤ vec_capacity room) }
-    ensures reports { All (λ r. r.queue ≡ hall.now.id) result.items }
-    ensures count { vec_len result ≡ vec_len handles }
-{
-    let _ = hall;
-    let mut reports = room;
-    for handle in handles {
-        reports.push_reserved(handle.join(rt));
+    reports: Vec<Report>,
+    ghost of_hall: { All (λ h. h.promise.0.value.id ≡ hall.now.id) handles.items },
+    ghost no_reports: { reports.items ≡ [] },
+    ghost room: { vec_len handles ≤ vec_capacity reports },
+}
+
+impl<'s, R: Threads + Wait + Sync, G: Gate + Sync> Team<'s, R, G> {
+    // The error comes for want of memory alone.
+    pub(crate) fn open(
+        rt: &'s R,
+        alloc: Global,
+        hall: &'s Hall,
+        gate: &'s G,
+        passes: Vec<WorkerPass>,
+    ) -> Result<Team<'s, R, G>, AllocError>
+        requires { All (λ p. p.queue ≡ hall.now.id) passes.items }
+        ensures hall { IfOk result (λ team. team.hall.now ≡ hall.now) }
+        ensures count { IfOk result (λ team. length team.passes.items ≡ length passes.items) }
+    {
+        let count = passes.len();
+        let handles = Vec::with_capacity(alloc, count)?;
+        let reports = Vec::with_capacity(alloc, count)?;
+        Ok(Team {
+            rt,
+            alloc,
+            hall,
+            gate,
+            passes,
+            handles,
+            reports,
+        })
     }
-    reports
+
+    // Starts a worker for each pass. Where one cannot be started, those before it run. Tells whether all do.
+    pub(crate) fn start<E: 's>(self, scope: &Scope<'s, E>) -> (Running<'s, R>, bool)
+        ensures hall { result.0.hall.now ≡ self.entry.hall.now }
+        ensures all { result.1 ≡ true → vec_len result.0.handles ≡ vec_len self.entry.passes }
+    {
+        let Team {
+            rt,
+            alloc,
+            hall,
+            gate,
+            passes,
+            mut handles,
+            reports,
+        } = self;
+        for pass in passes {
+            let promise = OfHall(Snapshot::of(hall));
+            let Ok(handle) = scope.spawn_with(
+                promise,
+                move ||
+                    requires { pass.queue ≡ hall.now.id }
+                    ensures { result.queue ≡ hall.entry.now.id }
+                { worker(rt, alloc, hall, pass, gate) },
+            ) else {
+                let running = Running {
+                    rt,
+                    hall,
+                    handles,
+                    reports,
+                };
+                return (running, false);
+            };
+            handles.push_reserved(handle);
+        }
+        let running = Running {
+            rt,
+            hall,
+            handles,
+            reports,
+        };
+        (running, true)
+    }
+}
+
+impl<R: Threads> Running<'_, R> {
+    // Ends the hall's rounds and joins all workers, each of which reports.
+    pub(crate) fn join(self) -> Vec<Report>
+        ensures reports { All (λ r. r.queue ≡ self.entry.hall.now.id) result.items }
+        ensures count { vec_len result ≡ vec_len self.entry.handles }
+    {
+        let Running {
+            rt,
+            hall,
+            handles,
+            mut reports,
+        } = self;
+        hall.shut();
+        for handle in handles {
+            reports.push_reserved(handle.join(rt));
+        }
+        reports
+    }
 }

@@ -148,7 +148,7 @@ map-replicate : {X Y : Type 0} (n : ℕ) (f : X → Y)
 map-replicate {X} {Y} zero f = refl
 map-replicate {X} {Y} (suc n) f = ap (λ (l : List (Option (ℕ × Y))). None ∷ l) (map-replicate {X = X} {Y = Y} n f)
 
-changed_all-vacant : {X Y : Type 0} (n first : ℕ) (f : X → Y)
+pub changed_all-vacant : {X Y : Type 0} (n first : ℕ) (f : X → Y)
     → changed_all (vacant {X = X} n first) f ≡ vacant {X = Y} n first
 changed_all-vacant {X} {Y} n first f =
     ap (λ (h : List (Option (ℕ × Y))). let made : Arena Y = record { held = h; counter = first } in made)

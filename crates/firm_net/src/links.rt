@@ -375,14 +375,14 @@ fn clear_row(links: &mut Arena<Link>, place: u32)
     let Some(link) = links.get_mut(id) else {
         unreachable!()
     };
-    link.row = link.row.without_flow();
+    link.row.clear();
 }
 
 /// Sets low and flow of every arc to 0.
 pub fn clear_rows(links: &mut Arena<Link>)
     ensures { links.new ≡ changed_all links.old cleared_link }
 {
-    for place in 0..links.capacity() {
+    for place in 0..links.used() {
         clear_row(links, place);
     }
 }

@@ -55,6 +55,8 @@ pub struct Net {
     nodes: Arena<Node>,
     links: Arena<Link>,
     added: u64,
+    // Whether low and flow of every arc are known to be 0, so that a net which is clear is not gone over again.
+    clear: bool,
 }
 
 impl Model for Net {
@@ -83,6 +85,7 @@ impl Net {
             nodes,
             links,
             added: 0,
+            clear: true,
         })
     }
 
@@ -211,6 +214,7 @@ impl Net {
         let Ok(id) = self.links.put(Link::new(row)) else {
             return Err(ArcRefusal::NoArc);
         };
+        self.clear = false;
         let arc = ArcId { id };
         link_at_front(&mut self.nodes, &mut self.links, Side::Out, tail, arc);
         link_at_front(&mut self.nodes, &mut self.links, Side::In, head, arc);
@@ -255,6 +259,7 @@ impl Net {
             link.incoming,
         );
         let _ = self.links.take(arc.id);
+        self.clear = false;
         Some(link.row)
     }
 
@@ -294,6 +299,7 @@ impl Net {
             return false;
         };
         set_row(&mut self.links, arc, row);
+        self.clear = false;
         true
     }
 
@@ -334,6 +340,7 @@ impl Net {
         );
         set_row(&mut self.links, arc, link.row.with_head(head));
         link_at_front(&mut self.nodes, &mut self.links, Side::In, head, arc);
+        self.clear = false;
         true
     }
 
@@ -360,10 +367,12 @@ impl Net {
             return false;
         }
         set_row(&mut self.links, arc, link.row.with_unit(way));
+        self.clear = false;
         true
     }
 
-    /// Sets low and flow of every arc to 0. All else stays: nodes, ids, ends, capacities, costs and the walks.
+    /// Sets low and flow of every arc to 0. All else stays: nodes, ids, ends, capacities, costs and the walks. It looks
+    /// at no arc where none was added, removed or changed since the last call.
     pub fn clear_flow(&mut self)
         ensures clears { self.new ≡ without_flow self.old }
         ensures counts { CountsAre self.new (node_count self.old) (arc_count self.old) }
@@ -372,7 +381,11 @@ impl Net {
         ensures net_before { IsNet self.old }
         ensures net { IsNet self.new }
     {
+        if self.clear {
+            return;
+        }
         clear_rows(&mut self.links);
+        self.clear = true;
     }
 
     /// The arcs out of a node, each once, with their rows; none where the node is not there.

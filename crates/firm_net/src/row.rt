@@ -179,17 +179,11 @@ impl ArcRow {
         }
     }
 
-    /// The arc with low and flow 0.
-    pub(crate) fn without_flow(self) -> ArcRow
-        ensures { result ≡ record self { low = 0; flow = 0 } }
+    /// Sets low and flow to 0.
+    pub(crate) fn clear(&mut self)
+        ensures { self.new ≡ record self.old { low = 0; flow = 0 } }
     {
-        ArcRow {
-            tail: self.tail,
-            head: self.head,
-            low: 0,
-            cap: self.cap,
-            cost: self.cost,
-            flow: 0,
-        }
+        self.low = 0;
+        self.flow = 0;
     }
 }

@@ -1,12 +1,12 @@
 -- What the keeping seat has when a share was added.
-use Rattle.std.proofs.Common.{◌≡◌, ℕ, ◌+◌, ◌<◌, List, [], ◌∷◌, ◌++◌, length, get_or, sym, refl, ap, ◌∙◌, arith}
+use Rattle.std.proofs.Common.{◌≡◌, ℕ, ◌+◌, ◌<◌, ◌≤◌, List, [], ◌∷◌, ◌++◌, length, get_or, sym, refl, ap, ◌∙◌, arith}
 use Rattle.std.proofs.Common.{length-append}
 use Rattle.firm_rounds.specs.declared.protocol.Share.{Share}
 use Rattle.firm_rounds.specs.declared.protocol.Sight.{Sight}
-use Rattle.firm_rounds.specs.Rounds.{weigh, share, sight, joined, put_by, got_by, is_at}
+use Rattle.firm_rounds.specs.Rounds.{weigh, share, sight, joined, put_by, got_by, is_at, beyond}
 use Rattle.firm_rules.specs.declared.tickets.Ticket.{Ticket}
-use Rattle.firm_rounds.specs.Passes.{PutIs, PopIs}
-use Rattle.firm_rounds.specs.Closed.{Adds, HasAll}
+use Rattle.firm_rounds.specs.Passes.{PutIs, PopIs, JobIs}
+use Rattle.firm_rounds.specs.Closed.{Adds, HasAll, AsOften, job_weight}
 use Rattle.firm_rounds.specs.Turning.{weigh-append}
 
 pub joined_weigh : (f : Share → ℕ) (v w n : Sight) (all : ℕ) (x : Share) → n ≡ joined v w → w ≡ sight all (x ∷ [])
@@ -69,3 +69,12 @@ gathered v0 v1 v2 all p head rest pops puts d cut one first more adds =
       );
       places = λ q. omega (arith, more (is_at q), adds.places q);
     }
+
+-- a seat that has all shares, and settles them with these jobs
+pub as_often : (v : Sight) (puts : List PutIs) (pops : List PopIs) (jobs : List JobIs) → HasAll v puts pops
+    → ((h : Ticket → ℕ) → weigh (put_by h) v.shares ≡ weigh (got_by h) v.shares + job_weight h jobs)
+    → ((place : ℕ) → place < beyond → weigh (is_at place) v.shares ≤ 1) → AsOften puts pops jobs
+as_often v puts pops jobs has balanced placed = record {
+  balanced = λ h. omega (arith, balanced h, has.put h, has.got h);
+  placed = λ place low. omega (arith, has.places place, placed place low);
+}

@@ -1,14 +1,13 @@
 //! The passes by which jobs are put and got.
-ghost use Rattle.std.specs.Prelude.{◌≡◌, ℕ, ◌+◌, ◌<◌, ◌^◌, [], ◌∷◌, ◌++◌, length, MatchOption};
+ghost use Rattle.std.specs.Prelude.{◌≡◌, ℕ, ◌+◌, ◌<◌, ◌^◌, [], ◌∷◌, ◌++◌, length, MatchOption, MatchResult};
 ghost use Rattle.crossbeam_queue.specs.Passes.{view, IsPassOf, ruled_capacity};
 ghost use Rattle.firm_rounds.specs.Rounds.{ticket, share, sight, after_pop};
-ghost use Rattle.firm_rounds.specs.Passes.{pop_is, spent_put, spent_pop};
+ghost use Rattle.firm_rounds.specs.Passes.{put_is, pop_is, spent_put, spent_pop};
 
 use crate::protocol::{Give, JobParts, Pops, Puts, QueueSeat, Ring};
 use firm_rules::Ticket;
 use std::marker::Model;
 use std::sync::Wait;
-use std::thread;
 
 /// The right to put the rounds of one place, numbered from 1 without a gap. Contracts see its place and how many it put.
 #[derive(Drop)]
@@ -74,14 +73,27 @@ impl PutPass {
         }
     }
 
-    pub(crate) fn put<R: Wait>(&mut self, rt: &R, ring: &Ring, parts: JobParts)
+    /// Puts the job if there is room, and else gives it back.
+    pub(crate) fn try_put<R: Wait>(
+        &mut self,
+        rt: &R,
+        ring: &Ring,
+        parts: JobParts,
+    ) -> Result<(), JobParts>
         requires of { (self.old.queue.table ≡ ring.now.table.shared.table_id) × (0 < self.old.queue.all) × (ruled_capacity ring.now ≡ 8) }
         requires next { parts.ticket ≡ ticket self.old.place (self.old.put + 1) }
         requires room { self.old.put < 2 ^ 55 }
-        ensures { (self.new.queue ≡ self.old.queue) × (self.new.place ≡ self.old.place) × (self.new.put ≡ self.old.put + 1) }
+        ensures { MatchResult result
+            (λ _. self.new ≡ put_is self.old.queue self.old.place (self.old.put + 1))
+            (λ back. (self.new ≡ self.old) × (back.ticket ≡ parts.ticket)) }
     {
-        push(rt, ring, &mut self.seat, self.place, self.put, parts);
-        self.put += 1;
+        match ring.push_as::<Puts, R>(rt, &mut self.seat, parts) {
+            Ok(()) => {
+                self.put += 1;
+                Ok(())
+            }
+            Err(back) => Err(back),
+        }
     }
 
     /// A seat with its share. The pass is spent.
@@ -126,23 +138,4 @@ impl PopPass {
     {
         ring.another::<Give>(&mut self.seat)
     }
-}
-
-// Tries until there is room.
-fn push<R: Wait>(rt: &R, ring: &Ring, seat: &mut QueueSeat, place: u32, put: u64, parts: JobParts)
-    requires of { (place < 64) × (put < 2 ^ 55) × IsPassOf ring.now seat.old × (ruled_capacity ring.now ≡ 8) }
-    requires next { parts.ticket ≡ ticket place (put + 1) }
-    requires view { view seat.old ≡ sight (view seat.old).all (share place put [] ∷ []) }
-    ensures of { IsPassOf ring.now seat.new }
-    ensures view { view seat.new ≡ sight (view seat.old).all (share place (put + 1) [] ∷ []) }
-{
-    let mut parts = parts;
-    for _ in rt.forever() {
-        match ring.push_as::<Puts, R>(rt, seat, parts) {
-            Ok(()) => return,
-            Err(back) => parts = back,
-        }
-        thread::yield_now();
-    }
-    unreachable!()
 }

@@ -1,21 +1,26 @@
 //! The round queue.
-ghost use Rattle.std.specs.Prelude.{◌≡◌, ℕ, ◌+◌, ◌<◌, ◌≤◌, ◌^◌, [], ◌∷◌, ◌++◌, All, IfOk, MatchOption, MatchResult, vec_capacity};
+ghost use Rattle.std.specs.Prelude.{◌≡◌, ℕ, ◌+◌, ◌<◌, ◌≤◌, ◌^◌, [], ◌∷◌, ◌++◌, All, IfOk, MatchOption, MatchResult, length, map, vec_capacity};
 ghost use Rattle.firm_rounds.specs.Rounds.{ticket, share};
 ghost use Rattle.firm_rounds.specs.Closed.{AsOften};
 ghost use Rattle.firm_rounds.specs.Faults.{IsFault};
-ghost use Rattle.firm_rounds.specs.Passes.{put_is, pop_is, new_puts, new_pops, closing_is, spent_pop};
+ghost use Rattle.firm_rounds.specs.Passes.{put_is, pop_is, new_puts, new_pops, closing_is, spent_put, spent_pop};
 
 use crate::close::{drain, gather};
 use crate::closing::Closing;
 use crate::cuts::{cut_pops, cut_puts, grow};
 use crate::job::Job;
 use crate::passes::{PopPass, PutPass};
-use crate::protocol::Ring;
+use crate::protocol::{JobParts, Ring};
+use crossbeam_utils::sync::{EventCount, Key};
 use std::alloc::{AllocError, Global};
+use std::hint::spin_loop;
 use std::marker::Model;
 use std::sync::{Mutex, Wait};
 
 const ROOM: usize = 8;
+
+// How often a put tries in vain before it sleeps until there is room: for some microseconds.
+const TRIES_BEFORE_SLEEP: u32 = 64;
 
 // Room for what `close` finds.
 pub(crate) struct Room {
@@ -30,6 +35,8 @@ pub struct Queue {
     ring: Ring,
     puts: usize,
     pops: usize,
+    // Notified of each job that is got. Puts that find the queue full sleep on it.
+    freed: EventCount,
     // The lock is there for `Sync` alone, since a job may not be shared.
     left: Mutex<Room>,
 }
@@ -81,6 +88,7 @@ impl Queue {
             ring,
             puts,
             pops,
+            freed: EventCount::new(),
             left,
         };
         Ok((queue, put_passes, pop_passes))
@@ -100,24 +108,69 @@ impl Queue {
         self.pops
     }
 
-    /// Puts the job, whose ticket is the pass's next, at the back. Where the queue is full it yields and tries again. It takes no
-    /// memory.
+    /// Puts the job, whose ticket is the pass's next, at the back. Where the queue is full it tries again, and after some tries
+    /// in vain it sleeps until there is room. It takes no memory.
     pub fn put<R: Wait>(&self, rt: &R, pass: &mut PutPass, job: Job)
         requires of { pass.old.queue ≡ self.now.id }
         requires next { job.ticket ≡ ticket pass.old.place (pass.old.put + 1) }
         requires room { pass.old.put < 2 ^ 55 }
         ensures { pass.new ≡ put_is pass.old.queue pass.old.place (pass.old.put + 1) }
     {
-        pass.put(rt, &self.ring, job.into_parts());
+        let mut parts = job.into_parts();
+        let mut tries = 0u32;
+        for _ in rt.forever() {
+            match self.try_put(rt, pass, parts, tries) {
+                Ok(()) => return,
+                Err(back) => parts = back,
+            }
+            tries = tries.saturating_add(1);
+        }
+        unreachable!()
     }
 
-    /// The job at the front. `None` only where the queue was empty at one step of the call. It takes no memory.
+    // One try, after this number of tries in vain. Where the queue is full it rests, and gives the job back.
+    //
+    // No wake-up is lost: a sleep is announced before the try. A pop that the try misses comes behind the announcement, so it
+    // notifies, and a notification ends the sleep also where it comes before the thread lies down.
+    fn try_put<R: Wait>(
+        &self,
+        rt: &R,
+        pass: &mut PutPass,
+        parts: JobParts,
+        tries: u32,
+    ) -> Result<(), JobParts>
+        requires of { pass.old.queue ≡ self.now.id }
+        requires next { parts.ticket ≡ ticket pass.old.place (pass.old.put + 1) }
+        requires room { pass.old.put < 2 ^ 55 }
+        ensures { MatchResult result
+            (λ _. pass.new ≡ put_is pass.old.queue pass.old.place (pass.old.put + 1))
+            (λ back. (pass.new ≡ pass.old) × (back.ticket ≡ parts.ticket)) }
+    {
+        let announced = self.announce(tries);
+        let tried = pass.try_put(rt, &self.ring, parts);
+        rest(rt, announced, tried.is_err());
+        tried
+    }
+
+    // After enough tries in vain, the announcement of a sleep, in case the next one is in vain too.
+    fn announce(&self, tries: u32) -> Option<Key<'_>> {
+        if tries < TRIES_BEFORE_SLEEP {
+            return None;
+        }
+        Some(self.freed.prepare_wait())
+    }
+
+    /// The job at the front. `None` only where the queue was empty at one step of the call. It wakes a put that sleeps for want of
+    /// room. It takes no memory.
     pub fn pop<R: Wait>(&self, rt: &R, pass: &mut PopPass) -> Option<Job>
         requires { pass.old.queue ≡ self.now.id }
         ensures { MatchOption result (pass.new ≡ pass.old) (λ x. pass.new ≡ pop_is pass.old.queue (pass.old.got ++ x.ticket ∷ [])) }
     {
         match pass.pop(rt, &self.ring) {
-            Some(parts) => Some(Job::of_parts(parts)),
+            Some(parts) => {
+                self.freed.notify_one();
+                Some(Job::of_parts(parts))
+            }
             None => None,
         }
     }
@@ -132,6 +185,7 @@ impl Queue {
             ring,
             puts: _,
             pops: _,
+            freed: _,
             left,
         } = self;
         let keep = first.give(&ring);
@@ -152,27 +206,45 @@ impl Queue {
         if puts.len() < self.puts || pops.len() < self.pops {
             return Err(QueueFault::Missing(self, puts, pops));
         }
-        let Queue {
-            ring,
-            puts: put_count,
-            pops: pop_count,
-            left,
-        } = self;
         let mut puts = puts;
         let mut pops = pops;
-        let keep = gather(
-            &ring,
-            put_count,
-            pop_count,
-            puts.as_mut_slice(),
-            pops.as_mut_slice(),
-        );
-        let jobs = drain(rt, &ring, keep, left.into_inner().into_jobs());
+        let jobs = self.settle(rt, puts.as_mut_slice(), pops.as_mut_slice());
         if jobs.is_empty() {
             jobs.destroy_empty();
             return Ok(());
         }
         Err(QueueFault::Left(puts, pops, jobs))
+    }
+
+    // Takes in all passes, and then what stands in the queue, front first.
+    fn settle<R: Wait>(self, rt: &R, puts: &mut [PutPass], pops: &mut [PopPass]) -> Vec<Job>
+        requires counts { (self.puts ≤ length puts.old) × (self.pops ≤ length pops.old) }
+        requires puts { All (λ p. p.queue ≡ self.id) puts.old }
+        requires pops { All (λ p. p.queue ≡ self.id) pops.old }
+        ensures often { AsOften puts.old pops.old result.items }
+        ensures puts { puts.new ≡ map spent_put puts.old }
+        ensures pops { pops.new ≡ map spent_pop pops.old }
+    {
+        let Queue {
+            ring,
+            puts: put_count,
+            pops: pop_count,
+            freed: _,
+            left,
+        } = self;
+        let keep = gather(&ring, put_count, pop_count, puts, pops);
+        drain(rt, &ring, keep, left.into_inner().into_jobs())
+    }
+}
+
+// If the queue was full, and a sleep was announced, sleeps until a notification.
+fn rest<R: Wait>(rt: &R, announced: Option<Key<'_>>, was_full: bool) {
+    if !was_full {
+        return;
+    }
+    match announced {
+        Some(key) => key.wait(rt),
+        None => spin_loop(),
     }
 }
 

@@ -1,11 +1,13 @@
 //! Rules, formats, one tenant and the table of tenants. Rows are data, and a helper stands for each answer that is expected.
 
+mod answers;
 mod devices;
 mod events;
 mod inputs;
 mod names;
 mod operators;
 mod pieces;
+mod reading;
 mod registers;
 mod replies;
 mod rosters;

@@ -15,7 +15,8 @@ last_of-last (y ∷ []) x = refl
 last_of-last (y ∷ z ∷ zs) x = last_of-last (z ∷ zs) x
 
 pub replies_from-last : (book : Book) (commands : List Given) (given : Given)
-    → replies_from book (commands ++ given ∷ []) ≡ replies_from book commands ++ (step (book_after book commands) given.0 given.1).0 ∷ []
+    → replies_from book (commands ++ given ∷ []) ≡ replies_from book commands
+    ++ (step (book_after book commands) given.0 given.1).0 ∷ []
 replies_from-last book [] given = refl
 replies_from-last book (first ∷ rest) given =
     ap (λ replies. (step book first.0 first.1).0 ∷ replies) (replies_from-last (step book first.0 first.1).1 rest given)
@@ -29,11 +30,14 @@ book_after-last book (first ∷ rest) given = book_after-last (step book first.0
 abbrev pub replies_in : Stay → List Reply
 replies_in stay = alone_marked stay.limits stay.commands
 
-pub replies_in-more : (stay : Stay) (given : Given) → replies_in (with_command given stay) ≡ replies_in stay ++ (step (book_of stay) given.0 given.1).0 ∷ []
+pub replies_in-more : (stay : Stay) (given : Given) → replies_in (with_command given stay) ≡ replies_in stay
+    ++ (step (book_of stay) given.0 given.1).0 ∷ []
 replies_in-more stay given = replies_from-last (opening_book stay.limits) stay.commands given
 
-pub book_of-more : (stay : Stay) (given : Given) → book_of (with_command given stay) ≡ (step (book_of stay) given.0 given.1).1
+pub book_of-more : (stay : Stay) (given : Given) → book_of (with_command given stay)
+    ≡ (step (book_of stay) given.0 given.1).1
 book_of-more stay given = book_after-last (opening_book stay.limits) stay.commands given
 
-pub last_reply-more : (stay : Stay) (given : Given) → last_reply (with_command given stay) ≡ Some (step (book_of stay) given.0 given.1).0
+pub last_reply-more : (stay : Stay) (given : Given) → last_reply (with_command given stay)
+    ≡ Some (step (book_of stay) given.0 given.1).0
 last_reply-more stay given = ap last_of (replies_in-more stay given) ∙ last_of-last (replies_in stay) _

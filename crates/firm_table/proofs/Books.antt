@@ -20,7 +20,8 @@ use Rattle.firm_text.specs.declared.operator.OperatorReply.TheVariants.{Refused}
 use Rattle.firm_text.specs.declared.registers.Place.{Place as Registered}
 use Rattle.firm_table.specs.Places.{Given, Stay, Place, new_stay, unused_place, place_of_row, opening_places, stay_of}
 use Rattle.firm_table.specs.Places.{with_command, commanded, left_by, register_of, admission, retirement, obeyed}
-use Rattle.firm_table.specs.Answers.{replied, told_operator, reply_answer, answer_to_command, is_operator_memory}
+use Rattle.firm_table.specs.Answers.{reply_answer, answer_to_command, is_operator_memory}
+use Rattle.firm_table.specs.declared.answers.LineAnswer.TheVariants.{Replied, ToOperator}
 use Rattle.firm_table.specs.inner.Adding.{TenantsAreAnswered, StrangersAreAnswered, AdmissionsAreAnswered}
 use Rattle.firm_table.specs.inner.Adding.{AdmissionsFindNoMemory, AdmissionsAreRefused, RetirementsAreAnswered}
 use Rattle.firm_table.specs.inner.Adding.{RetirementsAreRefused}
@@ -54,14 +55,14 @@ module _ (tenants : Tenants) (name : List ℕ) (command : Command) (at : ℕ) (b
       ∙ ap (λ (bs : List (Option Book)). get_or bs at None) shows.books ∙ here in
       cc
 
-  its_reply : replied name reply ≡ answer_to_command name (stay_of places name) (command, is_memory reply)
+  its_reply : Replied name reply ≡ answer_to_command name (stay_of places name) (command, is_memory reply)
   its_reply =
       let last = last_reply-more there.stay (command, is_memory reply) in
       let now : (step (book_of there.stay) command (is_memory reply)).0 ≡ reply =
       ap (λ (b : Book). (step b command (is_memory reply)).0) its_book
       ∙ sym (ap (λ (p : Reply × Book). p.0) stepped) in
       sym (ap (λ (s : Option Stay). answer_to_command name s (command, is_memory reply)) there.is
-      ∙ ap (reply_answer name) last ∙ ap (replied name) now)
+      ∙ ap (reply_answer name) last ∙ ap (Replied name) now)
 
   its_books : books_of (map (commanded name (command, is_memory reply)) places) ≡ set tenants.books at (Some after)
   its_books =
@@ -120,7 +121,7 @@ admits tenants name limits found mark places is shows =
 pub admissions_are_answered : AdmissionsAreAnswered
 admissions_are_answered tenants name limits at given = record {
   answers = λ places shows. sym
-      (ap (λ (p : OperatorReply × List Place). told_operator p.0)
+      (ap (λ (p : OperatorReply × List Place). ToOperator p.0)
       (admits tenants name limits (Ok at) false places given shows));
   leaves = λ places shows.
       let new : Place = record {
@@ -142,7 +143,7 @@ admissions_are_answered tenants name limits at given = record {
 pub admissions_find_no_memory : AdmissionsFindNoMemory
 admissions_find_no_memory tenants name limits at given = record {
   answers = λ places shows. sym
-      (ap (λ (p : OperatorReply × List Place). told_operator p.0)
+      (ap (λ (p : OperatorReply × List Place). ToOperator p.0)
       (admits tenants name limits (Ok at) true places given shows));
   leaves = λ places shows. subst (Shows tenants)
       (sym (ap (λ (p : OperatorReply × List Place). p.1)
@@ -153,7 +154,7 @@ pub admissions_are_refused : AdmissionsAreRefused
 admissions_are_refused tenants name limits refusal refused =
     let mark : Bool = is_operator_memory (Refused refusal) in record {
       answers = λ places shows. sym
-          (ap (λ (p : OperatorReply × List Place). told_operator p.0)
+          (ap (λ (p : OperatorReply × List Place). ToOperator p.0)
           (admits tenants name limits (Err refusal) mark places refused shows));
       leaves = λ places shows. subst (Shows tenants)
           (sym (ap (λ (p : OperatorReply × List Place). p.1)
@@ -164,7 +165,7 @@ admissions_are_refused tenants name limits refusal refused =
 pub retirements_are_answered : RetirementsAreAnswered
 retirements_are_answered tenants name at sound found = record {
   answers = λ places shows. sym
-      (ap (λ (s : Option Stay). told_operator (retirement places name s).0) (there places shows).is);
+      (ap (λ (s : Option Stay). ToOperator (retirement places name s).0) (there places shows).is);
   leaves = λ places shows.
       let gone : Place = record (get_or places at unused_place) { stay = None } in
       let once : map (left_by name) places ≡ set places at gone =
@@ -187,7 +188,7 @@ retirements_are_answered tenants name at sound found = record {
 pub retirements_are_refused : RetirementsAreRefused
 retirements_are_refused tenants name none = record {
   answers = λ places shows. sym
-      (ap (λ (s : Option Stay). told_operator (retirement places name s).0) (nowhere tenants name places none shows));
+      (ap (λ (s : Option Stay). ToOperator (retirement places name s).0) (nowhere tenants name places none shows));
   leaves = λ places shows.
       subst (Shows tenants) (sym
       (ap (λ (s : Option Stay). (retirement places name s).1) (nowhere tenants name places none shows))) shows;

@@ -12,17 +12,20 @@ use Rattle.firm_text.specs.declared.operator.OperatorRefusal.TheVariants.{Tenant
 use Rattle.firm_text.specs.declared.operator.OperatorRefusal.TheVariants.{Memory as NoMemory}
 use Rattle.firm_text.specs.declared.operator.OperatorReply.TheVariants.{Admitted as WasAdmitted, Retired}
 use Rattle.firm_text.specs.declared.operator.OperatorReply.TheVariants.{Refused as NotDone}
-use Rattle.firm_table.specs.Answers.{Answer, unknown_tenant, replied, told_operator, ended}
+use Rattle.firm_table.specs.Answers.{ended}
+use Rattle.firm_table.specs.declared.answers.LineAnswer.{LineAnswer}
+use Rattle.firm_table.specs.declared.answers.LineAnswer.TheVariants.{UnknownTenant, Replied, ToOperator}
 use Rattle.firm_table.specs.Output.{answers_of, unmarked}
 
 abbrev tenant : List ℕ → ℕ → ℕ → ℕ → Admitted
-tenant name nodes arcs life = (name, record { nodes = nodes; arcs = arcs; life = life; spread = 1; churn = 2; remote = 0 })
+tenant name nodes arcs life =
+    (name, record { nodes = nodes; arcs = arcs; life = life; spread = 1; churn = 2; remote = 0 })
 
-abbrev says : List ℕ → ℕ → Outcome → Answer
-says name number outcome = replied name (record { number = number; outcome = outcome })
+abbrev says : List ℕ → ℕ → Outcome → LineAnswer
+says name number outcome = Replied name (record { number = number; outcome = outcome })
 
 -- the answers to these lines
-abbrev told : List Admitted → List (List ℕ) → List Answer
+abbrev told : List Admitted → List (List ℕ) → List LineAnswer
 told roster lines = answers_of roster (map unmarked (input_lines (flat_map ended lines)))
 
 abbrev alpha : List ℕ
@@ -37,14 +40,17 @@ two_tenants = tenant alpha 9 24 100 ∷ tenant beta 8 30 100 ∷ []
 -- each tenant counts its own commands
 two_in_turn : told two_tenants
     (codes "alpha machine m1 2" ∷ codes "beta machine m1 1" ∷ codes "alpha machine m2 2" ∷ codes "beta job low 2"
-    ∷ codes "alpha job j 10" ∷ codes "beta task low l" ∷ codes "alpha task j a" ∷ codes "beta show" ∷ codes "gamma show" ∷ codes "alpha show" ∷ [])
-    ≡ says alpha 1 Plain ∷ says beta 1 Plain ∷ says alpha 2 Plain ∷ says beta 2 Plain ∷ says alpha 3 Plain ∷ says beta 3 Plain ∷ says alpha 4 Plain
-    ∷ says beta 4 (Shown 1 1 1 0 5 8 6 30) ∷ unknown_tenant ∷ says alpha 5 (Shown 2 1 1 0 6 9 10 24) ∷ []
+    ∷ codes "alpha job j 10" ∷ codes "beta task low l" ∷ codes "alpha task j a" ∷ codes "beta show" ∷ codes "gamma show"
+    ∷ codes "alpha show" ∷ [])
+    ≡ says alpha 1 Plain ∷ says beta 1 Plain ∷ says alpha 2 Plain ∷ says beta 2 Plain ∷ says alpha 3 Plain
+    ∷ says beta 3 Plain ∷ says alpha 4 Plain
+    ∷ says beta 4 (Shown 1 1 1 0 5 8 6 30) ∷ UnknownTenant ∷ says alpha 5 (Shown 2 1 1 0 6 9 10 24) ∷ []
 two_in_turn = refl
 
 -- and without the other's lines its own are answered alike
 one_of_two : told two_tenants
-    (codes "alpha machine m1 2" ∷ codes "alpha machine m2 2" ∷ codes "alpha job j 10" ∷ codes "alpha task j a" ∷ codes "alpha show" ∷ [])
+    (codes "alpha machine m1 2" ∷ codes "alpha machine m2 2" ∷ codes "alpha job j 10" ∷ codes "alpha task j a"
+    ∷ codes "alpha show" ∷ [])
     ≡ says alpha 1 Plain ∷ says alpha 2 Plain ∷ says alpha 3 Plain ∷ says alpha 4 Plain ∷ says alpha 5
     (Shown 2 1 1 0 6 9 10 24) ∷ []
 one_of_two = refl
@@ -69,14 +75,15 @@ one_tenant = (a, record { nodes = 4; arcs = 9; life = 10; spread = 0; churn = 0;
 -- a name is known from its admission to its retirement, and its numbers begin anew; each refusal has its code
 coming_and_going : told one_tenant
     (codes "b show" ∷ codes "a job j 5" ∷ codes "+ admit b,2,0,5,0,0" ∷ codes "b show" ∷ codes "+ admit b,2,0,5,0,0"
-    ∷ codes "+ retire b" ∷ codes "b show" ∷ codes "+ admit b,3,2,5,0,0,0" ∷ codes "b round" ∷ codes "+ retire c" ∷ codes "+ admit c,1,0,1,0,0"
+    ∷ codes "+ retire b" ∷ codes "b show" ∷ codes "+ admit b,3,2,5,0,0,0" ∷ codes "b round" ∷ codes "+ retire c"
+    ∷ codes "+ admit c,1,0,1,0,0"
     ∷ codes "+ admit C,1,0,1,0,0" ∷ codes "+ admit c,2,0,1,0" ∷ codes "+ drop b" ∷ codes "+" ∷ codes "a show" ∷ [])
-    ≡ unknown_tenant ∷ says a 1 Plain ∷ told_operator (WasAdmitted b) ∷ says b 1 (Shown 0 0 0 0 2 2 0 0)
-    ∷ told_operator (NotDone TenantExists) ∷ told_operator (Retired b) ∷ unknown_tenant ∷ told_operator
+    ≡ UnknownTenant ∷ says a 1 Plain ∷ ToOperator (WasAdmitted b) ∷ says b 1 (Shown 0 0 0 0 2 2 0 0)
+    ∷ ToOperator (NotDone TenantExists) ∷ ToOperator (Retired b) ∷ UnknownTenant ∷ ToOperator
     (WasAdmitted b)
-    ∷ says b 1 (Placed (pos 0) []) ∷ told_operator (NotDone NoSuchTenant) ∷ told_operator (NotDone BadNumber)
-    ∷ told_operator (NotDone BadName) ∷ told_operator (NotDone BadRow) ∷ told_operator
-    (NotDone BadCommand) ∷ told_operator (NotDone BadCommand)
+    ∷ says b 1 (Placed (pos 0) []) ∷ ToOperator (NotDone NoSuchTenant) ∷ ToOperator (NotDone BadNumber)
+    ∷ ToOperator (NotDone BadName) ∷ ToOperator (NotDone BadRow) ∷ ToOperator
+    (NotDone BadCommand) ∷ ToOperator (NotDone BadCommand)
     ∷ says a 2 (Shown 0 1 0 0 3 4 1 9) ∷ []
 coming_and_going = refl
 
@@ -85,7 +92,7 @@ admitted_later : answers_of one_tenant
     ((line_of (codes "+ admit b,2,0,5,0,0"), true) ∷ unmarked (line_of (codes "b show")) ∷
     (line_of (codes "a job j 5"), true)
     ∷ unmarked (line_of (codes "+ admit b,2,0,5,0,0")) ∷ unmarked (line_of (codes "b show")) ∷ [])
-    ≡ told_operator (NotDone NoMemory) ∷ unknown_tenant ∷ says a 1 (Refused Memory) ∷ told_operator
+    ≡ ToOperator (NotDone NoMemory) ∷ UnknownTenant ∷ says a 1 (Refused Memory) ∷ ToOperator
     (WasAdmitted b) ∷ says b 1 (Shown 0 0 0 0 2 2 0 0) ∷ []
 admitted_later = refl
 
@@ -95,6 +102,6 @@ numbered number = tenant (codes "t" ++ (48 + number / 10) ∷ (48 + number % 10)
 
 full : told (map numbered (range_with_len 0 64))
     (codes "+ admit z,2,0,1,0,0" ∷ codes "+ retire t63" ∷ codes "+ admit z,2,0,1,0,0" ∷ [])
-    ≡ told_operator (NotDone Full) ∷ told_operator (Retired (codes "t63")) ∷ told_operator
+    ≡ ToOperator (NotDone Full) ∷ ToOperator (Retired (codes "t63")) ∷ ToOperator
     (WasAdmitted (codes "z")) ∷ []
 full = refl

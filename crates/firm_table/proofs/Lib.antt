@@ -6,8 +6,8 @@ pub mod Stays
 mod Unmarked
 mod Lines
 mod SameRow
+mod Beginnings
 mod Examples
-mod Prefixes
 mod Books
 mod Pieces
 mod Progress

@@ -1,6 +1,6 @@
 -- The lines of a tenant, and lines without marks.
 use Rattle.std.proofs.Common.{◌≡◌, ℕ, ◌+◌, List, [], ◌∷◌, refl, sym, ap, ◌∙◌, append_assoc, append-nil}
-use Rattle.std.specs.Prelude.{Bool, true, false, ◌||◌, Option, Some, None, Result, Ok, Err, bytes_eq, map, option_map}
+use Rattle.std.specs.Prelude.{Bool, true, false, ◌||◌, Option, Some, None, Result, Ok, Err, map, option_map}
 use Rattle.std.specs.Prelude.{position, slice_index_or}
 use Rattle.std.specs.Option.{is_some}
 use Rattle.std.specs.List.{list_any}
@@ -13,8 +13,10 @@ use Rattle.firm_text.specs.declared.operator.OperatorRefusal.{OperatorRefusal}
 use Rattle.firm_table.specs.Places.{Given, MarkedLine, Stay, Place, new_stay, unused_place, opening_places, stay_of}
 use Rattle.firm_table.specs.Places.{with_command, commanded}
 use Rattle.firm_table.specs.Places.{register_of, admission, retirement, after_line, after_lines}
-use Rattle.firm_table.specs.Answers.{Answer, tells_memory}
-use Rattle.firm_table.specs.Output.{answers_of, output_of, unmarked}
+use Rattle.firm_table.specs.Answers.{answer_of, tells_memory}
+use Rattle.firm_table.specs.declared.answers.LineAnswer.{LineAnswer}
+use Rattle.firm_table.specs.declared.answers.LineAnswer.TheVariants.{ToOperator}
+use Rattle.firm_table.specs.Output.{answers_from, answers_of, output_of, unmarked}
 use Rattle.firm_table.specs.Isolation.{is_operators_for, commands_to, with_commands, NoneIsOperatorsFor}
 use Rattle.firm_table.specs.Isolation.{StaysHoldTheirLines, NeedsNoMarks}
 use Rattle.firm_table.proofs.Lookups.{Which, same, other, which, eq_same, stay_of-commanded, stay_of-commanded-other}
@@ -55,15 +57,17 @@ module _ (name : List ℕ) where
       (holds ∙ ap (option_map (with_commands (commands_to name rest)))
       (stay_of-commanded-other places tenant name (command, mark) out))
 
-  -- a line of the operator for another leaves the tenant
-  leaves_retire : (places : List Place) (tenant : List ℕ) (stay : Option Stay) → bytes_eq tenant name ≡ false
+  -- a line of the operator that is refused, or is for another, leaves the tenant
+  leaves_retire : (places : List Place) (tenant : List ℕ) (stay : Option Stay)
+      → is_operators_for name (ToOperator (retirement places tenant stay).0) ≡ false
       → stay_of (retirement places tenant stay).1 name ≡ stay_of places name
   leaves_retire places tenant None out = refl
   leaves_retire places tenant (Some stay) out = stay_of-left-other places tenant name out
 
   leaves_admit : (places : List Place) (tenant : List ℕ) (limits : TenantLimits) (found : Result ℕ OperatorRefusal)
       (mark : Bool)
-      → place_for (register_of places) tenant ≡ found → bytes_eq tenant name ≡ false
+      → place_for (register_of places) tenant ≡ found
+      → is_operators_for name (ToOperator (admission places tenant limits found mark).0) ≡ false
       → stay_of (admission places tenant limits found mark).1 name ≡ stay_of places name
   leaves_admit places tenant limits (Err refusal) mark is out = refl
   leaves_admit places tenant limits (Ok at) true is out = refl
@@ -77,33 +81,41 @@ module _ (name : List ℕ) where
       } in
       stay_of-entered-other places name at new free.1 out
 
-  holds_lines : (places : List Place) (lines : List MarkedLine) → NoneIsOperatorsFor name lines → Holds places lines
+  -- what its answer says of a line, and what those of the lines behind it say
+  parted : (places : List Place) (given : MarkedLine) (rest : List MarkedLine)
+      → NoneIsOperatorsFor name (answers_from places (given ∷ rest))
+      → (is_operators_for name (answer_of places given) ≡ false)
+      × NoneIsOperatorsFor name (answers_from (after_line places given) rest)
+  parted places given rest none =
+      both_false (is_operators_for name (answer_of places given))
+      (list_any (is_operators_for name) (answers_from (after_line places given) rest)) none
+
+  pub holds_lines : (places : List Place) (lines : List MarkedLine)
+      → NoneIsOperatorsFor name (answers_from places lines) → Holds places lines
   holds_lines places [] none = sym (none_more (stay_of places name))
   holds_lines places ((Nothing, mark) ∷ rest) none = holds_lines places rest none
   holds_lines places ((Long, mark) ∷ rest) none = holds_lines places rest none
   holds_lines places ((Nameless, mark) ∷ rest) none = holds_lines places rest none
   holds_lines places ((For tenant command, mark) ∷ rest) none =
+      let parts = parted places (For tenant command, mark) rest none in
       behind_command places tenant command mark rest (which tenant name)
-      (holds_lines (map (commanded tenant (command, mark)) places) rest none)
+      (holds_lines (map (commanded tenant (command, mark)) places) rest parts.1)
   holds_lines places ((Operator (Admit tenant limits), mark) ∷ rest) none =
-      let parts = both_false (bytes_eq tenant name) (list_any (λ given. is_operators_for name given.0) rest) none in
+      let parts = parted places (Operator (Admit tenant limits), mark) rest none in
       holds_lines (after_line places (Operator (Admit tenant limits), mark)) rest parts.1
       ∙ ap (option_map (with_commands (commands_to name rest)))
       (leaves_admit places tenant limits (place_for (register_of places) tenant) mark refl parts.0)
   holds_lines places ((Operator (Retire tenant), mark) ∷ rest) none =
-      let parts = both_false (bytes_eq tenant name) (list_any (λ given. is_operators_for name given.0) rest) none in
+      let parts = parted places (Operator (Retire tenant), mark) rest none in
       holds_lines (after_line places (Operator (Retire tenant), mark)) rest parts.1
       ∙ ap (option_map (with_commands (commands_to name rest)))
       (leaves_retire places tenant (stay_of places tenant) parts.0)
   holds_lines places ((Operator (Faulty refusal), mark) ∷ rest) none = holds_lines places rest none
 
-  held : (places : List Place) (lines : List MarkedLine) → NoneIsOperatorsFor name lines → Holds places lines
-  held places lines none = holds_lines places lines none
-
 pub stays_hold_their_lines : StaysHoldTheirLines
-stays_hold_their_lines roster lines name none = held name (opening_places roster) lines none
+stays_hold_their_lines roster lines name none = holds_lines name (opening_places roster) lines none
 
-unmarked_lines : (lines : List MarkedLine) (answers : List Answer) → map (λ given. given.1) lines
+unmarked_lines : (lines : List MarkedLine) (answers : List LineAnswer) → map (λ given. given.1) lines
     ≡ map tells_memory answers → list_any tells_memory answers ≡ false
     → lines ≡ map unmarked (map (λ given. given.0) lines)
 unmarked_lines [] answers marks none = refl

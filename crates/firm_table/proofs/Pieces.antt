@@ -1,5 +1,6 @@
 -- Lines that come in pieces.
-use Rattle.std.proofs.Common.{◌≡◌, ℕ, ◌+◌, ◌<◌, ◌≤◌, List, [], ◌∷◌, ◌++◌, take, drop, length, refl, sym, ap, subst, ◌∙◌, append_assoc, append-nil, arith, get_or}
+use Rattle.std.proofs.Common.{◌≡◌, ℕ, ◌+◌, ◌<◌, ◌≤◌, List, [], ◌∷◌, ◌++◌, take, drop, length, refl, sym, ap, subst, ◌∙◌}
+use Rattle.std.proofs.Common.{append_assoc, append-nil, arith, get_or}
 use Rattle.std.proofs.lemmas.Grind.{common_steps}
 use Rattle.std.specs.Prelude.{Bool, true, false, ◌||◌, Option, map, nat_lt, min}
 use Rattle.std.specs.List.{list_any, slice_split, position_or_len}
@@ -14,7 +15,8 @@ use Rattle.firm_text.specs.Inputs.{input_lines, line_of}
 use Rattle.firm_text.specs.Lines.{is_filled, is_line_feed, lines, without_empty_last}
 use Rattle.firm_text.specs.Rosters.{Admitted}
 use Rattle.firm_text.specs.declared.inputs.Line.{Line}
-use Rattle.firm_table.specs.Service.{BeginsAnswers, Telling}
+use Rattle.firm_table.specs.Service.{BeginsAnswers}
+use Rattle.firm_table.specs.Telling.{Telling}
 use Rattle.firm_table.specs.inner.Reading.{Heard, Halted, HasEnded}
 
 both_false : (b c : Bool) → (b || c) ≡ false → (b ≡ false) × (c ≡ false)
@@ -22,28 +24,33 @@ both_false true c e = cc
 both_false false c e = (refl, e)
 
 -- some piece comes first
-first_piece : (xs : List ℕ) → (first : List ℕ) × (others : List (List ℕ)) × (slice_split is_line_feed xs ≡ first ∷ others)
+first_piece : (xs : List ℕ) → (first : List ℕ) × (others : List (List ℕ))
+    × (slice_split is_line_feed xs ≡ first ∷ others)
 first_piece [] = ([], [], refl)
 first_piece (x ∷ xs) =
     let behind = first_piece xs in
-    elim (is_line_feed x) as (λ b. is_line_feed x ≡ b → (first : List ℕ) × (others : List (List ℕ)) × (slice_split is_line_feed (x ∷ xs) ≡ first ∷ others)) [
+    elim (is_line_feed x) as (λ b. is_line_feed x ≡ b → (first : List ℕ) × (others : List (List ℕ))
+    × (slice_split is_line_feed (x ∷ xs) ≡ first ∷ others)) [
       | true ↦ λ e. ([], slice_split is_line_feed xs, slice_split-cons_yes is_line_feed x xs e)
       | false ↦ λ e. (x ∷ behind.0, behind.1, slice_split-cons_no is_line_feed x xs e ∙ rw behind.2 refl)
     ] refl
 
 -- a piece behind which something stands is not the last
-some_behind : (piece : List ℕ) (xs : List ℕ) → without_empty_last (piece ∷ slice_split is_line_feed xs) ≡ piece ∷ without_empty_last (slice_split is_line_feed xs)
+some_behind : (piece : List ℕ) (xs : List ℕ) → without_empty_last (piece ∷ slice_split is_line_feed xs) ≡ piece
+    ∷ without_empty_last (slice_split is_line_feed xs)
 some_behind piece xs = let first = first_piece xs in rw first.2 refl
 
 -- the pieces of a line and what stands behind its line feed
-split_ended : (xs more : List ℕ) → list_any is_line_feed xs ≡ false → slice_split is_line_feed (xs ++ 10 ∷ more) ≡ xs ∷ slice_split is_line_feed more
+split_ended : (xs more : List ℕ) → list_any is_line_feed xs ≡ false → slice_split is_line_feed (xs ++ 10 ∷ more) ≡ xs
+    ∷ slice_split is_line_feed more
 split_ended [] more none = slice_split-cons_yes is_line_feed 10 more refl
 split_ended (x ∷ xs) more none =
     let parts = both_false (is_line_feed x) (list_any is_line_feed xs) none in
     slice_split-cons_no is_line_feed x (xs ++ 10 ∷ more) parts.0 ∙ rw (split_ended xs more parts.1) refl
 
 -- a line with its line feed comes first
-lines_ended : (xs more : List ℕ) → list_any is_line_feed xs ≡ false → lines (xs ++ 10 ∷ more) ≡ strip_carriage_return xs ∷ lines more
+lines_ended : (xs more : List ℕ) → list_any is_line_feed xs ≡ false → lines (xs ++ 10 ∷ more) ≡ strip_carriage_return xs
+    ∷ lines more
 lines_ended xs more none = rw (split_ended xs more none, some_behind xs more) refl
 
 split_alone : (xs : List ℕ) → list_any is_line_feed xs ≡ false → slice_split is_line_feed xs ≡ xs ∷ []
@@ -53,7 +60,8 @@ split_alone (x ∷ xs) none =
     slice_split-cons_no is_line_feed x xs parts.0 ∙ rw (split_alone xs parts.1) refl
 
 -- a rest without a line feed is one line
-lines_alone : (xs : List ℕ) → list_any is_line_feed xs ≡ false → is_filled xs ≡ true → lines xs ≡ strip_carriage_return xs ∷ []
+lines_alone : (xs : List ℕ) → list_any is_line_feed xs ≡ false → is_filled xs ≡ true
+    → lines xs ≡ strip_carriage_return xs ∷ []
 lines_alone xs none filled = rw (split_alone xs none, filled) refl
 
 -- nothing has ended yet
@@ -70,11 +78,13 @@ input_more text rest ended none =
     ended.parts (rest ++ 10 ∷ [])
     ∙ ap (λ (ls : List (List ℕ)). input_lines text ++ map line_of ls) (lines_ended rest [] none)
 
-pub ended_more : (text rest : List ℕ) → HasEnded text → list_any is_line_feed rest ≡ false → HasEnded (text ++ (rest ++ 10 ∷ []))
+pub ended_more : (text rest : List ℕ) → HasEnded text → list_any is_line_feed rest ≡ false
+    → HasEnded (text ++ (rest ++ 10 ∷ []))
 ended_more text rest ended none = record {
   ends = subst (λ (l : List ℕ). IsEmptyOrEndsWith l 10) (append_assoc text rest (10 ∷ [])) (ends_behind (text ++ rest));
   parts = λ more.
-      ap input_lines (append_assoc text (rest ++ 10 ∷ []) more ∙ ap (λ (l : List ℕ). text ++ l) (append_assoc rest (10 ∷ []) more))
+      ap input_lines (append_assoc text (rest ++ 10 ∷ []) more
+      ∙ ap (λ (l : List ℕ). text ++ l) (append_assoc rest (10 ∷ []) more))
       ∙ ended.parts (rest ++ 10 ∷ more)
       ∙ ap (λ (ls : List (List ℕ)). input_lines text ++ map line_of ls) (lines_ended rest more none)
       ∙ sym (append_assoc (input_lines text) (line_of (strip_carriage_return rest) ∷ []) (input_lines more))
@@ -92,11 +102,13 @@ rest_none [] e = refl
 rest_none (x ∷ xs) e = cc
 
 -- the first line of a piece, its line feed, and what follows
-pub cut_at : (xs : List ℕ) (used : ℕ) → nat_lt (position_or_len is_line_feed xs) (length xs) ≡ true → used ≡ min (1 + position_or_len is_line_feed xs) (length xs)
+pub cut_at : (xs : List ℕ) (used : ℕ) → nat_lt (position_or_len is_line_feed xs) (length xs) ≡ true
+    → used ≡ min (1 + position_or_len is_line_feed xs) (length xs)
     → xs ≡ (take (position_or_len is_line_feed xs) xs ++ 10 ∷ []) ++ drop used xs
 cut_at xs used e u =
     let l : position_or_len is_line_feed xs < length xs = grind (arith, nat_tests) in
-    let mark : get_or xs (position_or_len is_line_feed xs) 0 ≡ 10 = (let passes = passes_at_first is_line_feed xs 0 l in grind (arith, nat_tests)) in
+    let mark : get_or xs (position_or_len is_line_feed xs) 0 ≡ 10 =
+    (let passes = passes_at_first is_line_feed xs 0 l in grind (arith, nat_tests)) in
     let n : ℕ = position_or_len is_line_feed xs in
     let split : xs ≡ take n xs ++ (get_or xs n 0 ∷ drop (n + 1) xs) = split_at_first is_line_feed xs 0 l in
     let behind : drop (n + 1) xs ≡ drop used xs = ap (λ (k : ℕ). drop k xs) (let v : n + 1 ≡ used = omega arith in v) in
@@ -106,16 +118,19 @@ cut_at xs used e u =
     ∙ sym (append_assoc (take n xs) (10 ∷ []) (drop used xs))
 
 -- the bytes that were heard, the line that they end, and its line feed
-pub both_ended : (heard text rest bytes front : List ℕ) → heard ≡ text ++ rest → front ≡ bytes ++ 10 ∷ [] → heard ++ front ≡ text ++ ((rest ++ bytes) ++ 10 ∷ [])
+pub both_ended : (heard text rest bytes front : List ℕ) → heard ≡ text ++ rest → front ≡ bytes ++ 10 ∷ []
+    → heard ++ front ≡ text ++ ((rest ++ bytes) ++ 10 ∷ [])
 both_ended heard text rest bytes front both same =
     ap (λ (l : List ℕ). heard ++ l) same ∙ ap (λ (l : List ℕ). l ++ (bytes ++ 10 ∷ [])) both
     ∙ append_assoc text rest (bytes ++ 10 ∷ [])
     ∙ ap (λ (l : List ℕ). text ++ l) (sym (append_assoc rest bytes (10 ∷ [])))
 
 -- what halts at a line's end has read what follows it too
-pub halts_at : (roster : List Admitted) (heard text rest bytes piece behind : List ℕ) (written now : Option (List ℕ)) → heard ≡ text ++ rest
+pub halts_at : (roster : List Admitted) (heard text rest bytes piece behind : List ℕ) (written now : Option (List ℕ))
+    → heard ≡ text ++ rest
     → piece ≡ (bytes ++ 10 ∷ []) ++ behind → IsEmptyOrEndsWith (text ++ ((rest ++ bytes) ++ 10 ∷ [])) 10
-    → BeginsAnswers roster (text ++ ((rest ++ bytes) ++ 10 ∷ [])) written now → Halted roster (heard ++ piece) written now
+    → BeginsAnswers roster (text ++ ((rest ++ bytes) ++ 10 ∷ [])) written now
+    → Halted roster (heard ++ piece) written now
 halts_at roster heard text rest bytes piece behind written now both cut ends begins = record {
   answered = text ++ ((rest ++ bytes) ++ 10 ∷ []);
   rest = behind;
@@ -128,7 +143,8 @@ halts_at roster heard text rest bytes piece behind written now both cut ends beg
 }
 
 -- what halts between two lines
-pub halts_between : (roster : List Admitted) (heard text rest more : List ℕ) (written now : Option (List ℕ)) → heard ≡ text ++ rest
+pub halts_between : (roster : List Admitted) (heard text rest more : List ℕ) (written now : Option (List ℕ))
+    → heard ≡ text ++ rest
     → HasEnded text → BeginsAnswers roster text written now → Halted roster (heard ++ more) written now
 halts_between roster heard text rest more written now both ended begins = record {
   answered = text;
@@ -143,27 +159,32 @@ pub heard_none : (IsTold : Telling) (cut : Cut) (heard front piece : List ℕ) (
     → piece ≡ front ++ piece → Heard IsTold cut heard written now → Heard IsTold cut (heard ++ front) written now
 heard_none IsTold cut heard front piece written now same h =
     let none : front ≡ [] = append_cancel_right front [] piece (sym same) in
-    subst (λ (l : List ℕ). Heard IsTold cut l written now) (sym (ap (λ (l : List ℕ). heard ++ l) none ∙ append-nil heard)) h
+    subst (λ (l : List ℕ). Heard IsTold cut l written now)
+    (sym (ap (λ (l : List ℕ). heard ++ l) none ∙ append-nil heard)) h
 
 -- what was heard of a piece, and the rest of it
 pub halted_on : (heard front rest piece : List ℕ) → piece ≡ front ++ rest → (heard ++ front) ++ rest ≡ heard ++ piece
 halted_on heard front rest piece same = append_assoc heard front rest ∙ ap (λ (l : List ℕ). heard ++ l) (sym same)
 
 -- a piece without a line feed
-pub no_cut : (xs : List ℕ) (used : ℕ) → nat_lt (position_or_len is_line_feed xs) (length xs) ≡ false → position_or_len is_line_feed xs ≤ length xs
-    → used ≡ min (1 + position_or_len is_line_feed xs) (length xs) → (take (position_or_len is_line_feed xs) xs ≡ xs) × (drop used xs ≡ [])
+pub no_cut : (xs : List ℕ) (used : ℕ) → nat_lt (position_or_len is_line_feed xs) (length xs) ≡ false
+    → position_or_len is_line_feed xs ≤ length xs
+    → used ≡ min (1 + position_or_len is_line_feed xs) (length xs) → (take (position_or_len is_line_feed xs) xs ≡ xs)
+    × (drop used xs ≡ [])
 no_cut xs used e within u =
     let l : length xs ≤ position_or_len is_line_feed xs = grind (arith, nat_tests) in
     (take_all _ xs l, drop_all used xs (omega arith))
 
 -- bytes came in which no line ends
-pub heard_more : (IsTold : Telling) (cut later : Cut) (heard bytes front : List ℕ) (written now : Option (List ℕ)) → front ≡ bytes
+pub heard_more : (IsTold : Telling) (cut later : Cut) (heard bytes front : List ℕ) (written now : Option (List ℕ))
+    → front ≡ bytes
     → ((text : List ℕ) → StandsFor cut text → StandsFor later (text ++ bytes))
     → Heard IsTold cut heard written now → Heard IsTold later (heard ++ front) written now
 heard_more IsTold cut later heard bytes front written now same fed h = record {
   text = h.text;
   rest = h.rest ++ bytes;
-  both = ap (λ (l : List ℕ). heard ++ l) same ∙ ap (λ (l : List ℕ). l ++ bytes) h.both ∙ append_assoc h.text h.rest bytes;
+  both = ap (λ (l : List ℕ). heard ++ l) same ∙ ap (λ (l : List ℕ). l ++ bytes) h.both
+      ∙ append_assoc h.text h.rest bytes;
   ended = h.ended;
   stands = fed h.rest h.stands;
   told = h.told;

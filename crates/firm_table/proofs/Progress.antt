@@ -15,7 +15,8 @@ use Rattle.firm_text.specs.Lines.{lines}
 use Rattle.firm_text.specs.Rosters.{Admitted}
 use Rattle.firm_text.specs.declared.inputs.Line.{Line}
 use Rattle.firm_table.specs.Places.{MarkedLine, Place, opening_places, after_lines}
-use Rattle.firm_table.specs.Answers.{Answer, answer_of, tells_memory, text_of_answer}
+use Rattle.firm_table.specs.Answers.{answer_of, tells_memory, text_of_answer}
+use Rattle.firm_table.specs.declared.answers.LineAnswer.{LineAnswer}
 use Rattle.firm_table.specs.Output.{answers_from, answers_of, output_of, unmarked, AreLinesOf}
 use Rattle.firm_table.specs.Service.{Answers, BeginsAnswers, Device, UpToDate}
 use Rattle.firm_table.specs.inner.Adding.{NothingIsTold, OneMoreIsTold, FrontIsWritten, ToldBegins, AllIsWritten}
@@ -81,7 +82,7 @@ one_more state text after written now tenants pending line p more a =
       record {
         lines = p.lines ++ given ∷ [];
         are_lines = lines_more state.roster text after p.lines (given ∷ []) p.are_lines more
-            (ap (λ (x : Answer). tells_memory x ∷ []) (sym here));
+            (ap (λ (x : LineAnswer). tells_memory x ∷ []) (sym here));
         shows = subst (Shows tenants) (sym (after_lines-append (opening_places state.roster) p.lines (given ∷ [])))
             (a.right.leaves places p.shows);
         sent = p.sent;
@@ -91,12 +92,12 @@ one_more state text after written now tenants pending line p more a =
             ∙ sym (append_assoc p.sent state.pending (text_of_answer a.answer))
             ∙ ap (λ (l : List ℕ). l ++ text_of_answer a.answer) p.whole
             ∙ ap (λ (l : List ℕ). output_of state.roster p.lines ++ l) (sym (append-nil (text_of_answer a.answer))
-            ∙ ap (λ (x : Answer). flat_map text_of_answer (x ∷ [])) (sym here))
+            ∙ ap (λ (x : LineAnswer). flat_map text_of_answer (x ∷ [])) (sym here))
             ∙ sym (output_of-append state.roster p.lines (given ∷ []));
       },
       refl,
       answers_from-append (opening_places state.roster) p.lines (given ∷ [])
-          ∙ ap (λ (x : Answer). answers_of state.roster p.lines ++ x ∷ []) here,
+          ∙ ap (λ (x : LineAnswer). answers_of state.roster p.lines ++ x ∷ []) here,
     )
 
 -- the front of what was to be written was

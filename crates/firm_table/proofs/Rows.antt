@@ -6,7 +6,9 @@ use Rattle.firm_rules.specs.Limits.{TenantLimits}
 use Rattle.firm_rules.specs.declared.commands.Command.TheVariants.{Round}
 use Rattle.firm_text.specs.Rosters.{Admitted as Row}
 use Rattle.firm_table.specs.Interleaving.{TableState, MarkedEvent, opening_table, happens, event_answers}
-use Rattle.firm_table.specs.Histories.{History, new_history, commanded_once, replied_once, history_here, ended_here, named_place, is_at, history_with, history_behind, ended_with, ended_behind, opening_history, comes_or_goes, RowsStay}
+use Rattle.firm_table.specs.Histories.{History, new_history, commanded_once, replied_once, history_here, ended_here}
+use Rattle.firm_table.specs.Histories.{named_place, is_at, history_with, history_behind, ended_with, ended_behind}
+use Rattle.firm_table.specs.Histories.{opening_history, comes_or_goes, RowsStay}
 use Rattle.firm_table.specs.declared.events.Event.{Event}
 use Rattle.firm_table.specs.declared.events.Event.TheVariants.{Post, Ask, Take, Answer, Collect, Admit, Retire}
 use Rattle.firm_table.specs.declared.events.Answer.{Answer as EventAnswer}
@@ -16,16 +18,19 @@ use Rattle.firm_table.specs.declared.events.Answer.TheVariants.{Replied, Queued}
 abbrev limits_in : Option History → Option TenantLimits
 limits_in history = option_map (λ (stay : History). stay.limits) history
 
-changed : (change : History → History) → ((stay : History) → (change stay).limits ≡ stay.limits) → (history : Option History)
+changed : (change : History → History) → ((stay : History) → (change stay).limits ≡ stay.limits)
+    → (history : Option History)
     → limits_in (option_map change history) ≡ limits_in history
 changed change same None = refl
 changed change same (Some stay) = ap (λ (l : TenantLimits). Some l) (same stay)
 
 here_same : (history : Option History) (event : Event) (answer : EventAnswer) → comes_or_goes event ≡ false
     → limits_in (history_here history event answer) ≡ limits_in history
-here_same history (Post place command) (Replied reply) e = changed (λ stay. replied_once reply (commanded_once command stay)) (λ stay. refl) history
+here_same history (Post place command) (Replied reply) e =
+    changed (λ stay. replied_once reply (commanded_once command stay)) (λ stay. refl) history
 here_same history (Post place command) _ e = refl
-here_same history (Ask place) (Replied reply) e = changed (λ stay. replied_once reply (commanded_once Round stay)) (λ stay. refl) history
+here_same history (Ask place) (Replied reply) e =
+    changed (λ stay. replied_once reply (commanded_once Round stay)) (λ stay. refl) history
 here_same history (Ask place) (Queued ticket) e = changed (commanded_once Round) (λ stay. refl) history
 here_same history (Ask place) _ e = refl
 here_same history (Collect place) (Replied reply) e = changed (replied_once reply) (λ stay. refl) history
@@ -35,7 +40,8 @@ here_same history (Answer worker) answer e = refl
 here_same history (Admit place limits) answer e = cc
 here_same history (Retire place) answer e = cc
 
-none_ended : (history : Option History) (event : Event) (answer : EventAnswer) → comes_or_goes event ≡ false → ended_here history event answer ≡ []
+none_ended : (history : Option History) (event : Event) (answer : EventAnswer) → comes_or_goes event ≡ false
+    → ended_here history event answer ≡ []
 none_ended history (Post place command) answer e = refl
 none_ended history (Ask place) answer e = refl
 none_ended history (Take worker) answer e = refl
@@ -44,7 +50,8 @@ none_ended history (Collect place) answer e = refl
 none_ended history (Admit place limits) answer e = cc
 none_ended history (Retire place) answer e = cc
 
-if_alike : {X Y : Type 0} (value : X → Y) (b : Bool) (x y : X) → value x ≡ value y → value (if b then x else y) ≡ value y
+if_alike : {X Y : Type 0} (value : X → Y) (b : Bool) (x y : X) → value x ≡ value y
+    → value (if b then x else y) ≡ value y
 if_alike value true x y e = e
 if_alike value false x y e = refl
 
@@ -63,12 +70,18 @@ stays_behind place history table (given ∷ rest) none =
     let after : Option History = history_with place history given.0 answer in
     let behind = stays_behind place after (happens table given).1 rest here.1 in
     let first : ended_with place history given.0 answer ≡ [] =
-    if_alike (λ (stays : List History). stays) (is_at place (named_place given.0)) (ended_here history given.0 answer) [] (none_ended history given.0 answer here.0) in
+    if_alike (λ (stays : List History). stays) (is_at place (named_place given.0))
+    (ended_here history given.0 answer) [] (none_ended history given.0 answer here.0) in
     let same : limits_in after ≡ limits_in history =
-    if_alike limits_in (is_at place (named_place given.0)) (history_here history given.0 answer) history (here_same history given.0 answer here.0) in
-    (ap (λ (stays : List History). stays ++ ended_behind place after rest (event_answers (happens table given).1 rest)) first ∙ behind.0, behind.1 ∙ same)
+    if_alike limits_in (is_at place (named_place given.0)) (history_here history given.0 answer) history
+    (here_same history given.0 answer here.0) in (
+      ap (λ (stays : List History). stays ++ ended_behind place after rest (event_answers (happens table given).1 rest))
+          first ∙ behind.0,
+      behind.1 ∙ same,
+    )
 
-row_limits : (found : Option Row) → limits_in (option_map (λ (row : Row). new_history row.1) found) ≡ option_map (λ (row : Row). row.1) found
+row_limits : (found : Option Row) → limits_in (option_map (λ (row : Row). new_history row.1) found)
+    ≡ option_map (λ (row : Row). row.1) found
 row_limits None = refl
 row_limits (Some row) = refl
 

@@ -6,6 +6,7 @@ use Rattle.firm_rules.specs.Limits.{TenantLimits}
 use Rattle.firm_text.specs.Registers.{most_places}
 use Rattle.firm_text.specs.Rosters.{Admitted}
 use Rattle.firm_table.specs.Places.{Given, MarkedLine, Stay, new_stay, unused_place, place_of_row, stay_of}
+use Rattle.firm_table.specs.Output.{answers_of}
 use Rattle.firm_table.specs.Isolation.{limits_in, stay_in, commands_to, with_commands, NoneIsOperatorsFor}
 use Rattle.firm_table.specs.Isolation.{TenantsAreIsolated}
 use Rattle.firm_table.proofs.Stays.{none_unused, stays_are_isolated}
@@ -26,7 +27,7 @@ abbrev stay_with : List ℕ → TenantLimits → List Given → Stay
 stay_with name limits commands = record { name = name; limits = limits; commands = commands }
 
 stays_with : (roster : List Admitted) (lines : List MarkedLine) (name : List ℕ) (limits : TenantLimits)
-    → limits_in roster name ≡ Some limits → NoneIsOperatorsFor name lines
+    → limits_in roster name ≡ Some limits → NoneIsOperatorsFor name (answers_of roster lines)
     → stay_in roster lines name ≡ Some (stay_with name limits (commands_to name lines))
 stays_with roster lines name limits row none =
     stays_hold_their_lines roster lines name none

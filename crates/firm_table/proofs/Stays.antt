@@ -16,7 +16,9 @@ use Rattle.firm_text.specs.declared.operator.OperatorRefusal.{OperatorRefusal}
 use Rattle.firm_table.specs.Places.{Given, MarkedLine, Stay, Place, new_stay, unused_place, place_of_row}
 use Rattle.firm_table.specs.Places.{opening_places, stay_of, with_command, commanded, left_by, entered_at}
 use Rattle.firm_table.specs.Places.{register_of, admission, retirement, after_line, after_lines}
-use Rattle.firm_table.specs.Answers.{Answer, replied, told_operator, reply_answer, answer_to_command, answer_of}
+use Rattle.firm_table.specs.Answers.{reply_answer, answer_to_command, answer_of}
+use Rattle.firm_table.specs.declared.answers.LineAnswer.{LineAnswer}
+use Rattle.firm_table.specs.declared.answers.LineAnswer.TheVariants.{Replied, ToOperator}
 use Rattle.firm_table.specs.Output.{answers_from, replies_with, replies_behind}
 use Rattle.firm_table.specs.Isolation.{AnswersLineByLine, RepliesAreAlone, StaysAreIsolated, StaysAreServedAlone}
 use Rattle.firm_table.specs.Isolation.{line_to}
@@ -37,7 +39,7 @@ pub answers_from-append : (places : List Place) (lines more : List MarkedLine)
     → answers_from places (lines ++ more) ≡ answers_from places lines ++ answers_from (after_lines places lines) more
 answers_from-append places [] more = refl
 answers_from-append places (given ∷ rest) more =
-    ap (λ (answers : List Answer). answer_of places given ∷ answers)
+    ap (λ (answers : List LineAnswer). answer_of places given ∷ answers)
     (answers_from-append (after_line places given) rest more)
 
 pub line_by_line : AnswersLineByLine
@@ -88,7 +90,7 @@ module _ (name : List ℕ) (replies : List Reply) (places : List Place) (has : H
       alike (map (left_by tenant) places) (stay_of-left-other places tenant name out)
 
   heard_retire : (tenant : List ℕ) (stay : Option Stay)
-      → Has name (replies_with name replies (told_operator (retirement places tenant stay).0))
+      → Has name (replies_with name replies (ToOperator (retirement places tenant stay).0))
       (retirement places tenant stay).1
   heard_retire tenant None = has
   heard_retire tenant (Some stay) = heard_left tenant (which tenant name)
@@ -120,7 +122,7 @@ module _ (name : List ℕ) (replies : List Reply) (places : List Place) (has : H
 
   heard_admit : (tenant : List ℕ) (limits : TenantLimits) (found : Result ℕ OperatorRefusal) (mark : Bool)
       → place_for (register_of places) tenant ≡ found
-      → Has name (replies_with name replies (told_operator (admission places tenant limits found mark).0))
+      → Has name (replies_with name replies (ToOperator (admission places tenant limits found mark).0))
       (admission places tenant limits found mark).1
   heard_admit tenant limits (Err refusal) mark is = has
   heard_admit tenant limits (Ok at) true is = has
@@ -171,24 +173,24 @@ stays_are_isolated roster other_roster lines other_lines name stay is other_is =
 -- a tenant that is given commands alone
 alone_answers : (name : List ℕ) (places : List Place) (stay : Stay) (commands : List Given) → stay_of places name
     ≡ Some stay
-    → answers_from places (map (line_to name) commands) ≡ map (replied name) (replies_from (book_of stay) commands)
+    → answers_from places (map (line_to name) commands) ≡ map (Replied name) (replies_from (book_of stay) commands)
 alone_answers name places stay [] is = refl
 alone_answers name places stay (given ∷ rest) is =
     let reply = (step (book_of stay) given.0 given.1).0 in
-    let here : answer_of places (line_to name given) ≡ replied name reply =
+    let here : answer_of places (line_to name given) ≡ Replied name reply =
     ap (λ (s : Option Stay). answer_to_command name s given) is
     ∙ ap (reply_answer name) (last_reply-more stay given) in
     let after : stay_of (map (commanded name given) places) name ≡ Some (with_command given stay) =
     stay_of-commanded places name given ∙ ap (option_map (with_command given)) is in
-    ap (λ (a : Answer). a ∷ answers_from (map (commanded name given) places) (map (line_to name) rest)) here
-    ∙ ap (λ (answers : List Answer). replied name reply ∷ answers)
+    ap (λ (a : LineAnswer). a ∷ answers_from (map (commanded name given) places) (map (line_to name) rest)) here
+    ∙ ap (λ (answers : List LineAnswer). Replied name reply ∷ answers)
     (alone_answers name (map (commanded name given) places) (with_command given stay) rest after)
-    ∙ ap (λ book. replied name reply ∷ map (replied name) (replies_from book rest)) (book_of-more stay given)
+    ∙ ap (λ book. Replied name reply ∷ map (Replied name) (replies_from book rest)) (book_of-more stay given)
 
 pub stays_are_served_alone : StaysAreServedAlone
 stays_are_served_alone roster lines name stay is =
     let opening : stay_of (opening_places ((name, stay.limits) ∷ [])) name ≡ Some (new_stay name stay.limits) =
     rw (eq_same name) refl in
-    ap (map (replied name)) (replies_are_alone roster lines name stay is)
+    ap (map (Replied name)) (replies_are_alone roster lines name stay is)
     ∙ sym (alone_answers name (opening_places ((name, stay.limits) ∷ []))
     (new_stay name stay.limits) stay.commands opening)

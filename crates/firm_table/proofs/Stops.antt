@@ -4,7 +4,8 @@ use Rattle.std.specs.Prelude.{Bool, false, Option, Result, Ok, Err, OnOk, OnErr,
 use Rattle.std.specs.Io.KnownBytes.{Consumes, IsAtEnd}
 use Rattle.firm_text.specs.Cutters.{Cut}
 use Rattle.firm_text.specs.Rosters.{Admitted}
-use Rattle.firm_table.specs.Service.{Answers, BeginsAnswers, Served, Stopped, IsCause, Telling, device}
+use Rattle.firm_table.specs.Service.{Answers, BeginsAnswers, Served, Stopped, IsCause, device}
+use Rattle.firm_table.specs.Telling.{Telling}
 use Rattle.firm_table.specs.inner.Faults.{IsWritingFault}
 use Rattle.firm_table.specs.inner.Reading.{Heard, Halted}
 use Rattle.firm_table.specs.declared.faults.ServeFault.{ServeFault}
@@ -15,7 +16,8 @@ pub both_ok : {T E : Type 0} (r : Result T E) (P Q : Type 0) → OnOk r P → On
 both_ok (Ok x) P Q p q = (p, q)
 both_ok (Err e) P Q p q = tt
 
-pub both_err : {T E : Type 0} (r : Result T E) (P : Type 0) (Q S : E → Type 0) → OnErr r P → IfErr r Q → (P → (e : E) → Q e → S e) → IfErr r S
+pub both_err : {T E : Type 0} (r : Result T E) (P : Type 0) (Q S : E → Type 0) → OnErr r P → IfErr r Q
+    → (P → (e : E) → Q e → S e) → IfErr r S
 both_err (Ok x) P Q S p q f = tt
 both_err (Err e) P Q S p q f = f p e q
 
@@ -25,7 +27,8 @@ err_weaker (Ok x) P Q f p = tt
 err_weaker (Err e) P Q f p = f e p
 
 -- the cause of a fault where no read failed
-pub cause_writing : (fault : ServeFault) (input : List ℕ) (most : ℕ) (read_failed write_failed : Bool) → read_failed ≡ false
+pub cause_writing : (fault : ServeFault) (input : List ℕ) (most : ℕ) (read_failed write_failed : Bool)
+    → read_failed ≡ false
     → IsWritingFault fault write_failed → IsCause fault input most read_failed write_failed
 cause_writing Read input most read_failed write_failed well p = absurd p
 cause_writing Write input most read_failed write_failed well p = (well, p)
@@ -33,8 +36,10 @@ cause_writing TooLong input most read_failed write_failed well p = absurd p
 cause_writing Memory input most read_failed write_failed well p = (well, p)
 
 -- what is said of each text after a call holds of what was heard
-pub heard_told : (IsTold Later : Telling) (cut : Cut) (heard : List ℕ) (written now later : Option (List ℕ)) → Heard IsTold cut heard written now
-    → ((text : List ℕ) (before : Option (List ℕ)) → IsTold text before now → Later text before later) → Heard Later cut heard written later
+pub heard_told : (IsTold Later : Telling) (cut : Cut) (heard : List ℕ) (written now later : Option (List ℕ))
+    → Heard IsTold cut heard written now
+    → ((text : List ℕ) (before : Option (List ℕ)) → IsTold text before now → Later text before later)
+    → Heard Later cut heard written later
 heard_told IsTold Later cut heard written now later h told = record {
   text = h.text;
   rest = h.rest;
@@ -44,9 +49,11 @@ heard_told IsTold Later cut heard written now later h told = record {
   told = told h.text written h.told;
 }
 
-module _ (roster : List Admitted) (most : ℕ) (left left_after written now : Option (List ℕ)) (read_failed write_failed : Bool) (heard : List ℕ) where
+module _ (roster : List Admitted) (most : ℕ) (left left_after written now : Option (List ℕ))
+    (read_failed write_failed : Bool) (heard : List ℕ) where
   -- between two lines, or at a line that was cut off
-  pub stopped_within : (fault : ServeFault) → Consumes left left_after heard → (h : Halted roster heard written now) → IsCause fault heard most read_failed write_failed
+  pub stopped_within : (fault : ServeFault) → Consumes left left_after heard → (h : Halted roster heard written now)
+      → IsCause fault heard most read_failed write_failed
       → Stopped roster most (device left left_after read_failed) (device written now write_failed) fault
   stopped_within fault read h cause = record {
     answered = h.answered;
@@ -58,8 +65,10 @@ module _ (roster : List Admitted) (most : ℕ) (left left_after written now : Op
   }
 
   -- behind the end of the input
-  pub stopped_behind : (fault : ServeFault) → Consumes left left_after heard → IsAtEnd left_after → read_failed ≡ false → BeginsAnswers roster heard written now
-      → IsWritingFault fault write_failed → Stopped roster most (device left left_after read_failed) (device written now write_failed) fault
+  pub stopped_behind : (fault : ServeFault) → Consumes left left_after heard → IsAtEnd left_after → read_failed ≡ false
+      → BeginsAnswers roster heard written now
+      → IsWritingFault fault write_failed → Stopped roster most (device left left_after read_failed)
+      (device written now write_failed) fault
   stopped_behind fault read at_end well begins cause = record {
     answered = heard;
     rest = [];
@@ -69,7 +78,8 @@ module _ (roster : List Admitted) (most : ℕ) (left left_after written now : Op
     begins = begins;
   }
 
-  pub served : Consumes left left_after heard → IsAtEnd left_after → length heard ≤ most → Answers roster heard written now → read_failed ≡ false
+  pub served : Consumes left left_after heard → IsAtEnd left_after → length heard ≤ most
+      → Answers roster heard written now → read_failed ≡ false
       → write_failed ≡ false → Served roster most (device left left_after read_failed) (device written now write_failed)
   served read at_end within answers reads writes = record {
     input = heard;

@@ -24,7 +24,9 @@ all_written roster input written now later a kept = record {
   lines = a.lines;
   are_lines = a.are_lines;
   count = length (output_of roster a.lines);
-  wrote = subst (Appends written later) (sym (take-length (output_of roster a.lines))) (Appends-kept written now later _ a.wrote kept);
+  wrote =
+      subst (Appends written later) (sym (take-length (output_of roster a.lines)))
+      (Appends-kept written now later _ a.wrote kept);
 }
 
 pub answers_kept : (roster : List Admitted) (input : List ℕ) (written now later : Option (List ℕ))

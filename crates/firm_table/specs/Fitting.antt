@@ -3,7 +3,8 @@ use Rattle.std.specs.Prelude.{◌≡◌, Bool, true, false, ◌&&◌, not, nat_l
 use Rattle.std.specs.List.{list_any}
 use Rattle.firm_rules.specs.declared.tickets.Ticket.{Ticket}
 use Rattle.firm_text.specs.Registers.{most_admissions}
-use Rattle.firm_table.specs.Interleaving.{is_round, Station, empty, home, queued, held, answered, is_home, Seat, TableState, is_held, may_take, happens}
+use Rattle.firm_table.specs.Interleaving.{is_round, Station, empty, home, queued, held, answered, is_home, Seat}
+use Rattle.firm_table.specs.Interleaving.{TableState, is_held, may_take, happens}
 use Rattle.firm_table.specs.declared.events.Event.{Event}
 use Rattle.firm_table.specs.declared.events.Event.TheVariants.{Post, Ask, Take, Answer, Collect, Admit, Retire}
 use Rattle.firm_table.specs.declared.events.Answer.{Answer as EventAnswer}
@@ -39,9 +40,9 @@ abbrev pub has_waiting : List Ticket → Bool
 has_waiting [] = false
 has_waiting (ticket ∷ rest) = true
 
--- whether an event fits: a command that is no round, and a round, of a tenant that is home; the front of a queue that is not empty, for
--- a worker of the table that holds nobody; the answer of a worker that holds a tenant; the return of a tenant whose round is answered;
--- a new tenant for a place that is free; and the end of the stay of one that is home
+-- whether an event fits: a command that is no round, and a round, of a tenant that is home; the front of a queue that
+-- is not empty, for a worker of the table that holds nobody; the answer of a worker that holds a tenant; the return of
+-- a tenant whose round is answered; a new tenant for a place that is free; and the end of the stay of one that is home
 abbrev pub fits : TableState → Event → Bool
 fits table (Post place command) = stands is_home (slice_get table.seats place) && not (is_round command)
 fits table (Ask place) = stands is_home (slice_get table.seats place)
@@ -61,7 +62,8 @@ asks (Collect place) = false
 asks (Admit place limits) = false
 asks (Retire place) = false
 
--- an event is answered, and changes the table, as defined; memory may be refused in it, but not to a round that is only asked for
+-- an event is answered, and changes the table, as defined; memory may be refused in it, but not to a round that is only
+-- asked for
 pub record IsStep (table : TableState) (event : Event) (answer : EventAnswer) (after : TableState) : Type 0 where
   pub mark : Bool
   pub asked : asks event ≡ true → mark ≡ false

@@ -1,5 +1,6 @@
 -- What the tenants of a place were given and replied, one stay after the other, and what each may rely on.
-use Rattle.std.specs.Prelude.{◌≡◌, ℕ, suc, ◌≤◌, ◌<◌, ◌==◌, Bool, true, false, List, [], ◌∷◌, ◌++◌, map, length, Option, Some, None, option_map, option_to_list, slice_get, take, if◌then◌else◌}
+use Rattle.std.specs.Prelude.{◌≡◌, ℕ, suc, ◌≤◌, ◌<◌, ◌==◌, Bool, true, false, List, [], ◌∷◌, ◌++◌, map, length, Option}
+use Rattle.std.specs.Prelude.{Some, None, option_map, option_to_list, slice_get, take, if◌then◌else◌}
 use Rattle.std.specs.List.{list_any}
 use Rattle.std.specs.Option.{is_none}
 use Rattle.firm_rules.specs.Limits.{TenantLimits}
@@ -32,10 +33,11 @@ commanded_once command history = record history { commands = history.commands ++
 abbrev pub replied_once : Reply → History → History
 replied_once reply history = record history { replies = history.replies ++ reply ∷ [] }
 
--- what an event at its place makes of the history of the tenant there: a command that fitted and a reply are added, an admission begins a new
--- one, and a retirement leaves none
+-- what an event at its place makes of the history of the tenant there: a command that fitted and a reply are added, an
+-- admission begins a new one, and a retirement leaves none
 abbrev pub history_here : Option History → Event → EventAnswer → Option History
-history_here history (Post _ command) (Replied reply) = option_map (λ h. replied_once reply (commanded_once command h)) history
+history_here history (Post _ command) (Replied reply) =
+    option_map (λ h. replied_once reply (commanded_once command h)) history
 history_here history (Ask _) (Replied reply) = option_map (λ h. replied_once reply (commanded_once Round h)) history
 history_here history (Ask _) (Queued ticket) = option_map (commanded_once Round) history
 history_here history (Collect _) (Replied reply) = option_map (replied_once reply) history
@@ -64,13 +66,15 @@ is_at place (Some other) = other == place
 
 -- the history at a place behind an event
 abbrev pub history_with : ℕ → Option History → Event → EventAnswer → Option History
-history_with place history event answer = if is_at place (named_place event) then history_here history event answer else history
+history_with place history event answer =
+    if is_at place (named_place event) then history_here history event answer else history
 
 -- and behind these events
 abbrev pub history_behind : ℕ → Option History → List MarkedEvent → List EventAnswer → Option History
 history_behind place history [] answers = history
 history_behind place history (given ∷ rest) [] = history
-history_behind place history (given ∷ rest) (answer ∷ answers) = history_behind place (history_with place history given.0 answer) rest answers
+history_behind place history (given ∷ rest) (answer ∷ answers) =
+    history_behind place (history_with place history given.0 answer) rest answers
 
 -- the stay that an event ends at a place
 abbrev pub ended_with : ℕ → Option History → Event → EventAnswer → List History
@@ -81,7 +85,8 @@ abbrev pub ended_behind : ℕ → Option History → List MarkedEvent → List E
 ended_behind place history [] answers = []
 ended_behind place history (given ∷ rest) [] = []
 ended_behind place history (given ∷ rest) (answer ∷ answers) =
-    ended_with place history given.0 answer ++ ended_behind place (history_with place history given.0 answer) rest answers
+    ended_with place history given.0 answer
+    ++ ended_behind place (history_with place history given.0 answer) rest answers
 
 -- the history that a roster opens at a place: a row is its tenant's admission
 abbrev pub opening_history : List Row → ℕ → Option History
@@ -99,7 +104,8 @@ ended_at roster workers place events =
 
 -- all stays at the place, one after the other
 abbrev pub stays_at : List Row → ℕ → ℕ → List MarkedEvent → List History
-stays_at roster workers place events = ended_at roster workers place events ++ option_to_list (history_at roster workers place events)
+stays_at roster workers place events =
+    ended_at roster workers place events ++ option_to_list (history_at roster workers place events)
 
 -- whether an event is a tenant's coming or going
 abbrev pub comes_or_goes : Event → Bool
@@ -111,11 +117,14 @@ comes_or_goes (Collect place) = false
 comes_or_goes (Admit place limits) = true
 comes_or_goes (Retire place) = true
 
--- where no tenant comes or goes, none has ended its stay, and those that stand are those of the roster's rows, each at its place
+-- where no tenant comes or goes, none has ended its stay, and those that stand are those of the roster's rows, each at
+-- its place
 abbrev pub RowsStay : Type 0
-RowsStay = (roster : List Row) (workers place : ℕ) (events : List MarkedEvent) → list_any (λ given. comes_or_goes given.0) events ≡ false
+RowsStay = (roster : List Row) (workers place : ℕ) (events : List MarkedEvent)
+    → list_any (λ given. comes_or_goes given.0) events ≡ false
     → (ended_at roster workers place events ≡ [])
-    × (option_map (λ stay. stay.limits) (history_at roster workers place events) ≡ option_map (λ row. row.1) (slice_get roster place))
+    × (option_map (λ stay. stay.limits) (history_at roster workers place events)
+    ≡ option_map (λ row. row.1) (slice_get roster place))
 
 -- no stay is left out: a place has had as many as it was given tenants, and one stands there unless nobody does
 abbrev pub StaysAreCounted : Type 0
@@ -124,8 +133,8 @@ StaysAreCounted = (roster : List Row) (workers place : ℕ) (events : List Marke
     → (length (stays_at roster workers place events) ≡ seat.admissions)
     × (is_none (history_at roster workers place events) ≡ is_empty seat.station)
 
--- the replies are the first ones of a tenant alone to the commands, with marks on just those that are refused for want of memory; one more
--- command may wait for its reply
+-- the replies are the first ones of a tenant alone to the commands, with marks on just those that are refused for want
+-- of memory; one more command may wait for its reply
 pub record AreFirstReplies (history : History) : Type 0 where
   pub given : List Given
   pub waiting : List Command
@@ -134,21 +143,26 @@ pub record AreFirstReplies (history : History) : Type 0 where
   pub marks : map (λ g. g.1) given ≡ map is_memory history.replies
   pub few : length waiting ≤ 1
 
--- for every list of events, and for each stay at every place: the replies are the first of a tenant alone that is admitted with the same
--- limits, and all of them once the stay has ended, and where the tenant is home
+-- for every list of events, and for each stay at every place: the replies are the first of a tenant alone that is
+-- admitted with the same limits, and all of them once the stay has ended, and where the tenant is home
 abbrev pub EventsKeepAlone : Type 0
 EventsKeepAlone = (roster : List Row) (workers place stay : ℕ) (events : List MarkedEvent) (history : History)
     → slice_get (stays_at roster workers place events) stay ≡ Some history
     → (first : AreFirstReplies history)
     × (stay < length (ended_at roster workers place events) → first.waiting ≡ [])
-    × ((seat : Seat) → slice_get (table_after (opening_table roster workers) events).seats place ≡ Some seat → is_home seat.station ≡ true → first.waiting ≡ [])
+    × ((seat : Seat) → slice_get (table_after (opening_table roster workers) events).seats place ≡ Some seat
+    → is_home seat.station ≡ true → first.waiting ≡ [])
 
--- two stays that began with the same limits, at any places of any two tables and behind any events, whoever was there before, that agree on the
--- commands up to one, and on which of these are refused for want of memory, give it the same reply as far as both have come
+-- two stays that began with the same limits, at any places of any two tables and behind any events, whoever was there
+-- before, that agree on the commands up to one, and on which of these are refused for want of memory, give it the same
+-- reply as far as both have come
 abbrev pub EventsAreIsolated : Type 0
-EventsAreIsolated = (roster other_roster : List Row) (workers other_workers place other_place stay other_stay : ℕ) (events other_events : List MarkedEvent) (history other : History)
+EventsAreIsolated =
+    (roster other_roster : List Row) (workers other_workers place other_place stay other_stay : ℕ)
+    (events other_events : List MarkedEvent) (history other : History)
     → slice_get (stays_at roster workers place events) stay ≡ Some history
     → slice_get (stays_at other_roster other_workers other_place other_events) other_stay ≡ Some other
     → history.limits ≡ other.limits → (k : ℕ) (reply other_reply : Reply)
-    → take (suc k) history.commands ≡ take (suc k) other.commands → take (suc k) (map is_memory history.replies) ≡ take (suc k) (map is_memory other.replies)
+    → take (suc k) history.commands ≡ take (suc k) other.commands
+    → take (suc k) (map is_memory history.replies) ≡ take (suc k) (map is_memory other.replies)
     → slice_get history.replies k ≡ Some reply → slice_get other.replies k ≡ Some other_reply → reply ≡ other_reply

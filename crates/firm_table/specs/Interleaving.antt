@@ -1,5 +1,6 @@
 -- The table of tenants as a machine: what each event is answered, and what it changes.
-use Rattle.std.specs.Prelude.{ℕ, ◌+◌, ◌-◌, Bool, true, false, ◌&&◌, ◌==◌, not, nat_lt, nat_le, List, [], ◌∷◌, ◌++◌, map, length, replicate, Option, Some, None, slice_get, slice_set, if◌then◌else◌}
+use Rattle.std.specs.Prelude.{ℕ, ◌+◌, ◌-◌, Bool, true, false, ◌&&◌, ◌==◌, not, nat_lt, nat_le, List, [], ◌∷◌, ◌++◌, map}
+use Rattle.std.specs.Prelude.{length, replicate, Option, Some, None, slice_get, slice_set, if◌then◌else◌}
 use Rattle.std.specs.List.{list_any, position}
 use Rattle.firm_rules.specs.Book.{Book, opening_book}
 use Rattle.firm_rules.specs.Limits.{TenantLimits}
@@ -13,15 +14,16 @@ use Rattle.firm_text.specs.Rosters.{Admitted as Row}
 use Rattle.firm_table.specs.declared.events.Event.{Event}
 use Rattle.firm_table.specs.declared.events.Event.TheVariants.{Post, Ask, Take, Answer, Collect, Admit, Retire}
 use Rattle.firm_table.specs.declared.events.Answer.{Answer as EventAnswer}
-use Rattle.firm_table.specs.declared.events.Answer.TheVariants.{Replied, Queued, Took, Solved, Admitted, NoMemory, Retired, NotNow}
+use Rattle.firm_table.specs.declared.events.Answer.TheVariants.{Replied, Queued, Took, Solved, Admitted, NoMemory}
+use Rattle.firm_table.specs.declared.events.Answer.TheVariants.{Retired, NotNow}
 
 -- whether a command is the round
 abbrev pub is_round : Command → Bool
 is_round Round = true
 is_round _ = false
 
--- what stands at a place: nobody; a tenant at home with its book; its round queued; held by a worker; or answered, with the book behind the
--- reply
+-- what stands at a place: nobody; a tenant at home with its book; its round queued; held by a worker; or answered, with
+-- the book behind the reply
 pub data Station : Type 0 where
   empty : Station
   home : Book → Station
@@ -73,7 +75,8 @@ opening_table roster workers = record { workers = workers; seats = opening_seats
 abbrev pub posted : Station → Command → Bool → EventAnswer × Station
 posted empty command mark = (NotNow, empty)
 posted (home book) command mark =
-    if is_round command then (NotNow, home book) else (Replied (step book command mark).0, home (step book command mark).1)
+    if is_round command then (NotNow, home book)
+    else (Replied (step book command mark).0, home (step book command mark).1)
 posted (queued book ticket) command mark = (NotNow, queued book ticket)
 posted (held book ticket worker) command mark = (NotNow, held book ticket worker)
 posted (answered book reply) command mark = (NotNow, answered book reply)
@@ -121,8 +124,8 @@ collected (queued book ticket) = (NotNow, queued book ticket)
 collected (held book ticket worker) = (NotNow, held book ticket worker)
 collected (answered book reply) = (Replied reply, home book)
 
--- a tenant comes with its opening book to a place where nobody is and which may be given once more; where memory is refused to it, nobody
--- comes
+-- a tenant comes with its opening book to a place where nobody is and which may be given once more; where memory is
+-- refused to it, nobody comes
 abbrev pub admitted : Station → ℕ → TenantLimits → Bool → EventAnswer × Station
 admitted empty admissions limits mark =
     if not (nat_lt admissions most_admissions) then (NotNow, empty)
@@ -198,8 +201,13 @@ seat_behind seat after = record {
 abbrev pub at_place : TableState → ℕ → Option Seat → Event → Bool → EventAnswer × TableState
 at_place table place None event mark = (NotNow, table)
 at_place table place (Some seat) event mark =
-    let after = local seat place event mark in
-    (after.0, record table { seats = slice_set table.seats place (seat_behind seat after); queue = table.queue ++ queue_more after.0 })
+    let after = local seat place event mark in (
+      after.0,
+      record table {
+        seats = slice_set table.seats place (seat_behind seat after);
+        queue = table.queue ++ queue_more after.0;
+      },
+    )
 
 -- the place that this worker holds
 abbrev pub place_held : ℕ → List Seat → Option ℕ
@@ -208,8 +216,13 @@ place_held worker seats = position (λ seat. is_held worker seat.station) seats
 -- the front of the queue goes to the worker
 abbrev pub taking : TableState → ℕ → Ticket → List Ticket → Option Seat → EventAnswer × TableState
 taking table worker ticket rest None = (NotNow, table)
-taking table worker ticket rest (Some seat) =
-    (Took ticket, record table { seats = slice_set table.seats ticket.place (record seat { station = taken_by worker seat.station }); queue = rest })
+taking table worker ticket rest (Some seat) = (
+  Took ticket,
+  record table {
+    seats = slice_set table.seats ticket.place (record seat { station = taken_by worker seat.station });
+    queue = rest;
+  },
+)
 
 abbrev pub take_front : TableState → ℕ → List Ticket → EventAnswer × TableState
 take_front table worker [] = (NotNow, table)
@@ -226,7 +239,8 @@ answering table worker (Some place) mark = at_place table place (slice_get table
 
 -- what an event is answered, and the table after it
 abbrev pub happens : TableState → MarkedEvent → EventAnswer × TableState
-happens table (Take worker, mark) = if may_take table worker then take_front table worker table.queue else (NotNow, table)
+happens table (Take worker, mark) =
+    if may_take table worker then take_front table worker table.queue else (NotNow, table)
 happens table (Answer worker, mark) = answering table worker (place_held worker table.seats) mark
 happens table (Post place command, mark) = at_place table place (slice_get table.seats place) (Post place command) mark
 happens table (Ask place, mark) = at_place table place (slice_get table.seats place) (Ask place) mark

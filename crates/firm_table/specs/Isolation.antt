@@ -6,11 +6,14 @@ use Rattle.firm_rules.specs.Limits.{TenantLimits}
 use Rattle.firm_tenant.specs.Alone.{alone_marked}
 use Rattle.firm_text.specs.Inputs.{command_to, input_lines}
 use Rattle.firm_text.specs.Rosters.{Admitted}
-use Rattle.firm_text.specs.declared.inputs.Line.{Line}
-use Rattle.firm_text.specs.declared.inputs.Line.TheVariants.{Nothing, Long, Nameless, For, Operator}
-use Rattle.firm_text.specs.declared.operator.OperatorLine.TheVariants.{Admit, Retire, Faulty}
-use Rattle.firm_table.specs.Places.{Given, MarkedLine, Stay, Place, opening_places, after_lines, stay_of}
-use Rattle.firm_table.specs.Answers.{replied, answer_of, tells_memory}
+use Rattle.firm_text.specs.declared.inputs.Line.TheVariants.{For, Operator}
+use Rattle.firm_text.specs.declared.operator.OperatorLine.TheVariants.{Admit}
+use Rattle.firm_text.specs.declared.operator.OperatorReply.TheVariants.{Admitted as WasAdmitted, Retired, Refused}
+use Rattle.firm_table.specs.Places.{Given, MarkedLine, Stay, Place, new_stay, opening_places, after_lines, stay_of}
+use Rattle.firm_table.specs.Answers.{answer_of, tells_memory}
+use Rattle.firm_table.specs.declared.answers.LineAnswer.{LineAnswer}
+use Rattle.firm_table.specs.declared.answers.LineAnswer.TheVariants.{Silent, LineTooLong, UnknownTenant, Replied}
+use Rattle.firm_table.specs.declared.answers.LineAnswer.TheVariants.{ToOperator}
 use Rattle.firm_table.specs.Output.{answers_from, answers_of, output, output_of, AreLinesOf, replies_to, unmarked}
 
 -- the limits that the roster gives the tenant of this name
@@ -51,7 +54,7 @@ line_to name given = (For name given.0, given.1)
 abbrev pub StaysAreServedAlone : Type 0
 StaysAreServedAlone = (roster : List Admitted) (lines : List MarkedLine) (name : List ℕ) (stay : Stay)
     → stay_in roster lines name ≡ Some stay
-    → map (replied name) (replies_to name (answers_of roster lines))
+    → map (Replied name) (replies_to name (answers_of roster lines))
     ≡ answers_of ((name, stay.limits) ∷ []) (map (line_to name) stay.commands)
 
 -- the command that a line gives the tenant of this name
@@ -66,33 +69,45 @@ commands_to name lines = filter_map (given_to name) lines
 abbrev pub with_commands : List Given → Stay → Stay
 with_commands commands stay = record stay { commands = stay.commands ++ commands }
 
--- whether a line is the operator's and names this tenant
-abbrev pub is_operators_for : List ℕ → Line → Bool
-is_operators_for name Nothing = false
-is_operators_for name Long = false
-is_operators_for name Nameless = false
-is_operators_for name (For tenant command) = false
-is_operators_for name (Operator (Admit tenant limits)) = bytes_eq tenant name
-is_operators_for name (Operator (Retire tenant)) = bytes_eq tenant name
-is_operators_for name (Operator (Faulty refusal)) = false
+-- whether an answer says that a line of the operator's for this tenant was obeyed: the tenant was admitted, or retired
+abbrev pub is_operators_for : List ℕ → LineAnswer → Bool
+is_operators_for name Silent = false
+is_operators_for name LineTooLong = false
+is_operators_for name UnknownTenant = false
+is_operators_for name (Replied tenant reply) = false
+is_operators_for name (ToOperator (WasAdmitted tenant)) = bytes_eq tenant name
+is_operators_for name (ToOperator (Retired tenant)) = bytes_eq tenant name
+is_operators_for name (ToOperator (Refused refusal)) = false
 
--- none of these lines is the operator's and names this tenant
-abbrev pub NoneIsOperatorsFor : List ℕ → List MarkedLine → Type 0
-NoneIsOperatorsFor name lines = list_any (λ given. is_operators_for name given.0) lines ≡ false
+-- none of these answers says so
+abbrev pub NoneIsOperatorsFor : List ℕ → List LineAnswer → Type 0
+NoneIsOperatorsFor name answers = list_any (is_operators_for name) answers ≡ false
 
--- a tenant that the operator does not name was given the commands of its lines, and has the limits that it had
+-- a tenant for which no line of the operator's was obeyed was given the commands of its lines, and has the limits that
+-- it had
 abbrev pub StaysHoldTheirLines : Type 0
 StaysHoldTheirLines = (roster : List Admitted) (lines : List MarkedLine) (name : List ℕ)
-    → NoneIsOperatorsFor name lines
+    → NoneIsOperatorsFor name (answers_of roster lines)
     → stay_in roster lines name ≡ option_map (with_commands (commands_to name lines)) (stay_in roster [] name)
 
--- a tenant with the same row in two rosters, which the operator does not name, gets the same replies in services that
--- are given equal lines for it
+-- a tenant that was admitted behind these lines, and for which no later line of the operator's was obeyed, has the
+-- limits of its admission, and was given the commands of the later lines to it
+abbrev pub StaysBeginAnew : Type 0
+StaysBeginAnew = (roster : List Admitted) (lines later : List MarkedLine) (admission : MarkedLine) (name : List ℕ)
+    (limits : TenantLimits)
+    → admission.0 ≡ Operator (Admit name limits)
+    → answer_of (after_lines (opening_places roster) lines) admission ≡ ToOperator (WasAdmitted name)
+    → NoneIsOperatorsFor name (answers_from (after_lines (opening_places roster) (lines ++ admission ∷ [])) later)
+    → stay_in roster (lines ++ admission ∷ later) name
+    ≡ Some (with_commands (commands_to name later) (new_stay name limits))
+
+-- a tenant with the same row in two rosters, for which no line of the operator's was obeyed, gets the same replies in
+-- services that are given equal lines for it
 abbrev pub TenantsAreIsolated : Type 0
 TenantsAreIsolated = (roster other_roster : List Admitted) (lines other_lines : List MarkedLine) (name : List ℕ)
     (limits : TenantLimits)
     → limits_in roster name ≡ Some limits → limits_in other_roster name ≡ Some limits
-    → NoneIsOperatorsFor name lines → NoneIsOperatorsFor name other_lines
+    → NoneIsOperatorsFor name (answers_of roster lines) → NoneIsOperatorsFor name (answers_of other_roster other_lines)
     → commands_to name lines ≡ commands_to name other_lines
     → replies_to name (answers_of roster lines) ≡ replies_to name (answers_of other_roster other_lines)
 

@@ -3,6 +3,7 @@ pub mod Answers
 pub mod Output
 pub mod Isolation
 pub mod Service
+pub mod Telling
 pub mod Interleaving
 pub mod Histories
 pub mod Fitting

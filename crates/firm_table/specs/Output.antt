@@ -7,16 +7,19 @@ use Rattle.firm_text.specs.Rosters.{Admitted}
 use Rattle.firm_text.specs.declared.inputs.Line.{Line}
 use Rattle.firm_text.specs.declared.operator.OperatorReply.TheVariants.{Admitted as WasAdmitted, Retired, Refused}
 use Rattle.firm_table.specs.Places.{MarkedLine, Place, opening_places, after_line}
-use Rattle.firm_table.specs.Answers.{Answer, silent, too_long, unknown_tenant, replied, told_operator, answer_of}
+use Rattle.firm_table.specs.Answers.{answer_of}
+use Rattle.firm_table.specs.declared.answers.LineAnswer.{LineAnswer}
+use Rattle.firm_table.specs.declared.answers.LineAnswer.TheVariants.{Silent, LineTooLong, UnknownTenant, Replied}
+use Rattle.firm_table.specs.declared.answers.LineAnswer.TheVariants.{ToOperator}
 use Rattle.firm_table.specs.Answers.{tells_memory, text_of_answer}
 
 -- the answers to these lines in order, where these are the places before them
-abbrev pub answers_from : List Place → List MarkedLine → List Answer
+abbrev pub answers_from : List Place → List MarkedLine → List LineAnswer
 answers_from places [] = []
 answers_from places (given ∷ rest) = answer_of places given ∷ answers_from (after_line places given) rest
 
 -- the answers of a service of this roster
-abbrev pub answers_of : List Admitted → List MarkedLine → List Answer
+abbrev pub answers_of : List Admitted → List MarkedLine → List LineAnswer
 answers_of roster lines = answers_from (opening_places roster) lines
 
 -- what a service writes for these lines: the texts of the answers, in order
@@ -37,20 +40,20 @@ pub record AreLinesOf (roster : List Admitted) (input : List ℕ) (lines : List 
   pub marks : map (λ given. given.1) lines ≡ map tells_memory (answers_of roster lines)
 
 -- the replies to the tenant of this name, after these ones and after an answer: a stay that begins has none yet
-abbrev pub replies_with : List ℕ → List Reply → Answer → List Reply
-replies_with name replies silent = replies
-replies_with name replies too_long = replies
-replies_with name replies unknown_tenant = replies
-replies_with name replies (replied tenant reply) = if bytes_eq tenant name then replies ++ reply ∷ [] else replies
-replies_with name replies (told_operator (WasAdmitted tenant)) = if bytes_eq tenant name then [] else replies
-replies_with name replies (told_operator (Retired tenant)) = replies
-replies_with name replies (told_operator (Refused refusal)) = replies
+abbrev pub replies_with : List ℕ → List Reply → LineAnswer → List Reply
+replies_with name replies Silent = replies
+replies_with name replies LineTooLong = replies
+replies_with name replies UnknownTenant = replies
+replies_with name replies (Replied tenant reply) = if bytes_eq tenant name then replies ++ reply ∷ [] else replies
+replies_with name replies (ToOperator (WasAdmitted tenant)) = if bytes_eq tenant name then [] else replies
+replies_with name replies (ToOperator (Retired tenant)) = replies
+replies_with name replies (ToOperator (Refused refusal)) = replies
 
 -- the replies in these answers to the tenant of this name since it came last, behind these ones
-abbrev pub replies_behind : List ℕ → List Reply → List Answer → List Reply
+abbrev pub replies_behind : List ℕ → List Reply → List LineAnswer → List Reply
 replies_behind name replies [] = replies
 replies_behind name replies (answer ∷ rest) = replies_behind name (replies_with name replies answer) rest
 
 -- the replies in these answers to the tenant of this name since it came last
-abbrev pub replies_to : List ℕ → List Answer → List Reply
+abbrev pub replies_to : List ℕ → List LineAnswer → List Reply
 replies_to name answers = replies_behind name [] answers

@@ -2,7 +2,7 @@
 use Rattle.std.specs.Prelude.{◌≡◌, ℕ, ◌≤◌, ◌<◌, ◌⊎◌, Bool, true, false, List, [], ◌++◌, Option, length, take}
 use Rattle.std.specs.List.{list_any}
 use Rattle.std.specs.Io.{IsEmptyOrEndsWith}
-use Rattle.std.specs.Io.KnownBytes.{Appends, Consumes, IsAtEnd, Keeps}
+use Rattle.std.specs.Io.KnownBytes.{Appends, Consumes, IsAtEnd}
 use Rattle.firm_table.specs.Places.{MarkedLine}
 use Rattle.firm_table.specs.Output.{output_of, AreLinesOf}
 use Rattle.firm_text.specs.Lines.{is_line_feed}
@@ -10,8 +10,8 @@ use Rattle.firm_text.specs.Rosters.{Admitted}
 use Rattle.firm_table.specs.declared.faults.ServeFault.{ServeFault}
 use Rattle.firm_table.specs.declared.faults.ServeFault.TheVariants.{Read, Write, TooLong, Memory}
 
--- the bytes that a reader has left, or that a writer has got, before a call and after it, where the device tells them, and whether a call
--- of the device has failed
+-- the bytes that a reader has left, or that a writer has got, before a call and after it, where the device tells them,
+-- and whether a call of the device has failed
 pub record Device : Type 0 where
   pub before : Option (List ℕ)
   pub after : Option (List ℕ)
@@ -28,13 +28,15 @@ pub record Answers (roster : List Admitted) (input : List ℕ) (written written_
   pub wrote : Appends written written_after (output_of roster lines)
 
 -- what was written is a prefix of such an output
-pub record BeginsAnswers (roster : List Admitted) (input : List ℕ) (written written_after : Option (List ℕ)) : Type 0 where
+pub record BeginsAnswers (roster : List Admitted) (input : List ℕ)
+    (written written_after : Option (List ℕ)) : Type 0 where
   pub lines : List MarkedLine
   pub are_lines : AreLinesOf roster input lines
   pub count : ℕ
   pub wrote : Appends written written_after (take count (output_of roster lines))
 
--- all that was left to read was read, at most so many bytes, what was written is the output for it, and no call has failed
+-- all that was left to read was read, at most so many bytes, what was written is the output for it, and no call has
+-- failed
 pub record Served (roster : List Admitted) (most : ℕ) (reader writer : Device) : Type 0 where
   pub input : List ℕ
   pub read : Consumes reader.before reader.after input
@@ -44,19 +46,22 @@ pub record Served (roster : List Admitted) (most : ℕ) (reader writer : Device)
   pub reads : reader.failed ≡ false
   pub writes : writer.failed ≡ false
 
--- the fault of a service that read this much and takes at most so many bytes: a read failed, a write failed, or neither did, and
--- the input is longer or memory was refused
+-- the fault of a service that read this much and takes at most so many bytes: a read failed, a write failed, or neither
+-- did, and the input is longer or memory was refused
 abbrev pub IsCause : ServeFault → List ℕ → ℕ → Bool → Bool → Type 0
 IsCause Read input most read_failed write_failed = (read_failed ≡ true) × (write_failed ≡ false)
 IsCause Write input most read_failed write_failed = (read_failed ≡ false) × (write_failed ≡ true)
-IsCause TooLong input most read_failed write_failed = (most < length input) × (read_failed ≡ false) × (write_failed ≡ false)
+IsCause TooLong input most read_failed write_failed =
+    (most < length input) × (read_failed ≡ false) × (write_failed ≡ false)
 IsCause Memory input most read_failed write_failed = (read_failed ≡ false) × (write_failed ≡ false)
 
 -- each line of these bytes is whole: its line feed was read, or a read has found the end of the input behind it
 abbrev pub AreWholeLines : List ℕ → List ℕ → Device → Type 0
-AreWholeLines lines rest reader = IsEmptyOrEndsWith lines 10 ⊎ ((rest ≡ []) × IsAtEnd reader.after × (reader.failed ≡ false))
+AreWholeLines lines rest reader =
+    IsEmptyOrEndsWith lines 10 ⊎ ((rest ≡ []) × IsAtEnd reader.after × (reader.failed ≡ false))
 
--- whole lines and a rest were read, and what was written is a prefix of the output for those lines; the fault has its cause
+-- whole lines and a rest were read, and what was written is a prefix of the output for those lines; the fault has its
+-- cause
 pub record Stopped (roster : List Admitted) (most : ℕ) (reader writer : Device) (fault : ServeFault) : Type 0 where
   pub answered : List ℕ
   pub rest : List ℕ
@@ -65,29 +70,12 @@ pub record Stopped (roster : List Admitted) (most : ℕ) (reader writer : Device
   pub cause : IsCause fault (answered ++ rest) most reader.failed writer.failed
   pub begins : BeginsAnswers roster answered writer.before writer.after
 
--- what is said of a text that was read, of what was written before it and of what was written after it
-abbrev pub Telling : Type 1
-Telling = List ℕ → Option (List ℕ) → Option (List ℕ) → Type 0
-
 -- this is said of lines that were read whole; no line feed was read behind them
-pub record UpToDate (IsTold : Telling) (reader writer : Device) : Type 0 where
+pub record UpToDate (IsTold : List ℕ → Option (List ℕ) → Option (List ℕ) → Type 0)
+    (reader writer : Device) : Type 0 where
   pub lines : List ℕ
   pub rest : List ℕ
   pub read : Consumes reader.before reader.after (lines ++ rest)
   pub whole : IsEmptyOrEndsWith lines 10
   pub in_line : list_any is_line_feed rest ≡ false
   pub told : IsTold lines writer.before writer.after
-
--- this was said of a text, and the writer kept what was written until then
-pub record WasTold (IsTold : Telling) (text : List ℕ) (written now : Option (List ℕ)) : Type 0 where
-  pub until : Option (List ℕ)
-  pub told : IsTold text written until
-  pub kept : Keeps until now
-
--- this was said of all that was read, at most so many bytes, which is all that was left
-pub record ToldToTheEnd (IsTold : Telling) (most : ℕ) (reader writer : Device) : Type 0 where
-  pub input : List ℕ
-  pub read : Consumes reader.before reader.after input
-  pub at_end : IsAtEnd reader.after
-  pub within : length input ≤ most
-  pub told : WasTold IsTold input writer.before writer.after

@@ -7,7 +7,7 @@ ghost use Rattle.firm_table.specs.Service.{Answers, BeginsAnswers};
 ghost use Rattle.firm_table.specs.inner.Faults.{IsWritingFault};
 
 use crate::faults::ServeFault;
-use firm_text::{Line, Sink};
+use firm_text::{Line, Sink, Source};
 
 /// Answers lines in the order in which it is given them. It may hold answers back, and writes them in the order of
 /// their lines. A call ends early with `Write` where a call of the writer failed, and with `Memory` where a growth of
@@ -53,8 +53,13 @@ pub trait Clerk {
         ensures roster { roster self.new ≡ roster self.old }
         ensures kept { kept self.new ≡ kept self.old };
 
-    /// Writes the answers that are known, up to the first that is missing.
-    fn write_out<W: Sink>(&mut self, writer: &mut W) -> Result<(), ServeFault>
+    /// Writes the answers that are known, up to the first that is missing. Where one is missing it may wait for it until
+    /// the reader is ready.
+    fn write_out<S: Source, W: Sink>(
+        &mut self,
+        reader: &S,
+        writer: &mut W,
+    ) -> Result<(), ServeFault>
         requires writer { W.write_failed writer.old ≡ false }
         requires open { is_open self.old }
         ensures told { OnOk result ((text : List ℕ) (written : Option (List ℕ))

@@ -1,8 +1,8 @@
 //! What each tenant of the service may rely on, whatever the others are told.
 
 ghost use Rattle.firm_table.specs.Isolation.{AnswersLineByLine, RepliesAreAlone, StaysAreIsolated};
-ghost use Rattle.firm_table.specs.Isolation.{StaysAreServedAlone, StaysHoldTheirLines, TenantsAreIsolated};
-ghost use Rattle.firm_table.specs.Isolation.{NeedsNoMarks, MayGoUnmarked};
+ghost use Rattle.firm_table.specs.Isolation.{StaysAreServedAlone, StaysBeginAnew, StaysHoldTheirLines};
+ghost use Rattle.firm_table.specs.Isolation.{TenantsAreIsolated, NeedsNoMarks, MayGoUnmarked};
 ghost use Rattle.firm_table.specs.Histories.{EventsKeepAlone, RowsStay, StaysAreCounted};
 ghost use Rattle.firm_table.specs.Histories.{EventsAreIsolated};
 ghost use Rattle.firm_table.specs.inner.Adding.{NothingIsTold, OneMoreIsTold, FrontIsWritten, ToldBegins};
@@ -13,20 +13,24 @@ ghost use Rattle.firm_table.specs.inner.Adding.{RetirementsAreAnswered, Retireme
 use firm_tenant::{replies_tell_their_marks, unmarked_steps_are_granted};
 use firm_text::refuses_for_the_form;
 
-/// The laws on the service's answers: they come line by line; each tenant gets the replies of a service that holds this
-/// tenant alone and is given its commands alone, whatever else stands in the roster and in the input; and where memory
-/// is refused to no line, the output is a function of the roster and of the bytes read. For every list of the table's
-/// events, and for each stay of a tenant at a place, one after the other, the replies are the first ones of a tenant
-/// alone with the same limits to the same commands, all of them once the stay has ended or where the tenant is home. No
-/// stay is left out, and where nobody comes or goes they are those of the roster's rows. And stays that began with the
-/// same limits and agree so far have got the same replies so far, whatever events of others stand between and whoever
-/// was there before.
+/// The laws of isolation, first for lines. Answers come line by line. In each stay a tenant's replies are those of a
+/// service that holds this tenant alone and is given its commands alone, whatever else stands in roster and input. A
+/// tenant is given the commands of its own lines, one of the roster from the first line and one admitted later from its
+/// admission, until the operator retires or admits it again. Where memory is refused to no line, the output is a function
+/// of the roster and of the bytes read.
+///
+/// Then for every list of the table's events, and for each stay at a place, earlier ones too: the replies are the first
+/// replies of a tenant alone with the same limits to the same commands, and all of them once the stay has ended or while
+/// the tenant is home. No stay is left out; where nobody comes or goes they are those of the roster's rows. Two stays
+/// with the same limits that agree up to a command have the same reply to it, where both have one, whatever events of
+/// others stand between and whoever had the place before.
 pub fn isolation()
     ensures line_by_line { AnswersLineByLine }
     ensures alone { RepliesAreAlone }
     ensures isolated { StaysAreIsolated }
     ensures served_alone { StaysAreServedAlone }
     ensures lines { StaysHoldTheirLines }
+    ensures anew { StaysBeginAnew }
     ensures tenants { TenantsAreIsolated }
     ensures no_marks { NeedsNoMarks }
     ensures unmarked { MayGoUnmarked }

@@ -1,8 +1,8 @@
 //! The service's tenants as one table, and what it answers.
 #![tactic(auto)]
 
+mod answers;
 mod clerk;
-mod devices;
 mod events;
 mod faults;
 mod laws;
@@ -12,12 +12,14 @@ mod seats;
 mod serving;
 mod table;
 mod tenants;
+mod writing;
 
+pub use answers::LineAnswer;
 pub use clerk::Clerk;
-pub use devices::write_all;
 pub use events::{Answer, Event};
 pub use faults::ServeFault;
 pub use laws::{answers_add_up, isolation};
 pub use reading::serve_lines;
 pub use serving::serve_one;
 pub use table::Table;
+pub use writing::write_held;

@@ -2,8 +2,8 @@
 
 ghost use Rattle.std.specs.Prelude.{◌≡◌, ℕ, ◌≤◌, ◌<◌, ◌^◌, ◌++◌, List, Option, [], false, length};
 ghost use Rattle.std.specs.Prelude.{OnOk, OnErr, IfOk, IfErr};
-ghost use Rattle.firm_table.specs.Service.{Answers, BeginsAnswers, Served, Stopped, device};
-ghost use Rattle.firm_table.specs.Service.{ToldToTheEnd, UpToDate, WasTold};
+ghost use Rattle.firm_table.specs.Service.{Answers, BeginsAnswers, Served, Stopped, UpToDate, device};
+ghost use Rattle.firm_table.specs.Telling.{ToldToTheEnd, WasTold};
 ghost use Rattle.firm_table.specs.declared.faults.ServeFault.TheVariants.{Read};
 ghost use Rattle.firm_table.specs.inner.Faults.{IsWritingFault};
 ghost use Rattle.firm_table.specs.inner.Reading.{Heard, Halted};
@@ -16,7 +16,8 @@ use firm_text::{Cutter, Sink, Source};
 const PIECE: usize = 4_096;
 
 /// Has a clerk answer the lines of an input of at most `most` bytes, 2^32 at most. Before each read the clerk writes
-/// the answers that it can; at the end it writes all, and the writer is flushed.
+/// the answers that it can, also those that come while a read would wait; at the end it writes all, and the writer is
+/// flushed.
 ///
 /// On `Ok` a read has found the end of the input, and what was written is the output for all of it. After a fault it is
 /// a prefix of the output for the bytes that were read. `Read` and `Write` come where a call of the reader or the
@@ -54,7 +55,7 @@ pub fn serve_lines<R: Source, W: Sink, C: Clerk>(
     let mut cutter = Cutter::new();
     let mut heard = 0;
     loop {
-        clerk.write_out(writer)?;
+        clerk.write_out(&*reader, writer)?;
         let Ok(count) = reader.read(&mut piece) else {
             return Err(ServeFault::Read);
         };

@@ -1,18 +1,16 @@
 //! The service on one thread: the lines of an input are answered in turn.
 
-ghost use Rattle.std.specs.Prelude.{◌≡◌, ℕ, ◌≤◌, ◌<◌, ◌^◌, [], false, OnOk, OnErr, IfOk, IfErr, length, take};
-ghost use Rattle.std.specs.Io.KnownBytes.{Appends};
+ghost use Rattle.std.specs.Prelude.{◌≡◌, ◌≤◌, ◌^◌, [], false, OnOk, IfOk, IfErr};
 ghost use Rattle.firm_table.specs.Service.{Answers, Served, Stopped, UpToDate, device};
 ghost use Rattle.firm_table.specs.declared.faults.ServeFault.TheVariants.{Read};
-ghost use Rattle.firm_table.specs.inner.Faults.{IsWritingFault};
 ghost use Rattle.firm_table.specs.inner.Line.{opening_tenants, state_is};
 ghost use Rattle.firm_table.specs.inner.Progress.{Told, state_of};
 
 use crate::clerk::Clerk;
-use crate::devices::write_all;
 use crate::faults::ServeFault;
 use crate::reading::serve_lines;
 use crate::tenants::Tenants;
+use crate::writing::write_held;
 use firm_tenant::unmarked_steps_are_granted;
 use firm_text::{Line, Roster, Sink, Source, refuses_for_the_form};
 use std::alloc::{AllocError, Global};
@@ -106,28 +104,16 @@ impl Clerk for Service<'_> {
         Ok(())
     }
 
-    fn write_out<W: Sink>(&mut self, writer: &mut W) -> Result<(), ServeFault> {
+    fn write_out<S: Source, W: Sink>(
+        &mut self,
+        reader: &S,
+        writer: &mut W,
+    ) -> Result<(), ServeFault> {
+        let _ = reader;
         write_held(writer, &mut self.output)
     }
 
     fn finish<W: Sink>(&mut self, writer: &mut W) -> Result<(), ServeFault> {
-        self.write_out(writer)
+        write_held(writer, &mut self.output)
     }
-}
-
-// Writes what is still to be written.
-fn write_held<W: Sink>(writer: &mut W, output: &mut Vec<u8>) -> Result<(), ServeFault>
-    requires { W.write_failed writer.old ≡ false }
-    ensures ok { OnOk result (Appends (W.written writer.old) (W.written writer.new) output.old.items) }
-    ensures empty { OnOk result (output.new.items ≡ []) }
-    ensures err { OnErr result ((count : ℕ) × (count ≤ length output.old.items)
-        × Appends (W.written writer.old) (W.written writer.new) (take count output.old.items)) }
-    ensures cause { IfErr result (λ fault. IsWritingFault fault (W.write_failed writer.new)) }
-    ensures well { OnOk result (W.write_failed writer.new ≡ false) }
-{
-    if write_all(writer, output).is_err() {
-        return Err(ServeFault::Write);
-    }
-    output.clear();
-    Ok(())
 }

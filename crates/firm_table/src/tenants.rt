@@ -1,21 +1,17 @@
 //! The tenants of a service at their places, and the answer to one line for them.
 
-ghost use Rattle.std.specs.Prelude.{◌≡◌, ◌++◌, Some, IfOk, MatchOption, OnOk, codes, option_map, slice_get};
+ghost use Rattle.std.specs.Prelude.{◌≡◌, Some, IfOk, MatchOption, OnOk, option_map, slice_get};
 ghost use Rattle.std.specs.Io.{StartsWith};
 ghost use Rattle.firm_rules.specs.Book.{opening_book};
-ghost use Rattle.firm_text.specs.Replies.{text_of_reply};
-ghost use Rattle.firm_text.specs.OperatorReplies.{text_of_operator_reply};
 ghost use Rattle.firm_text.specs.declared.inputs.Line.TheVariants.{For, Operator};
 ghost use Rattle.firm_text.specs.declared.operator.OperatorLine.TheVariants.{Admit, Retire};
-ghost use Rattle.firm_table.specs.Answers.{ended, replied, told_operator, unknown_tenant};
+ghost use Rattle.firm_table.specs.declared.answers.LineAnswer.TheVariants.{Replied, ToOperator, UnknownTenant};
 ghost use Rattle.firm_table.specs.inner.Line.{IsAnswer, IsRight, opening_books, opening_tenants};
 
+use crate::answers::LineAnswer;
 use firm_rules::{Command, Limits, Name, Reply};
 use firm_tenant::Tenant;
-use firm_text::{
-    Line, OperatorLine, OperatorRefusal, OperatorReply, PLACES, Register, Roster,
-    put_operator_reply, put_reply,
-};
+use firm_text::{Line, OperatorLine, OperatorRefusal, OperatorReply, PLACES, Register, Roster};
 use std::alloc::{AllocError, Global};
 use std::marker::Model;
 
@@ -60,25 +56,29 @@ impl Tenants {
         ensures kept { StartsWith output.new.items output.old.items }
         ensures answered { OnOk result (IsAnswer self.old self.new line output.old.items output.new.items) }
     {
+        self.answer(alloc, line).put(output)
+    }
+
+    // The answer to a line.
+    fn answer(&mut self, alloc: Global, line: Line) -> LineAnswer
+        ensures { IsRight self.old self.new line result }
+    {
         match line {
-            Line::Nothing => Ok(()),
-            Line::Long => output.extend_from_slice(b"! line-too-long\n"),
-            Line::Nameless => put_unknown(output),
+            Line::Nothing => LineAnswer::Silent,
+            Line::Long => LineAnswer::LineTooLong,
+            Line::Nameless => LineAnswer::UnknownTenant,
             Line::For(name, command) => match self.step(alloc, name, command) {
-                None => put_unknown(output),
-                Some(reply) => put_line(output, name, &reply),
+                None => LineAnswer::UnknownTenant,
+                Some(reply) => LineAnswer::Replied(name, reply),
             },
-            Line::Operator(asked) => {
-                let reply = self.obey(alloc, asked);
-                put_operator_line(output, reply)
-            }
+            Line::Operator(asked) => LineAnswer::ToOperator(self.obey(alloc, asked)),
         }
     }
 
     // The reply of the tenant of this name to a command. None where it is not there.
     fn step(&mut self, alloc: Global, name: Name, command: Command) -> Option<Reply>
-        ensures { MatchOption result (IsRight self.old self.new (For name command) unknown_tenant)
-            (λ reply. IsRight self.old self.new (For name command) (replied name reply)) }
+        ensures { MatchOption result (IsRight self.old self.new (For name command) UnknownTenant)
+            (λ reply. IsRight self.old self.new (For name command) (Replied name reply)) }
     {
         let place = self.register.place_of(name)?;
         let Some(tenant) = &mut self.places[place] else {
@@ -89,7 +89,7 @@ impl Tenants {
 
     // Does what the operator asks for, where it can be done.
     fn obey(&mut self, alloc: Global, asked: OperatorLine) -> OperatorReply
-        ensures { IsRight self.old self.new (Operator asked) (told_operator result) }
+        ensures { IsRight self.old self.new (Operator asked) (ToOperator result) }
     {
         match asked {
             OperatorLine::Admit(name, limits) => self.admit(alloc, name, limits),
@@ -100,7 +100,7 @@ impl Tenants {
 
     // Admits a tenant. Where memory is refused to it nobody comes, and no admission is used.
     fn admit(&mut self, alloc: Global, name: Name, limits: Limits) -> OperatorReply
-        ensures { IsRight self.old self.new (Operator (Admit name limits)) (told_operator result) }
+        ensures { IsRight self.old self.new (Operator (Admit name limits)) (ToOperator result) }
     {
         let place = match self.register.admit(name) {
             Ok(place) => place,
@@ -116,7 +116,7 @@ impl Tenants {
 
     // Retires a tenant, and its book with it.
     fn retire(&mut self, name: Name) -> OperatorReply
-        ensures { IsRight self.old self.new (Operator (Retire name)) (told_operator result) }
+        ensures { IsRight self.old self.new (Operator (Retire name)) (ToOperator result) }
     {
         match self.register.retire(name) {
             Ok(place) => {
@@ -150,30 +150,4 @@ fn first_tenant(alloc: Global, roster: &Roster, place: usize) -> Result<Option<T
         Some((_, limits)) => Ok(Some(Tenant::admit(alloc, limits)?)),
         None => Ok(None),
     }
-}
-
-// The answer to a line for a tenant that the service has not.
-fn put_unknown(output: &mut Vec<u8>) -> Result<(), AllocError>
-    ensures kept { StartsWith output.new.items output.old.items }
-    ensures added { OnOk result (output.new.items ≡ output.old.items ++ ended (codes "! unknown-tenant")) }
-{
-    output.extend_from_slice(b"! unknown-tenant\n")
-}
-
-// Adds a tenant's reply.
-fn put_line(output: &mut Vec<u8>, name: Name, reply: &Reply) -> Result<(), AllocError>
-    ensures kept { StartsWith output.new.items output.old.items }
-    ensures added { OnOk result (output.new.items ≡ output.old.items ++ ended (text_of_reply name reply.now)) }
-{
-    put_reply(output, name, reply)?;
-    output.extend_from_slice(b"\n")
-}
-
-// Adds a reply to the operator.
-fn put_operator_line(output: &mut Vec<u8>, reply: OperatorReply) -> Result<(), AllocError>
-    ensures kept { StartsWith output.new.items output.old.items }
-    ensures added { OnOk result (output.new.items ≡ output.old.items ++ ended (text_of_operator_reply reply)) }
-{
-    put_operator_reply(output, reply)?;
-    output.extend_from_slice(b"\n")
 }

@@ -1,17 +1,16 @@
 -- A line of the operator that is at fault by itself.
-use Rattle.std.proofs.Common.{◌≡◌, ◌≤◌, ℕ, Bool, true, false, List, [], ◌∷◌, length, Option, Some, None, Result, Ok}
-use Rattle.std.proofs.Common.{Err, arith, refl}
+use Rattle.std.proofs.Common.{◌≤◌, ℕ, Bool, true, false, List, [], ◌∷◌, length, Option, Some, None, Result, Ok}
+use Rattle.std.proofs.Common.{Err, arith}
 use Rattle.std.specs.Prelude.{nat_lt, bytes_eq, codes, if◌then◌else◌}
 use Rattle.std.specs.Option.{ok_or}
 use Rattle.std.specs.List.{slice_split}
 use Rattle.std.specs.Result.{result_map_both}
 use Rattle.firm_rules.specs.Names.{name_of}
-use Rattle.firm_rules.specs.declared.commands.Command.{Command}
 use Rattle.firm_text.specs.Commands.{◌>>=◌, command_of}
 use Rattle.firm_text.specs.Inputs.{command_for, is_comment, line_of, longest_line, words_line}
 use Rattle.firm_text.specs.LineLaws.{RefusesForTheForm}
 use Rattle.firm_text.specs.Lines.{words}
-use Rattle.firm_text.specs.OperatorLines.{admit_line, is_comma, line_or_fault, operator_line_of, operator_verb}
+use Rattle.firm_text.specs.OperatorLines.{admit_line, is_comma, line_or_fault, operator_line_of}
 use Rattle.firm_text.specs.OperatorLines.{operator_word, retire_line, row_refusal}
 use Rattle.firm_text.specs.OperatorRefusals.{operator_code}
 use Rattle.firm_text.specs.Rosters.{Admitted, tenant_told}
@@ -19,9 +18,7 @@ use Rattle.firm_text.specs.declared.faults.RosterFault.{RosterFault}
 use Rattle.firm_text.specs.declared.faults.RosterFault.TheVariants as fault
 use Rattle.firm_text.specs.declared.inputs.Line.{Line}
 use Rattle.firm_text.specs.declared.inputs.Line.TheVariants.{Nothing, Long, Nameless, For, Operator}
-use Rattle.firm_text.specs.declared.operator.OperatorLine.{OperatorLine}
 use Rattle.firm_text.specs.declared.operator.OperatorLine.TheVariants.{Admit, Retire, Faulty}
-use Rattle.firm_text.specs.declared.operator.OperatorRefusal.{OperatorRefusal}
 use Rattle.firm_text.specs.declared.operator.OperatorRefusal.TheVariants.{BadCommand, BadName}
 
 -- where the line is at fault, it is so for its form

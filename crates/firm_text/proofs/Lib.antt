@@ -12,3 +12,4 @@ pub mod Fields
 pub mod Differ
 pub mod Judged
 pub mod Places
+mod Prefixes

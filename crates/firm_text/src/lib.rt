@@ -23,7 +23,7 @@ mod words;
 pub use admission::roster;
 pub use bytes::Bytes;
 pub use cutter::{Cutter, Fed};
-pub use devices::{Failed, Sink, Source};
+pub use devices::{Failed, Sink, Source, write_all};
 pub use faults::RosterFault;
 pub use inputs::Line;
 pub use laws::{admits_records, refuses_first_fault, refuses_for_the_form};

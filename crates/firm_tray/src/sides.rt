@@ -6,13 +6,13 @@ ghost use Rattle.firm_tray.specs.Polls.{IsPolled};
 use crate::protocol::{Answers, Board, Looks, Sides, Solved, TakesSlot, TraySeat};
 use firm_tenant::Tenant;
 use std::alloc::{AllocError, Global};
+use std::hint::spin_loop;
 use std::marker::Model;
 use std::sync::{Arc, Wait};
-use std::thread;
-use std::time::Duration;
 
-// How often a wait looks and yields before it also sleeps between looks.
-const TRIES_BEFORE_REST: u32 = 10_000;
+// How often a wait looks in vain before it sleeps until the answer is there: for some ten microseconds, as long as a small round
+// takes. It does not yield, since on a busy machine one yield takes longer than all looks and the sleep.
+const LOOKS_BEFORE_SLEEP: u32 = 1_024;
 
 /// What a tenant's round comes back on.
 pub struct Tray;
@@ -109,8 +109,8 @@ impl Tray {
 }
 
 impl AnswerSide {
-    /// Hands the tenant over. It asks for the round of the tenant for which the tray was opened, solved or refused for want of
-    /// memory. It takes no memory.
+    /// Hands the tenant over, and wakes the other side if it sleeps. It asks for the round of the tenant for which the tray was opened,
+    /// solved or refused for want of memory. It takes no memory.
     pub fn answer(self, solved: Solved) -> Spent
         requires { IsSolved self.book solved }
         ensures { result ≡ self }
@@ -118,6 +118,8 @@ impl AnswerSide {
         let AnswerSide { board, mut seat } = self;
         board.shared.exchange(&mut seat, 0, Some(solved));
         board.shared.store::<Answers>(&mut seat, 0, 1);
+        // One wake is enough, since there is one asking side. The word outlives it: this side's share of the board ends later.
+        board.shared.wake_one(0);
         Spent { seat }
     }
 }
@@ -135,31 +137,30 @@ impl AskSide {
         }
     }
 
-    /// The tenant with its round, once the answer is there. It takes no memory.
+    /// The tenant with its round, once the answer is there. After some looks in vain it sleeps until then. It takes no memory.
     pub fn wait<R: Wait>(self, rt: &R) -> Solved
         ensures { IsSolved self.book result }
     {
         let mut side = self;
-        let mut tries = 0;
+        let mut looks = 0;
         for _ in rt.forever() {
             match side.poll() {
                 Polled::Back(solved) => return solved,
                 Polled::Not(same) => side = same,
             }
-            if tries < TRIES_BEFORE_REST {
-                tries += 1;
-                thread::yield_now();
+            if looks < LOOKS_BEFORE_SLEEP {
+                looks += 1;
+                spin_loop();
             } else {
-                side.rest(rt);
+                side.sleep(rt);
             }
         }
         unreachable!()
     }
 
-    // Sleeps for a millisecond at most, where no answer is there.
-    fn rest<R: Wait>(&self, rt: &R) {
-        self.board
-            .shared
-            .park_timeout(rt, 0, 0, Duration::from_millis(1));
+    // Sleeps while the word is 0. No wake-up is lost: the word is compared and the thread laid down in one step, and the answer
+    // stores 1 before it wakes. So either the answer came first, and there is no sleep, or the wake finds the sleeper.
+    fn sleep<R: Wait>(&self, rt: &R) {
+        self.board.shared.park(rt, 0, 0);
     }
 }

@@ -3,22 +3,26 @@
 
 ghost use Rattle.std.specs.Prelude.{◌≡◌, ◌≤◌, All};
 
-mod across;
 mod callers;
 mod closing;
-mod gates;
+mod counts;
+mod held;
 mod lives;
 mod queues;
+mod services;
+mod solving;
 mod stays;
 mod teams;
 mod trays;
+mod wakes;
 
-use firm_hall::{Desk, EmptyDesk, Hall, WorkerPass};
+use firm_hall::{Asked, Desk, EmptyDesk, Hall, WorkerPass};
 use firm_rounds::Job;
 use firm_rules::{Outcome, Reply};
 use firm_text::{Roster, roster};
 use std::alloc::Global;
 use std::process::Abort;
+use std::sync::Wait;
 
 const HEADING: &str = "tenant,nodes,arcs,life,spread,churn\n";
 
@@ -26,6 +30,17 @@ const HEADING: &str = "tenant,nodes,arcs,life,spread,churn\n";
 const MOST: u64 = 4_294_967_296;
 
 const TWO: &str = "alpha,9,24,100,1,2\nbeta,8,30,100,0,3";
+
+/// Eight tenants of one command each.
+const EIGHT: &str = "\
+a,2,0,1,0,0
+b,2,0,1,0,0
+c,2,0,1,0,0
+d,2,0,1,0,0
+e,2,0,1,0,0
+f,2,0,1,0,0
+g,2,0,1,0,0
+h,2,0,1,0,0";
 
 /// The roster of these records, each on a line.
 fn roster_of(rt: &impl Abort, alloc: Global, records: &str) -> Roster {
@@ -59,6 +74,19 @@ fn first_desk(rt: &impl Abort, hall: &Hall, desks: &mut Vec<Desk>) -> Desk
     let _ = hall;
     assert!(rt; !desks.is_empty());
     desks.remove(0)
+}
+
+/// Takes the first desk off and asks for its round.
+fn ask_first<R: Abort + Wait>(rt: &R, alloc: Global, hall: &Hall, desks: &mut Vec<Desk>) -> Asked
+    requires { All (λ d. d.queue ≡ hall.now.id) desks.old.items }
+    ensures asked { result.queue ≡ hall.now.id }
+    ensures rest { All (λ d. d.queue ≡ hall.now.id) desks.new.items }
+{
+    let desk = first_desk(rt, hall, desks);
+    match desk.ask(rt, alloc, hall) {
+        Ok(asked) => asked,
+        Err((_desk, reply)) => panic!(rt; "{reply:?}"),
+    }
 }
 
 /// Takes the last pass off.

@@ -1,7 +1,12 @@
--- The desks of a hall once it serves no more.
-use Rattle.std.specs.Prelude.{◌≡◌, All, List}
+-- How a service ends, and the desks of a hall once it serves no more.
+use Rattle.std.specs.Prelude.{◌≡◌, ℕ, All, List, Result, Ok, Err}
+use Rattle.firm_text.specs.Rosters.{Admitted}
+use Rattle.firm_table.specs.Service.{Device, Stopped}
+use Rattle.firm_table.specs.declared.faults.ServeFault.{ServeFault}
 use Rattle.firm_rounds.specs.Passes.{QueueId}
 use Rattle.firm_hall.specs.Desks.{DeskIs, PlaceIs}
+use Rattle.firm_hall.specs.Counts.{ServedWith}
+use Rattle.firm_hall.specs.declared.ending.Ended.{Ended}
 use Rattle.firm_hall.specs.declared.seats.Seat.{Seat}
 use Rattle.firm_hall.specs.declared.seats.Seat.TheVariants.{Home, Away, Empty, Gone}
 
@@ -16,3 +21,8 @@ IsOf id Gone = ⊥
 pub record AreOf (id : QueueId) (desks : List DeskIs) (empty : List PlaceIs) : Type 0 where
   pub each : All (λ desk. desk.queue ≡ id) desks
   pub places : All (λ place. place.queue ≡ id) empty
+
+-- it served to the end of the input, or stopped with a fault
+abbrev pub Ran : List Admitted → ℕ → Device → Device → Result Ended ServeFault → Type 0
+Ran roster most reader writer (Ok ended) = ServedWith roster most reader writer ended.rounds
+Ran roster most reader writer (Err fault) = Stopped roster most reader writer fault

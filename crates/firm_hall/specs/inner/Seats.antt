@@ -13,8 +13,9 @@ use Rattle.firm_rounds.specs.Passes.{QueueId}
 use Rattle.firm_hall.specs.Desks.{DeskIs, desk_is, place_is, IsStep}
 use Rattle.firm_hall.specs.declared.seats.Seat.{Seat}
 use Rattle.firm_hall.specs.declared.seats.Seat.TheVariants.{Home, Away, Empty, Gone}
-use Rattle.firm_hall.specs.declared.seats.Slot.{Slot}
-use Rattle.firm_hall.specs.declared.seats.Slot.TheVariants.{TooLong, Stranger, Replied, Waiting, Obeyed}
+use Rattle.firm_table.specs.declared.answers.LineAnswer.TheVariants.{Replied}
+use Rattle.firm_hall.specs.declared.held.Slot.{Slot}
+use Rattle.firm_hall.specs.declared.held.Slot.TheVariants.{Known, Waiting}
 
 -- something stands there
 abbrev pub IsSeated : Seat → Type 0
@@ -29,6 +30,13 @@ IsBack (Home desk) = Unit {0}
 IsBack (Away asked) = ⊥
 IsBack (Empty place) = Unit {0}
 IsBack Gone = ⊥
+
+-- a round is away from there
+abbrev pub IsAway : Seat → Type 0
+IsAway (Home desk) = ⊥
+IsAway (Away asked) = Unit {0}
+IsAway (Empty place) = ⊥
+IsAway Gone = ⊥
 
 -- a desk at home
 abbrev pub IsHome : Seat → Type 0
@@ -78,45 +86,8 @@ IsRetired (Away asked) after = ⊥
 IsRetired (Empty place) after = ⊥
 IsRetired Gone after = ⊥
 
--- whether an answer is the reply to the round that is away from the place
-abbrev pub waits_for : ℕ → Slot → Bool
-waits_for place TooLong = false
-waits_for place Stranger = false
-waits_for place (Replied name reply) = false
-waits_for place (Waiting other name asked) = other == place
-waits_for place (Obeyed reply) = false
-
--- the place whose round it waits for
-abbrev pub waiting_place : Slot → Option ℕ
-waiting_place TooLong = None
-waiting_place Stranger = None
-waiting_place (Replied name reply) = None
-waiting_place (Waiting place name asked) = Some place
-waiting_place (Obeyed reply) = None
-
--- the reply came
-abbrev pub answered : Reply → Slot → Slot
-answered reply TooLong = TooLong
-answered reply Stranger = Stranger
-answered reply (Replied name same) = Replied name same
-answered reply (Waiting place name asked) = Replied name reply
-answered reply (Obeyed same) = Obeyed same
-
--- the first answer that waits for the place is this reply
-abbrev pub filled : ℕ → Reply → List Slot → List Slot
-filled place reply [] = []
-filled place reply (slot ∷ rest) =
-    if waits_for place slot then answered reply slot ∷ rest else slot ∷ filled place reply rest
-
--- the same where a reply came
-abbrev pub filled_if : ℕ → Option Reply → List Slot → List Slot
-filled_if place None slots = slots
-filled_if place (Some reply) slots = filled place reply slots
-
 -- the desk answered the command; a round that it answers itself is worn, or was refused memory
-pub record Answered (before : DeskIs) (name : List ℕ) (command : Command) (after : DeskIs) (tenant : List ℕ)
-    (reply : Reply) : Type 0 where
-  pub named : tenant ≡ name
+pub record Answered (before : DeskIs) (command : Command) (after : DeskIs) (reply : Reply) : Type 0 where
   pub stepped : IsStep before command reply after
   pub why : command ≡ Round → (reply.outcome ≡ Refused Worn) ⊎ (reply.outcome ≡ Refused Memory)
 
@@ -132,17 +103,12 @@ pub record Went (before : DeskIs) (place : ℕ) (name : List ℕ) (command : Com
 
 -- what a command made of a desk of the place, and the answer to its line
 abbrev pub IsTaken : DeskIs → ℕ → List ℕ → Command → Seat → Slot → Type 0
-IsTaken before place name command (Home after) (Replied tenant reply) = Answered before name command after tenant reply
+IsTaken before place name command (Home after) (Known answer) =
+    (reply : Reply) × (answer ≡ Replied name reply) × Answered before command after reply
 IsTaken before place name command (Away asked) (Waiting at tenant known) =
     Went before place name command asked at tenant known.value
-IsTaken before place name command (Home after) TooLong = ⊥
-IsTaken before place name command (Home after) Stranger = ⊥
 IsTaken before place name command (Home after) (Waiting at tenant known) = ⊥
-IsTaken before place name command (Home after) (Obeyed reply) = ⊥
-IsTaken before place name command (Away asked) TooLong = ⊥
-IsTaken before place name command (Away asked) Stranger = ⊥
-IsTaken before place name command (Away asked) (Replied tenant reply) = ⊥
-IsTaken before place name command (Away asked) (Obeyed reply) = ⊥
+IsTaken before place name command (Away asked) (Known answer) = ⊥
 IsTaken before place name command (Empty after) slot = ⊥
 IsTaken before place name command Gone slot = ⊥
 

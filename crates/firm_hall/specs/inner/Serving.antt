@@ -1,9 +1,7 @@
 -- How far a hall has come that serves.
 use Rattle.std.specs.Prelude.{◌≡◌, ℕ, ◌<◌, ◌≤◌, Bool, true, false, List, [], ◌∷◌, ◌++◌, Option, Some, None}
-use Rattle.std.specs.Prelude.{map, length, slice_index_or, MatchBool}
-use Rattle.std.specs.List.{flat_map}
+use Rattle.std.specs.Prelude.{map, length, slice_index_or}
 use Rattle.std.specs.Option.{is_some}
-use Rattle.std.specs.VecDeque.{deque_len, deque_capacity}
 use Rattle.firm_rules.specs.Book.{Book}
 use Rattle.firm_rules.specs.declared.commands.Command.TheVariants.{Round}
 use Rattle.firm_tenant.specs.Step.{step}
@@ -15,21 +13,33 @@ use Rattle.firm_text.specs.declared.inputs.Line.TheVariants.{Operator}
 use Rattle.firm_text.specs.declared.operator.OperatorLine.{OperatorLine}
 use Rattle.firm_text.specs.declared.operator.OperatorReply.{OperatorReply}
 use Rattle.firm_text.specs.declared.registers.Place.{Place as Registered}
-use Rattle.firm_table.specs.Answers.{Answer, too_long, unknown_tenant, replied, told_operator, text_of_answer}
 use Rattle.firm_table.specs.Output.{answers_of}
 use Rattle.firm_table.specs.Service.{BeginsAnswers}
 use Rattle.firm_table.specs.inner.Line.{State, state_is, tenants_are}
 use Rattle.firm_table.specs.inner.Progress.{Told}
 use Rattle.firm_rounds.specs.Rounds.{weigh}
 use Rattle.firm_rounds.specs.Passes.{QueueId}
-use Rattle.firm_hall.specs.Desks.{DeskIs}
 use Rattle.firm_hall.specs.Counts.{Counted}
-use Rattle.firm_hall.specs.inner.Seats.{IsBack, waits_for}
-use Rattle.firm_hall.specs.declared.serving.Serving.{Serving}
+use Rattle.firm_hall.specs.inner.Held.{HeldIs, most_held, held_text, NoneWaits, OneWaits, FirstWaits}
+use Rattle.firm_hall.specs.inner.Seats.{IsBack}
 use Rattle.firm_hall.specs.declared.seats.Seat.{Seat}
 use Rattle.firm_hall.specs.declared.seats.Seat.TheVariants.{Home, Away, Empty, Gone}
-use Rattle.firm_hall.specs.declared.seats.Slot.{Slot}
-use Rattle.firm_hall.specs.declared.seats.Slot.TheVariants.{TooLong, Stranger, Replied, Waiting, Obeyed}
+use Rattle.firm_table.specs.declared.answers.LineAnswer.TheVariants.{ToOperator}
+use Rattle.firm_hall.specs.declared.held.Slot.{Slot}
+use Rattle.firm_hall.specs.declared.held.Slot.TheVariants.{Known, Waiting}
+
+-- a hall that serves: the queue of its desks, who has which place, what stands at each, the answers that are held, and
+-- the text that is still to be written before them
+pub record ServingIs : Type 0 where
+  pub queue : QueueId
+  pub register : List Registered
+  pub seats : List Seat
+  pub slots : List Slot
+  pub output : List ℕ
+
+abbrev pub serving_is : QueueId → List Registered → List Seat → HeldIs → ServingIs
+serving_is queue register seats held =
+    record { queue = queue; register = register; seats = seats; slots = held.slots; output = held.output }
 
 -- the book at a seat, once the rounds that are away are answered, each with the mark of its place
 abbrev pub book_at : (ℕ → Bool) → Seat → Option Book
@@ -37,18 +47,6 @@ book_at marks (Home desk) = Some desk.book
 book_at marks (Away asked) = Some (step asked.book Round (marks asked.place)).1
 book_at marks (Empty place) = None
 book_at marks Gone = None
-
--- the answer that is held, once those rounds are answered
-abbrev pub answer_in : (ℕ → Bool) → Slot → Answer
-answer_in marks TooLong = too_long
-answer_in marks Stranger = unknown_tenant
-answer_in marks (Replied name reply) = replied name reply
-answer_in marks (Waiting place name asked) = replied name (step asked.value.book Round (marks place)).0
-answer_in marks (Obeyed reply) = told_operator reply
-
--- the text of the answers that are held
-abbrev pub held_text : (ℕ → Bool) → List Slot → List ℕ
-held_text marks slots = flat_map text_of_answer (map (answer_in marks) slots)
 
 -- the state of the tenants, once those rounds are answered
 abbrev pub state_with : (ℕ → Bool) → List Admitted → List Registered → List Seat → List Slot → List ℕ → State
@@ -73,25 +71,6 @@ seat_counts Gone = (false, 0)
 abbrev pub place_counts : Registered → Bool × ℕ
 place_counts place = (is_some place.tenant, place.admissions)
 
--- no answer waits for the place
-abbrev pub NoneWaits : ℕ → List Slot → Type 0
-NoneWaits place [] = Unit {0}
-NoneWaits place (slot ∷ rest) = (waits_for place slot ≡ false) × NoneWaits place rest
-
--- an answer waits for this round
-abbrev pub IsFor : DeskIs → Slot → Type 0
-IsFor asked TooLong = ⊥
-IsFor asked Stranger = ⊥
-IsFor asked (Replied name reply) = ⊥
-IsFor asked (Waiting place name known) = known.value ≡ asked
-IsFor asked (Obeyed reply) = ⊥
-
--- one answer waits for the round that is away from the place
-abbrev pub OneWaits : ℕ → DeskIs → List Slot → Type 0
-OneWaits place asked [] = ⊥
-OneWaits place asked (slot ∷ rest) =
-    MatchBool (waits_for place slot) (IsFor asked slot × NoneWaits place rest) (OneWaits place asked rest)
-
 -- the desk at home, of this hall and place, for which no answer waits; or its round is away, for which one waits; or
 -- nobody is there
 abbrev pub SeatIs : QueueId → ℕ → List Slot → Seat → Type 0
@@ -108,11 +87,8 @@ pub record AreSeats (queue : QueueId) (slots : List Slot) (seats : List Seat) : 
 
 -- the answers that wait do so for places that there are
 abbrev pub IsPlaced : Slot → Type 0
-IsPlaced TooLong = Unit {0}
-IsPlaced Stranger = Unit {0}
-IsPlaced (Replied name reply) = Unit {0}
 IsPlaced (Waiting place name asked) = place < most_places
-IsPlaced (Obeyed reply) = Unit {0}
+IsPlaced (Known answer) = Unit {0}
 
 abbrev pub ArePlaced : List Slot → Type 0
 ArePlaced [] = Unit {0}
@@ -122,21 +98,23 @@ ArePlaced (slot ∷ rest) = IsPlaced slot × ArePlaced rest
 abbrev pub Fits : List Registered → List Seat → Type 0
 Fits register seats = map seat_counts seats ≡ map place_counts register
 
--- the seats, the register and the answers that are held fit each other, and there is room for 1,024 answers
-pub record AreOpen (serving : Serving) : Type 0 where
-  pub seats : AreSeats serving.hall.now.id serving.slots.items serving.seats.items
-  pub fits : Fits serving.register serving.seats.items
-  pub placed : ArePlaced serving.slots.items
-  pub few : deque_len serving.slots ≤ 1024
-  pub room : 1024 ≤ deque_capacity serving.slots
+-- seats, register and held answers fit each other
+pub record Stands (serving : ServingIs) : Type 0 where
+  pub seats : AreSeats serving.queue serving.slots serving.seats
+  pub fits : Fits serving.register serving.seats
+  pub placed : ArePlaced serving.slots
 
--- and for one more of them
-pub record IsOpen (serving : Serving) : Type 0 where
-  pub stands : AreOpen serving
-  pub more : deque_len serving.slots < 1024
+-- a service of this hall with room for one more answer
+pub record IsOpen (id : QueueId) (serving : ServingIs) : Type 0 where
+  pub same_hall : serving.queue ≡ id
+  pub room : length serving.slots < most_held
+
+-- nothing lies there yet, and there is room for each place
+abbrev pub IsReserved : {A : Type 0} → List A → ℕ → Type 0
+IsReserved items capacity = (items ≡ []) × (most_places ≤ capacity)
 
 -- The lines of this text were answered. However memory is granted to the rounds that are away, what was written and
--- what is held is then the output for them; and as many rounds were asked as these lines tell.
+-- what is held are then the output for them; and as many rounds were asked as these lines tell.
 pub record Tells (state : State) (asked : ℕ) (text : List ℕ) (written now : Option (List ℕ)) : Type 0 where
   pub told : Told state text written now
   pub counted : Counted asked told.lines (answers_of state.roster told.lines)
@@ -147,78 +125,58 @@ TellsParts roster register seats slots output text written now =
     (marks : ℕ → Bool)
     → Tells (state_with marks roster register seats slots output) (weigh asked_at seats) text written now
 
--- the same of the struct that serves
-abbrev pub TellsAll : Serving → List ℕ → Option (List ℕ) → Option (List ℕ) → Type 0
-TellsAll serving text written now =
-    TellsParts serving.roster.now serving.register serving.seats.items serving.slots.items serving.output.items text
-    written now
+-- the same of a whole service
+abbrev pub TellsAll : List Admitted → ServingIs → List ℕ → Option (List ℕ) → Option (List ℕ) → Type 0
+TellsAll roster serving text written now =
+    TellsParts roster serving.register serving.seats serving.slots serving.output text written now
 
--- what was told still is
-abbrev pub Keeps : Serving → Serving → Type 0
-Keeps old new = (text : List ℕ) (written now : Option (List ℕ))
-    → TellsAll old text written now → TellsAll new text written now
+-- the same hall, with no answer more held
+pub record Follows (old new : ServingIs) : Type 0 where
+  pub same_hall : new.queue ≡ old.queue
+  pub fewer : length new.slots ≤ length old.slots
 
--- and so it is where something was written meanwhile
-abbrev pub Passes : Serving → Serving → Option (List ℕ) → Option (List ℕ) → Type 0
-Passes old new now later = (text : List ℕ) (written : Option (List ℕ))
-    → TellsAll old text written now → TellsAll new text written later
+-- a change of the service with which as much is told as before
+abbrev pub Keeps : ServingIs → ServingIs → Type 0
+Keeps old new = (roster : List Admitted) (text : List ℕ) (written now : Option (List ℕ))
+    → TellsAll roster old text written now → TellsAll roster new text written now
 
--- one line more is told
-abbrev pub Takes : Serving → Serving → Line → Type 0
-Takes old new line = (text after : List ℕ) (written now : Option (List ℕ))
+-- the same, where the output grew from one text to another meanwhile
+abbrev pub Passes : ServingIs → ServingIs → Option (List ℕ) → Option (List ℕ) → Type 0
+Passes old new now later = (roster : List Admitted) (text : List ℕ) (written : Option (List ℕ))
+    → TellsAll roster old text written now → TellsAll roster new text written later
+
+-- the answer to one more line
+abbrev pub Takes : ServingIs → ServingIs → Line → Type 0
+Takes old new line = (roster : List Admitted) (text after : List ℕ) (written now : Option (List ℕ))
     → input_lines after ≡ input_lines text ++ line ∷ []
-    → TellsAll old text written now → TellsAll new after written now
+    → TellsAll roster old text written now → TellsAll roster new after written now
 
--- what the operator asks for was done: with the reply behind what is held, one line more is told
-abbrev pub Obeys : Serving → Serving → OperatorLine → OperatorReply → Type 0
-Obeys old new asked reply = (text after : List ℕ) (written now : Option (List ℕ))
+-- an operator's line is done, and its answer is this reply, which is still to be held
+abbrev pub Obeys : ServingIs → ServingIs → OperatorLine → OperatorReply → Type 0
+Obeys old new asked reply = (roster : List Admitted) (text after : List ℕ) (written now : Option (List ℕ))
     → input_lines after ≡ input_lines text ++ Operator asked ∷ []
-    → TellsAll old text written now
-    → TellsParts new.roster.now new.register new.seats.items (new.slots.items ++ Obeyed reply ∷ []) new.output.items
-    after written now
+    → TellsAll roster old text written now
+    → TellsParts roster new.register new.seats (new.slots ++ Known (ToOperator reply) ∷ []) new.output after written now
 
--- what was written begins the output for what was told
-abbrev pub Begins : Serving → Option (List ℕ) → Option (List ℕ) → Type 0
-Begins old now later = (text : List ℕ) (written : Option (List ℕ))
-    → TellsAll old text written now → BeginsAnswers old.roster.now text written later
-
--- the first answer that is held waits, or none is held
-abbrev pub FirstWaits : List Slot → Type 0
-FirstWaits [] = Unit {0}
-FirstWaits (TooLong ∷ rest) = ⊥
-FirstWaits (Stranger ∷ rest) = ⊥
-FirstWaits (Replied name reply ∷ rest) = ⊥
-FirstWaits (Waiting place name asked ∷ rest) = Unit {0}
-FirstWaits (Obeyed reply ∷ rest) = ⊥
-
--- it is known
-abbrev pub FirstIsKnown : List Slot → Type 0
-FirstIsKnown [] = ⊥
-FirstIsKnown (TooLong ∷ rest) = Unit {0}
-FirstIsKnown (Stranger ∷ rest) = Unit {0}
-FirstIsKnown (Replied name reply ∷ rest) = Unit {0}
-FirstIsKnown (Waiting place name asked ∷ rest) = ⊥
-FirstIsKnown (Obeyed reply ∷ rest) = Unit {0}
-
--- it waits for the round of this place
-abbrev pub FirstIsFor : ℕ → List Slot → Type 0
-FirstIsFor place [] = ⊥
-FirstIsFor place (slot ∷ rest) = waits_for place slot ≡ true
+-- the text that was written begins the output for the lines that were answered
+abbrev pub Begins : ServingIs → Option (List ℕ) → Option (List ℕ) → Type 0
+Begins old now later = (roster : List Admitted) (text : List ℕ) (written : Option (List ℕ))
+    → TellsAll roster old text written now → BeginsAnswers roster text written later
 
 -- no round is away from the place
 abbrev pub IsBackAt : ℕ → List Seat → Type 0
-IsBackAt place seats = (default : Seat) → place < length seats → IsBack (slice_index_or seats place default)
+IsBackAt place seats = (default : Seat) → place < most_places → IsBack (slice_index_or seats place default)
 
 -- none is away
 abbrev pub AllBack : List Seat → Type 0
 AllBack seats = (place : ℕ) → IsBackAt place seats
 
--- nothing that is known, and before which nothing waits, is still to be written
-pub record IsWrittenOut (serving : Serving) : Type 0 where
-  pub none : serving.output.items ≡ []
-  pub first : FirstWaits serving.slots.items
+-- no known answer is left unwritten before the first that waits
+pub record IsWrittenOut (serving : ServingIs) : Type 0 where
+  pub none : serving.output ≡ []
+  pub first : FirstWaits serving.slots
 
--- nothing is still to be written
-pub record IsFinished (serving : Serving) : Type 0 where
-  pub none : serving.output.items ≡ []
-  pub answered : serving.slots.items ≡ []
+-- no answer is left unwritten
+pub record IsFinished (serving : ServingIs) : Type 0 where
+  pub none : serving.output ≡ []
+  pub answered : serving.slots ≡ []

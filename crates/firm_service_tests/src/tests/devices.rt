@@ -36,37 +36,41 @@ impl Write for Full {
     }
 }
 
-/// A reader and writer whose first call fails and whose later calls each move one byte.
+/// A reader and writer one of whose calls, the first of which is call 0, fails with an error of this kind, and whose other
+/// calls each move one byte.
 #[derive(Drop)]
-struct FailsOnce {
-    has_failed: bool,
+struct FailsAt {
+    failing: u64,
+    kind: ErrorKind,
+    calls: u64,
 }
 
-impl FailsOnce {
-    fn fail_once(&mut self) -> io::Result<()> {
-        if self.has_failed {
-            return Ok(());
+impl FailsAt {
+    fn count_call(&mut self) -> io::Result<()> {
+        let call = self.calls;
+        self.calls = call.saturating_add(1);
+        if call == self.failing {
+            return Err(self.kind.into());
         }
-        self.has_failed = true;
-        Err(ErrorKind::Other.into())
+        Ok(())
     }
 }
 
-impl Read for FailsOnce {
+impl Read for FailsAt {
     fn read(&mut self, buffer: &mut [u8]) -> io::Result<usize> {
-        self.fail_once()?;
+        self.count_call()?;
         Ok(buffer.len().min(1))
     }
 }
 
-impl Write for FailsOnce {
+impl Write for FailsAt {
     fn write(&mut self, bytes: &[u8]) -> io::Result<usize> {
-        self.fail_once()?;
+        self.count_call()?;
         Ok(bytes.len().min(1))
     }
 
     fn flush(&mut self) -> io::Result<()> {
-        self.fail_once()
+        self.count_call()
     }
 }
 
@@ -172,22 +176,58 @@ fn a_write_of_no_byte_fails(rt: HostRuntime) {
     let Full = sink.into_inner();
 }
 
-fn fails_once() -> Bytes<FailsOnce> {
-    Bytes::new(FailsOnce { has_failed: false })
+/// A device whose second call fails.
+fn fails_second(kind: ErrorKind) -> Bytes<FailsAt> {
+    Bytes::new(FailsAt {
+        failing: 1,
+        kind,
+        calls: 0,
+    })
 }
+
+fn expect_calls(rt: &impl Abort, device: Bytes<FailsAt>, wanted: u64) {
+    assert_eq!(rt; device.into_inner().calls, wanted);
+}
+
+fn expect_one_failed_read(rt: &impl Abort, kind: ErrorKind) {
+    let mut buffer = [0; 2];
+    let mut source = fails_second(kind);
+    expect_read(rt, &mut source, &mut buffer, Ok(1));
+    expect_read(rt, &mut source, &mut buffer, Err(Failed));
+    expect_read(rt, &mut source, &mut buffer, Ok(1));
+    expect_calls(rt, source, 3);
+}
+
+fn expect_one_failed_write(rt: &impl Abort, kind: ErrorKind) {
+    let mut sink = fails_second(kind);
+    expect_write(rt, &mut sink, b"ab", Ok(1));
+    expect_write(rt, &mut sink, b"ab", Err(Failed));
+    expect_write(rt, &mut sink, b"ab", Ok(1));
+    expect_calls(rt, sink, 3);
+}
+
+fn expect_one_failed_flush(rt: &impl Abort, kind: ErrorKind) {
+    let mut sink = fails_second(kind);
+    expect_flush(rt, &mut sink, Ok(()));
+    expect_flush(rt, &mut sink, Err(Failed));
+    expect_flush(rt, &mut sink, Ok(()));
+    expect_calls(rt, sink, 3);
+}
+
+static KINDS: [ErrorKind; 4] = [
+    ErrorKind::Interrupted,
+    ErrorKind::WouldBlock,
+    ErrorKind::TimedOut,
+    ErrorKind::Other,
+];
 
 #[test]
 fn a_call_that_fails_is_not_tried_again(rt: HostRuntime) {
-    let mut buffer = [0; 2];
-    let mut source = fails_once();
-    expect_read(&rt, &mut source, &mut buffer, Err(Failed));
-    expect_read(&rt, &mut source, &mut buffer, Ok(1));
-    let mut sink = fails_once();
-    expect_write(&rt, &mut sink, b"ab", Err(Failed));
-    expect_write(&rt, &mut sink, b"ab", Ok(1));
-    let mut sink = fails_once();
-    expect_flush(&rt, &mut sink, Err(Failed));
-    expect_flush(&rt, &mut sink, Ok(()));
+    for kind in &KINDS {
+        expect_one_failed_read(&rt, *kind);
+        expect_one_failed_write(&rt, *kind);
+        expect_one_failed_flush(&rt, *kind);
+    }
 }
 
 fn stalls_once() -> Bytes<StallsOnce> {

@@ -15,7 +15,8 @@ use Rattle.firm_text.specs.declared.operator.OperatorLine.TheVariants.{Admit, Re
 use Rattle.firm_text.specs.declared.operator.OperatorRefusal.{OperatorRefusal}
 use Rattle.firm_text.specs.declared.operator.OperatorRefusal.TheVariants.{NoSuchTenant, Memory}
 use Rattle.firm_text.specs.declared.operator.OperatorReply.TheVariants.{Admitted, Retired, Refused}
-use Rattle.firm_table.specs.Answers.{unknown_tenant, replied, told_operator, tells_memory}
+use Rattle.firm_table.specs.Answers.{tells_memory}
+use Rattle.firm_table.specs.declared.answers.LineAnswer.TheVariants.{UnknownTenant, Replied, ToOperator}
 use Rattle.firm_table.specs.Output.{answers_of}
 use Rattle.firm_table.specs.Service.{Answers, BeginsAnswers}
 use Rattle.firm_table.specs.inner.Line.{Tenants, tenants_are, opening_tenants, IsRight, IsAnswer, State, state_is}
@@ -69,13 +70,13 @@ TenantsAreAnswered =
     → AreSound tenants.register → place_in tenants.register name ≡ Some place
     → slice_index_or tenants.books place None ≡ Some book → (reply, after) ≡ step book command (is_memory reply)
     → IsRight tenants (tenants_are tenants.register (slice_set tenants.books place (Some after))) (For name command)
-    (replied name reply)
+    (Replied name reply)
 
 -- a command of a tenant that is not there changes nothing
 abbrev pub StrangersAreAnswered : Type 0
 StrangersAreAnswered =
     (tenants : Tenants) (name : List ℕ) (command : Command) → place_in tenants.register name ≡ None
-    → IsRight tenants tenants (For name command) unknown_tenant
+    → IsRight tenants tenants (For name command) UnknownTenant
 
 -- a tenant that is admitted to the place that the register gives it has its opening book there
 abbrev pub AdmissionsAreAnswered : Type 0
@@ -84,21 +85,21 @@ AdmissionsAreAnswered =
     → place_for tenants.register name ≡ Ok place
     → IsRight tenants (tenants_are (with_tenant tenants.register place name)
     (slice_set tenants.books place (Some (opening_book limits)))) (Operator (Admit name limits))
-    (told_operator (Admitted name))
+    (ToOperator (Admitted name))
 
 -- one to which memory was refused leaves all as it was
 abbrev pub AdmissionsFindNoMemory : Type 0
 AdmissionsFindNoMemory =
     (tenants : Tenants) (name : List ℕ) (limits : TenantLimits) (place : ℕ)
     → place_for tenants.register name ≡ Ok place
-    → IsRight tenants tenants (Operator (Admit name limits)) (told_operator (Refused Memory))
+    → IsRight tenants tenants (Operator (Admit name limits)) (ToOperator (Refused Memory))
 
 -- and so does one to which the register gives no place
 abbrev pub AdmissionsAreRefused : Type 0
 AdmissionsAreRefused =
     (tenants : Tenants) (name : List ℕ) (limits : TenantLimits) (refusal : OperatorRefusal)
     → place_for tenants.register name ≡ Err refusal
-    → IsRight tenants tenants (Operator (Admit name limits)) (told_operator (Refused refusal))
+    → IsRight tenants tenants (Operator (Admit name limits)) (ToOperator (Refused refusal))
 
 -- a tenant that is retired leaves its place, and its book is gone
 abbrev pub RetirementsAreAnswered : Type 0
@@ -106,10 +107,10 @@ RetirementsAreAnswered =
     (tenants : Tenants) (name : List ℕ) (place : ℕ) → AreSound tenants.register
     → place_in tenants.register name ≡ Some place
     → IsRight tenants (tenants_are (without_tenant tenants.register place) (slice_set tenants.books place None))
-    (Operator (Retire name)) (told_operator (Retired name))
+    (Operator (Retire name)) (ToOperator (Retired name))
 
 -- the retirement of a tenant that is not there changes nothing
 abbrev pub RetirementsAreRefused : Type 0
 RetirementsAreRefused =
     (tenants : Tenants) (name : List ℕ) → place_in tenants.register name ≡ None
-    → IsRight tenants tenants (Operator (Retire name)) (told_operator (Refused NoSuchTenant))
+    → IsRight tenants tenants (Operator (Retire name)) (ToOperator (Refused NoSuchTenant))

@@ -7,7 +7,8 @@ use Rattle.firm_text.specs.Registers.{first_places, most_places}
 use Rattle.firm_text.specs.Rosters.{Admitted}
 use Rattle.firm_text.specs.declared.inputs.Line.{Line}
 use Rattle.firm_text.specs.declared.registers.Place.{Place as Registered}
-use Rattle.firm_table.specs.Answers.{Answer, answer_of, tells_memory, text_of_answer}
+use Rattle.firm_table.specs.Answers.{answer_of, tells_memory, text_of_answer}
+use Rattle.firm_table.specs.declared.answers.LineAnswer.{LineAnswer}
 use Rattle.firm_table.specs.Places.{Stay, Place, register_of, after_line}
 
 -- what a service keeps of its tenants: which one has which place, and by places the books of those that are there
@@ -43,14 +44,14 @@ pub record Shows (tenants : Tenants) (places : List Place) : Type 0 where
 
 -- The answer to a line is the one of the places whose tenants these are, and the tenants behind it are those of the
 -- places behind it; memory was refused to the line where the answer says so.
-pub record IsRight (tenants after : Tenants) (line : Line) (answer : Answer) : Type 0 where
+pub record IsRight (tenants after : Tenants) (line : Line) (answer : LineAnswer) : Type 0 where
   pub answers : (places : List Place) → Shows tenants places → answer ≡ answer_of places (line, tells_memory answer)
   pub leaves : (places : List Place) → Shows tenants places
       → Shows after (after_line places (line, tells_memory answer))
 
 -- a line was answered: rightly, and the answer's text stands behind what was to be written
 pub record IsAnswer (tenants after : Tenants) (line : Line) (pending pending_after : List ℕ) : Type 0 where
-  pub answer : Answer
+  pub answer : LineAnswer
   pub right : IsRight tenants after line answer
   pub text : pending_after ≡ pending ++ text_of_answer answer
 

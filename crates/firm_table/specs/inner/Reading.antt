@@ -4,7 +4,8 @@ use Rattle.std.specs.Io.{IsEmptyOrEndsWith}
 use Rattle.firm_text.specs.Cutters.{Cut, StandsFor}
 use Rattle.firm_text.specs.Inputs.{input_lines}
 use Rattle.firm_text.specs.Rosters.{Admitted}
-use Rattle.firm_table.specs.Service.{BeginsAnswers, Telling}
+use Rattle.firm_table.specs.Service.{BeginsAnswers}
+use Rattle.firm_table.specs.Telling.{Telling}
 
 -- lines that have all ended: what follows them begins a line
 pub record HasEnded (text : List ℕ) : Type 0 where

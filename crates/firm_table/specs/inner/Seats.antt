@@ -32,8 +32,8 @@ seat_of occupant rounds admissions = record { station = station_at occupant; rou
 abbrev pub rounds_of : ℕ → ℕ
 rounds_of tenants = tenants * 2 ^ 40
 
--- a tenant was given no more commands than its life has, so many rounds that are on their way among them; and its place has queued no more
--- rounds than that, beside those that the tenants before it may have queued
+-- a tenant was given no more commands than its life has, so many rounds that are on their way among them; and its place
+-- has queued no more rounds than that, beside those that the tenants before it may have queued
 pub record IsWithin (book : Book) (more rounds admissions : ℕ) : Type 0 where
   pub life : book.rows.limits.life ≤ 2 ^ 40
   pub given : book.given + more ≤ book.rows.limits.life
@@ -47,7 +47,8 @@ StayFits (queued book ticket) rounds admissions = IsWithin book 1 rounds admissi
 StayFits (held book ticket worker) rounds admissions = IsWithin book 1 rounds admissions
 StayFits (answered book reply) rounds admissions = IsWithin book 0 rounds admissions
 
--- a place was given no more often than it may be, and has queued no more rounds than its tenants may have been given commands
+-- a place was given no more often than it may be, and has queued no more rounds than its tenants may have been given
+-- commands
 pub record CountsFit (seat : Seat) : Type 0 where
   pub admissions : seat.admissions ≤ most_admissions
   pub rounds : seat.rounds ≤ rounds_of seat.admissions

@@ -4,7 +4,8 @@ use Rattle.std.specs.List.{filter}
 use Rattle.firm_rules.specs.declared.tickets.Ticket.{Ticket}
 use Rattle.firm_text.specs.Registers.{most_places}
 use Rattle.firm_text.specs.Rosters.{Admitted as Row}
-use Rattle.firm_table.specs.Interleaving.{Station, empty, home, queued, held, answered, Seat, TableState, opening_seat, unused_seat}
+use Rattle.firm_table.specs.Interleaving.{Station, empty, home, queued, held, answered, Seat, TableState, opening_seat}
+use Rattle.firm_table.specs.Interleaving.{unused_seat}
 
 -- the table of these parts
 abbrev pub table_of : ℕ → List Seat → List Ticket → TableState
@@ -37,7 +38,8 @@ abbrev pub waiting : List Seat → ℕ
 waiting [] = 0
 waiting (seat ∷ rest) = length (queued_ticket seat.station) + waiting rest
 
--- the queue holds, of each place, the ticket of its tenant where that waits, and no other; so it is as long as there are places that wait
+-- the queue holds, of each place, the ticket of its tenant where that waits, and no other; so it is as long as there
+-- are places that wait
 pub record IsSound (table : TableState) : Type 0 where
   pub few : length table.seats ≤ most_places
   pub as_many : length table.queue ≡ waiting table.seats

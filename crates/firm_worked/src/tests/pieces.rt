@@ -6,11 +6,12 @@ use super::{
     Dripping, MOST, WAYS, Way, Worked, formats, roster_of, rounds, rows, serve_by, stays,
     worked_from,
 };
+use crossbeam_utils::sync::EventCount;
 use firm_table::ServeFault;
 use firm_text::{Bytes, Failed, Sink, Source};
 use std::alloc::Global;
 use std::cell::Cell;
-use std::sync::Wait;
+use std::sync::{Arc, Wait};
 use std::test::Fail;
 use std::thread::Threads;
 
@@ -135,10 +136,12 @@ fn takes_no_more_than_the_most(rt: HostRuntime) -> Result<(), Fail> {
     Ok(())
 }
 
-/// Gives one line a read, and notes how many bytes were written by then.
+/// Gives one line a read, and notes how many bytes were written by then. It is ready for a read once as many as are due
+/// were written: only the writer makes it ready, so it notifies nobody.
 #[derive(Drop)]
 struct LineByLine<'a> {
     lines: &'a [&'static str],
+    due: &'a [usize],
     next: usize,
     written: &'a Cell<usize>,
     noted: Vec<usize>,
@@ -157,6 +160,11 @@ impl Source for LineByLine<'_> {
         buffer[..count].copy_from_slice(&bytes[..count]);
         self.next += 1;
         Ok(count)
+    }
+
+    fn is_ready(&self, _waker: Option<&Arc<EventCount, Global>>) -> bool {
+        let due = self.due.get(self.next).copied().unwrap_or(0);
+        due <= self.written.get()
     }
 }
 
@@ -187,21 +195,34 @@ const LINES: [&str; 4] = [
     "alpha show\n",
 ];
 
-/// How many bytes were written at each read, where each line comes by itself.
+/// A round of one tenant between lines of both.
+const LINES_WITH_ROUNDS: [&str; 5] = [
+    "alpha machine m1 2\n",
+    "alpha round\n",
+    "beta round\n",
+    "beta show\n",
+    "alpha round\n",
+];
+
+/// How many bytes were written at each read, where each line comes by itself, and none before so many bytes were written.
 fn written_by_reads<R: Threads + Wait + Sync>(
     rt: &R,
     alloc: Global,
     way: Way,
+    records: &str,
+    lines: &[&'static str],
+    due: &[usize],
 ) -> Result<Vec<usize>, Fail> {
     let written = Cell::new(0);
     let mut reader = LineByLine {
-        lines: &LINES,
+        lines,
+        due,
         next: 0,
         written: &written,
         noted: Vec::new(alloc),
     };
     let mut writer = Counting { written: &written };
-    let roster = roster_of(alloc, "alpha,6,11,100,1,2")?;
+    let roster = roster_of(alloc, records)?;
     let ended = serve_by(rt, alloc, way, &mut reader, &mut writer, &roster, MOST);
     ended.map_err(|_| Fail::from("a service without faults"))?;
     Ok(reader.noted)
@@ -210,11 +231,22 @@ fn written_by_reads<R: Threads + Wait + Sync>(
 #[test]
 fn writes_each_reply_before_the_next_read(rt: HostRuntime) -> Result<(), Fail> {
     for way in WAYS {
-        let noted = written_by_reads(&rt, rt.alloc(), way)?;
+        let noted = written_by_reads(&rt, rt.alloc(), way, "alpha,6,11,100,1,2", &LINES, &[])?;
         assert!(rt;
             noted.as_slice() == [0, 11, 22, 33, 106].as_slice(),
             "{way:?}"
         );
+    }
+    Ok(())
+}
+
+#[test]
+fn writes_the_replies_to_rounds_while_no_line_comes(rt: HostRuntime) -> Result<(), Fail> {
+    let due = [0, 11, 35, 58, 130, 154];
+    for way in WAYS {
+        let records = "alpha,6,11,100,1,2\nbeta,6,11,100,1,2";
+        let noted = written_by_reads(&rt, rt.alloc(), way, records, &LINES_WITH_ROUNDS, &due)?;
+        assert!(rt; noted.as_slice() == due.as_slice(), "{way:?}");
     }
     Ok(())
 }

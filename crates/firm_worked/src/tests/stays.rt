@@ -1,7 +1,7 @@
 //! Worked services whose tenants come and go: what follows `< ` is the answer, and all other lines are read.
 
 /// The records of rosters, and what their services read and write.
-pub const SERVICES: [(&str, &[u8]); 8] = [
+pub const SERVICES: [(&str, &[u8]); 9] = [
     ("a,4,9,10,0,0", COMES_AND_GOES),
     ("a,8,30,100,0,0", BEGINS_ANEW),
     ("a,8,30,100,0,0", PLACES_CHANGE_HANDS),
@@ -10,6 +10,7 @@ pub const SERVICES: [(&str, &[u8]); 8] = [
     ("a,2,0,9,0,0", NOBODY_LEFT),
     ("alpha,9,24,100,1,2\nbeta,8,30,100,0,3", ROUNDS_BETWEEN),
     ("a,8,30,100,0,0", OF_EACH_FORM),
+    ("a,2,0,1,0,0", PREFERS_AND_IS_LARGE),
 ];
 
 const COMES_AND_GOES: &[u8] = b"\
@@ -231,3 +232,33 @@ a + retire b
 < + ok retired b
 b show
 < ! unknown-tenant";
+
+const PREFERS_AND_IS_LARGE: &[u8] = b"\
++ admit b,9,30,100,0,0,7
+< + ok admitted b
+b machine m1 1
+< b 1 ok
+b machine m2 1
+< b 2 ok
+b job j 20
+< b 3 ok
+b task j x m2
+< b 4 ok
+b task j y m2
+< b 5 ok
+b round
+< b 6 ok round cost 7 start x m1 start y m2
++ admit c,4096,65536,1099511627776,1000,1000000,1000000
+< + ok admitted c
+c machine m 64
+< c 1 ok
+c job j 20
+< c 2 ok
+c task j x m
+< c 3 ok
+c round
+< c 4 ok round cost 0 start x m
+c show
+< c 5 ok machines 1 jobs 1 tasks 1 running 1 nodes 5 of 4096 arcs 70 of 65536
+b show
+< b 7 ok machines 2 jobs 1 tasks 2 running 2 nodes 7 of 9 arcs 13 of 30";

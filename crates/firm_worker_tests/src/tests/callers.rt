@@ -4,17 +4,16 @@ ghost use Rattle.std.specs.Prelude.{◌≡◌, All};
 ghost use Rattle.std.specs.Thread.{IsSync};
 
 use super::closing::rounds_at_close;
-use super::opened;
-use super::teams::{OfHall, join_all, start};
+use super::teams::with_workers;
+use super::{expect_idle_round, opened};
 use firm_hall::{Desk, Hall, Open, Report, WorkerPass};
 use firm_rules::{Command, Reply};
 use firm_text::{Line, line, reply_text};
 use std::alloc::Global;
 use std::process::Abort;
-use std::snapshot::Snapshot;
 use std::sync::Wait;
 use std::thread;
-use std::thread::{Promise, PromisedHandle, Scope, Threads};
+use std::thread::Threads;
 
 const FOUR: &str = "a,8,30,100,0,3\nb,8,30,100,0,3\nc,8,30,100,0,3\nd,8,30,100,0,3";
 
@@ -50,159 +49,170 @@ fn answer<R: Wait>(
     }
 }
 
-/// The desk, and whether it answers the line so.
-fn answers<R: Wait>(
+/// The desk, which answers the line so.
+fn answers<R: Abort + Wait>(
     rt: &R,
     alloc: Global,
     hall: &Hall,
     desk: Desk,
     text: &[u8],
     wanted: &[u8],
-) -> (Desk, bool)
+) -> Desk
     requires { desk.queue ≡ hall.now.id }
-    ensures { result.0.queue ≡ hall.now.id }
+    ensures { result.queue ≡ hall.now.id }
 {
     let Line::For(tenant, command) = line(text) else {
-        return (desk, false);
+        panic!(rt; "a line for a tenant")
     };
     let (desk, reply) = answer(rt, alloc, hall, desk, command);
-    let text = reply_text(alloc, tenant, &reply);
-    (desk, text.is_ok_and(|text| text.as_slice() == wanted))
+    let text = reply_text(alloc, tenant, &reply).expect(rt, "memory");
+    assert!(rt; text.as_slice() == wanted, "{reply:?}");
+    desk
 }
 
-/// The desk, and whether it answers the seven lines as they say.
-fn run<R: Wait>(rt: &R, alloc: Global, hall: &Hall, desk: Desk) -> (Desk, bool)
+/// The desk, which answers the seven lines as they say.
+fn run<R: Abort + Wait>(rt: &R, alloc: Global, hall: &Hall, desk: Desk) -> Desk
     requires { desk.queue ≡ hall.now.id }
-    ensures { result.0.queue ≡ hall.now.id }
+    ensures { result.queue ≡ hall.now.id }
 {
     let mut desk = desk;
-    let mut all = true;
     for (text, wanted) in ROW {
-        let (same, well) = answers(rt, alloc, hall, desk, text, wanted);
-        desk = same;
-        all = all && well;
+        desk = answers(rt, alloc, hall, desk, text, wanted);
     }
-    (desk, all)
+    desk
 }
 
-/// What a caller's thread gives back: its desk, and whether it answered as it should.
-#[derive(Drop)]
-struct Done {
-    desk: Desk,
-    well: bool,
-}
+/// How many rounds each caller hands over.
+const ROUNDS: u64 = 250;
 
-impl Promise<Done> for OfHall {
-    ghost kept_by = { λ p done. done.desk.queue ≡ p.0.value.id };
-}
+/// Four tenants with room for nothing, and for as many commands as there may be.
+const FOUR_IDLE: &str = "\
+a,2,0,1099511627776,0,0
+b,2,0,1099511627776,0,0
+c,2,0,1099511627776,0,0
+d,2,0,1099511627776,0,0";
 
-/// The desk answers the seven lines on a thread.
-fn run_done<R: Wait>(rt: &R, alloc: Global, hall: &Hall, desk: Desk) -> Done
+/// The desk, which asks for its rounds one after the other.
+fn hand_over<R: Abort + Wait>(rt: &R, alloc: Global, hall: &Hall, desk: Desk) -> Desk
     requires { desk.queue ≡ hall.now.id }
-    ensures { result.desk.queue ≡ hall.now.id }
+    ensures { result.queue ≡ hall.now.id }
 {
-    let (desk, well) = run(rt, alloc, hall, desk);
-    Done { desk, well }
-}
-
-/// A thread for each desk.
-fn start_callers<'s, E: 's, R: Abort + Wait + Sync>(
-    scope: &Scope<'s, E>,
-    rt: &'s R,
-    alloc: Global,
-    hall: &'s Hall,
-    desks: Vec<Desk>,
-) -> Vec<PromisedHandle<Done, OfHall>>
-    requires { All (λ d. d.queue ≡ hall.now.id) desks.items }
-    ensures { All (λ h. h.promise.0.value.id ≡ hall.now.id) result.items }
-{
-    let mut handles = Vec::with_capacity(alloc, desks.len()).expect(rt, "memory");
-    for desk in desks {
-        let promise = OfHall(Snapshot::of(hall));
-        let Ok(handle) = scope.spawn_with(
-            promise,
-            move ||
-                requires { desk.queue ≡ hall.now.id }
-                ensures { result.desk.queue ≡ hall.entry.now.id }
-            { run_done(rt, alloc, hall, desk) },
-        ) else {
-            panic!(rt; "no thread")
-        };
-        handles.push_reserved(handle);
+    let mut desk = desk;
+    for number in 1..=ROUNDS {
+        let (same, reply) = answer(rt, alloc, hall, desk, Command::Round);
+        desk = same;
+        expect_idle_round(rt, &reply, number);
     }
-    handles
+    desk
 }
 
-/// The desks of all callers, each of which answered as it should.
-fn join_callers<R: Abort + Threads>(
+/// The desks, each of which hands its rounds over on a thread of its own.
+fn hand_over_all<R: Abort + Threads + Wait + Sync>(
     rt: &R,
     alloc: Global,
     hall: &Hall,
-    handles: Vec<PromisedHandle<Done, OfHall>>,
+    desks: Vec<Desk>,
 ) -> Vec<Desk>
-    requires { All (λ h. h.promise.0.value.id ≡ hall.now.id) handles.items }
+    requires { All (λ d. d.queue ≡ hall.now.id) desks.items }
     ensures { All (λ d. d.queue ≡ hall.now.id) result.items }
 {
-    let _ = hall;
-    let mut desks = Vec::with_capacity(alloc, handles.len()).expect(rt, "memory");
-    for handle in handles {
-        let Done { desk, well } = handle.join(rt);
-        assert!(rt; well);
-        desks.push_reserved(desk);
-    }
-    desks
+    let desks = thread::map_vec(
+        rt,
+        desks,
+        &|desk: Desk| -> Desk
+            requires { desk.queue ≡ hall.now.id }
+            ensures { result.queue ≡ hall.entry.now.id }
+        { hand_over(rt, alloc, hall, desk) },
+    );
+    desks.expect(rt, "memory")
 }
 
-/// All desks answer while the workers run, each on a thread; the workers are joined.
-fn run_in<'s, E: 's, R: Abort + Threads + Wait + Sync>(
-    scope: &Scope<'s, E>,
-    rt: &'s R,
+/// The desks, each of which answers the seven lines on a thread of its own.
+fn run_all<R: Abort + Threads + Wait + Sync>(
+    rt: &R,
     alloc: Global,
-    hall: &'s Hall,
+    hall: &Hall,
     desks: Vec<Desk>,
-    passes: Vec<WorkerPass>,
-    gate: &'s Open,
-) -> (Vec<Desk>, Vec<Report>)
-    requires desks { All (λ d. d.queue ≡ hall.now.id) desks.items }
-    requires passes { All (λ p. p.queue ≡ hall.now.id) passes.items }
-    ensures { All (λ d. d.queue ≡ hall.now.id) result.0.items × All (λ p. p.queue ≡ hall.now.id) result.1.items }
+) -> Vec<Desk>
+    requires { All (λ d. d.queue ≡ hall.now.id) desks.items }
+    ensures { All (λ d. d.queue ≡ hall.now.id) result.items }
 {
-    let workers = start(scope, rt, alloc, hall, passes, gate);
-    let callers = start_callers(scope, rt, alloc, hall, desks);
-    let desks = join_callers(rt, alloc, hall, callers);
-    hall.shut();
-    (desks, join_all(rt, alloc, hall, workers))
+    let desks = thread::map_vec(
+        rt,
+        desks,
+        &|desk: Desk| -> Desk
+            requires { desk.queue ≡ hall.now.id }
+            ensures { result.queue ≡ hall.entry.now.id }
+        { run(rt, alloc, hall, desk) },
+    );
+    desks.expect(rt, "memory")
 }
 
+/// All desks answer while the workers run.
 fn run_with<R: Abort + Threads + Wait + Sync>(
     rt: &R,
     alloc: Global,
     hall: &Hall,
     desks: Vec<Desk>,
     passes: Vec<WorkerPass>,
-) -> (Vec<Desk>, Vec<Report>)
+) -> (Vec<Report>, Vec<Desk>)
     requires desks { All (λ d. d.queue ≡ hall.now.id) desks.items }
     requires passes { All (λ p. p.queue ≡ hall.now.id) passes.items }
-    ensures { All (λ d. d.queue ≡ hall.now.id) result.0.items × All (λ p. p.queue ≡ hall.now.id) result.1.items }
+    ensures reports { All (λ p. p.queue ≡ hall.now.id) result.0.items }
+    ensures desks { All (λ d. d.queue ≡ hall.now.id) result.1.items }
 {
-    let gate = &Open;
-    thread::scope(
-        thread::scope_env(),
+    with_workers(
         rt,
-        move |scope| -> (Vec<Desk>, Vec<Report>)
+        hall,
+        passes,
+        &Open,
+        move || -> Vec<Desk>
             requires threads { IsSync R.row }
             requires desks { All (λ d. d.queue ≡ hall.now.id) desks.items }
-            requires passes { All (λ p. p.queue ≡ hall.now.id) passes.items }
-            ensures { All (λ d. d.queue ≡ hall.entry.now.id) result.0.items
-                × All (λ p. p.queue ≡ hall.entry.now.id) result.1.items }
-        { run_in(scope, rt, alloc, hall, desks, passes, gate) },
+            ensures { All (λ d. d.queue ≡ hall.entry.now.id) result.items }
+        { run_all(rt, alloc, hall, desks) },
     )
+}
+
+/// All desks hand their rounds over while the workers run.
+fn hand_over_with<R: Abort + Threads + Wait + Sync>(
+    rt: &R,
+    alloc: Global,
+    hall: &Hall,
+    desks: Vec<Desk>,
+    passes: Vec<WorkerPass>,
+) -> (Vec<Report>, Vec<Desk>)
+    requires desks { All (λ d. d.queue ≡ hall.now.id) desks.items }
+    requires passes { All (λ p. p.queue ≡ hall.now.id) passes.items }
+    ensures reports { All (λ p. p.queue ≡ hall.now.id) result.0.items }
+    ensures desks { All (λ d. d.queue ≡ hall.now.id) result.1.items }
+{
+    with_workers(
+        rt,
+        hall,
+        passes,
+        &Open,
+        move || -> Vec<Desk>
+            requires threads { IsSync R.row }
+            requires desks { All (λ d. d.queue ≡ hall.now.id) desks.items }
+            ensures { All (λ d. d.queue ≡ hall.entry.now.id) result.items }
+        { hand_over_all(rt, alloc, hall, desks) },
+    )
+}
+
+// A wake-up that is lost on the way there or back leaves a caller waiting for ever.
+#[test]
+fn rounds_of_four_callers_go_to_two_workers_and_come_back(rt: HostRuntime) {
+    let (hall, desks, passes, empty) = opened(&rt, rt.alloc(), FOUR_IDLE, 2);
+    let (reports, desks) = hand_over_with(&rt, rt.alloc(), &hall, desks, passes);
+    let rounds = rounds_at_close(&rt, rt.alloc(), hall, desks, reports, empty);
+    assert_eq!(rt; rounds, Some(4 * ROUNDS));
 }
 
 #[test]
 fn four_callers_ask_eight_rounds(rt: HostRuntime) {
     let (hall, desks, passes, empty) = opened(&rt, rt.alloc(), FOUR, 2);
-    let (desks, reports) = run_with(&rt, rt.alloc(), &hall, desks, passes);
+    let (reports, desks) = run_with(&rt, rt.alloc(), &hall, desks, passes);
     let rounds = rounds_at_close(&rt, rt.alloc(), hall, desks, reports, empty);
     assert_eq!(rt; rounds, Some(8));
 }

@@ -31,6 +31,16 @@ pub fn rounds_at_close<R: Wait>(
     }
 }
 
+/// The report is with the others.
+fn hand_in(rt: &impl Abort, hall: &Hall, reports: &mut Vec<Report>, report: Report)
+    requires report { report.queue ≡ hall.now.id }
+    requires others { All (λ r. r.queue ≡ hall.now.id) reports.old.items }
+    ensures { All (λ r. r.queue ≡ hall.now.id) reports.new.items }
+{
+    let _ = hall;
+    reports.push(report).expect(rt, "memory");
+}
+
 /// How many rounds a hall had that is closed once a report was missing.
 fn closes_without_a_report<R: Abort + Wait>(
     rt: &R,
@@ -49,7 +59,7 @@ fn closes_without_a_report<R: Abort + Wait>(
     match hall.close(rt, desks, reports, empty) {
         Ok(_totals) => None,
         Err(CloseFault::Missing(hall, desks, mut reports, empty)) => {
-            reports.push(report).expect(rt, "memory");
+            hand_in(rt, &hall, &mut reports, report);
             rounds_at_close(rt, alloc, hall, desks, reports, empty)
         }
         Err(CloseFault::Left(_desks, _reports, jobs, _empty)) => {
@@ -57,6 +67,16 @@ fn closes_without_a_report<R: Abort + Wait>(
             None
         }
     }
+}
+
+/// The empty desk is with the others again.
+fn put_back(rt: &impl Abort, hall: &Hall, empty: &mut Vec<EmptyDesk>, place: EmptyDesk)
+    requires place { place.queue ≡ hall.now.id }
+    requires others { All (λ e. e.queue ≡ hall.now.id) empty.old.items }
+    ensures { All (λ e. e.queue ≡ hall.now.id) empty.new.items }
+{
+    let _ = hall;
+    empty.push(place).expect(rt, "memory");
 }
 
 /// How many rounds a hall had that is closed once an empty desk was missing.
@@ -76,7 +96,7 @@ fn closes_without_an_empty_desk<R: Abort + Wait>(
     match hall.close(rt, desks, reports, empty) {
         Ok(_totals) => None,
         Err(CloseFault::Missing(hall, desks, reports, mut empty)) => {
-            empty.push(place).expect(rt, "memory");
+            put_back(rt, &hall, &mut empty, place);
             rounds_at_close(rt, alloc, hall, desks, reports, empty)
         }
         Err(CloseFault::Left(_desks, _reports, jobs, _empty)) => {

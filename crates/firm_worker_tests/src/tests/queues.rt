@@ -14,7 +14,7 @@ use std::process::Abort;
 use std::sync::Wait;
 use std::sync::atomic::{AtomicU64, Ordering};
 use std::thread;
-use std::thread::{Scope, Threads};
+use std::thread::Threads;
 
 // A tenant that has nothing and answers one command.
 fn one_life(rt: &impl Abort, alloc: Global) -> Tenant {
@@ -308,71 +308,61 @@ fn get_all<R: Wait>(rt: &R, alloc: Global, queue: &Queue, pass: PopPass, tally: 
     }
 }
 
-// A thread for each pass that puts.
-fn start_puts<'s, E: 's, R: Abort + Wait + Sync>(
-    scope: &Scope<'s, E>,
-    rt: &'s R,
+// Each pass puts on a thread of its own.
+fn put_by_all<R: Abort + Threads + Wait + Sync>(
+    rt: &R,
     alloc: Global,
-    queue: &'s Queue,
+    queue: &Queue,
     passes: Vec<PutPass>,
-) -> bool
+)
     requires { All (λ p. p.queue ≡ queue.now.id) passes.items × All (λ p. p.put ≡ 0) passes.items }
 {
-    for pass in passes {
-        let started = scope.spawn(
-            move ||
-                requires { (pass.queue ≡ queue.now.id) × (pass.put ≡ 0) }
-            { put_all(rt, alloc, queue, pass) },
-        );
-        if started.is_err() {
-            return false;
-        }
-    }
-    true
+    let put = thread::map_vec(
+        rt,
+        passes,
+        &|pass: PutPass|
+            requires { (pass.queue ≡ queue.now.id) × (pass.put ≡ 0) }
+        { put_all(rt, alloc, queue, pass) },
+    );
+    assert!(rt; put.is_ok());
 }
 
-// A thread for each pass that gets.
-fn start_gets<'s, E: 's, R: Wait + Sync>(
-    scope: &Scope<'s, E>,
-    rt: &'s R,
+// Each pass gets on a thread of its own.
+fn get_by_all<R: Abort + Threads + Wait + Sync>(
+    rt: &R,
     alloc: Global,
-    queue: &'s Queue,
+    queue: &Queue,
     passes: Vec<PopPass>,
-    tally: &'s Tally,
-) -> bool
+    tally: &Tally,
+)
     requires { All (λ p. p.queue ≡ queue.now.id) passes.items }
 {
-    for pass in passes {
-        let started = scope.spawn(
-            move ||
-                requires { pass.queue ≡ queue.now.id }
-            { get_all(rt, alloc, queue, pass, tally) },
-        );
-        if started.is_err() {
-            return false;
-        }
-    }
-    true
+    let got = thread::map_vec(
+        rt,
+        passes,
+        &|pass: PopPass|
+            requires { pass.queue ≡ queue.now.id }
+        { get_all(rt, alloc, queue, pass, tally) },
+    );
+    assert!(rt; got.is_ok());
 }
 
 fn put_and_get<R: Abort + Threads + Wait + Sync>(rt: &R, alloc: Global) -> bool {
     let (queue, puts, pops) = opened(rt, alloc, PLACES, PLACES);
     let tally = new_tally(rt, alloc);
-    let queue = &queue;
-    let all = &tally;
-    let started = thread::scope(
-        thread::scope_env(),
+    let (queue, all) = (&queue, &tally);
+    let ((), ()) = thread::join(
         rt,
-        move |scope| -> bool
+        move ||
+            requires threads { IsSync R.row }
+            requires pops { All (λ p. p.queue ≡ queue.now.id) pops.items }
+        { get_by_all(rt, alloc, queue, pops, all) },
+        move ||
             requires threads { IsSync R.row }
             requires puts { All (λ p. p.queue ≡ queue.now.id) puts.items × All (λ p. p.put ≡ 0) puts.items }
-            requires pops { All (λ p. p.queue ≡ queue.now.id) pops.items }
-        {
-            start_gets(scope, rt, alloc, queue, pops, all)
-                && start_puts(scope, rt, alloc, queue, puts)
-        },
+        { put_by_all(rt, alloc, queue, puts) },
     );
-    started && tally.has_each_once()
+    tally.has_each_once()
 }
 
 #[test]

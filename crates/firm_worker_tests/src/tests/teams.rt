@@ -1,64 +1,64 @@
 //! Workers, each on a thread of its own.
-ghost use Rattle.std.specs.Prelude.{◌≡◌, ◌≤◌, [], All, vec_capacity, vec_len};
+
+ghost use Rattle.std.specs.Prelude.{◌≡◌, All};
+ghost use Rattle.std.specs.Thread.{IsSync};
 
 use firm_hall::{Gate, Hall, Report, WorkerPass, worker};
-use std::alloc::Global;
 use std::process::Abort;
-use std::snapshot::Snapshot;
 use std::sync::Wait;
-use std::thread::{Promise, PromisedHandle, Scope, Threads};
+use std::thread;
+use std::thread::Threads;
 
-/// What a worker's thread promises: its report is of this hall.
-#[derive(Drop)]
-pub struct OfHall(pub Snapshot<Hall>);
-
-impl Promise<Report> for OfHall {
-    ghost kept_by = { λ p r. r.queue ≡ p.0.value.id };
-}
-
-/// Starts a worker for each pass.
-pub fn start<'s, E: 's, R: Abort + Threads + Wait + Sync, G: Gate + Sync>(
-    scope: &Scope<'s, E>,
-    rt: &'s R,
-    alloc: Global,
-    hall: &'s Hall,
-    passes: Vec<WorkerPass>,
-    gate: &'s G,
-) -> Vec<PromisedHandle<Report, OfHall>>
-    requires { All (λ p. p.queue ≡ hall.now.id) passes.items }
-    ensures { All (λ h. h.promise.0.value.id ≡ hall.now.id) result.items }
-{
-    let mut handles = Vec::with_capacity(alloc, passes.len()).expect(rt, "memory");
-    for pass in passes {
-        let promise = OfHall(Snapshot::of(hall));
-        let Ok(handle) = scope.spawn_with(
-            promise,
-            move ||
-                requires { pass.queue ≡ hall.now.id }
-                ensures { result.queue ≡ hall.entry.now.id }
-            { worker(rt, alloc, hall, pass, gate) },
-        ) else {
-            panic!(rt; "no thread")
-        };
-        handles.push_reserved(handle);
-    }
-    handles
-}
-
-/// Joins all workers.
-pub fn join_all<R: Abort + Threads>(
+/// The reports of a worker for each pass, each on a thread of its own.
+fn run_workers<R: Abort + Threads + Wait + Sync, G: Gate + Sync>(
     rt: &R,
-    alloc: Global,
     hall: &Hall,
-    handles: Vec<PromisedHandle<Report, OfHall>>,
+    passes: Vec<WorkerPass>,
+    gate: &G,
 ) -> Vec<Report>
-    requires { All (λ h. h.promise.0.value.id ≡ hall.now.id) handles.items }
+    requires { All (λ p. p.queue ≡ hall.now.id) passes.items }
     ensures { All (λ r. r.queue ≡ hall.now.id) result.items }
 {
-    let _ = hall;
-    let mut reports = Vec::with_capacity(alloc, handles.len()).expect(rt, "memory");
-    for handle in handles {
-        reports.push_reserved(handle.join(rt));
-    }
-    reports
+    let alloc = *passes.allocator();
+    let reports = thread::map_vec(
+        rt,
+        passes,
+        &|pass: WorkerPass| -> Report
+            requires { pass.queue ≡ hall.now.id }
+            ensures { result.queue ≡ hall.entry.now.id }
+        { worker(rt, alloc, hall, pass, gate) },
+    );
+    reports.expect(rt, "memory")
+}
+
+/// Does the work on this thread while a worker runs for each pass, and shuts the hall behind it. Gives the workers' reports
+/// and what the work gave.
+pub fn with_workers<R: Abort + Threads + Wait + Sync, G: Gate + Sync, T, F: FnOnce() -> T>(
+    rt: &R,
+    hall: &Hall,
+    passes: Vec<WorkerPass>,
+    gate: &G,
+    work: F,
+) -> (Vec<Report>, T)
+    requires passes { All (λ p. p.queue ≡ hall.now.id) passes.items }
+    requires work { F.pre work }
+    ensures reports { All (λ r. r.queue ≡ hall.now.id) result.0.items }
+    ensures done { F.post work result.1 }
+{
+    thread::join(
+        rt,
+        move || -> Vec<Report>
+            requires threads { IsSync R.row × IsSync G.row }
+            requires passes { All (λ p. p.queue ≡ hall.now.id) passes.items }
+            ensures { All (λ r. r.queue ≡ hall.entry.now.id) result.items }
+        { run_workers(rt, hall, passes, gate) },
+        move || -> T
+            requires { F.pre work }
+            ensures { F.post work result }
+        {
+            let done = work();
+            hall.shut();
+            done
+        },
+    )
 }

@@ -1,6 +1,8 @@
-use Rattle.firm_table.proofs.Books.{tenants_are_answered, strangers_are_answered, admissions_are_answered, admissions_find_no_memory, admissions_are_refused}
+use Rattle.firm_table.proofs.Books.{tenants_are_answered, strangers_are_answered, admissions_are_answered}
+use Rattle.firm_table.proofs.Books.{admissions_find_no_memory, admissions_are_refused}
 use Rattle.firm_table.proofs.Books.{retirements_are_answered, retirements_are_refused}
-use Rattle.firm_table.proofs.Progress.{nothing_told, one_more, front_written, told_begins, all_is_written, one_more_begins}
+use Rattle.firm_table.proofs.Progress.{nothing_told, one_more, front_written, told_begins, all_is_written}
+use Rattle.firm_table.proofs.Progress.{one_more_begins}
 use Rattle.firm_table.proofs.laws.answers_add_up.Goals as goal
 
 pub returns-clause-opening : goal.returns-clause-opening

@@ -1,5 +1,6 @@
 use Rattle.firm_table.proofs.Stays.{line_by_line, replies_are_alone, stays_are_isolated, stays_are_served_alone}
 use Rattle.firm_table.proofs.Lines.{stays_hold_their_lines, needs_no_marks}
+use Rattle.firm_table.proofs.Beginnings.{stays_begin_anew}
 use Rattle.firm_table.proofs.SameRow.{tenants_are_isolated}
 use Rattle.firm_table.proofs.Unmarked.{may_go_unmarked}
 use Rattle.firm_table.proofs.Machine.{events_keep_alone, stays_are_counted}
@@ -21,6 +22,9 @@ returns-clause-served_alone c = stays_are_served_alone
 
 pub returns-clause-lines : goal.returns-clause-lines
 returns-clause-lines c = stays_hold_their_lines
+
+pub returns-clause-anew : goal.returns-clause-anew
+returns-clause-anew c = stays_begin_anew
 
 pub returns-clause-tenants : goal.returns-clause-tenants
 returns-clause-tenants c = tenants_are_isolated

@@ -15,13 +15,16 @@ returns-in_err-answer-clause-halted g c =
     let ended : c.feed-fed.result.ended ≡ true = search rules in
     let behind : drop c.feed-fed.result.used c.args.piece.now ≡ c.split_at.result.1.now = cc in
     let whole : c.args.piece.now ≡ (bytes ++ 10 ∷ []) ++ c.split_at.result.1.now =
-    cut_at c.args.piece.now c.feed-fed.result.used (sym c.feed-fed.ensures.ended ∙ ended) c.feed-fed.ensures.used ∙ ap (λ (l : List ℕ). (bytes ++ 10 ∷ []) ++ l) behind in
+    cut_at c.args.piece.now c.feed-fed.result.used (sym c.feed-fed.ensures.ended ∙ ended) c.feed-fed.ensures.used
+    ∙ ap (λ (l : List ℕ). (bytes ++ 10 ∷ []) ++ l) behind in
     rw p.1 (λ heard written h.
     let stands = c.feed-fed.ensures.stands h.rest h.stands in
-    halts_at (g.C.Clerk.roster c.args.clerk.now) heard h.text h.rest bytes c.args.piece.now c.split_at.result.1.now written _ h.both whole
+    halts_at (g.C.Clerk.roster c.args.clerk.now) heard h.text h.rest bytes c.args.piece.now c.split_at.result.1.now
+    written _ h.both whole
     (ended_more h.text (h.rest ++ bytes) h.ended stands.in_line).ends
     (c.in_err-answer.ensures.begins h.text (h.text ++ ((h.rest ++ bytes) ++ 10 ∷ [])) written
-    (input_more h.text (h.rest ++ bytes) h.ended stands.in_line ∙ ap (λ (l : Line). input_lines h.text ++ l ∷ []) (sym (c.take-line.ensures.line (h.rest ++ bytes) stands)))
+    (input_more h.text (h.rest ++ bytes) h.ended stands.in_line
+    ∙ ap (λ (l : Line). input_lines h.text ++ l ∷ []) (sym (c.take-line.ensures.line (h.rest ++ bytes) stands)))
     h.told))
 
 pub returns-clause-heard : goal.returns-clause-heard
@@ -30,8 +33,10 @@ returns-clause-heard g c heard front written cut h =
     let ended : c.feed-fed.result.ended ≡ true = search rules in
     let behind : drop c.feed-fed.result.used c.args.piece.now ≡ c.split_at.result.1.now = cc in
     let whole : c.args.piece.now ≡ (bytes ++ 10 ∷ []) ++ c.split_at.result.1.now =
-    cut_at c.args.piece.now c.feed-fed.result.used (sym c.feed-fed.ensures.ended ∙ ended) c.feed-fed.ensures.used ∙ ap (λ (l : List ℕ). (bytes ++ 10 ∷ []) ++ l) behind in
-    let same : front ≡ bytes ++ 10 ∷ [] = append_cancel_right front (bytes ++ 10 ∷ []) c.split_at.result.1.now (sym cut ∙ whole) in
+    cut_at c.args.piece.now c.feed-fed.result.used (sym c.feed-fed.ensures.ended ∙ ended) c.feed-fed.ensures.used
+    ∙ ap (λ (l : List ℕ). (bytes ++ 10 ∷ []) ++ l) behind in
+    let same : front ≡ bytes ++ 10 ∷ [] =
+    append_cancel_right front (bytes ++ 10 ∷ []) c.split_at.result.1.now (sym cut ∙ whole) in
     let stands = c.feed-fed.ensures.stands h.rest h.stands in
     record {
       text = h.text ++ ((h.rest ++ bytes) ++ 10 ∷ []);
@@ -40,6 +45,8 @@ returns-clause-heard g c heard front written cut h =
       ended = ended_more h.text (h.rest ++ bytes) h.ended stands.in_line;
       stands = c.take-line.ensures.stands;
       told = c.in_ok-answer.ensures.told h.text (h.text ++ ((h.rest ++ bytes) ++ 10 ∷ [])) written
-          (input_more h.text (h.rest ++ bytes) h.ended stands.in_line ∙ ap (λ (l : Line). input_lines h.text ++ l ∷ []) (sym (c.take-line.ensures.line (h.rest ++ bytes) stands)))
+          (input_more h.text (h.rest ++ bytes) h.ended stands.in_line
+          ∙ ap (λ (l : Line). input_lines h.text ++ l ∷ [])
+          (sym (c.take-line.ensures.line (h.rest ++ bytes) stands)))
           h.told;
     }

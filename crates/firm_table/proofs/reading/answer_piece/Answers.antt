@@ -22,8 +22,12 @@ returns-in_err-rest-clause-halted g c =
     let p = err_from_is_err_and c.from_residual.result c.from_residual.ensures.1 in
     rw p.1 (λ heard written h.
     let part = c.loop-rest.invariant.part in
-    let halted = subst (λ (l : List ℕ). Halted (g.C.Clerk.roster c.loop-rest.clerk) l written (g.W.Sink.written c.answer_first.new.writer)) (halted_on heard part.0 c.loop-rest.rest.now c.args.piece.now part.1)
-    (c.in_err-rest.ensures.halted (heard ++ part.0) written (c.loop-rest.invariant.heard heard part.0 written part.1 h)) in
+    let halted =
+    subst (λ (l : List ℕ). Halted (g.C.Clerk.roster c.loop-rest.clerk) l written
+    (g.W.Sink.written c.answer_first.new.writer))
+    (halted_on heard part.0 c.loop-rest.rest.now c.args.piece.now part.1)
+    (c.in_err-rest.ensures.halted (heard ++ part.0) written
+    (c.loop-rest.invariant.heard heard part.0 written part.1 h)) in
     rw c.loop-rest.invariant.roster at halted)
 
 pub loop-rest-preserved : goal.loop-rest-preserved
@@ -40,10 +44,13 @@ loop-rest-preserved g c =
       kept = c.in_ok-rest.ensures.kept ∙ c.loop-rest.invariant.kept;
       part = (old.0 ++ new.0, whole);
       heard = λ heard front written cut h.
-          let same : front ≡ old.0 ++ new.0 = append_cancel_right front (old.0 ++ new.0) c.in_ok-rest.rest.now (sym cut ∙ whole) in
-          subst (λ (l : List ℕ). Heard (g.C.Clerk.told c.answer_first.new.clerk) c.answer_first.new.cutter l written (g.W.Sink.written c.answer_first.new.writer))
+          let same : front ≡ old.0 ++ new.0 =
+          append_cancel_right front (old.0 ++ new.0) c.in_ok-rest.rest.now (sym cut ∙ whole) in
+          subst (λ (l : List ℕ). Heard (g.C.Clerk.told c.answer_first.new.clerk) c.answer_first.new.cutter l written
+          (g.W.Sink.written c.answer_first.new.writer))
           (append_assoc heard old.0 new.0 ∙ ap (λ (l : List ℕ). heard ++ l) (sym same))
-          (c.in_ok-rest.ensures.heard (heard ++ old.0) new.0 written new.1 (c.loop-rest.invariant.heard heard old.0 written old.1 h));
+          (c.in_ok-rest.ensures.heard (heard ++ old.0) new.0 written new.1
+          (c.loop-rest.invariant.heard heard old.0 written old.1 h));
     }
 
 pub returns-clause-heard : goal.returns-clause-heard

@@ -17,7 +17,8 @@ pub returns-clause-told : goal.returns-clause-told
 returns-clause-told g c =
     let some : c.rest.result ≡ true = search rules in
     on_ok_weaker c.answer.result (λ told. λ heard written h.
-    subst (λ (l : List ℕ). g.C.Clerk.told c.answer.new.self l written (g.W.Sink.written c.answer.new.writer)) (sym h.both)
+    subst (λ (l : List ℕ). g.C.Clerk.told c.answer.new.self l written (g.W.Sink.written c.answer.new.writer))
+    (sym h.both)
     (told h.text (h.text ++ h.rest) written
     (input_last h.text h.rest h.ended h.stands.in_line (sym (c.rest.ensures h.rest h.stands) ∙ some)
     ∙ ap (λ (l : Line). input_lines h.text ++ l ∷ []) (sym (c.take-line.ensures.line h.rest h.stands))) h.told))
@@ -27,7 +28,8 @@ pub returns-clause-begins : goal.returns-clause-begins
 returns-clause-begins g c =
     let some : c.rest.result ≡ true = search rules in
     on_err_weaker c.answer.result (λ begins. λ heard written h.
-    subst (λ (l : List ℕ). BeginsAnswers (g.C.Clerk.roster c.args.clerk.now) l written (g.W.Sink.written c.answer.new.writer)) (sym h.both)
+    subst (λ (l : List ℕ). BeginsAnswers (g.C.Clerk.roster c.args.clerk.now) l written
+    (g.W.Sink.written c.answer.new.writer)) (sym h.both)
     (begins h.text (h.text ++ h.rest) written
     (input_last h.text h.rest h.ended h.stands.in_line (sym (c.rest.ensures h.rest h.stands) ∙ some)
     ∙ ap (λ (l : Line). input_lines h.text ++ l ∷ []) (sym (c.take-line.ensures.line h.rest h.stands))) h.told))

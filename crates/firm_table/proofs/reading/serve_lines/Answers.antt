@@ -6,7 +6,8 @@ use Rattle.std.proofs.lemmas.Result.{err_from_is_err_and, on_ok_weaker}
 use Rattle.firm_table.specs.inner.Reading.{Halted}
 use Rattle.std.proofs.KnownBytes.{Consumes-trans, Consumes-nil, Consumes-kept}
 use Rattle.firm_table.proofs.Pieces.{ended_none, halts_between}
-use Rattle.firm_table.proofs.Stops.{cause_writing, stopped_within, stopped_behind, served, heard_told, both_ok, both_err}
+use Rattle.firm_table.proofs.Stops.{cause_writing, stopped_within, stopped_behind, served, heard_told, both_ok}
+use Rattle.firm_table.proofs.Stops.{both_err}
 use Rattle.firm_table.proofs.reading.serve_lines.Goals as goal
 
 pub loop-reader-init : goal.loop-reader-init
@@ -37,8 +38,15 @@ pub returns-in_err-write_out-clause-stopped : goal.returns-in_err-write_out-clau
 returns-in_err-write_out-clause-stopped g c =
     let p = err_from_is_err_and c.from_residual.result c.from_residual.ensures.1 in
     let i = c.loop-reader.invariant.progress in
-    let here : Halted (g.C.Clerk.roster c.loop-reader.clerk) i.0 (g.W.Sink.written c.args.writer.now) (g.W.Sink.written c.write_out.new.writer) =
-    record { answered = i.3.text; rest = i.3.rest; both = i.3.both; ends = i.3.ended.ends; begins = c.in_err-write_out.ensures.begins i.3.text _ i.3.told } in
+    let here : Halted (g.C.Clerk.roster c.loop-reader.clerk) i.0 (g.W.Sink.written c.args.writer.now)
+    (g.W.Sink.written c.write_out.new.writer) =
+    record {
+      answered = i.3.text;
+      rest = i.3.rest;
+      both = i.3.both;
+      ends = i.3.ended.ends;
+      begins = c.in_err-write_out.ensures.begins i.3.text _ i.3.told;
+    } in
     let halted = rw c.loop-reader.invariant.roster at here in
     rw (p.1, p.2)
     (stopped_within (g.C.Clerk.roster c.args.clerk.now) c.args.most _ _ _ _ _ _ i.0 _ i.2 halted
@@ -47,10 +55,18 @@ returns-in_err-write_out-clause-stopped g c =
 pub returns-in_default-clause-stopped : goal.returns-in_default-clause-stopped
 returns-in_default-clause-stopped g c =
     let i = c.loop-reader.invariant.progress in
-    let here : Halted (g.C.Clerk.roster c.loop-reader.clerk) i.0 (g.W.Sink.written c.args.writer.now) (g.W.Sink.written c.write_out.new.writer) =
-    record { answered = i.3.text; rest = i.3.rest; both = i.3.both; ends = i.3.ended.ends; begins = c.in_ok-write_out.ensures.begins i.3.text _ i.3.told } in
+    let here : Halted (g.C.Clerk.roster c.loop-reader.clerk) i.0 (g.W.Sink.written c.args.writer.now)
+    (g.W.Sink.written c.write_out.new.writer) =
+    record {
+      answered = i.3.text;
+      rest = i.3.rest;
+      both = i.3.both;
+      ends = i.3.ended.ends;
+      begins = c.in_ok-write_out.ensures.begins i.3.text _ i.3.told;
+    } in
     let halted = rw c.loop-reader.invariant.roster at here in
-    stopped_within (g.C.Clerk.roster c.args.clerk.now) c.args.most _ _ _ _ _ _ i.0 _ (Consumes-kept _ _ _ i.0 i.2 c.in_default.ensures.bytes) halted
+    stopped_within (g.C.Clerk.roster c.args.clerk.now) c.args.most _ _ _ _ _ _ i.0 _
+    (Consumes-kept _ _ _ i.0 i.2 c.in_default.ensures.bytes) halted
     (search rules, c.in_ok-write_out.ensures.well)
 
 pub returns-in_default-clause-waiting : goal.returns-in_default-clause-waiting
@@ -78,7 +94,8 @@ returns-then-count-eq0-clause-served g c =
     let some : 0 < length c.read.new.buffer = search rules in
     let h = heard_told _ _ _ i.0 _ _ _ i.3 c.in_ok-write_out.ensures.told in
     on_ok_weaker c.answer_end.result
-    (λ both. served (g.C.Clerk.roster c.args.clerk.now) c.args.most _ _ _ _ _ _ i.0 read (c.in-Ok.ensures.bytes.1 c.if-count-eq0.true some)
+    (λ both. served (g.C.Clerk.roster c.args.clerk.now) c.args.most _ _ _ _ _ _ i.0 read
+    (c.in-Ok.ensures.bytes.1 c.if-count-eq0.true some)
     (let l = c.loop-reader.invariant.few in grind (arith, common_steps))
     (rw (c.in_ok-write_out.ensures.roster ∙ c.loop-reader.invariant.roster) at (both.0 i.0 _ h)) reads both.1)
     (both_ok c.answer_end.result _ _ c.answer_end.ensures.answers c.answer_end.ensures.well)
@@ -110,7 +127,8 @@ returns-then-count-eq0-clause-stopped g c =
     let some : 0 < length c.read.new.buffer = search rules in
     let h = heard_told _ _ _ i.0 _ _ _ i.3 c.in_ok-write_out.ensures.told in
     both_err c.answer_end.result _ _ _ c.answer_end.ensures.begins c.answer_end.ensures.cause
-    (λ begins fault cause. stopped_behind (g.C.Clerk.roster c.args.clerk.now) c.args.most _ _ _ _ _ _ i.0 fault read (c.in-Ok.ensures.bytes.1 c.if-count-eq0.true some)
+    (λ begins fault cause. stopped_behind (g.C.Clerk.roster c.args.clerk.now) c.args.most _ _ _ _ _ _ i.0 fault read
+    (c.in-Ok.ensures.bytes.1 c.if-count-eq0.true some)
     reads (rw (c.in_ok-write_out.ensures.roster ∙ c.loop-reader.invariant.roster) at (begins i.0 _ h)) cause)
 
 pub returns-then-most-heard-clause-stopped : goal.returns-then-most-heard-clause-stopped
@@ -118,10 +136,13 @@ returns-then-most-heard-clause-stopped g c =
     let i = c.loop-reader.invariant.progress in
     let longer : c.args.most < length (i.0 ++ take c.in-Ok.count c.read.new.buffer) =
     (let e = i.1 in let b = c.in-Ok.ensures.bound in let m = c.if-most-heard.true in grind (arith, common_steps)) in
-    let halted : Halted (g.C.Clerk.roster c.args.clerk.now) (i.0 ++ take c.in-Ok.count c.read.new.buffer) (g.W.Sink.written c.args.writer.now) (g.W.Sink.written c.write_out.new.writer) =
+    let halted : Halted (g.C.Clerk.roster c.args.clerk.now) (i.0 ++ take c.in-Ok.count c.read.new.buffer)
+    (g.W.Sink.written c.args.writer.now) (g.W.Sink.written c.write_out.new.writer) =
     rw c.loop-reader.invariant.roster at
-    (halts_between _ i.0 i.3.text i.3.rest (take c.in-Ok.count c.read.new.buffer) _ _ i.3.both i.3.ended (c.in_ok-write_out.ensures.begins i.3.text _ i.3.told)) in
-    stopped_within (g.C.Clerk.roster c.args.clerk.now) c.args.most _ _ _ _ _ _ (i.0 ++ take c.in-Ok.count c.read.new.buffer) _
+    (halts_between _ i.0 i.3.text i.3.rest (take c.in-Ok.count c.read.new.buffer) _ _ i.3.both i.3.ended
+    (c.in_ok-write_out.ensures.begins i.3.text _ i.3.told)) in
+    stopped_within (g.C.Clerk.roster c.args.clerk.now) c.args.most _ _ _ _ _ _
+    (i.0 ++ take c.in-Ok.count c.read.new.buffer) _
     (Consumes-trans _ _ _ _ _ i.2 c.in-Ok.ensures.bytes.0) halted
     (longer, search rules, c.in_ok-write_out.ensures.well)
 
@@ -147,12 +168,16 @@ loop-reader-preserved g c =
 
 pub returns-in_err-answer_piece-clause-stopped : goal.returns-in_err-answer_piece-clause-stopped
 returns-in_err-answer_piece-clause-stopped g c =
-    let p = err_from_is_err_and c.from_residual-in_err-answer_piece.result c.from_residual-in_err-answer_piece.ensures.1 in
+    let p =
+    err_from_is_err_and c.from_residual-in_err-answer_piece.result c.from_residual-in_err-answer_piece.ensures.1 in
     let i = c.loop-reader.invariant.progress in
     let reads : g.R.Source.read_failed c.read.new.self ≡ false = search rules in
     let h = heard_told _ _ _ i.0 _ _ _ i.3 c.in_ok-write_out.ensures.told in
-    let halted = rw (c.in_ok-write_out.ensures.roster ∙ c.loop-reader.invariant.roster) at (c.in_err-answer_piece.ensures.halted i.0 _ h) in
+    let halted =
+    rw (c.in_ok-write_out.ensures.roster ∙ c.loop-reader.invariant.roster) at
+    (c.in_err-answer_piece.ensures.halted i.0 _ h) in
     rw (p.1, p.2)
-    (stopped_within (g.C.Clerk.roster c.args.clerk.now) c.args.most _ _ _ _ _ _ (i.0 ++ take c.in-Ok.count c.read.new.buffer) _
+    (stopped_within (g.C.Clerk.roster c.args.clerk.now) c.args.most _ _ _ _ _ _
+    (i.0 ++ take c.in-Ok.count c.read.new.buffer) _
     (Consumes-trans _ _ _ _ _ i.2 c.in-Ok.ensures.bytes.0) halted
     (cause_writing _ _ c.args.most _ _ reads c.in_err-answer_piece.ensures.cause))

@@ -12,7 +12,13 @@ use Rattle.firm_table.proofs.serving.serve_one.Goals as goal
 pub returns-in_default-clause-stopped : goal.returns-in_default-clause-stopped
 returns-in_default-clause-stopped g c =
     stopped_within c.args.roster.now c.args.most _ _ _ _ _ _ [] Memory (Consumes-nil _)
-    (record { answered = []; rest = []; both = refl; ends = ended_none.ends; begins = nothing_written c.args.roster.now _ })
+    (record {
+      answered = [];
+      rest = [];
+      both = refl;
+      ends = ended_none.ends;
+      begins = nothing_written c.args.roster.now _;
+    })
     (c.requires.reader, c.requires.writer)
 
 pub serve_lines-requires-clause-opening : goal.serve_lines-requires-clause-opening

@@ -1,4 +1,4 @@
-use Rattle.std.proofs.Common.{◌≡◌, ◌∙◌, List, ℕ, ap, length, take, drop, arith}
+use Rattle.std.proofs.Common.{◌≡◌, List, ℕ, take, drop, arith}
 use Rattle.std.specs.List.{position_or_len}
 use Rattle.firm_text.specs.OperatorLines.{is_comma}
 use Rattle.firm_text.proofs.Commas.{cut-last, cut-more}

@@ -9,28 +9,28 @@ use Rattle.firm_hall.proofs.serving.Serving.end.Goals as goal
 
 pub loop-seat-init : goal.loop-seat-init
 loop-seat-init g c =
-    let s = c.args.self in
+    let s = c.self.inside in
     let items = c.into_iter-seat-iterator.ensures.into_iter_gives.0 in
-    record {
-      seats = subst (All (IsOf s.hall.now.id)) (sym items)
-          (all_of s.hall.now.id s.slots.items s.seats.items c.requires.open.seats);
+    rw (← c.self.view_is)
+    (record {
+      seats = subst (All (IsOf s.hall.value.id)) (sym items)
+          (all_of s.hall.value.id s.held.slots s.seats.items c.self.invariant.seats);
       desks = record {
         each = rw c.requires.room.0 (λ k d low. absurd (omega arith));
-        places =
-            rw c.requires.empty_room.0 (λ k d low. absurd (omega arith));
+        places = rw c.requires.empty_room.0 (λ k d low. absurd (omega arith));
       };
       asked = omega (arith, ap (weigh asked_at) items);
       few = omega (
         arith,
         c.into_iter-seat-iterator.ensures.into_iter_gives.1,
         s.seats.ok.0,
-        c.requires.open.seats.long,
+        c.self.invariant.seats.long,
       );
       count = omega (
         arith,
         c.into_iter-seat-iterator.ensures.into_iter_gives.1,
         s.seats.ok.0,
-        c.requires.open.seats.long,
+        c.self.invariant.seats.long,
         c.args.room.ok.0,
         c.args.empty_room.ok.0,
         ap (λ (ds : List DeskIs). length ds) c.requires.room.0,
@@ -38,16 +38,16 @@ loop-seat-init g c =
       );
       room = c.requires.room.1;
       empty_room = c.requires.empty_room.1;
-    }
+    })
 
 pub put_away-rounds-requires-clause-seated : goal.put_away-rounds-requires-clause-seated
 put_away-rounds-requires-clause-seated g c =
-    let id = c.args.self.hall.now.id in
+    let id = c.args.self.queue in
     seated_of id c.in-Some.seat (all_head (IsOf id) _ _ _ c.in-Some.ensures.steps.0 c.loop-seat.invariant.seats)
 
 pub loop-seat-preserved : goal.loop-seat-preserved
 loop-seat-preserved g c =
-    let id = c.args.self.hall.now.id in
+    let id = c.args.self.queue in
     let i = c.loop-seat.invariant in
     let e = c.put_away-rounds.ensures in
     let steps = c.in-Some.ensures.steps.0 in

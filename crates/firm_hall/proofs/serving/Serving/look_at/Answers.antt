@@ -1,36 +1,48 @@
-use Rattle.std.proofs.Common.{rules, ◌∙◌}
-use Rattle.firm_hall.proofs.Coming.{turned_by, first_looked}
+use Rattle.std.proofs.Common.{None, Some}
+use Rattle.firm_hall.specs.inner.Held.{FirstIsFor}
+use Rattle.firm_hall.specs.inner.Seats.{IsTurned}
+use Rattle.firm_hall.proofs.Coming.{came_back, first_low, stayed_away}
 use Rattle.firm_hall.proofs.serving.Serving.look_at.Goals as goal
 
+pub returns-in_default-clause-keeps : goal.returns-in_default-clause-keeps
+returns-in_default-clause-keeps c =
+    let s = c.self.inside in
+    let same : IsTurned c.index_mut.result.now c.look.new.self None = rw c.in_default.is at c.look.ensures in
+    rw (
+      ← c.self.view_is,
+      stayed_away s.seats.items c.args.place c.index_mut.result.now c.look.new.self _ c.index_mut.ensures.value same,
+    )
+    (λ roster text written now told. told)
+
+pub invariant_of-self-2 : goal.invariant_of-self-2
+invariant_of-self-2 c =
+    let s = c.self.inside in
+    let here : FirstIsFor c.args.place s.held.slots = rw (← c.self.view_is) at c.requires in
+    let turn : IsTurned c.index_mut.result.now c.look.new.self (Some c.in-Some.reply) =
+    rw c.in-Some.is at c.look.ensures in
+    let came = came_back s.hall.value.id s.register s.seats.items s.held c.args.place c.index_mut.result.now
+    c.look.new.self _ c.in-Some.reply c.self.invariant
+    (first_low c.args.place s.held.slots here c.self.invariant.placed) c.index_mut.ensures.value turn in
+    rw c.fill.ensures came.stands
+
+pub returns-clause-follows : goal.returns-clause-follows
+returns-clause-follows c =
+    let s = c.self.inside in
+    let here : FirstIsFor c.args.place s.held.slots = rw (← c.self.view_is) at c.requires in
+    let turn : IsTurned c.index_mut.result.now c.look.new.self (Some c.in-Some.reply) =
+    rw c.in-Some.is at c.look.ensures in
+    let came = came_back s.hall.value.id s.register s.seats.items s.held c.args.place c.index_mut.result.now
+    c.look.new.self _ c.in-Some.reply c.self.invariant
+    (first_low c.args.place s.held.slots here c.self.invariant.placed) c.index_mut.ensures.value turn in
+    rw (← c.self.view_is, c.fill.ensures) came.follows
+
 pub returns-clause-keeps : goal.returns-clause-keeps
-returns-clause-keeps c text written now told =
-    let s = c.args.self.now in
-    let turned = turned_by s.roster.now s.register s.hall.now.id c.args.place s.slots.items c.fill.new.slots.items
-    s.seats.items _
-    c.index_mut.result.now c.look-reply.new.self c.look-reply.result c.requires.open.seats c.requires.open.placed
-    c.requires.place
-    c.index_mut.ensures.value c.fill.ensures.filled c.look-reply.ensures in
-    turned.keeps s.output.items text written now told
-
-pub returns-clause-open : goal.returns-clause-open
-returns-clause-open c =
-    let s = c.args.self.now in
-    let turned = turned_by s.roster.now s.register s.hall.now.id c.args.place s.slots.items c.fill.new.slots.items
-    s.seats.items _
-    c.index_mut.result.now c.look-reply.new.self c.look-reply.result c.requires.open.seats c.requires.open.placed
-    c.requires.place
-    c.index_mut.ensures.value c.fill.ensures.filled c.look-reply.ensures in
-    record {
-      seats = turned.seats_are;
-      fits = turned.counts ∙ c.requires.open.fits;
-      placed = turned.placed;
-      few =
-          search rules;
-      room = search rules;
-    }
-
-pub returns-clause-first : goal.returns-clause-first
-returns-clause-first c =
-    first_looked c.args.place c.args.self.now.slots.items c.fill.new.slots.items c.look-reply.result
-    c.is_some-is_back.result c.fill.ensures.filled c.is_some-is_back.ensures
-    c.requires.first
+returns-clause-keeps c =
+    let s = c.self.inside in
+    let here : FirstIsFor c.args.place s.held.slots = rw (← c.self.view_is) at c.requires in
+    let turn : IsTurned c.index_mut.result.now c.look.new.self (Some c.in-Some.reply) =
+    rw c.in-Some.is at c.look.ensures in
+    let came = came_back s.hall.value.id s.register s.seats.items s.held c.args.place c.index_mut.result.now
+    c.look.new.self _ c.in-Some.reply c.self.invariant
+    (first_low c.args.place s.held.slots here c.self.invariant.placed) c.index_mut.ensures.value turn in
+    rw (← c.self.view_is, c.fill.ensures) came.keeps

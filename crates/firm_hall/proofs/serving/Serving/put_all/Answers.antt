@@ -1,22 +1,24 @@
-use Rattle.std.proofs.Common.{rules, ◌∙◌, arith}
+use Rattle.std.proofs.Common.{rules, arith}
+use Rattle.firm_hall.specs.inner.Serving.{AllBack}
+use Rattle.firm_hall.proofs.Coming.{follows_then}
 use Rattle.firm_hall.proofs.Giving.{all_known}
 use Rattle.firm_hall.proofs.serving.Serving.put_all.Goals as goal
-
-pub put_first-requires-clause-first : goal.put_first-requires-clause-first
-put_first-requires-clause-first c =
-    let s = c.loop-self.self in
-    all_known s.hall.now.id s.slots.items s.seats.items c.loop-self.invariant.stands.seats
-    c.loop-self.invariant.stands.placed c.loop-self.invariant.back (search rules)
 
 pub loop-self-preserved : goal.loop-self-preserved
 loop-self-preserved c =
     let i = c.loop-self.invariant in
-    let e = c.in_ok-put_first.ensures in
+    let put = c.in_ok-put_first.ensures in
     record {
-      keeps = λ text written now told. e.keeps text written now (i.keeps text written now told);
-      stands = e.open;
-      back = rw e.seats i.back;
-      length = omega (arith, i.length, e.length);
-      roster = e.roster ∙ i.roster;
-      hall = e.hall ∙ i.hall;
+      follows = follows_then i.follows (record { same_hall = put.hall; fewer = omega (arith, put.fewer) });
+      keeps = λ roster text written now told. put.keeps roster text written now
+          (i.keeps roster text written now told);
+      back = rw put.seats i.back;
     }
+
+pub put_first-requires : goal.put_first-requires
+put_first-requires c =
+    let s = c.self.inside in
+    let back : AllBack s.seats.items = rw (← c.self.view_is) at c.loop-self.invariant.back in
+    rw (← c.self.view_is)
+    (all_known s.hall.value.id s.held.slots s.seats.items c.self.invariant.seats c.self.invariant.placed back
+    (search rules))

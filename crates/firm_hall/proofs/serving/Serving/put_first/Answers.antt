@@ -1,14 +1,28 @@
-use Rattle.std.proofs.Common.{rules, ◌≡◌, ◌∷◌}
+use Rattle.std.proofs.Common.{List, ap, arith, length}
 use Rattle.std.proofs.lemmas.Result.{on_ok_weaker}
-use Rattle.firm_hall.proofs.Giving.{popped_tells}
+use Rattle.firm_hall.specs.declared.held.Slot.{Slot}
+use Rattle.firm_hall.specs.inner.Held.{FirstIsKnown}
+use Rattle.firm_hall.proofs.Giving.{popped_keeps, popped_stands}
 use Rattle.firm_hall.proofs.serving.Serving.put_first.Goals as goal
+
+pub invariant_of-self : goal.invariant_of-self
+invariant_of-self c =
+    let s = c.self.inside in
+    let first = c.put_first.ensures.first in
+    let known : FirstIsKnown s.held.slots = rw (← c.self.view_is) at c.requires in
+    popped_stands s.hall.value.id s.register s.seats.items s.held c.put_first.new.self first.0 c.self.invariant
+    first.1 known
 
 pub returns-clause-keeps : goal.returns-clause-keeps
 returns-clause-keeps c =
-    let s = c.args.self.now in
-    let is : s.slots.items ≡ c.unwrap-slot.result ∷ c.pop_front.new.self.items = search rules in
-    on_ok_weaker c.put_answer.result
-    (λ added. λ text written now told. popped_tells s.roster.now s.register s.seats.items s.slots.items
-    c.pop_front.new.self.items c.unwrap-slot.result s.output.items
-    c.put_answer.new.output.items is added text written now told)
-    c.put_answer.ensures
+    let s = c.self.inside in
+    let first = c.put_first.ensures.first in
+    rw (← c.self.view_is)
+    (on_ok_weaker c.put_first.result
+    (λ put. popped_keeps s.hall.value.id s.register s.seats.items s.held c.put_first.new.self first.0 first.1
+    (put first.0 first.1)) c.put_first.ensures.put)
+
+pub returns-clause-fewer : goal.returns-clause-fewer
+returns-clause-fewer c =
+    let shorter = ap (λ (slots : List Slot). length slots) c.put_first.ensures.first.1 in
+    rw (← c.self.view_is) (omega (arith, shorter))

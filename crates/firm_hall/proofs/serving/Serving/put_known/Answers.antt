@@ -1,8 +1,9 @@
-use Rattle.std.proofs.Common.{rules, ◌≡◌, ◌∙◌, true, false, arith}
+use Rattle.std.proofs.Common.{rules, ◌≡◌, true, false, arith}
+use Rattle.firm_hall.proofs.Coming.{follows_then}
 use Rattle.firm_hall.proofs.serving.Serving.put_known.Goals as goal
 
-pub put_first-requires-clause-first : goal.put_first-requires-clause-first
-put_first-requires-clause-first c =
+pub put_first-requires : goal.put_first-requires
+put_first-requires c =
     let is : c.first_is_known.result ≡ true = search rules in
     rw is at c.first_is_known.ensures.first
 
@@ -11,19 +12,28 @@ returns-clause-first c =
     let not : c.first_is_known.result ≡ false = search rules in
     rw not at c.first_is_known.ensures.first
 
+pub returns-clause-follows : goal.returns-clause-follows
+returns-clause-follows c = follows_then c.loop-self.invariant.follows c.first_is_known.ensures.follows
+
 pub returns-clause-keeps : goal.returns-clause-keeps
-returns-clause-keeps c text written now told =
-    c.first_is_known.ensures.keeps text written now (c.loop-self.invariant.keeps text written now told)
+returns-clause-keeps c roster text written now told =
+    c.first_is_known.ensures.keeps roster text written now (c.loop-self.invariant.keeps roster text written now told)
+
+pub returns-in_err-put_first-clause-follows : goal.returns-in_err-put_first-clause-follows
+returns-in_err-put_first-clause-follows c =
+    let put = c.in_err-put_first.ensures in
+    follows_then c.loop-self.invariant.follows
+    (follows_then c.first_is_known.ensures.follows
+    (record { same_hall = put.hall; fewer = omega (arith, put.fewer) }))
 
 pub loop-self-preserved : goal.loop-self-preserved
 loop-self-preserved c =
     let i = c.loop-self.invariant in
     let looked = c.first_is_known.ensures in
+    let put = c.in_ok-put_first.ensures in
     record {
-      keeps = λ text written now told. c.in_ok-put_first.ensures.keeps text written now
-          (looked.keeps text written now (i.keeps text written now told));
-      stands = c.in_ok-put_first.ensures.open;
-      length = omega (arith, i.length, looked.length, c.in_ok-put_first.ensures.length);
-      roster = c.in_ok-put_first.ensures.roster ∙ looked.roster ∙ i.roster;
-      hall = c.in_ok-put_first.ensures.hall ∙ looked.hall ∙ i.hall;
+      follows = follows_then i.follows
+          (follows_then looked.follows (record { same_hall = put.hall; fewer = omega (arith, put.fewer) }));
+      keeps = λ roster text written now told. put.keeps roster text written now
+          (looked.keeps roster text written now (i.keeps roster text written now told));
     }

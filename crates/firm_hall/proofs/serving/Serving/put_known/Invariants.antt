@@ -1,16 +1,9 @@
-use Rattle.std.proofs.Common.{◌≡◌, ◌≤◌}
-use Rattle.std.specs.VecDeque.{deque_len}
-use Rattle.firm_hall.specs.inner.Serving.{AreOpen, Keeps}
+use Rattle.std.proofs.Common.{length}
+use Rattle.firm_hall.specs.inner.Serving.{Follows, Keeps}
 use Rattle.firm_hall.proofs.serving.Serving.put_known.Given as goal
 
 abbrev pub invariant-loop-self : goal.invariant-loop-self
-invariant-loop-self l = record {
-  keeps : Keeps l.initial.self l.self;
-  stands : AreOpen l.self;
-  length : deque_len l.self.slots ≤ deque_len l.initial.self.slots;
-  roster : l.self.roster ≡ l.initial.self.roster;
-  hall : l.self.hall ≡ l.initial.self.hall;
-}
+invariant-loop-self l = record { follows : Follows l.initial.self l.self; keeps : Keeps l.initial.self l.self }
 
 abbrev pub decreases-loop-self : goal.decreases-loop-self
-decreases-loop-self l = deque_len l.self.slots
+decreases-loop-self l = length l.self.slots

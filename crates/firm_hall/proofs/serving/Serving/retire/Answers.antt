@@ -1,14 +1,18 @@
 use Rattle.std.proofs.Common.{◌∙◌, sym}
+use Rattle.firm_hall.proofs.Coming.{follows_then}
 use Rattle.firm_hall.proofs.Obeying.{retirement_refused}
 use Rattle.firm_hall.proofs.serving.Serving.retire.Goals as goal
 
 pub returns-in_default-clause-obeys : goal.returns-in_default-clause-obeys
-returns-in_default-clause-obeys g c text after written now more told =
-    let s = c.args.self.now in
-    retirement_refused c.answers_add_up.ensures.one_more c.answers_add_up.ensures.not_retired s.roster.now s.register
-    s.seats.items s.slots.items s.output.items
-    c.args.name (sym c.place_of.ensures.place ∙ c.in_default.is) text after written now more told
+returns-in_default-clause-obeys g c =
+    let s = c.self.inside in
+    rw (← c.self.view_is)
+    (λ roster. retirement_refused c.answers_add_up.ensures.one_more c.answers_add_up.ensures.not_retired roster
+    s.register s.seats.items s.held.slots s.held.output c.args.name (sym c.place_of.ensures.place ∙ c.in_default.is))
 
 pub returns-clause-obeys : goal.returns-clause-obeys
-returns-clause-obeys g c text after written now more told =
-    c.leave.ensures.obeys text after written now more (c.come_home.ensures.keeps text written now told)
+returns-clause-obeys g c roster text after written now more told =
+    c.leave.ensures.obeys roster text after written now more (c.come_home.ensures.keeps roster text written now told)
+
+pub returns-clause-follows : goal.returns-clause-follows
+returns-clause-follows g c = follows_then c.come_home.ensures.follows c.leave.ensures.follows

@@ -1,107 +1,76 @@
-use Rattle.std.proofs.Common.{rules, ◌∙◌, ap, sym, refl, subst, List, ◌++◌, ◌∷◌, []}
+use Rattle.std.proofs.Common.{◌∙◌, ap, sym, refl, List, ◌++◌, ◌∷◌, []}
 use Rattle.firm_text.specs.Inputs.{input_lines}
 use Rattle.firm_text.specs.declared.inputs.Line.{Line}
-use Rattle.firm_hall.specs.inner.Serving.{TellsParts}
-use Rattle.firm_hall.specs.declared.seats.Slot.{Slot}
-use Rattle.firm_hall.specs.declared.seats.Slot.TheVariants.{TooLong, Stranger, Obeyed}
-use Rattle.firm_hall.proofs.Taking.{nothing_follows, long_follows, nameless_follows, stranger_follows, known_seats}
-use Rattle.firm_hall.proofs.Taking.{known_placed}
+use Rattle.firm_hall.specs.declared.held.Slot.{Slot}
+use Rattle.firm_table.specs.declared.answers.LineAnswer.TheVariants.{LineTooLong, ToOperator, UnknownTenant}
+use Rattle.firm_hall.specs.declared.held.Slot.TheVariants.{Known}
+use Rattle.firm_hall.proofs.Taking.{known_stands, long_follows, nameless_follows, nothing_follows, stranger_follows}
 use Rattle.firm_hall.proofs.serving.Serving.take_line.Goals as goal
 
 pub returns-in-Nothing-clause-takes : goal.returns-in-Nothing-clause-takes
-returns-in-Nothing-clause-takes g c =
+returns-in-Nothing-clause-takes g c roster =
     let s = c.args.self.now in
-    nothing_follows c.answers_add_up.ensures.one_more s.roster.now s.register s.seats.items s.slots.items s.slots.items
-    s.output.items c.args.line c.in-Nothing.is refl
+    nothing_follows c.answers_add_up.ensures.one_more roster s.register s.seats s.slots s.slots s.output c.args.line
+    c.in-Nothing.is refl
 
 pub returns-in-Long-clause-takes : goal.returns-in-Long-clause-takes
 returns-in-Long-clause-takes g c =
-    let s = c.args.self.now in
-    long_follows c.answers_add_up.ensures.one_more s.roster.now s.register s.seats.items s.slots.items
-    c.push_back_reserved.new.self.items s.output.items c.args.line c.in-Long.is
-    c.push_back_reserved.ensures.items
+    let s = c.self.inside in
+    rw (← c.self.view_is, c.push.ensures)
+    (λ roster. long_follows c.answers_add_up.ensures.one_more roster s.register s.seats.items s.held.slots _
+    s.held.output c.args.line c.in-Long.is refl)
 
-pub returns-in-Long-clause-open : goal.returns-in-Long-clause-open
-returns-in-Long-clause-open g c =
-    let s = c.args.self.now in
-    let o = c.requires.stands in
-    record {
-      seats = known_seats s.hall.now.id s.slots.items c.push_back_reserved.new.self.items s.seats.items TooLong
-          c.push_back_reserved.ensures.items (λ place. refl) o.seats;
-      fits = o.fits;
-      placed = known_placed s.slots.items c.push_back_reserved.new.self.items TooLong
-          c.push_back_reserved.ensures.items tt o.placed;
-      few = search rules;
-      room = search rules;
-    }
+pub invariant_of-self : goal.invariant_of-self
+invariant_of-self g c =
+    let s = c.self.inside in
+    rw c.push.ensures
+    (known_stands s.hall.value.id s.register s.seats.items s.held (Known LineTooLong) (λ place. refl) tt
+    c.self.invariant)
 
 pub returns-in-Nameless-clause-takes : goal.returns-in-Nameless-clause-takes
 returns-in-Nameless-clause-takes g c =
-    let s = c.args.self.now in
-    nameless_follows c.answers_add_up.ensures.one_more s.roster.now s.register s.seats.items s.slots.items
-    c.push_back_reserved-in-Nameless.new.self.items s.output.items c.args.line c.in-Nameless.is
-    c.push_back_reserved-in-Nameless.ensures.items
+    let s = c.self-in-Nameless.inside in
+    rw (← c.self-in-Nameless.view_is, c.push-in-Nameless.ensures)
+    (λ roster. nameless_follows c.answers_add_up.ensures.one_more roster s.register s.seats.items s.held.slots _
+    s.held.output c.args.line c.in-Nameless.is refl)
 
-pub returns-in-Nameless-clause-open : goal.returns-in-Nameless-clause-open
-returns-in-Nameless-clause-open g c =
-    let s = c.args.self.now in
-    let o = c.requires.stands in
-    record {
-      seats = known_seats s.hall.now.id s.slots.items c.push_back_reserved-in-Nameless.new.self.items s.seats.items
-          Stranger c.push_back_reserved-in-Nameless.ensures.items (λ place. refl) o.seats;
-      fits = o.fits;
-      placed = known_placed s.slots.items c.push_back_reserved-in-Nameless.new.self.items Stranger
-          c.push_back_reserved-in-Nameless.ensures.items tt o.placed;
-      few = search rules;
-      room = search rules;
-    }
+pub invariant_of-self-in-Nameless : goal.invariant_of-self-in-Nameless
+invariant_of-self-in-Nameless g c =
+    let s = c.self-in-Nameless.inside in
+    rw c.push-in-Nameless.ensures
+    (known_stands s.hall.value.id s.register s.seats.items s.held (Known UnknownTenant) (λ place. refl) tt
+    c.self-in-Nameless.invariant)
 
 pub returns-in-None-clause-takes : goal.returns-in-None-clause-takes
 returns-in-None-clause-takes g c =
-    let s = c.args.self.now in
-    stranger_follows c.answers_add_up.ensures.one_more s.roster.now s.register s.seats.items s.slots.items
-    c.push_back_reserved-in-None.new.self.items s.output.items c.args.line
-    c.answers_add_up.ensures.unknown c.in-For.name c.in-For.command c.in-For.is (sym c.place_of.ensures.place
-    ∙ c.in-None.is) c.push_back_reserved-in-None.ensures.items
+    let s = c.self-in-For.inside in
+    rw (← c.self-in-For.view_is, c.push-in-None.ensures)
+    (λ roster. stranger_follows c.answers_add_up.ensures.one_more roster s.register s.seats.items s.held.slots _
+    s.held.output c.args.line c.answers_add_up.ensures.unknown c.in-For.name c.in-For.command c.in-For.is
+    (sym c.place_of.ensures.place ∙ c.in-None.is) refl)
 
-pub returns-in-None-clause-open : goal.returns-in-None-clause-open
-returns-in-None-clause-open g c =
-    let s = c.args.self.now in
-    let o = c.requires.stands in
-    record {
-      seats = known_seats s.hall.now.id s.slots.items c.push_back_reserved-in-None.new.self.items s.seats.items
-          Stranger c.push_back_reserved-in-None.ensures.items (λ place. refl) o.seats;
-      fits = o.fits;
-      placed = known_placed s.slots.items c.push_back_reserved-in-None.new.self.items Stranger
-          c.push_back_reserved-in-None.ensures.items tt o.placed;
-      few = search rules;
-      room = search rules;
-    }
+pub invariant_of-self-in-None : goal.invariant_of-self-in-None
+invariant_of-self-in-None g c =
+    let s = c.self-in-For.inside in
+    rw c.push-in-None.ensures
+    (known_stands s.hall.value.id s.register s.seats.items s.held (Known UnknownTenant) (λ place. refl) tt
+    c.self-in-For.invariant)
 
 pub returns-in-Some-clause-takes : goal.returns-in-Some-clause-takes
-returns-in-Some-clause-takes g c text after written now more told =
-    c.command.ensures.takes text after written now (more ∙ ap (λ (l : Line). input_lines text ++ l ∷ []) c.in-For.is)
-    (c.come_home.ensures.keeps text written now told)
+returns-in-Some-clause-takes g c roster text after written now more told =
+    c.command.ensures.takes roster text after written now
+    (more ∙ ap (λ (l : Line). input_lines text ++ l ∷ []) c.in-For.is)
+    (c.come_home.ensures.keeps roster text written now told)
 
 pub returns-in-Operator-clause-takes : goal.returns-in-Operator-clause-takes
-returns-in-Operator-clause-takes g c text after written now more told =
-    let s = c.obey-reply.new.self in
-    subst (λ (xs : List Slot). TellsParts s.roster.now s.register s.seats.items xs s.output.items after written now)
-    (sym c.push_back_reserved-in-Operator.ensures.items)
-    (c.obey-reply.ensures.obeys text after written now
-    (more ∙ ap (λ (l : Line). input_lines text ++ l ∷ []) c.in-Operator.is) told)
+returns-in-Operator-clause-takes g c roster text after written now more told =
+    let obeyed = c.obey-reply.ensures.obeys roster text after written now
+    (more ∙ ap (λ (l : Line). input_lines text ++ l ∷ []) c.in-Operator.is) told in
+    rw c.push-in-Operator.ensures (rw (← c.self-in-Operator.view_is) at obeyed)
 
-pub returns-in-Operator-clause-open : goal.returns-in-Operator-clause-open
-returns-in-Operator-clause-open g c =
-    let s = c.obey-reply.new.self in
-    let o = c.obey-reply.ensures.open.stands in
-    let push = c.push_back_reserved-in-Operator in
-    record {
-      seats = known_seats s.hall.now.id s.slots.items push.new.self.items s.seats.items
-          (Obeyed c.obey-reply.result) push.ensures.items (λ place. refl) o.seats;
-      fits = o.fits;
-      placed = known_placed s.slots.items push.new.self.items (Obeyed c.obey-reply.result) push.ensures.items tt
-          o.placed;
-      few = search rules;
-      room = search rules;
-    }
+pub invariant_of-self-in-Operator : goal.invariant_of-self-in-Operator
+invariant_of-self-in-Operator g c =
+    let s = c.self-in-Operator.inside in
+    rw c.push-in-Operator.ensures
+    (known_stands s.hall.value.id s.register s.seats.items s.held (Known (ToOperator c.obey-reply.result)) (λ place. refl)
+    tt c.self-in-Operator.invariant)

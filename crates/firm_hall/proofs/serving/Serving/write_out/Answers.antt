@@ -1,32 +1,47 @@
-use Rattle.firm_hall.proofs.Giving.{begun, partly, wholly, written_all}
+use Rattle.std.proofs.Common.{arith, refl}
+use Rattle.std.proofs.lemmas.Result.{on_ok_weaker}
+use Rattle.firm_hall.proofs.Coming.{follows_then}
+use Rattle.firm_hall.proofs.Giving.{nothing_written, wrote}
 use Rattle.firm_hall.proofs.serving.Serving.write_out.Goals as goal
 
+pub invariant_of-self : goal.invariant_of-self
+invariant_of-self g c = record {
+  seats = rw c.write.ensures.slots c.self.invariant.seats;
+  fits = c.self.invariant.fits;
+  placed = rw c.write.ensures.slots c.self.invariant.placed;
+}
+
 pub returns-in_default-clause-begins : goal.returns-in_default-clause-begins
-returns-in_default-clause-begins g c text written told =
-    let s = c.args.self.now in
-    begun s.roster.now s.register s.seats.items s.slots.items s.output.items text written _ told
+returns-in_default-clause-begins g c = nothing_written c.args.self.now _
 
-pub returns-in_err-write_held-clause-begins : goal.returns-in_err-write_held-clause-begins
-returns-in_err-write_held-clause-begins g c text written told =
-    let s = c.put_known.new.self in
-    let part = c.in_err-write_held.ensures.err in
-    let begins = partly s.roster.now s.register s.seats.items s.slots.items s.output.items text written _ _ part.0
-    part.1 part.2 (c.in-Ok.ensures.keeps text written _ told) in
-    rw c.put_known.ensures.roster at begins
-
-pub returns-clause-begins : goal.returns-clause-begins
-returns-clause-begins g c text written told =
-    let s = c.put_known.new.self in
-    let begins = wholly s.roster.now s.register s.seats.items s.slots.items s.output.items text written _ _
-    c.in_ok-write_held.ensures.ok (c.in-Ok.ensures.keeps text written _ told) in
-    rw c.put_known.ensures.roster at begins
+pub returns-in_default-clause-follows : goal.returns-in_default-clause-follows
+returns-in_default-clause-follows g c = c.put_known.ensures.follows
 
 pub returns-clause-told : goal.returns-clause-told
-returns-clause-told g c text written told =
-    let s = c.put_known.new.self in
-    written_all s.roster.now s.register s.seats.items s.slots.items s.output.items _ text written _ _
-    c.in_ok-write_held.ensures.empty c.in_ok-write_held.ensures.ok
-    (c.in-Ok.ensures.keeps text written _ told)
+returns-clause-told g c =
+    let s = c.self.inside in
+    let e = c.write.ensures in
+    on_ok_weaker c.write.result
+    (λ passes. λ roster text written told. passes roster text written
+    (rw (← c.self.view_is) at (c.in-Ok.ensures.keeps roster text written _ told)))
+    (wrote c.write.result s.hall.value.id s.register s.seats.items s.held c.write.new.self _ _ e.ok e.empty e.slots
+    e.err).passes
+
+pub returns-clause-begins : goal.returns-clause-begins
+returns-clause-begins g c roster text written told =
+    let s = c.self.inside in
+    let e = c.write.ensures in
+    (wrote c.write.result s.hall.value.id s.register s.seats.items s.held c.write.new.self _ _ e.ok e.empty e.slots
+    e.err).begins roster text written
+    (rw (← c.self.view_is) at (c.in-Ok.ensures.keeps roster text written _ told))
+
+pub returns-clause-follows : goal.returns-clause-follows
+returns-clause-follows g c =
+    follows_then {between = c.put_known.new.self} c.put_known.ensures.follows
+    (rw (← c.self.view_is) (record { same_hall = refl; fewer = rw c.write.ensures.slots (omega arith) }))
 
 pub returns-clause-written_out : goal.returns-clause-written_out
-returns-clause-written_out g c = record { none = c.in_ok-write_held.ensures.empty; first = c.in-Ok.ensures.first }
+returns-clause-written_out g c =
+    on_ok_weaker c.write.result
+    (λ none. record { none = none; first = rw c.write.ensures.slots (rw (← c.self.view_is) at c.in-Ok.ensures.first) })
+    c.write.ensures.empty

@@ -1,9 +1,10 @@
 -- The parts show the net with the arc.
 use Rattle.std.proofs.Common.{◌≡◌, ◌+◌, ◌<◌, ◌^◌, ◌∙◌, sym, ap, subst, arith, refl, inl, inr, Option, None, is_some}
+use Rattle.std.specs.Prelude.{IsTrue}
 use Rattle.std.proofs.lemmas.Bool.{false≢true, cases_lt}
-use Rattle.firm_arena.specs.Arena.{Arena, find, len_of, capacity_of, changed_at}
+use Rattle.firm_arena.specs.Arena.{Arena, find, len_of, capacity_of, changed_at, changed_all}
 use Rattle.firm_net.specs.Net.{with_arc, IsNet, IsNode, lists_at}
-use Rattle.firm_net.specs.Links.{list_of, with_arc_list, list_from, nodes_shown, Shows}
+use Rattle.firm_net.specs.Links.{list_of, with_arc_list, list_from, nodes_shown, cleared_link, Shows}
 use Rattle.firm_net.specs.declared.row.NodeId.{NodeId}
 use Rattle.firm_net.specs.declared.links.Link.{Link}
 use Rattle.firm_net.specs.declared.links.Node.{Node}
@@ -13,7 +14,7 @@ use Rattle.firm_net.proofs.Results.{AddsArc, adds_arc, first-fits, next-fits, if
 use Rattle.firm_net.proofs.Results.{not-node, arcs-counted, arc-capacity, added-counted}
 use Rattle.firm_net.proofs.net.Net.add_arc.Goals as goal
 
-adds : (c : goal.After-self-1)
+adds : (c : goal.After-self-2-1)
     → AddsArc c.link_at_front-2.new.links c.link_at_front-2.new.nodes c.args.self.now (record { id = c.in-Ok.id })
     c.args.row
 adds c =
@@ -59,6 +60,7 @@ invariant_of-self-2 c =
       added = omega (arith, c.self.invariant.added, before, after);
       net = (adds c).net;
       shows = (adds c).shows;
+      clear = λ e. absurd (false≢true e);
     }
 
 pub returns-clause-adds : goal.returns-clause-adds
@@ -76,13 +78,13 @@ returns-clause-counts c = (adds c).counts
 pub returns-clause-net : goal.returns-clause-net
 returns-clause-net c = (adds c).net
 
-tail-there : (c : goal.After-self-1) → IsNode c.args.self.now c.args.row.tail
+tail-there : (c : goal.After-self-2-1) → IsNode c.args.self.now c.args.row.tail
 tail-there c =
     subst (λ (n : NodeId). IsNode c.args.self.now n) c.tail-tail.ensures.value
     (node-found c.self.inside.links c.self.inside.nodes c.args.self.now c.tail-tail.result c.in-Some._from
     c.self.view_is (sym c.get.ensures.value ∙ sym c.in-Some.ensures))
 
-head-there : (c : goal.After-self-1) → IsNode c.args.self.now c.args.row.head
+head-there : (c : goal.After-self-2-1) → IsNode c.args.self.now c.args.row.head
 head-there c =
     subst (λ (n : NodeId). IsNode c.args.self.now n) c.head-head.ensures.value
     (node-found c.self.inside.links c.self.inside.nodes c.args.self.now c.head-head.result c.in-Some-copied._to
@@ -186,6 +188,10 @@ invariant_of-self c =
           subst (λ (l : Arena Link). Shows l c.self.inside.nodes (nodes_shown l c.self.inside.nodes))
           (sym c.in_default-put.ensures.unchanged)
           c.self.invariant.shows;
+      clear =
+          subst (λ (l : Arena Link). IsTrue c.self.inside.clear → changed_all l cleared_link ≡ l)
+          (sym c.in_default-put.ensures.unchanged)
+          c.self.invariant.clear;
     }
 
 pub returns-in_default-put-clause-net : goal.returns-in_default-put-clause-net

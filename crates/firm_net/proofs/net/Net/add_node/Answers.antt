@@ -19,6 +19,7 @@ invariant_of-self-2 c =
       added = omega (arith, c.self.invariant.added, ap (λ (a : Arena Node). a.counter) c.in-Ok.ensures.adds);
       net = (adds c).net;
       shows = (adds c).shows;
+      clear = c.self.invariant.clear;
     }
 
 pub returns-clause-adds : goal.returns-clause-adds

@@ -2,9 +2,10 @@
 use Rattle.std.proofs.Common.{◌≡◌, ℕ, ◌≤◌, sym, ap, subst₂, arith}
 use Rattle.firm_arena.specs.Arena.{Arena, vacant}
 use Rattle.firm_net.specs.Net.{empty_net}
+use Rattle.firm_net.specs.Links.{cleared_link}
 use Rattle.firm_net.specs.declared.links.Link.{Link}
 use Rattle.firm_net.specs.declared.links.Node.{Node}
-use Rattle.firm_net.proofs.Rewrites.{moved-new}
+use Rattle.firm_net.proofs.Rewrites.{moved-new, changed_all-vacant}
 use Rattle.firm_net.proofs.Shown.{IsShown}
 use Rattle.firm_net.proofs.net.Net.new.Goals as goal
 
@@ -25,7 +26,12 @@ invariant_of-result c =
     c.requires.nodes c.requires.arcs in
     let no_node : nodes.counter ≡ 0 = ap (λ (a : Arena Node). a.counter) c.in_ok-nodes.ensures.nodes in
     let no_link : links.counter ≡ 0 = ap (λ (a : Arena Link). a.counter) c.in_ok-nodes.ensures.links in
-    record { added = omega arith; net = shown.net; shows = shown.shows }
+    record {
+      added = omega arith;
+      net = shown.net;
+      shows = shown.shows;
+      clear = λ _. rw c.in_ok-nodes.ensures.links (changed_all-vacant {X = Link} {Y = Link} c.args.arcs 0 cleared_link);
+    }
 
 pub returns-clause-empty : goal.returns-clause-empty
 returns-clause-empty c =

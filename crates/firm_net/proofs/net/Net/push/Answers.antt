@@ -10,7 +10,7 @@ use Rattle.firm_net.proofs.Results.{ChangesRow, changes_row, row-found, row-miss
 use Rattle.firm_net.proofs.Results.{unit-tail, unit-head, unit-span}
 use Rattle.firm_net.proofs.net.Net.push.Goals as goal
 
-changes : (c : goal.After-set_row)
+changes : (c : goal.After-self-1)
     → ChangesRow c.set_row.new.links c.self.inside.nodes c.args.self.now c.args.arc (with_unit c.args.way)
 changes c =
     changes_row c.self.inside.links c.set_row.new.links c.self.inside.nodes c.args.self.now c.args.arc c.in-Some.link
@@ -29,6 +29,7 @@ invariant_of-self c =
           ∙ ap (λ (l : Arena Link). c.self.inside.nodes.counter + l.counter) (sym c.set_row.ensures);
       net = (changes c).net;
       shows = (changes c).shows;
+      clear = λ e. absurd (false≢true e);
     }
 
 pub returns-clause-allowed : goal.returns-clause-allowed

@@ -1,5 +1,6 @@
 -- The parts show the net without the arc.
 use Rattle.std.proofs.Common.{◌≡◌, ◌+◌, ◌∙◌, sym, subst, arith, Option, IfSome}
+use Rattle.std.proofs.lemmas.Bool.{false≢true}
 use Rattle.firm_arena.specs.Arena.{without}
 use Rattle.firm_net.specs.Net.{without_row}
 use Rattle.firm_net.specs.declared.links.Link.{Link}
@@ -46,6 +47,7 @@ invariant_of-self c =
       added = omega (arith, c.self.invariant.added, before, after);
       net = (removes c).net;
       shows = (removes c).shows;
+      clear = λ e. absurd (false≢true e);
     }
 
 pub returns-clause-row : goal.returns-clause-row

@@ -25,6 +25,7 @@ invariant_of-self c =
       added = c.self.invariant.added ∙ ap (λ (a : Arena Node). a.counter + c.self.inside.links.counter) (sym (taken c));
       net = (removes c).net;
       shows = (removes c).shows;
+      clear = c.self.invariant.clear;
     }
 
 pub returns-clause-removes : goal.returns-clause-removes

@@ -31,7 +31,7 @@ set_row-requires c =
     past-there In c.self.inside.links c.unlink.new.links c.args.arc c.in-Some.link c.in-Some.link.incoming
     (sym c.get.ensures.value ∙ sym c.in-Some.ensures) c.unlink.ensures.links
 
-differs : (c : goal.After-link_at_front) → c.in-Some.link.row.tail ≢ c.args.head
+differs : (c : goal.After-self-1) → c.in-Some.link.row.tail ≢ c.args.head
 differs c =
     λ e.
     let same : c.tail.result ≡ c.args.head = c.tail.ensures.value ∙ e in
@@ -41,7 +41,7 @@ differs c =
     (eq-eqb c.tail.result.id.place c.args.head.id.place (ap (λ (k : NodeId). k.id.place) same))
     (eq-eqb c.tail.result.id.stamp c.args.head.id.stamp (ap (λ (k : NodeId). k.id.stamp) same)))
 
-moves : (c : goal.After-link_at_front)
+moves : (c : goal.After-self-1)
     → MovesHead c.link_at_front.new.links c.link_at_front.new.nodes c.args.self.now c.args.arc c.in-Some.link.row
     c.args.head
 moves c =
@@ -66,9 +66,10 @@ invariant_of-self c =
       added = omega (arith, c.self.invariant.added, before, after);
       net = (moves c).net;
       shows = (moves c).shows;
+      clear = λ e. absurd (false≢true e);
     }
 
-row : (c : goal.After-link_at_front) → row_at c.args.self.now c.args.arc ≡ Some c.in-Some.link.row
+row : (c : goal.After-self-1) → row_at c.args.self.now c.args.arc ≡ Some c.in-Some.link.row
 row c = row-found c.self.inside.links c.self.inside.nodes c.args.self.now c.args.arc c.in-Some.link c.self.view_is
     (sym c.get.ensures.value ∙ sym c.in-Some.ensures)
 

@@ -9,7 +9,7 @@ use Rattle.firm_net.specs.declared.row.NodeId.{NodeId}
 use Rattle.firm_net.proofs.Results.{ChangesRow, changes_row, row-found, row-missing, arc-is, not-arc}
 use Rattle.firm_net.proofs.net.Net.set.Goals as goal
 
-abbrev numbered : goal.After-set_row → Row
+abbrev numbered : goal.After-self-1 → Row
 numbered c =
     record {
       tail = c.tail-tail.result;
@@ -20,7 +20,7 @@ numbered c =
       flow = c.args.flow;
     }
 
-changes : (c : goal.After-set_row)
+changes : (c : goal.After-self-1)
     → ChangesRow c.set_row.new.links c.self.inside.nodes c.args.self.now c.args.arc
     (with_numbers c.args.low c.args.cap c.args.cost c.args.flow)
 changes c =
@@ -46,6 +46,7 @@ invariant_of-self c =
           ∙ ap (λ (l : Arena Link). c.self.inside.nodes.counter + l.counter) (sym c.set_row.ensures);
       net = (changes c).net;
       shows = (changes c).shows;
+      clear = λ e. absurd (false≢true e);
     }
 
 pub returns-clause-allowed : goal.returns-clause-allowed

@@ -5,6 +5,7 @@ use Rattle.firm_table.proofs.occupants.Occupant.post.Goals as goal
 pub returns : goal.returns
 returns c = (
   is_memory c.step.result,
-  posts_part c.args.self.now.tenant c.step.new.self c.args.self.now.part c.args.command (is_memory c.step.result) c.step.result
+  posts_part c.args.self.now.tenant c.step.new.self c.args.self.now.part c.args.command
+      (is_memory c.step.result) c.step.result
       c.in-Home.is c.in_default-command.not-Round c.step.ensures,
 )

@@ -12,7 +12,8 @@ returns-in_err-write_held-clause-begins g c =
     ∙ c.put_answer.ensures.kept in
     let part = rw kept at c.in_err-write_held.ensures.err in
     rw p.1 (λ text after written more told.
-    one_more_begins c.unmarked_steps_are_granted.ensures c.refuses_for_the_form.ensures _ text after written _ c.args.line (partly_written _ text written _ _ part.0 told part.2) more)
+    one_more_begins c.unmarked_steps_are_granted.ensures c.refuses_for_the_form.ensures _ text after written _
+    c.args.line (partly_written _ text written _ _ part.0 told part.2) more)
 
 pub returns-in_default-clause-begins : goal.returns-in_default-clause-begins
 returns-in_default-clause-begins g c text after written more told =
@@ -20,13 +21,15 @@ returns-in_default-clause-begins g c text after written more told =
     let kept : c.truncate.new.self.items ≡ c.args.self.now.output.items =
     c.truncate.ensures.items ∙ ap (λ (n : ℕ). take n c.put_answer.new.output.items) before
     ∙ c.put_answer.ensures.kept in
-    one_more_begins c.unmarked_steps_are_granted.ensures c.refuses_for_the_form.ensures _ text after written _ c.args.line
+    one_more_begins c.unmarked_steps_are_granted.ensures c.refuses_for_the_form.ensures _ text after written
+    _ c.args.line
     (all_written_now _ text _ written _ _ told
     (rw kept at c.in_ok-write_held.ensures.ok) c.in_ok-write_held.ensures.empty) more
 
 pub returns-in_err-write_held-2-clause-begins : goal.returns-in_err-write_held-2-clause-begins
 returns-in_err-write_held-2-clause-begins g c =
-    let p = err_from_is_err_and c.from_residual-in_err-write_held-2.result c.from_residual-in_err-write_held-2.ensures.1 in
+    let p =
+    err_from_is_err_and c.from_residual-in_err-write_held-2.result c.from_residual-in_err-write_held-2.ensures.1 in
     let part = c.in_err-write_held-2.ensures.err in
     let answered = c.in-Ok.ensures.answered in
     rw p.1 (λ text after written more told.
@@ -38,7 +41,8 @@ pub returns-in_ok-write_held-2-clause-told : goal.returns-in_ok-write_held-2-cla
 returns-in_ok-write_held-2-clause-told g c text after written more told =
     let answered = c.in-Ok.ensures.answered in
     all_written_now _ after _ written _ _
-    (one_more _ text after written _ _ _ c.args.line told more answered).0 c.in_ok-write_held-2.ensures.ok c.in_ok-write_held-2.ensures.empty
+    (one_more _ text after written _ _ _ c.args.line told more answered).0 c.in_ok-write_held-2.ensures.ok
+    c.in_ok-write_held-2.ensures.empty
 
 pub returns-else-len-ge-FULL-clause-told : goal.returns-else-len-ge-FULL-clause-told
 returns-else-len-ge-FULL-clause-told g c text after written more told =

@@ -5,11 +5,16 @@ use Rattle.firm_table.proofs.table.Table.admit.Goals as goal
 
 pub invariant_of-self : goal.invariant_of-self
 invariant_of-self c =
-    let kept = admits c.self.inside.workers c.self.inside.seats.items c.self.inside.queue.items c.args.place c.index_mut.result.now c.admit.new.self
-    c.args.limits c.admit.ensures.0 c.admit.result c.self.invariant.0 (omega (arith, c.len.ensures, c.self.inside.seats.ok.0)) c.index_mut.ensures.value c.admit.ensures.1 in
+    let kept =
+    admits c.self.inside.workers c.self.inside.seats.items c.self.inside.queue.items c.args.place
+    c.index_mut.result.now c.admit.new.self
+    c.args.limits c.admit.ensures.0 c.admit.result c.self.invariant.0
+    (omega (arith, c.len.ensures, c.self.inside.seats.ok.0)) c.index_mut.ensures.value c.admit.ensures.1 in
     (kept.sound, rw (length-set c.self.inside.seats.items c.args.place c.admit.new.self) c.self.invariant.1)
 
 pub returns : goal.returns
 returns c =
-    rw (← c.self.view_is) (admits c.self.inside.workers c.self.inside.seats.items c.self.inside.queue.items c.args.place c.index_mut.result.now c.admit.new.self
-    c.args.limits c.admit.ensures.0 c.admit.result c.self.invariant.0 (omega (arith, c.len.ensures, c.self.inside.seats.ok.0)) c.index_mut.ensures.value c.admit.ensures.1).done
+    rw (← c.self.view_is) (admits c.self.inside.workers c.self.inside.seats.items c.self.inside.queue.items c.args.place
+    c.index_mut.result.now c.admit.new.self
+    c.args.limits c.admit.ensures.0 c.admit.result c.self.invariant.0
+    (omega (arith, c.len.ensures, c.self.inside.seats.ok.0)) c.index_mut.ensures.value c.admit.ensures.1).done

@@ -11,7 +11,8 @@ pub returns-in_default : goal.returns-in_default
 returns-in_default c =
     let none : place_held c.args.worker c.self.inside.seats.items ≡ None =
     ap (place_held c.args.worker) (sym c.deref.ensures.value) ∙ sym c.place_held.ensures ∙ c.in_default.is in
-    rw (← c.self.view_is) (solves_none c.self.inside.workers c.args.worker c.self.inside.seats.items c.self.inside.queue.items c.self.invariant.0 none)
+    rw (← c.self.view_is) (solves_none c.self.inside.workers c.args.worker c.self.inside.seats.items
+    c.self.inside.queue.items c.self.invariant.0 none)
 
 pub invariant_of-self : goal.invariant_of-self
 invariant_of-self c =
@@ -21,7 +22,9 @@ invariant_of-self c =
     let at = at_position (λ (seat : Seat). is_held c.args.worker seat.station) seats c.in-Some.place found in
     let within = slice_get_within seats c.in-Some.place at.item at.here in
     let here = seat_at seats c.in-Some.place c.index_mut.result.now within c.index_mut.ensures.value in
-    let kept = solves c.self.inside.workers c.args.worker seats c.self.inside.queue.items c.in-Some.place c.index_mut.result.now c.solve.new.self
+    let kept =
+    solves c.self.inside.workers c.args.worker seats c.self.inside.queue.items c.in-Some.place
+    c.index_mut.result.now c.solve.new.self
     c.solve.ensures.0 c.solve.result c.self.invariant.0 found here c.solve.ensures.1 in
     (kept.sound, rw (length-set seats c.in-Some.place c.solve.new.self) c.self.invariant.1)
 
@@ -33,6 +36,8 @@ returns c =
     let at = at_position (λ (seat : Seat). is_held c.args.worker seat.station) seats c.in-Some.place found in
     let within = slice_get_within seats c.in-Some.place at.item at.here in
     let here = seat_at seats c.in-Some.place c.index_mut.result.now within c.index_mut.ensures.value in
-    let kept = solves c.self.inside.workers c.args.worker seats c.self.inside.queue.items c.in-Some.place c.index_mut.result.now c.solve.new.self
+    let kept =
+    solves c.self.inside.workers c.args.worker seats c.self.inside.queue.items c.in-Some.place
+    c.index_mut.result.now c.solve.new.self
     c.solve.ensures.0 c.solve.result c.self.invariant.0 found here c.solve.ensures.1 in
     rw (← c.self.view_is) kept.done

@@ -13,9 +13,13 @@ push_back_reserved-requires c =
     let seat = c.index_mut.result.now in
     let within : c.args.place < length seats = omega (arith, c.len.ensures, c.self.inside.seats.ok.0) in
     let here = seat_at seats c.args.place seat within c.index_mut.ensures.value in
-    let becomes : Becomes seat (asked seat.station (next_ticket c.args.place seat) false) (Queued c.in-Queued.ticket) c.ask-answer.new.self =
-    subst (λ (a : EventAnswer). Becomes seat (asked seat.station (next_ticket c.args.place seat) false) a c.ask-answer.new.self) c.in-Queued.is c.ask-answer.ensures in
-    let room = has_room c.self.inside.workers seats c.self.inside.queue.items c.args.place seat c.ask-answer.new.self c.in-Queued.ticket c.self.invariant.0 here becomes in
+    let becomes : Becomes seat (asked seat.station (next_ticket c.args.place seat) false)
+    (Queued c.in-Queued.ticket) c.ask-answer.new.self =
+    subst (λ (a : EventAnswer). Becomes seat (asked seat.station (next_ticket c.args.place seat) false) a
+    c.ask-answer.new.self) c.in-Queued.is c.ask-answer.ensures in
+    let room =
+    has_room c.self.inside.workers seats c.self.inside.queue.items c.args.place seat c.ask-answer.new.self
+    c.in-Queued.ticket c.self.invariant.0 here becomes in
     omega (arith, room, c.self.inside.queue.ok.0, c.self.invariant.1)
 
 pub invariant_of-self : goal.invariant_of-self
@@ -24,10 +28,20 @@ invariant_of-self c =
     let queue = c.self.inside.queue.items in
     let within : c.args.place < length seats = omega (arith, c.len.ensures, c.self.inside.seats.ok.0) in
     let here = seat_at seats c.args.place c.index_mut.result.now within c.index_mut.ensures.value in
-    let longer = c.push_back_reserved.ensures.items ∙ ap (λ (a : EventAnswer). queue ++ queue_more a) (sym c.in-Queued.is) in
-    let kept = asks_for c.self.inside.workers seats queue c.push_back_reserved.new.self.items c.args.place c.index_mut.result.now c.ask-answer.new.self
-    c.ask-answer.result c.self.invariant.0 here c.ask-answer.ensures longer in
-    (kept.sound, omega (arith, length-set seats c.args.place c.ask-answer.new.self, c.push_back_reserved.ensures.capacity, c.self.invariant.1))
+    let longer =
+    c.push_back_reserved.ensures.items ∙ ap (λ (a : EventAnswer). queue ++ queue_more a) (sym c.in-Queued.is) in
+    let kept =
+    asks_for c.self.inside.workers seats queue c.push_back_reserved.new.self.items c.args.place
+    c.index_mut.result.now c.ask-answer.new.self
+    c.ask-answer.result c.self.invariant.0 here c.ask-answer.ensures longer in (
+      kept.sound,
+      omega (
+        arith,
+        length-set seats c.args.place c.ask-answer.new.self,
+        c.push_back_reserved.ensures.capacity,
+        c.self.invariant.1,
+      ),
+    )
 
 pub invariant_of-self-in_default : goal.invariant_of-self-in_default
 invariant_of-self-in_default c =
@@ -35,8 +49,10 @@ invariant_of-self-in_default c =
     let queue = c.self.inside.queue.items in
     let within : c.args.place < length seats = omega (arith, c.len.ensures, c.self.inside.seats.ok.0) in
     let here = seat_at seats c.args.place c.index_mut.result.now within c.index_mut.ensures.value in
-    let same = nothing_more queue (queue_more c.ask-answer.result) (other_none c.ask-answer.result c.in_default.not-Queued) in
-    let kept = asks_for c.self.inside.workers seats queue queue c.args.place c.index_mut.result.now c.ask-answer.new.self
+    let same =
+    nothing_more queue (queue_more c.ask-answer.result) (other_none c.ask-answer.result c.in_default.not-Queued) in
+    let kept =
+    asks_for c.self.inside.workers seats queue queue c.args.place c.index_mut.result.now c.ask-answer.new.self
     c.ask-answer.result c.self.invariant.0 here c.ask-answer.ensures same in
     (kept.sound, rw (length-set seats c.args.place c.ask-answer.new.self) c.self.invariant.1)
 
@@ -46,8 +62,11 @@ returns-in-Queued c =
     let queue = c.self.inside.queue.items in
     let within : c.args.place < length seats = omega (arith, c.len.ensures, c.self.inside.seats.ok.0) in
     let here = seat_at seats c.args.place c.index_mut.result.now within c.index_mut.ensures.value in
-    let longer = c.push_back_reserved.ensures.items ∙ ap (λ (a : EventAnswer). queue ++ queue_more a) (sym c.in-Queued.is) in
-    let kept = asks_for c.self.inside.workers seats queue c.push_back_reserved.new.self.items c.args.place c.index_mut.result.now c.ask-answer.new.self
+    let longer =
+    c.push_back_reserved.ensures.items ∙ ap (λ (a : EventAnswer). queue ++ queue_more a) (sym c.in-Queued.is) in
+    let kept =
+    asks_for c.self.inside.workers seats queue c.push_back_reserved.new.self.items c.args.place
+    c.index_mut.result.now c.ask-answer.new.self
     c.ask-answer.result c.self.invariant.0 here c.ask-answer.ensures longer in
     rw (← c.self.view_is) kept.done
 
@@ -57,7 +76,9 @@ returns-in_default c =
     let queue = c.self.inside.queue.items in
     let within : c.args.place < length seats = omega (arith, c.len.ensures, c.self.inside.seats.ok.0) in
     let here = seat_at seats c.args.place c.index_mut.result.now within c.index_mut.ensures.value in
-    let same = nothing_more queue (queue_more c.ask-answer.result) (other_none c.ask-answer.result c.in_default.not-Queued) in
-    let kept = asks_for c.self.inside.workers seats queue queue c.args.place c.index_mut.result.now c.ask-answer.new.self
+    let same =
+    nothing_more queue (queue_more c.ask-answer.result) (other_none c.ask-answer.result c.in_default.not-Queued) in
+    let kept =
+    asks_for c.self.inside.workers seats queue queue c.args.place c.index_mut.result.now c.ask-answer.new.self
     c.ask-answer.result c.self.invariant.0 here c.ask-answer.ensures same in
     rw (← c.self.view_is) kept.done

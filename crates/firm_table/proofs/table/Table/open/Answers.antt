@@ -9,5 +9,7 @@ pub invariant_of-result : goal.invariant_of-result
 invariant_of-result c =
     let few : length c.in_ok-seats_of.field-0.items ≤ most_places = c.in_ok-seats_of.ensures.few in
     let sound = sound_opening c.args.workers c.args.roster.now
-    (subst (λ (seats : List Seat). length seats ≤ most_places) c.in_ok-seats_of.ensures.opening few) in
-    (rw (c.in_ok-seats_of.ensures.opening, c.in_ok-queue.ensures.items) sound, omega (arith, few, c.in_ok-queue.ensures.capacity))
+    (subst (λ (seats : List Seat). length seats ≤ most_places) c.in_ok-seats_of.ensures.opening few) in (
+      rw (c.in_ok-seats_of.ensures.opening, c.in_ok-queue.ensures.items) sound,
+      omega (arith, few, c.in_ok-queue.ensures.capacity),
+    )

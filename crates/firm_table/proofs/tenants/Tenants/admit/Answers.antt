@@ -14,7 +14,9 @@ invariant_of-self-2 c =
 
 pub index_mut-requires : goal.index_mut-requires
 index_mut-requires c =
-    let low = seated_within c.self.inside.register c.self.inside.places.items c.self.invariant c.admit.ensures.sound c.in-Ok.place c.in-Ok.ensures.within in
+    let low =
+    seated_within c.self.inside.register c.self.inside.places.items c.self.invariant c.admit.ensures.sound
+    c.in-Ok.place c.in-Ok.ensures.within in
     omega (arith, low, c.self.inside.places.ok.0)
 
 pub returns : goal.returns

@@ -20,7 +20,9 @@ found_none (Some place) refusal e = absurd (cc)
 
 pub index_mut-requires : goal.index_mut-requires
 index_mut-requires c =
-    let low = seated_within c.self.inside.register c.self.inside.places.items c.self.invariant c.retire.ensures.sound c.in-Ok.place c.in-Ok.ensures.within in
+    let low =
+    seated_within c.self.inside.register c.self.inside.places.items c.self.invariant c.retire.ensures.sound
+    c.in-Ok.place c.in-Ok.ensures.within in
     omega (arith, low, c.self.inside.places.ok.0)
 
 pub invariant_of-self : goal.invariant_of-self

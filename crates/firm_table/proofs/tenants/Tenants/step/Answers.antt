@@ -14,11 +14,14 @@ returns-in_err-place c =
     ∙ c.in_err-place.was in
     let is : c.from_residual.result ≡ None = search rules in
     rw (is, ← c.self.view_is)
-    (strangers_are_answered (tenants_are c.self.inside.register c.self.inside.places.items) c.args.name c.args.command none)
+    (strangers_are_answered (tenants_are c.self.inside.register c.self.inside.places.items) c.args.name
+    c.args.command none)
 
 pub index_mut-requires : goal.index_mut-requires
 index_mut-requires c =
-    let low = seated_within c.self.inside.register c.self.inside.places.items c.self.invariant c.place_of.ensures.sound c.in_ok-place.place c.in_ok-place.ensures.within in
+    let low =
+    seated_within c.self.inside.register c.self.inside.places.items c.self.invariant c.place_of.ensures.sound
+    c.in_ok-place.place c.in_ok-place.ensures.within in
     omega (arith, low, c.self.inside.places.ok.0)
 
 pub unreachable-requires : goal.unreachable-requires
@@ -27,7 +30,9 @@ unreachable-requires c =
     let at : ℕ = c.in_ok-place.place in
     let found : place_in c.self.inside.register c.args.name ≡ Some at = sym c.place_of.ensures.place
     ∙ c.in_ok-place.was in
-    let low = seated_within c.self.inside.register books c.self.invariant c.place_of.ensures.sound at c.in_ok-place.ensures.within in
+    let low =
+    seated_within c.self.inside.register books c.self.invariant c.place_of.ensures.sound at
+    c.in_ok-place.ensures.within in
     let here = seat_is books at c.index_mut.result.now low c.index_mut.ensures.value in
     let some : is_some (slice_index_or books at None) ≡ true =
     seated_here c.self.inside.register books c.self.invariant c.args.name at found in
@@ -39,7 +44,8 @@ invariant_of-self c =
     let found : place_in c.self.inside.register c.args.name ≡ Some c.in_ok-place.place = sym c.place_of.ensures.place
     ∙ c.in_ok-place.was in
     seated_still c.self.inside.register c.self.inside.places.items c.self.invariant c.in_ok-place.place c.step.new.self
-    (seated_here c.self.inside.register c.self.inside.places.items c.self.invariant c.args.name c.in_ok-place.place found)
+    (seated_here c.self.inside.register c.self.inside.places.items c.self.invariant c.args.name
+    c.in_ok-place.place found)
 
 pub returns : goal.returns
 returns c =
@@ -47,8 +53,11 @@ returns c =
     let at : ℕ = c.in_ok-place.place in
     let found : place_in c.self.inside.register c.args.name ≡ Some at = sym c.place_of.ensures.place
     ∙ c.in_ok-place.was in
-    let low = seated_within c.self.inside.register books c.self.invariant c.place_of.ensures.sound at c.in_ok-place.ensures.within in
+    let low =
+    seated_within c.self.inside.register books c.self.invariant c.place_of.ensures.sound at
+    c.in_ok-place.ensures.within in
     let here = seat_is books at c.index_mut.result.now low c.index_mut.ensures.value in
     rw (← c.self.view_is)
-    (tenants_are_answered (tenants_are c.self.inside.register books) c.args.name c.args.command at c.in-Some.tenant c.step.new.self c.step.result
+    (tenants_are_answered (tenants_are c.self.inside.register books) c.args.name c.args.command at c.in-Some.tenant
+    c.step.new.self c.step.result
     c.place_of.ensures.sound found (here ∙ c.in-Some.is) c.step.ensures)

@@ -1,0 +1,254 @@
+//! A source that knows whether a read would wait: where that is asked, a thread of its own reads one piece ahead.
+
+ghost use Rattle.std.specs.Prelude.{◌≡◌, ◌≤◌, ◌+◌, ◌++◌, true, false, IfOk, is_err, take};
+ghost use Rattle.std.specs.Io.{ReadsAtMost};
+ghost use Rattle.std.specs.Io.KnownBytes.{Consumes, IsAtEnd, Keeps, ReadConsumes};
+ghost use Rattle.firm.specs.inner.Pieces.{left_of};
+
+use crossbeam_utils::sync::EventCount;
+use firm_text::{Failed, Source};
+use std::alloc::{AllocError, Global};
+use std::io::Read;
+use std::sync::atomic::{AtomicU64, Ordering};
+use std::sync::{Arc, Mutex, Wait};
+use std::thread;
+use std::thread::{JoinHandle, Threads};
+
+/// The most bytes that are read ahead.
+const PIECE: usize = 4_096;
+
+// Whose turn it is to read. The source's, and nothing was read ahead.
+const IDLE: u64 = 1;
+
+// The reading thread's.
+const ASKED: u64 = 2;
+
+// The source's, and a piece was read ahead.
+const READ: u64 = 3;
+
+// The source's at all times: no thread could be started.
+const ALONE: u64 = 4;
+
+// Nobody's: the reading thread ends.
+const CLOSED: u64 = 5;
+
+/// A source over a reader. It reads the reader itself, but for the pieces that its thread reads ahead.
+#[derive(Drop)]
+pub(crate) struct ReadAhead<'r, R, T> {
+    rt: &'r R,
+    shared: Arc<Shared<T>, Global>,
+    thread: Option<JoinHandle<()>>,
+    has_failed: bool,
+}
+
+// What both threads share. Only the one whose turn it is locks the reader, so that lock is never waited for.
+#[derive(Drop)]
+struct Shared<T> {
+    turn: AtomicU64,
+    reader: Mutex<PieceReader<T>>,
+    // Notified of the next piece.
+    waker: Mutex<Option<Arc<EventCount, Global>>>,
+}
+
+// A reader, and the piece that was read ahead: how many of its bytes were taken, how many are left, and whether the read failed.
+#[derive(Drop)]
+struct PieceReader<T> {
+    inner: T,
+    piece: [u8; PIECE],
+    taken: usize,
+    left: usize,
+    has_failed: bool,
+    ghost within: { taken + left ≤ 4096 },
+}
+
+/// A source over the reader, with a thread that sleeps until it is asked to read. The error comes for want of memory; where no
+/// thread can be started the source can't tell whether a read would wait.
+pub(crate) fn open<
+    'r,
+    R: Threads + Wait + Clone + Drop + Send + 'static,
+    T: Read + Drop + Send + 'static,
+>(rt: &'r R, alloc: Global, inner: T) -> Result<ReadAhead<'r, R, T>, AllocError>
+    ensures { IfOk result (λ source. source.has_failed ≡ false) }
+{
+    let shared = Arc::new(
+        alloc,
+        Shared {
+            turn: AtomicU64::new(IDLE),
+            reader: Mutex::new(PieceReader::new(inner)),
+            waker: Mutex::new(None),
+        },
+    )?;
+    let thread = start(rt, &shared);
+    if thread.is_none() {
+        shared.turn.store(ALONE, Ordering::SeqCst);
+    }
+    Ok(ReadAhead {
+        rt,
+        shared,
+        thread,
+        has_failed: false,
+    })
+}
+
+// The reading thread, where it could be started.
+fn start<R: Threads + Wait + Clone + Drop + Send + 'static, T: Read + Drop + Send + 'static>(
+    rt: &R,
+    shared: &Arc<Shared<T>, Global>,
+) -> Option<JoinHandle<()>> {
+    let theirs = Arc::try_clone(shared).ok()?;
+    let handle = rt.clone().ok()?;
+    thread::spawn(rt, move || read_when_asked(&handle, &theirs)).ok()
+}
+
+// Reads a piece each time it is asked to, until the source is closed.
+fn read_when_asked<R: Wait, T: Read>(rt: &R, shared: &Shared<T>) {
+    for _ in rt.forever() {
+        match shared.turn.load(Ordering::SeqCst) {
+            ASKED => {
+                shared.reader.lock(rt).read_ahead();
+                shared.pass_turn(READ);
+                shared.notify(rt);
+            }
+            CLOSED => return,
+            theirs => shared.turn.park(rt, (theirs & 0xffff_ffff) as u32),
+        }
+    }
+}
+
+impl<R: Threads + Wait, T: Read + Drop> ReadAhead<'_, R, T> {
+    /// Ends the thread, unless it stands in a read. Nobody can end that one but the end of the program.
+    pub(crate) fn close(self) {
+        let ReadAhead {
+            rt,
+            shared,
+            thread,
+            ..
+        } = self;
+        let Some(thread) = thread else {
+            return;
+        };
+        if shared.turn.load(Ordering::SeqCst) != ASKED {
+            shared.pass_turn(CLOSED);
+            thread.join(rt);
+        }
+    }
+}
+
+impl<R: Wait, T: Read> Source for ReadAhead<'_, R, T> {
+    ghost read_failed = { λ source. source.has_failed };
+
+    fn read(&mut self, buffer: &mut [u8]) -> Result<usize, Failed> {
+        let turn = &self.shared.turn;
+        wait_for_turn(self.rt, turn);
+        let mut reader = self.shared.reader.lock(self.rt);
+        let read = if turn.load(Ordering::SeqCst) == READ {
+            let (read, is_last) = reader.take(buffer);
+            if is_last {
+                turn.store(IDLE, Ordering::SeqCst);
+            }
+            read
+        } else {
+            reader.read(buffer)
+        };
+        self.has_failed = self.has_failed || read.is_err();
+        read
+    }
+
+    // Without a waker nobody waits, so nothing is read ahead. The waker is there before the turn is looked at again, and the
+    // thread looks for it behind its own turn: either this look finds the piece, or the thread finds the waker.
+    fn is_ready(&self, waker: Option<&Arc<EventCount, Global>>) -> bool {
+        let turn = &self.shared.turn;
+        if let Some(waker) = waker {
+            let Ok(waker) = Arc::try_clone(waker) else {
+                return true;
+            };
+            *self.shared.waker.lock(self.rt) = Some(waker);
+            if turn.load(Ordering::SeqCst) == IDLE {
+                self.shared.pass_turn(ASKED);
+            }
+        }
+        matches!(turn.load(Ordering::SeqCst), READ | ALONE)
+    }
+}
+
+// Waits while the thread reads.
+fn wait_for_turn<R: Wait>(rt: &R, turn: &AtomicU64) {
+    for _ in rt.forever() {
+        if turn.load(Ordering::SeqCst) != ASKED {
+            return;
+        }
+        turn.park(rt, ASKED as u32);
+    }
+}
+
+impl<T> Shared<T> {
+    fn pass_turn(&self, turn: u64) {
+        self.turn.store(turn, Ordering::SeqCst);
+        self.turn.wake_all();
+    }
+
+    // Notifies the waker, where there is one.
+    fn notify<R: Wait>(&self, rt: &R) {
+        let waker = self.waker.lock(rt).take();
+        if let Some(waker) = waker {
+            waker.notify_one();
+        }
+    }
+}
+
+impl<T: Read> PieceReader<T> {
+    fn new(inner: T) -> PieceReader<T> {
+        PieceReader {
+            inner,
+            piece: [0; PIECE],
+            taken: 0,
+            left: 0,
+            has_failed: false,
+        }
+    }
+
+    // Reads the next piece.
+    fn read_ahead(&mut self)
+        ensures bytes { self.new.has_failed ≡ false → Consumes (T.remaining self.old.inner) (T.remaining self.new.inner)
+            (left_of self.new.piece self.new.taken self.new.left) }
+        ensures end { self.new.has_failed ≡ false → self.new.left ≡ 0 → IsAtEnd (T.remaining self.new.inner) }
+        ensures failure { self.new.has_failed ≡ true → Keeps (T.remaining self.old.inner) (T.remaining self.new.inner) }
+    {
+        let read = self.inner.read(&mut self.piece);
+        self.has_failed = read.is_err();
+        self.taken = 0;
+        self.left = read.unwrap_or(0);
+    }
+
+    // Takes bytes from the front of the piece, and says whether nothing of it is left: neither a byte, nor its failure, nor that it
+    // is the end, of which an empty buffer learns nothing.
+    fn take(&mut self, buffer: &mut [u8]) -> (Result<usize, Failed>, bool)
+        ensures bound { ReadsAtMost result.0 buffer.new }
+        ensures bytes { IfOk result.0 (λ count. left_of self.old.piece self.old.taken self.old.left
+            ≡ take count buffer.new ++ left_of self.new.piece self.new.taken self.new.left) }
+        ensures last { IfOk result.0 (λ _. result.1 ≡ true → self.new.left ≡ 0) }
+        ensures failure { is_err result.0 ≡ self.old.has_failed }
+        ensures inner { self.new.inner ≡ self.old.inner }
+    {
+        if self.has_failed {
+            return (Err(Failed), true);
+        }
+        let count = self.left.min(buffer.len());
+        let next = self.taken + count;
+        buffer[..count].copy_from_slice(&self.piece[self.taken..next]);
+        self.taken = next;
+        self.left -= count;
+        (Ok(count), self.left == 0 && !buffer.is_empty())
+    }
+
+    // Reads into the buffer. An interrupted read fails, as every other failure does.
+    fn read(&mut self, buffer: &mut [u8]) -> Result<usize, Failed>
+        ensures bound { ReadsAtMost result buffer.new }
+        ensures bytes { ReadConsumes (T.remaining self.old.inner) (T.remaining self.new.inner) result buffer.new }
+    {
+        match self.inner.read(buffer) {
+            Ok(count) => Ok(count),
+            Err(_) => Err(Failed),
+        }
+    }
+}

@@ -1,0 +1,12 @@
+use Rattle.std.proofs.Common.{◌≡◌}
+use Rattle.std.specs.Prelude.{false}
+use Rattle.firm_hall.specs.inner.Serving.{Follows, Passes}
+use Rattle.firm_hall.proofs.clerk.HallClerkClerk.write_out.Given as goal
+
+abbrev pub invariant-loop : goal.invariant-loop
+invariant-loop g l = record {
+  well : g.W.Sink.write_failed l.writer ≡ false;
+  follows : Follows l.initial.self.serving l.self.serving;
+  setting : l.self.setting ≡ l.initial.self.setting;
+  passes : Passes l.initial.self.serving l.self.serving (g.W.Sink.written l.initial.writer) (g.W.Sink.written l.writer);
+}

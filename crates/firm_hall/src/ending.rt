@@ -1,0 +1,89 @@
+//! The end of a service: its desks come home and are put together.
+ghost use Rattle.std.specs.Prelude.{◌≡◌, ◌+◌, ◌<◌, ◌≤◌, ◌^◌, ◌++◌, ◌∷◌, [], length, vec_capacity, vec_len};
+ghost use Rattle.firm_text.specs.Registers.{most_places};
+ghost use Rattle.firm_rounds.specs.Passes.{QueueId};
+ghost use Rattle.firm_rounds.specs.Rounds.{weigh};
+ghost use Rattle.firm_hall.specs.inner.Ending.{AreOf, IsOf};
+ghost use Rattle.firm_hall.specs.inner.Seats.{IsSeated};
+ghost use Rattle.firm_hall.specs.inner.Serving.{IsReserved, asked_at};
+
+use crate::desks::Desk;
+use crate::empty::EmptyDesk;
+use crate::seats::Seat;
+use crate::serving::Serving;
+use std::sync::Wait;
+
+/// What a service leaves: its desks, which are home, its empty ones, and how many rounds were asked at all of them.
+#[derive(Drop)]
+pub(crate) struct Ended {
+    pub(crate) desks: Vec<Desk>,
+    pub(crate) empty: Vec<EmptyDesk>,
+    pub(crate) rounds: u64,
+}
+
+impl Serving {
+    /// Ends the service once each desk is home. The desks are put where these rooms are reserved for them.
+    pub(crate) fn end<R: Wait>(self, rt: &R, room: Vec<Desk>, empty_room: Vec<EmptyDesk>) -> Ended
+        requires room { IsReserved room.items (vec_capacity room) }
+        requires empty_room { IsReserved empty_room.items (vec_capacity empty_room) }
+        ensures of { AreOf self.queue result.desks.items result.empty.items }
+        ensures all { length result.desks.items + length result.empty.items ≡ most_places }
+        ensures rounds { result.rounds ≡ weigh asked_at self.seats }
+    {
+        let Serving { seats, .. } = self;
+        let mut desks = room;
+        let mut empty = empty_room;
+        let mut rounds = 0;
+        for seat in seats {
+            rounds += put_away(rt, seat, &mut desks, &mut empty);
+        }
+        Ended {
+            desks,
+            empty,
+            rounds,
+        }
+    }
+}
+
+// Puts a desk with the others, once it is home, or an empty one with the empty ones. Tells how many rounds were asked
+// there.
+fn put_away<R: Wait>(rt: &R, seat: Seat, desks: &mut Vec<Desk>, empty: &mut Vec<EmptyDesk>) -> u64
+    requires seated { IsSeated seat }
+    requires room { vec_len desks.old < vec_capacity desks.old }
+    requires empty_room { vec_len empty.old < vec_capacity empty.old }
+    ensures of { (id : QueueId) → IsOf id seat → AreOf id desks.old.items empty.old.items
+        → AreOf id desks.new.items empty.new.items }
+    ensures count { vec_len desks.new + vec_len empty.new ≡ (vec_len desks.old + vec_len empty.old) + 1 }
+    ensures room { (vec_capacity desks.new ≡ vec_capacity desks.old)
+        × (vec_capacity empty.new ≡ vec_capacity empty.old) }
+    ensures asked { result ≡ asked_at seat }
+    ensures few { result ≤ 2 ^ 55 }
+{
+    match seat {
+        Seat::Home(desk) => put_desk(desks, desk),
+        Seat::Away(asked) => {
+            let (desk, _) = asked.wait(rt);
+            put_desk(desks, desk)
+        }
+        Seat::Empty(place) => {
+            let rounds = place.asked();
+            empty.push_reserved(place);
+            rounds
+        }
+        Seat::Gone => unreachable!(),
+    }
+}
+
+// Puts a desk with the others. Tells how many rounds were asked there.
+fn put_desk(desks: &mut Vec<Desk>, desk: Desk) -> u64
+    requires room { vec_len desks.old < vec_capacity desks.old }
+    ensures items { desks.new.items ≡ desks.old.items ++ desk ∷ [] }
+    ensures count { vec_len desks.new ≡ vec_len desks.old + 1 }
+    ensures room { vec_capacity desks.new ≡ vec_capacity desks.old }
+    ensures asked { result ≡ desk.put }
+    ensures few { result ≤ 2 ^ 55 }
+{
+    let rounds = desk.asked();
+    desks.push_reserved(desk);
+    rounds
+}

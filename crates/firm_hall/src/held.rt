@@ -1,0 +1,180 @@
+//! Answers that are held until those to the lines before theirs are known.
+ghost use Rattle.std.specs.Prelude.{◌≡◌, ◌<◌, ◌≤◌, ◌++◌, ◌∷◌, Bool, IfErr, IfOk, MatchBool, OnErr, OnOk, [], false};
+ghost use Rattle.std.specs.Prelude.{length, take, true, ℕ};
+ghost use Rattle.std.specs.VecDeque.{deque_capacity, deque_len};
+ghost use Rattle.std.specs.Io.KnownBytes.{Appends};
+ghost use Rattle.firm_table.specs.Answers.{text_of_answer};
+ghost use Rattle.firm_table.specs.inner.Faults.{IsWritingFault};
+ghost use Rattle.firm_hall.specs.Desks.{DeskIs};
+ghost use Rattle.firm_hall.specs.declared.held.Slot.{Slot};
+ghost use Rattle.firm_hall.specs.inner.Held.{answer_in, answered, filled, held_is, most_held, waits_for};
+ghost use Rattle.firm_hall.specs.inner.Held.{FirstIsKnown, IsFirst, OneWaits};
+
+use crate::desks::Asked;
+use firm_rules::{Name, Reply};
+use firm_table::{LineAnswer, ServeFault, write_held};
+use firm_text::Sink;
+use std::alloc::{AllocError, Global};
+use std::collections::VecDeque;
+use std::marker::Model;
+use std::snapshot::Snapshot;
+
+/// At most this many answers are held.
+const MOST_HELD: usize = 1_024;
+
+/// The answer to a line, which is held.
+#[derive(Drop)]
+pub(crate) enum Slot {
+    /// It is known.
+    Known(LineAnswer),
+    /// It is the reply to the round of the tenant of this name, which is away from this place.
+    Waiting(usize, Name, Snapshot<Asked>),
+}
+
+/// The first answer that is held.
+#[derive(Drop)]
+pub(crate) enum First {
+    /// None is held.
+    Missing,
+    /// It is known.
+    Ready,
+    /// It waits for the round that is away from this place.
+    Waits(usize),
+}
+
+/// The answers that are held, in the order of their lines, and the text that is still to be written before them.
+#[derive(Drop)]
+pub(crate) struct Held {
+    slots: VecDeque<Slot>,
+    output: Vec<u8>,
+}
+
+impl Model for Held {
+    ghost use Rattle.std.specs.Prelude.{◌≤◌};
+    ghost use Rattle.std.specs.VecDeque.{deque_capacity, deque_len};
+    ghost use Rattle.firm_hall.specs.inner.Held.{HeldIs, held_is, most_held};
+
+    ghost Value = { HeldIs };
+
+    ghost view = { λ h. held_is h.slots.items h.output.items };
+
+    ghost invariant = { λ h. (deque_len h.slots ≤ most_held) × (most_held ≤ deque_capacity h.slots) };
+}
+
+impl Held {
+    // Room for 1,024 answers, none of which is held yet.
+    pub(crate) fn open(alloc: Global) -> Result<Held, AllocError>
+        ensures { IfOk result (λ held. held ≡ held_is [] []) }
+    {
+        let slots = VecDeque::with_capacity(alloc, MOST_HELD)?;
+        Ok(Held {
+            slots,
+            output: Vec::new(alloc),
+        })
+    }
+
+    pub(crate) fn is_empty(&self) -> bool
+        ensures { MatchBool result (self.now.slots ≡ []) (0 < length self.now.slots) }
+    {
+        self.slots.is_empty()
+    }
+
+    pub(crate) fn is_full(&self) -> bool
+        ensures { MatchBool result (length self.now.slots ≡ most_held) (length self.now.slots < most_held) }
+    {
+        self.slots.len() == MOST_HELD
+    }
+
+    // Holds one answer more.
+    pub(crate) fn push(&mut self, slot: Slot)
+        requires { length self.old.slots < most_held }
+        ensures { self.new ≡ held_is (self.old.slots ++ slot ∷ []) self.old.output }
+    {
+        self.slots.push_back_reserved(slot);
+    }
+
+    pub(crate) fn first(&self) -> First
+        ensures { IsFirst self.now.slots result }
+    {
+        match self.slots.front() {
+            None => First::Missing,
+            Some(Slot::Waiting(place, _, _)) => First::Waits(*place),
+            Some(Slot::Known(_)) => First::Ready,
+        }
+    }
+
+    // The answer that waits for the round of this place is its reply.
+    pub(crate) fn fill(&mut self, place: usize, reply: Reply)
+        requires { (asked : DeskIs) × OneWaits place asked self.old.slots }
+        ensures { self.new ≡ held_is (filled place reply self.old.slots) self.old.output }
+    {
+        fill(&mut self.slots, place, reply);
+    }
+
+    // The text of the first answer, which is known, is to be written. Where memory runs out the answer is lost, and a
+    // part of its text may be there.
+    pub(crate) fn put_first(&mut self) -> Result<(), AllocError>
+        requires { FirstIsKnown self.old.slots }
+        ensures first { (first : Slot) × (self.old.slots ≡ first ∷ self.new.slots) }
+        ensures put { OnOk result ((first : Slot) → self.old.slots ≡ first ∷ self.new.slots → (marks : ℕ → Bool)
+            → self.new.output ≡ self.old.output ++ text_of_answer (answer_in marks first)) }
+    {
+        let Slot::Known(answer) = self.slots.pop_front().unwrap() else {
+            unreachable!()
+        };
+        answer.put(&mut self.output)
+    }
+
+    // Writes the text that is to be written.
+    pub(crate) fn write<W: Sink>(&mut self, writer: &mut W) -> Result<(), ServeFault>
+        requires { W.write_failed writer.old ≡ false }
+        ensures ok { OnOk result (Appends (W.written writer.old) (W.written writer.new) self.old.output) }
+        ensures empty { OnOk result (self.new.output ≡ []) }
+        ensures slots { self.new.slots ≡ self.old.slots }
+        ensures err { OnErr result ((count : ℕ) × (count ≤ length self.old.output)
+            × Appends (W.written writer.old) (W.written writer.new) (take count self.old.output)) }
+        ensures cause { IfErr result (λ fault. IsWritingFault fault (W.write_failed writer.new)) }
+        ensures well { OnOk result (W.write_failed writer.new ≡ false) }
+    {
+        write_held(writer, &mut self.output)
+    }
+}
+
+impl Slot {
+    // Whether the answer is the reply to the round of this place.
+    fn waits_for(&self, place: usize) -> bool
+        ensures { result ≡ waits_for place self.now }
+    {
+        match self {
+            Slot::Waiting(waiting, _, _) => *waiting == place,
+            _ => false,
+        }
+    }
+
+    // The round is answered by this reply.
+    fn answer(&mut self, reply: Reply)
+        requires { (place : ℕ) × (waits_for place self.old ≡ true) }
+        ensures { self.new ≡ answered reply self.old }
+    {
+        let Slot::Waiting(_, name, _) = self else {
+            unreachable!()
+        };
+        *self = Slot::Known(LineAnswer::Replied(*name, reply));
+    }
+}
+
+// The answer that waits for the round of this place is its reply.
+fn fill(slots: &mut VecDeque<Slot>, place: usize, reply: Reply)
+    requires { (asked : DeskIs) × OneWaits place asked slots.old.items }
+    ensures filled { slots.new.items ≡ filled place reply slots.old.items }
+    ensures length { deque_len slots.new ≡ deque_len slots.old }
+    ensures capacity { deque_capacity slots.new ≡ deque_capacity slots.old }
+{
+    for at in 0..slots.len() {
+        if slots[at].waits_for(place) {
+            slots[at].answer(reply);
+            return;
+        }
+    }
+    unreachable!()
+}

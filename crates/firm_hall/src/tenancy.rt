@@ -1,0 +1,126 @@
+//! Who has which place: tenants are admitted, come home with their rounds and leave.
+ghost use Rattle.std.specs.Prelude.{◌≡◌, ◌<◌, MatchBool, Some, ℕ};
+ghost use Rattle.firm_text.specs.Registers.{most_places, place_in};
+ghost use Rattle.firm_text.specs.declared.operator.OperatorLine.TheVariants.{Admit, Retire};
+ghost use Rattle.firm_text.specs.declared.operator.OperatorReply.TheVariants.{Retired};
+ghost use Rattle.firm_hall.specs.inner.Held.{FirstIsFor, FirstIsKnown, FirstWaits};
+ghost use Rattle.firm_hall.specs.inner.Serving.{AllBack, Follows, IsBackAt, Keeps, Obeys};
+
+use crate::serving::Serving;
+use crate::setting::Setting;
+use firm_rules::{Limits, Name};
+use firm_table::answers_add_up;
+use firm_text::{OperatorLine, OperatorRefusal, OperatorReply, PLACES};
+use std::alloc::Global;
+use std::sync::Wait;
+
+impl Serving {
+    // Does what the operator asks for, where it can be done. The answer is still to be held.
+    pub(crate) fn obey<R: Wait>(
+        &mut self,
+        setting: &Setting<'_, R>,
+        asked: OperatorLine,
+    ) -> OperatorReply
+        ensures obeys { Obeys self.old self.new asked result }
+        ensures follows { Follows self.old self.new }
+    {
+        // Laws: of one line more.
+        answers_add_up();
+        match asked {
+            OperatorLine::Admit(name, limits) => self.admit(setting.alloc, name, limits),
+            OperatorLine::Retire(name) => self.retire(setting.rt, name),
+            OperatorLine::Faulty(refusal) => OperatorReply::Refused(refusal),
+        }
+    }
+
+    // Admits a tenant. Where memory is refused to it nobody comes, and no admission is used.
+    fn admit(&mut self, alloc: Global, name: Name, limits: Limits) -> OperatorReply
+        ensures obeys { Obeys self.old self.new (Admit name limits) result }
+        ensures follows { Follows self.old self.new }
+    {
+        // Laws: of one line more.
+        answers_add_up();
+        let place = match self.register.admit(name) {
+            Ok(place) => place,
+            Err(refusal) => return OperatorReply::Refused(refusal),
+        };
+        if self.seats[place].admit(alloc, limits) {
+            return OperatorReply::Admitted(name);
+        }
+        self.register.undo(place);
+        OperatorReply::Refused(OperatorRefusal::Memory)
+    }
+
+    // Retires a tenant, once no round of it is away.
+    fn retire<R: Wait>(&mut self, rt: &R, name: Name) -> OperatorReply
+        ensures obeys { Obeys self.old self.new (Retire name) result }
+        ensures follows { Follows self.old self.new }
+    {
+        // Laws: of one line more.
+        answers_add_up();
+        let Some(place) = self.register.place_of(name) else {
+            return OperatorReply::Refused(OperatorRefusal::NoSuchTenant);
+        };
+        self.come_home(rt, place);
+        self.leave(place, name);
+        OperatorReply::Retired(name)
+    }
+
+    // The tenant leaves its place, where it is home.
+    fn leave(&mut self, place: usize, name: Name)
+        requires place { place < most_places }
+        requires found { place_in self.old.register name ≡ Some place }
+        requires back { IsBackAt place self.old.seats }
+        ensures obeys { Obeys self.old self.new (Retire name) (Retired name) }
+        ensures follows { Follows self.old self.new }
+    {
+        // Laws: of one line more.
+        answers_add_up();
+        let Ok(_) = self.register.retire(name) else {
+            unreachable!()
+        };
+        self.seats[place].retire();
+    }
+
+    // The round that is away from the place comes back, if one is; the answer that waited for it is known then.
+    pub(crate) fn come_home<R: Wait>(&mut self, rt: &R, place: usize)
+        requires { place < most_places }
+        ensures follows { Follows self.old self.new }
+        ensures keeps { Keeps self.old self.new }
+        ensures register { self.new.register ≡ self.old.register }
+        ensures back { IsBackAt place self.new.seats }
+        ensures others { (other : ℕ) → IsBackAt other self.old.seats → IsBackAt other self.new.seats }
+        ensures first { FirstIsFor place self.old.slots → FirstIsKnown self.new.slots }
+    {
+        if self.seats[place].is_back() {
+            return;
+        }
+        let reply = self.seats[place].come_home(rt);
+        self.held.fill(place, reply);
+    }
+
+    // The same without waiting: where the round is not answered yet, all stays. Tells whether it was answered.
+    pub(crate) fn look_at(&mut self, place: usize) -> bool
+        requires { FirstIsFor place self.old.slots }
+        ensures follows { Follows self.old self.new }
+        ensures keeps { Keeps self.old self.new }
+        ensures first { MatchBool result (FirstIsKnown self.new.slots) (FirstWaits self.new.slots) }
+    {
+        let Some(reply) = self.seats[place].look() else {
+            return false;
+        };
+        self.held.fill(place, reply);
+        true
+    }
+
+    // Waits for all rounds that are away.
+    pub(crate) fn all_come_home<R: Wait>(&mut self, rt: &R)
+        ensures follows { Follows self.old self.new }
+        ensures keeps { Keeps self.old self.new }
+        ensures back { AllBack self.new.seats }
+    {
+        for place in 0..PLACES {
+            self.come_home(rt, place);
+        }
+    }
+}

@@ -1,0 +1,45 @@
+//! How much of its input a service reads at once.
+ghost use Rattle.std.specs.Prelude.{false};
+
+use super::admitted;
+use firm_table::serve_one;
+use firm_text::{Bytes, Failed, Source};
+
+/// A text, and the room of the largest buffer into which it was read.
+#[derive(Drop)]
+struct Measured<'a> {
+    text: &'a [u8],
+    largest: usize,
+}
+
+impl Source for Measured<'_> {
+    ghost read_failed = { λ _. false };
+
+    fn read(&mut self, buffer: &mut [u8]) -> Result<usize, Failed> {
+        self.largest = self.largest.max(buffer.len());
+        let count = self.text.len().min(buffer.len());
+        let (front, rest) = self.text.split_at(count);
+        buffer[..count].copy_from_slice(front);
+        self.text = rest;
+        Ok(count)
+    }
+}
+
+#[test]
+fn a_read_asks_for_4_096_bytes(rt: HostRuntime) {
+    let roster = admitted(
+        &rt,
+        rt.alloc(),
+        b"tenant,nodes,arcs,life,spread,churn\na,2,0,1,0,0\n",
+    );
+    let mut reader = Measured {
+        text: &[b'\n'; 5_000],
+        largest: 0,
+    };
+    let mut writer = Bytes::new(Vec::new(rt.alloc()));
+    assert_eq!(rt;
+        serve_one(rt.alloc(), &mut reader, &mut writer, &roster, 5_000),
+        Ok(())
+    );
+    assert_eq!(rt; reader.largest, 4_096);
+}

@@ -1,6 +1,0 @@
-use Rattle.std.proofs.Common.{◌≡◌, All}
-use Rattle.std.specs.Vec.Iter.{into_iter_items}
-use Rattle.firm_worker_tests.proofs.tests.queues.start_gets.Given as goal
-
-abbrev pub invariant-loop-pass : goal.invariant-loop-pass
-invariant-loop-pass g l = All (λ p. p.queue ≡ l.queue.id) (into_iter_items l.pass-iterator)
