@@ -1,0 +1,127 @@
+"""What an agent knows of its runs: a file of events, each written before it is acted on, and what follows from them."""
+
+from __future__ import annotations
+
+import fcntl
+import json
+import os
+import secrets
+import time
+from collections.abc import Iterator
+from dataclasses import dataclass, field
+from pathlib import Path
+from typing import Any
+
+EVENTS = "events.jsonl"
+
+Event = dict[str, Any]
+
+
+class StateError(Exception):
+    """A state folder that can't be used."""
+
+
+@dataclass(frozen=True)
+class Key:
+    """One task of firm; its name alone may come again."""
+
+    task: str
+    line: int  # that submitted it
+
+
+@dataclass
+class Run:
+    """One execution of a task."""
+
+    number: int
+    key: Key
+    job: str
+    machine: str
+    ends: str | None = None  # why its end is asked for
+
+    @property
+    def name(self) -> str:
+        return f"{self.key.task}.{self.number}"
+
+    def __str__(self) -> str:
+        return f"{self.key.task} on {self.machine} (run {self.number})"
+
+
+@dataclass
+class Tally:
+    """What became of a task's runs so far."""
+
+    failures: int = 0
+    lost: int = 0
+    finished: bool = False
+
+
+@dataclass
+class History:
+    """What follows from the events."""
+
+    name: str = ""  # of this state, on machines where others have runs too
+    runs: dict[int, Run] = field(default_factory=dict)  # begun and not known to have ended
+    tallies: dict[Key, Tally] = field(default_factory=dict)
+    last_run: int = 0
+
+    def take(self, event: Event) -> None:
+        kind = event["event"]
+        if kind == "state":
+            self.name = event["name"]
+        elif kind == "start":
+            self.last_run = event["run"]
+            key = Key(event["task"], event["line"])
+            self.runs[self.last_run] = Run(self.last_run, key, event["job"], event["machine"])
+        elif kind == "end":
+            self.runs[event["run"]].ends = event["why"]
+        elif kind in ("ended", "lost", "void"):
+            tally = self.tallies.setdefault(self.runs.pop(event["run"]).key, Tally())
+            tally.lost += kind == "lost"
+            tally.failures += kind == "ended" and event["status"] != 0 and not event["asked"]
+            tally.finished |= kind == "ended" and event["status"] == 0 and not event["asked"]
+        elif kind == "failed":
+            self.tallies[Key(event["task"], event["line"])].finished = True
+
+
+def events_of(text: bytes) -> Iterator[Event]:
+    """The events of a file; raises `StateError` at a faulty line."""
+    for number, line in enumerate(text.splitlines(), 1):
+        try:
+            yield {**json.loads(line)}
+        except (ValueError, TypeError):
+            raise StateError(f"{EVENTS}: line {number} is no event") from None
+
+
+class State:
+    """The state folder of one agent, which holds it alone."""
+
+    def __init__(self, folder: Path, tenant: str) -> None:
+        """Raises `StateError`, and OSError where the folder can't be read and written."""
+        folder.mkdir(mode=0o750, parents=True, exist_ok=True)
+        self.lock = open(folder / "lock", "w")
+        try:
+            fcntl.flock(self.lock, fcntl.LOCK_EX | fcntl.LOCK_NB)
+        except BlockingIOError:
+            raise StateError(f"{folder}: another agent has it") from None
+        self.folder, self.history = folder.absolute(), History()
+        self.file = os.open(folder / EVENTS, os.O_RDWR | os.O_CREAT | os.O_APPEND, 0o644)
+        text = (folder / EVENTS).read_bytes()
+        whole = text.rfind(b"\n") + 1
+        os.ftruncate(self.file, whole)  # of a torn last line nothing was done
+        for number, event in enumerate(events_of(text[:whole]), 1):
+            try:
+                self.history.take(event)
+            except (KeyError, TypeError) as error:
+                raise StateError(f"{EVENTS}: line {number} doesn't follow from those before: {error!r}") from None
+        if not self.history.name:
+            self.record("state", name=f"{tenant}-{secrets.token_hex(4)}")
+
+    def record(self, event: str, **more: Any) -> None:
+        """Writes an event, and returns once it is on the disk; raises OSError where it can't be."""
+        told: Event = {"time": round(time.time(), 3), "event": event, **more}
+        line = memoryview(json.dumps(told).encode() + b"\n")
+        while line:
+            line = line[os.write(self.file, line) :]
+        os.fdatasync(self.file)
+        self.history.take(told)

@@ -1,0 +1,304 @@
+"""Clients: their sockets, who may say what, and the limits of each.
+
+A client speaks firm's lines and gets firm's replies to them, in its order. What firmd says itself is a line that begins
+with `?`, as none of firm's does.
+"""
+
+from __future__ import annotations
+
+import asyncio
+import os
+import socket
+import stat
+from collections import deque
+from dataclasses import dataclass
+from pathlib import Path
+from typing import Protocol
+
+from . import lines
+from .faults import Exit, Fault, reason, say
+from .observers import Status
+
+PIECE_BYTES = 65_536  # read at a time of one client
+KEPT_BYTES = lines.MOST_BYTES + 2  # of a line: so many are too long for firm, with a CR as their last or without
+LINES_AHEAD = 8_192  # of a client without replies: it is not read further until fewer are
+HIGH_WATER = 262_144  # bytes of replies that a client has not read: no further line of its is read until fewer are
+LINGER_SECONDS = 60.0  # for which a client that is closed may still read
+STOP_SECONDS = 5.0  # for which all may, at the end of the service
+BACKLOG = 1_024  # connections that wait to be accepted
+PROBE_SECONDS = 1.0  # for an answer of a socket that is there already
+
+# A text in which no line but the first can begin with one of these has no comments, no empty lines and no operator's.
+MARKS = (b"\n\n", b"\n#", b"\n+", b"\n ", b"\n\t", b"\n\r")
+FIRST_MARKS = b"\n#+ \t\r"
+
+NOT_OPERATOR = b"? operator-only: lines that begin with + go to the operator's socket\n"
+OTHER_TENANT = b"? other-tenant: this socket takes the lines of %s alone\n"
+JOURNAL_FULL = b"? journal-full: firm can't read further lines; the operator must begin a new state\n"
+TOO_MANY = b"? too-many-clients: %d are connected\n"
+UNREAD = b"? unread-replies: more than %d bytes were not read; further replies are dropped\n"
+STOPPING = b"? stopping: no further lines are taken\n"
+
+
+class Taker(Protocol):
+    """Takes lines for firm."""
+
+    status: Status
+
+    def take(self, owner: Client, text: bytes, count: int) -> bool:
+        """Takes whole lines, each of which gets a reply; False where firm can't read as many any more."""
+
+
+@dataclass(frozen=True, slots=True)
+class Rights:
+    """What the clients of a socket may say."""
+
+    tenant: bytes | None = None  # lines of this tenant alone
+    is_operator: bool = False
+
+    def allow_all(self, text: bytes, count: int) -> bool:
+        """Whether each line of a text gets a reply and is allowed, seen at a glance; False says nothing."""
+        if self.tenant is not None:
+            start = self.tenant + b" "
+            return text.startswith(start) and text.count(b"\n" + start) == count - 1
+        return text[0] not in FIRST_MARKS and not any(mark in text for mark in MARKS)
+
+    def refusal(self, line: bytes) -> bytes | None:
+        """Why a line is not for firm. One that is too long is nobody's: firm refuses it."""
+        if len(line.removesuffix(b"\r")) > lines.MOST_BYTES:
+            return None
+        if self.tenant is not None:
+            return None if lines.first_word(line) == self.tenant else OTHER_TENANT % self.tenant
+        return NOT_OPERATOR if lines.is_operators(line) and not self.is_operator else None
+
+
+@dataclass(frozen=True, slots=True)
+class Limits:
+    clients: int
+    unread_bytes: int  # of replies, for each client
+
+
+@dataclass(frozen=True, slots=True)
+class Note:
+    """A line of firmd's own, to be told behind some of firm's replies."""
+
+    behind: int  # counted from the client's first
+    text: bytes
+
+
+class Clients:
+    """All that are connected."""
+
+    def __init__(self, taker: Taker, limits: Limits) -> None:
+        self.taker = taker
+        self.limits = limits
+        self.connected: set[Client] = set()
+        self.buffer = bytearray(PIECE_BYTES)  # of whoever reads: nothing stays in it
+
+    def unread_bytes(self) -> int:
+        return sum(client.transport.get_write_buffer_size() for client in self.connected)
+
+    def stop_reading(self) -> None:
+        for client in self.connected:
+            client.stop_reading()
+
+    async def close(self) -> None:
+        """Lets each read what it was answered, for some seconds."""
+        for client in list(self.connected):
+            client.close_with(STOPPING)
+        ends = asyncio.get_running_loop().time() + STOP_SECONDS
+        while self.connected and asyncio.get_running_loop().time() < ends:
+            await asyncio.sleep(0.01)
+
+
+class Client(asyncio.BufferedProtocol):
+    """One connection."""
+
+    transport: asyncio.Transport
+
+    def __init__(self, clients: Clients, rights: Rights) -> None:
+        self._clients = clients
+        self._rights = rights
+        self._half = b""  # of a line
+        self._asked = self._answered = 0  # lines given to firm, and their replies
+        self._notes: deque[Note] = deque()
+        self._has_ended = False  # it sends no more, or is sent no more
+        self._is_stopped = self._is_full = self._is_reading = False
+
+    def connection_made(self, transport: asyncio.BaseTransport) -> None:
+        if not isinstance(transport, asyncio.Transport):
+            raise TypeError(f"{transport!r} is no stream")
+        self.transport = transport
+        transport.set_write_buffer_limits(high=HIGH_WATER)
+        self._is_reading = True
+        most = self._clients.limits.clients
+        if len(self._clients.connected) >= most:
+            self.close_with(TOO_MANY % most)
+        self._clients.connected.add(self)
+
+    def connection_lost(self, error: Exception | None) -> None:
+        self._has_ended = True
+        self._clients.connected.discard(self)
+
+    def get_buffer(self, sizehint: int) -> bytearray:
+        return self._clients.buffer
+
+    def buffer_updated(self, nbytes: int) -> None:
+        data = self._half + self._clients.buffer[:nbytes]
+        end = data.rfind(b"\n") + 1
+        # However long a line is, its first bytes are enough for firm to refuse it.
+        self._half = bytes(data[end : end + KEPT_BYTES])
+        if end:
+            self._take(bytes(data[:end]))
+            self._choose_reading()
+
+    def eof_received(self) -> bool:
+        """What it sent of a line that has no end is dropped; what it asked is answered."""
+        self._has_ended = True
+        self._close_at_end()
+        return True
+
+    def pause_writing(self) -> None:
+        self._is_full = True
+        self._choose_reading()
+
+    def resume_writing(self) -> None:
+        self._is_full = False
+        self._choose_reading()
+
+    def answered(self, replies: bytes, count: int) -> None:
+        self._answered += count
+        if self._notes and self._notes[0].behind <= self._answered:
+            replies = self._with_notes(replies, count)
+        self._write(replies)
+        self._choose_reading()
+        self._close_at_end()
+
+    def stop_reading(self) -> None:
+        self._is_stopped = True
+        self._choose_reading()
+
+    def close_with(self, text: bytes) -> None:
+        """Says why, and closes once that is read, or after some seconds."""
+        if self.transport.is_closing():
+            return
+        self._has_ended = True
+        self.transport.write(text)
+        self.transport.close()
+        asyncio.get_running_loop().call_later(LINGER_SECONDS, self.transport.abort)
+
+    def _take(self, text: bytes) -> None:
+        """Takes whole lines."""
+        count = text.count(b"\n")
+        pieces = text.split(b"\n")
+        pieces.pop()
+        if max(map(len, pieces)) <= KEPT_BYTES and self._rights.allow_all(text, count):
+            self._ask(text, count)
+            return
+        asked: list[bytes] = []
+        for line in filter(lines.gets_reply, pieces):
+            refusal = self._rights.refusal(line)
+            if refusal is None:
+                asked.append(line[:KEPT_BYTES] + b"\n")
+            else:
+                self._ask(b"".join(asked), len(asked))
+                asked.clear()
+                self._note(refusal)
+        self._ask(b"".join(asked), len(asked))
+
+    def _ask(self, text: bytes, count: int) -> None:
+        if count == 0:
+            return
+        if self._clients.taker.take(self, text, count):
+            self._asked += count
+        elif count == 1:
+            self._note(JOURNAL_FULL)
+        else:  # some may fit
+            for line in text.split(b"\n")[:-1]:
+                self._ask(line + b"\n", 1)
+
+    def _note(self, text: bytes) -> None:
+        if self._asked == self._answered:
+            self._write(text)
+        else:
+            self._notes.append(Note(self._asked, text))
+
+    def _with_notes(self, replies: bytes, count: int) -> bytes:
+        """The replies, with the notes that stand between them and behind them."""
+        lines = [reply + b"\n" for reply in replies.split(b"\n")[:-1]]
+        first = self._answered - count
+        parts: list[bytes] = []
+        told = first
+        while self._notes and self._notes[0].behind <= self._answered:
+            note = self._notes.popleft()
+            parts += [*lines[told - first : note.behind - first], note.text]
+            told = note.behind
+        return b"".join(parts + lines[told - first :])
+
+    def _write(self, text: bytes) -> None:
+        if self.transport.is_closing():
+            return
+        self.transport.write(text)
+        most = self._clients.limits.unread_bytes
+        if self.transport.get_write_buffer_size() > most:
+            say(f"a client is closed: it left more than {most} bytes of replies unread")
+            self.close_with(UNREAD % most)
+
+    def _choose_reading(self) -> None:
+        waiting = self._asked - self._answered + len(self._notes)
+        reads = not (self._is_stopped or self._is_full or waiting > LINES_AHEAD or self._has_ended)
+        if reads != self._is_reading and not self.transport.is_closing():
+            self._is_reading = reads
+            if reads:
+                self.transport.resume_reading()
+            else:
+                self.transport.pause_reading()
+
+    def _close_at_end(self) -> None:
+        if self._has_ended and self._asked == self._answered:
+            self.transport.close()
+
+
+@dataclass(frozen=True, slots=True)
+class Listener:
+    """A socket to listen on."""
+
+    path: Path
+    rights: Rights
+
+    def bind(self, mode: int) -> socket.socket:
+        """The socket, which the mode of its file guards. One that a dead daemon left is replaced."""
+        self._remove_stale()
+        bound = socket.socket(socket.AF_UNIX, socket.SOCK_STREAM)
+        mask = os.umask(0o777 & ~mode)
+        try:
+            bound.bind(str(self.path))
+        except OSError as error:
+            bound.close()
+            raise Fault(Exit.SOCKET, f"cannot make the socket {self.path}: {reason(error)}") from error
+        finally:
+            os.umask(mask)
+        return bound
+
+    def _remove_stale(self) -> None:
+        try:
+            if not stat.S_ISSOCK(self.path.lstat().st_mode):
+                raise Fault(Exit.SOCKET, f"cannot make the socket {self.path}: something else stands there")
+            if self._is_served():
+                raise Fault(Exit.SOCKET, f"cannot make the socket {self.path}: somebody serves it")
+            self.path.unlink()
+        except FileNotFoundError:
+            return
+        except OSError as error:
+            raise Fault(Exit.SOCKET, f"cannot replace the socket {self.path}: {reason(error)}") from error
+
+    def _is_served(self) -> bool:
+        with socket.socket(socket.AF_UNIX, socket.SOCK_STREAM) as probe:
+            probe.settimeout(PROBE_SECONDS)
+            try:
+                probe.connect(str(self.path))
+            except ConnectionRefusedError:
+                return False
+            except TimeoutError:  # it has as many connections waiting as it may
+                return True
+            return True

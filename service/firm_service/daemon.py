@@ -1,0 +1,308 @@
+"""firmd: firm as a service for many clients.
+
+It runs one firm, keeps a journal of its lines, and listens on Unix sockets. docs/SERVICE.md says how to use it.
+"""
+
+from __future__ import annotations
+
+import argparse
+import asyncio
+import os
+import resource
+import shutil
+import signal
+import socket
+import sys
+import time
+from contextlib import suppress
+from functools import partial
+from pathlib import Path
+
+from .books import Books
+from .clients import BACKLOG, Client, Clients, Limits, Listener, Rights
+from .faults import Exit, Fault, reason, say
+from .journal import Journal
+from .lines import is_name
+from .observers import Status
+from .roster import RosterError
+from .rounds import Rounds, Times
+from .state import State
+from .stream import Firm, Stream
+from .view import serve_view
+
+MOST_INPUT = 2**32  # bytes that firm reads
+SEGMENT_BYTES = 16 * 2**20
+TICK_SECONDS = 0.5  # between looks at what the status counts
+SPARE_FILES = 256  # open files beside the clients'
+BUILT = Path(__file__).resolve().parents[2] / "crates" / "firm" / "out" / "firm"
+
+
+class Daemon:
+    """One service, from its start to its end."""
+
+    def __init__(self, words: argparse.Namespace) -> None:
+        self._words = words
+        self._state = State(words.state)
+        self._program = [words.firm, *(["--workers", str(words.workers)] if words.workers is not None else [])]
+        self._roster = self._state.roster(words.roster, self._program)
+        self._sockets: list[tuple[Listener, socket.socket]] = []
+        self._has_warned = False
+
+    async def run(self) -> None:
+        """Serves until it is told to stop; raises the fault that ended it otherwise."""
+        journal = Journal(self._state.journal_path, self._words.segment_bytes)
+        firm = Firm([*self._program, "--roster", str(self._state.roster_path)])
+        self._status = Status(time.time(), firm.process.pid, 0, 0, 0, self._words.journal_limit, 0, 0)
+        self._stream = Stream(firm, journal, self._status)
+        loop = asyncio.get_running_loop()
+        loop.set_exception_handler(self._hear_of_error)
+        for number in (signal.SIGTERM, signal.SIGINT):
+            loop.add_signal_handler(number, self._stop)
+        self._books = start_books(self._roster)
+        self._stream.observe(self._books)
+        self._stream.start()
+        await asyncio.wait([self._stream.replayed, self._stream.ended], return_when=asyncio.FIRST_COMPLETED)
+        if not self._stream.ended.done():
+            await self._serve()
+        await self._stream.ended
+
+    async def _serve(self) -> None:
+        clients = Clients(self._stream, Limits(self._words.most_clients, self._words.most_unread))
+        rounds = Rounds(self._books, self._stream, Times(self._words.every, self._words.after))
+        if self._words.after is not None:
+            self._stream.observe(rounds)
+        self._stream.on_stop = partial(self._stop_taking, clients, rounds)
+        servers = []
+        try:
+            servers = await self._listen(clients)
+            rounds.start()
+            seconds = time.time() - self._status.started
+            say(f"ready: {self._status.replayed_lines:,} lines replayed in {seconds:.1f} s")
+            notify(b"READY=1")
+            ticking = asyncio.create_task(self._tick(clients))
+            await asyncio.wait([self._stream.ended])
+            ticking.cancel()
+        except Fault as fault:
+            self._stream.fail(fault)
+        finally:
+            for server in servers:
+                server.close()
+            await clients.close()
+            self._remove_sockets()
+
+    async def _listen(self, clients: Clients) -> list[asyncio.Server]:
+        loop = asyncio.get_running_loop()
+        servers = [await self._serve_view()]
+        if self._words.http is not None:
+            await self._serve_http(self._words.http)
+        for listener in self._words.listeners:
+            bound = listener.bind(self._words.socket_mode)
+            self._sockets.append((listener, bound))
+            client = partial(Client, clients, listener.rights)
+            servers.append(await loop.create_unix_server(client, sock=bound, backlog=BACKLOG))
+        return servers
+
+    async def _serve_http(self, address: str) -> None:
+        try:
+            from .metrics import Metrics
+            from .web import serve_http
+        except ImportError as error:
+            install = "apt-get install python3-aiohttp python3-prometheus-client, and Debian's /usr/bin/python3"
+            raise Fault(Exit.WORDS, f"--http needs a package that is not there, {error.name}: {install}") from error
+        try:
+            await serve_http(address, self._books, Metrics(self._books, self._status), self._status)
+        except ValueError as error:
+            raise Fault(Exit.WORDS, f"--http: {error}") from error
+        except OSError as error:
+            raise Fault(Exit.SOCKET, f"cannot serve {address}: {reason(error)}") from error
+
+    async def _serve_view(self) -> asyncio.Server:
+        mask = os.umask(0o777 & ~self._words.socket_mode)
+        try:
+            return await serve_view(self._state.view_path, self._books, self._status)
+        except OSError as error:
+            raise Fault(Exit.SOCKET, f"cannot make the socket {self._state.view_path}: {reason(error)}") from error
+        finally:
+            os.umask(mask)
+
+    def _stop(self) -> None:
+        say("stopping: what was taken is answered")
+        notify(b"STOPPING=1")
+        self._stream.stop()
+
+    def _stop_taking(self, clients: Clients, rounds: Rounds) -> None:
+        rounds.stop()
+        clients.stop_reading()
+
+    def _remove_sockets(self) -> None:
+        for path in [self._state.view_path, *(listener.path for listener, _ in self._sockets)]:
+            with suppress(OSError):
+                path.unlink()
+
+    async def _tick(self, clients: Clients) -> None:
+        """Keeps what the status counts of clients, and warns of a journal that grows too long."""
+        while True:
+            self._status.clients = len(clients.connected)
+            self._status.unread_replies = clients.unread_bytes()
+            used, most = self._status.journal_bytes, self._status.journal_limit
+            if used > most // 2 and not self._has_warned:
+                self._has_warned = True
+                say(
+                    f"warning: the journal has {used:,} of {most:,} bytes that firm reads; "
+                    "docs/SERVICE.md says how to begin anew"
+                )
+            await asyncio.sleep(TICK_SECONDS)
+
+    def _hear_of_error(self, loop: asyncio.AbstractEventLoop, context: dict[str, object]) -> None:
+        """An error that nobody caught: the books may be wrong from then on, so the service stops."""
+        loop.default_exception_handler(context)
+        if isinstance(context.get("exception"), OSError):
+            return  # of a connection, or of its acceptance: the others go on
+        self._stream.fail(Fault(Exit.INTERNAL, f"an error of firmd itself: {context.get('message')}"))
+
+
+def start_books(roster: bytes) -> Books:
+    books = Books()
+    try:
+        books.start(roster)
+    except RosterError as error:
+        raise Fault(Exit.ROSTER, str(error)) from error
+    return books
+
+
+def notify(text: bytes) -> None:
+    """Tells the manager of services, where there is one (`Type=notify` in systemd)."""
+    address = os.environ.get("NOTIFY_SOCKET")
+    if address:
+        with socket.socket(socket.AF_UNIX, socket.SOCK_DGRAM) as manager, suppress(OSError):
+            manager.sendto(text, address.replace("@", "\0", 1) if address.startswith("@") else address)
+
+
+def allow_files(most_clients: int) -> None:
+    """Lets the process open a file for each client, as far as the system does."""
+    _, most = resource.getrlimit(resource.RLIMIT_NOFILE)
+    wanted = most_clients + SPARE_FILES
+    with suppress(ValueError, OSError):
+        resource.setrlimit(
+            resource.RLIMIT_NOFILE, (wanted if most == resource.RLIM_INFINITY else min(wanted, most), most)
+        )
+
+
+def number(low: float, high: float, text: str) -> int:
+    """A whole number of the command line, in its range."""
+    value = int(text)
+    if not low <= value <= high:
+        raise argparse.ArgumentTypeError(f"{text} is not from {low:,} to {high:,}")
+    return value
+
+
+def duration(text: str) -> float:
+    value = float(text)
+    if not 0 <= value < 10**9:
+        raise argparse.ArgumentTypeError(f"{text} is no time")
+    return value
+
+
+def bound_listener(text: str) -> Listener:
+    tenant, equals, path = text.partition("=")
+    if not equals or not path or not is_name(tenant.encode()):
+        raise argparse.ArgumentTypeError(f"{text!r} is not NAME=PATH, with the name of a tenant")
+    return Listener(Path(path), Rights(tenant=tenant.encode()))
+
+
+def default_firm() -> str:
+    return str(BUILT) if BUILT.exists() else shutil.which("firm") or str(BUILT)
+
+
+def parser() -> argparse.ArgumentParser:
+    found = argparse.ArgumentParser(
+        prog="firmd", description="firm as a service for many clients; docs/SERVICE.md says more"
+    )
+    add = found.add_argument
+    add(
+        "--state",
+        type=Path,
+        required=True,
+        metavar="DIR",
+        help="the folder of the roster, the journal and the view's socket",
+    )
+    add("--roster", type=Path, metavar="FILE", help="the roster to begin with; the state keeps it")
+    sockets = found.add_argument_group("sockets, at least one")
+    sockets.add_argument("--socket", type=Path, metavar="PATH", help="takes the lines of any tenant")
+    sockets.add_argument("--operator", type=Path, metavar="PATH", help="takes the operator's lines too")
+    sockets.add_argument(
+        "--client",
+        type=bound_listener,
+        action="append",
+        default=[],
+        metavar="NAME=PATH",
+        help="takes the lines of this tenant alone; may be given again",
+    )
+    sockets.add_argument(
+        "--socket-mode", choices=["600", "660"], default="600", help="who may reach them (default: %(default)s)"
+    )
+    add("--every", type=duration, metavar="SECONDS", help="a round as often, for each tenant with a task that waits")
+    add("--after", type=duration, metavar="MILLISECONDS", help="a round so long after a change, where a task waits")
+    add("--http", metavar="ADDRESS:PORT", help="serves /metrics and a page")
+    add("--firm", default=default_firm(), metavar="PROGRAM", help="the built program (default: %(default)s)")
+    add("--workers", type=partial(number, 1, 8), metavar="N", help="threads of firm that solve rounds")
+    add(
+        "--most-clients",
+        type=partial(number, 1, 10**5),
+        default=1_000,
+        metavar="N",
+        help="at a time (default: %(default)s)",
+    )
+    add(
+        "--most-unread",
+        type=partial(number, 1, 2**40),
+        default=8 * 2**20,
+        metavar="BYTES",
+        help="of replies that a client may leave unread (default: %(default)s)",
+    )
+    add(
+        "--journal-limit",
+        type=partial(number, 1, MOST_INPUT),
+        default=MOST_INPUT,
+        metavar="BYTES",
+        help="of all segments; firm reads no more than %(default)s, which is the default",
+    )
+    add(
+        "--segment-bytes",
+        type=partial(number, 1, MOST_INPUT),
+        default=SEGMENT_BYTES,
+        metavar="BYTES",
+        help="of a segment of the journal (default: %(default)s)",
+    )
+    return found
+
+
+def read_words(arguments: list[str]) -> argparse.Namespace:
+    found = parser()
+    words = found.parse_args(arguments)
+    open_listeners = [(words.socket, Rights()), (words.operator, Rights(is_operator=True))]
+    words.listeners = [Listener(path, rights) for path, rights in open_listeners if path is not None] + words.client
+    if not words.listeners:
+        found.error("name a socket: --socket, --operator or --client")
+    paths = [listener.path for listener in words.listeners]
+    if len(set(paths)) < len(paths):
+        found.error("each socket needs a path of its own")
+    words.socket_mode = int(words.socket_mode, 8)
+    if words.after is not None:
+        words.after /= 1_000
+    if words.every is not None and words.every < 0.001:
+        found.error("--every: a millisecond, 0.001, is the shortest time")
+    return words
+
+
+def main() -> int:
+    words = read_words(sys.argv[1:])
+    allow_files(words.most_clients)
+    try:
+        asyncio.run(Daemon(words).run())
+    except Fault as fault:
+        say(str(fault))
+        return fault.status
+    except KeyboardInterrupt:  # before the signals are handled
+        return 128 + signal.SIGINT
+    return Exit.SERVED

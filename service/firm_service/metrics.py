@@ -1,0 +1,105 @@
+"""Metrics in Prometheus' text, read from the books at each scrape; a retired tenant's series go with its book."""
+
+from __future__ import annotations
+
+from collections.abc import Iterator
+from itertools import accumulate
+
+from prometheus_client import CollectorRegistry, ProcessCollector, generate_latest
+from prometheus_client.core import CounterMetricFamily, GaugeMetricFamily, HistogramMetricFamily, Metric
+from prometheus_client.exposition import CONTENT_TYPE_LATEST
+from prometheus_client.registry import Collector
+
+from .books import ROUND_SECONDS, Book, Books
+from .observers import Status
+
+
+def longest_wait(book: Book) -> int:
+    return max(map(book.waited, book.tasks.values()), default=0)
+
+
+class BooksCollector(Collector):
+    """The metrics of the books and of the daemon's status."""
+
+    def __init__(self, books: Books, status: Status) -> None:
+        self.books, self.status = books, status
+
+    def collect(self) -> Iterator[Metric]:
+        yield from self._of_service()
+        yield from self._of_tenants()
+        yield self._refusals()
+        yield self._round_seconds()
+
+    def _of_service(self) -> Iterator[Metric]:
+        status = self.status
+        yield CounterMetricFamily(
+            "firm_lines", "Lines that had a reply, since the journal's beginning.", self.books.lines
+        )
+        for name, explained, value in (
+            ("firm_replayed_lines", "Lines replayed at the start.", status.replayed_lines),
+            ("firm_clients", "Clients that are connected.", status.clients),
+            ("firm_unread_reply_bytes", "Replies that clients have not read yet.", status.unread_replies),
+            ("firm_journal_bytes", "The journal's size.", status.journal_bytes),
+            ("firm_journal_limit_bytes", "The size at which firm reads no further.", status.journal_limit),
+            ("firm_start_time_seconds", "When the service started, in seconds since 1970.", status.started),
+            ("firm_tenants", "Tenants that are there.", len(self.books.tenants)),
+        ):
+            yield GaugeMetricFamily(name, explained, value)
+
+    def _of_tenants(self) -> Iterator[Metric]:
+        rounds = CounterMetricFamily("firm_rounds", "Rounds since the tenant's admission.", labels=["tenant"])
+        commands = CounterMetricFamily("firm_commands", "Commands since the tenant's admission.", labels=["tenant"])
+        life = GaugeMetricFamily("firm_life_commands", "Commands that the tenant may give in all.", labels=["tenant"])
+        machines = GaugeMetricFamily("firm_machines", "Machines.", labels=["tenant"])
+        jobs = GaugeMetricFamily("firm_jobs", "Jobs.", labels=["tenant"])
+        slots = GaugeMetricFamily("firm_slots", "Slots of all machines.", labels=["tenant"])
+        free = GaugeMetricFamily("firm_free_slots", "Slots without a task.", labels=["tenant"])
+        waits = GaugeMetricFamily("firm_longest_wait_rounds", "Rounds that the longest wait has.", labels=["tenant"])
+        costs = GaugeMetricFamily("firm_round_cost", "Cost of the last round, if there was one.", labels=["tenant"])
+        tasks = GaugeMetricFamily("firm_tasks", "Tasks by their state.", labels=["tenant", "state"])
+        for name, book in self.books.tenants.items():
+            rounds.add_metric([name], book.rounds)
+            commands.add_metric([name], book.commands)
+            life.add_metric([name], book.limits.life)
+            machines.add_metric([name], len(book.machines))
+            jobs.add_metric([name], len(book.jobs))
+            slots.add_metric([name], book.slots)
+            free.add_metric([name], book.slots - book.running)
+            waits.add_metric([name], longest_wait(book))
+            tasks.add_metric([name, "running"], book.running)
+            tasks.add_metric([name, "waiting"], book.waiting)
+            if book.last_cost is not None:
+                costs.add_metric([name], book.last_cost)
+        yield from (rounds, commands, life, machines, jobs, slots, free, waits, costs, tasks)
+
+    def _refusals(self) -> Metric:
+        told = "Refused lines by tenant (none: those that belong to no tenant) and reason."
+        refusals = CounterMetricFamily("firm_refusals", told, labels=["tenant", "reason"])
+        for reason, count in self.books.refusals.items():
+            refusals.add_metric(["", reason], count)
+        for name, book in self.books.tenants.items():
+            for reason, count in book.refusals.items():
+                refusals.add_metric([name, reason], count)
+        return refusals
+
+    def _round_seconds(self) -> Metric:
+        times = self.books.round_times
+        bounds = [*map(str, ROUND_SECONDS), "+Inf"]
+        counts = list(zip(bounds, accumulate(times.counts)))
+        told = "Seconds from a round's line to its reply, since the start; without those of the replay."
+        return HistogramMetricFamily("firm_round_seconds", told, buckets=counts, sum_value=times.seconds)
+
+
+class Metrics:
+    """The text of /metrics, with the processes of firmd and, under firm_process, of firm."""
+
+    content_type = CONTENT_TYPE_LATEST
+
+    def __init__(self, books: Books, status: Status) -> None:
+        self.registry = CollectorRegistry()
+        self.registry.register(BooksCollector(books, status))
+        ProcessCollector(registry=self.registry)
+        ProcessCollector(namespace="firm", pid=lambda: status.firm_process, registry=self.registry)
+
+    def text(self) -> bytes:
+        return generate_latest(self.registry)

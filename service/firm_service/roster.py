@@ -1,0 +1,146 @@
+"""Rosters: the limits of each tenant, and every fault of a file with its line, field and value."""
+
+from __future__ import annotations
+
+import csv
+import io
+import re
+from collections.abc import Iterator, Sequence
+from dataclasses import astuple, dataclass
+
+MOST_BYTES, MOST_TENANTS = 65_536, 64  # of a roster, as firm reads them
+
+
+@dataclass(frozen=True, slots=True)
+class Limits:
+    """A tenant's record in a roster, or in the operator's line that admits it."""
+
+    tenant: str
+    nodes: int
+    arcs: int
+    life: int
+    spread: int
+    churn: int
+    remote: int = 0
+
+    @classmethod
+    def of_fields(cls, fields: Sequence[str]) -> Limits:
+        """From the fields of a record that firm has accepted."""
+        return cls(fields[0], *map(int, fields[1:]))
+
+    def row(self) -> str:
+        """The record, as a roster with `remote` and an operator's line have it."""
+        return ",".join(map(str, astuple(self)))
+
+
+RANGES = {
+    "nodes": (2, 4_096),
+    "arcs": (0, 65_536),
+    "life": (1, 2**40),
+    "spread": (0, 1_000),
+    "churn": (0, 1_000_000),
+    "remote": (0, 1_000_000),
+}
+LONG_HEADING = ["tenant", *RANGES]
+HEADING = LONG_HEADING[:-1]
+
+
+@dataclass(frozen=True, slots=True)
+class Fault:
+    """A fault of a roster; `name` is what firm calls it."""
+
+    line: int  # from 1
+    name: str
+    field: str
+    value: str
+    wanted: str
+
+    def __str__(self) -> str:
+        return f"{self.field} {self.value!r}: {self.wanted}"
+
+
+class RosterError(Exception):
+    """A roster that firm refuses."""
+
+    def __init__(self, faults: list[Fault]) -> None:
+        super().__init__("; ".join(f"roster line {fault.line}: {fault}" for fault in faults))
+        self.faults = faults
+
+
+@dataclass(frozen=True, slots=True)
+class Record:
+    line: int  # where it begins, from 1
+    fields: list[str]
+
+
+def records_of(data: bytes) -> Iterator[Record]:
+    """The records that are not empty lines; each byte is a character."""
+    reader = csv.reader(io.StringIO(data.decode("latin-1"), newline=""))
+    line = 1
+    for fields in reader:
+        if fields:
+            yield Record(line, fields)
+        line = reader.line_num + 1
+
+
+def faults_of_fields(record: Record) -> Iterator[Fault]:
+    """The faults of a record that has as many fields as it must."""
+    tenant, *numbers = record.fields
+    if re.fullmatch(r"[a-z0-9-]{1,16}", tenant) is None:
+        yield Fault(record.line, "name", "tenant", tenant, "a name is 1 to 16 of a-z, 0-9 and -")
+    for (field, (low, high)), value in zip(RANGES.items(), numbers):
+        if re.fullmatch(r"[0-9]{1,13}", value) is None or not low <= int(value) <= high:
+            wanted = f"a number from {low:,} to {high:,}, written as 1 to 13 digits"
+            yield Fault(record.line, "number", field, value, wanted)
+
+
+def faults_of_heading(record: Record) -> Iterator[Fault]:
+    if record.fields not in (HEADING, LONG_HEADING):
+        wanted = f"it must be {','.join(HEADING)!r}, or that and ',remote'"
+        yield Fault(record.line, "header", "heading", ",".join(record.fields), wanted)
+
+
+def faults_of_records(heading: Record, records: Iterator[Record]) -> Iterator[Fault]:
+    width = len(LONG_HEADING if len(heading.fields) >= len(LONG_HEADING) else HEADING)
+    first_lines: dict[str, int] = {}
+    for count, record in enumerate(records, 1):
+        tenant = record.fields[0]
+        if count > MOST_TENANTS:
+            yield Fault(record.line, "count", "tenant", tenant, f"number {count}; a roster has {MOST_TENANTS} at most")
+            return
+        if len(record.fields) != width:
+            wanted = f"{len(record.fields)} fields; the heading has {width}"
+            yield Fault(record.line, "row", "record", ",".join(record.fields), wanted)
+            continue
+        yield from faults_of_fields(record)
+        if tenant in first_lines:
+            yield Fault(record.line, "repeated-name", "tenant", tenant, f"line {first_lines[tenant]} has it already")
+        first_lines.setdefault(tenant, record.line)
+    if not first_lines:
+        yield Fault(heading.line, "count", "tenant", "", "a roster has one at least")
+
+
+def faults_of(data: bytes) -> Iterator[Fault]:
+    """Every fault of a roster; the first is the one that firm answers with."""
+    if len(data) > MOST_BYTES:
+        yield Fault(1, "row", "length", f"more than {MOST_BYTES:,} bytes", "a roster has no more")
+        return
+    if data.startswith(b"\xef\xbb\xbf"):
+        yield Fault(1, "header", "heading", "\ufeff", "a byte order mark stands first; save the file without one")
+        data = data[3:]
+    records = records_of(data)
+    heading = next(records, None)
+    if heading is None:
+        yield Fault(1, "header", "heading", "", f"it must be {','.join(HEADING)!r}, or that and ',remote'")
+        return
+    yield from faults_of_heading(heading)
+    yield from faults_of_records(heading, records)
+
+
+def read_roster(data: bytes) -> list[Limits]:
+    """The tenants of a roster in its order; raises `RosterError` where firm would refuse it."""
+    faults = list(faults_of(data))
+    if faults:
+        raise RosterError(faults)
+    _, *records = records_of(data)
+    return [Limits.of_fields(record.fields) for record in records]

@@ -1,0 +1,85 @@
+"""Rounds that nobody asked for: every so often, and soon after a change, for tenants with something waiting."""
+
+from __future__ import annotations
+
+import asyncio
+from dataclasses import dataclass
+from typing import Protocol
+
+from .books import Book, Books
+
+
+class Taker(Protocol):
+    """Takes lines for firm."""
+
+    def take(self, owner: Rounds, text: bytes, count: int) -> bool:
+        """Takes whole lines, each of which gets a reply; False where firm can't read as many any more."""
+
+
+@dataclass(frozen=True, slots=True)
+class Times:
+    """When rounds come by themselves; None: never."""
+
+    every_seconds: float | None
+    after_seconds: float | None  # after a change
+
+
+class Rounds:
+    """Asks for rounds: an observer that waits for changes, and owns its lines, whose replies go nowhere else."""
+
+    def __init__(self, books: Books, taker: Taker, times: Times) -> None:
+        self._books, self._taker, self._times = books, taker, times
+        self._loop = asyncio.get_running_loop()
+        self._awaited: dict[str, asyncio.TimerHandle] = {}  # tenants that changed, and when each is to have its round
+        self._asked: set[str] = set()  # tenants whose round is not answered yet
+        self._timer: asyncio.TimerHandle | None = None
+
+    def start(self) -> None:
+        """Begins, once the replay is over: what waits has changed."""
+        if self._times.every_seconds is not None:
+            self._timer = self._loop.call_later(self._times.every_seconds, self._ask_all, self._times.every_seconds)
+        for tenant in self._books.tenants:
+            self._changed(tenant)
+
+    def stop(self) -> None:
+        for timer in [self._timer, *self._awaited.values()]:
+            if timer is not None:
+                timer.cancel()
+        self._times = Times(None, None)
+
+    def replied(self, line: bytes, reply: bytes, seconds: float | None) -> None:
+        # Machines, jobs and tasks that come or go are answered `ok` alone, and a drain `ok evicted K`.
+        if seconds is not None and (reply.endswith(b" ok") or b" ok evicted " in reply):
+            self._changed(reply[: reply.index(b" ")].decode())
+
+    def answered(self, replies: bytes, count: int) -> None:
+        self._asked.discard(replies[: replies.index(b" ")].decode())
+
+    def _changed(self, tenant: str) -> None:
+        after = self._times.after_seconds
+        if after is not None and tenant not in self._awaited:
+            self._awaited[tenant] = self._loop.call_later(after, self._ask_changed, tenant)
+
+    def _ask_changed(self, tenant: str) -> None:
+        del self._awaited[tenant]
+        if tenant in self._asked:  # that round may have begun before the change
+            self._changed(tenant)
+        else:
+            self._ask(tenant)
+
+    def _ask_all(self, every: float) -> None:
+        self._timer = self._loop.call_later(every, self._ask_all, every)
+        for tenant in list(self._books.tenants):
+            self._ask(tenant)
+
+    def _ask(self, tenant: str) -> None:
+        book = self._books.tenants.get(tenant)
+        if book is None or tenant in self._asked or is_worn(book) or not book.has_waiting():
+            return
+        if self._taker.take(self, b"%s round\n" % tenant.encode(), 1):
+            self._asked.add(tenant)
+
+
+def is_worn(book: Book) -> bool:
+    """Whether each further command of the tenant would be refused."""
+    return book.commands >= book.limits.life

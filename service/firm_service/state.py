@@ -1,0 +1,96 @@
+"""The state's folder: its lock, the roster that it began with, and the journal."""
+
+from __future__ import annotations
+
+import fcntl
+import os
+import subprocess
+from collections.abc import Sequence
+from pathlib import Path
+
+from .faults import Exit, Fault, reason
+from .journal import sync_folder
+
+ROSTER, LOCK, JOURNAL, VIEW = "roster.csv", "lock", "journal", "view"
+
+
+class State:
+    """A folder that this process alone has, as long as it lives."""
+
+    def __init__(self, folder: Path) -> None:
+        self.folder = folder
+        self.roster_path = folder / ROSTER
+        self.journal_path = folder / JOURNAL
+        self.view_path = folder / VIEW
+        try:
+            if not folder.exists():
+                folder.mkdir(mode=0o750, parents=True)
+                sync_folder(folder.parent)
+            self._lock = os.open(folder / LOCK, os.O_RDWR | os.O_CREAT, 0o600)
+        except OSError as error:
+            raise Fault(Exit.STATE, f"cannot use the state {folder}: {reason(error)}") from error
+        self._take_lock()
+
+    def roster(self, given: Path | None, firm: Sequence[str]) -> bytes:
+        """The roster of the state. The first one that firm accepts is kept; another one is refused from then on."""
+        kept = read(self.roster_path) if self.roster_path.exists() else None
+        if given is None:
+            if kept is None:
+                raise Fault(Exit.ROSTER, f"the state {self.folder} is new: name a roster, --roster FILE")
+            return kept
+        text = read(given)
+        if kept is None:
+            self._keep_roster(text, given, firm)
+        elif kept != text:
+            raise Fault(
+                Exit.ROSTER,
+                f"changed-roster: {given} is not the roster that the state began with, {self.roster_path};"
+                " admit and retire tenants with the operator's lines, or begin a new state",
+            )
+        return text
+
+    def _take_lock(self) -> None:
+        try:
+            fcntl.flock(self._lock, fcntl.LOCK_EX | fcntl.LOCK_NB)
+        except BlockingIOError as error:
+            holder = os.pread(self._lock, 20, 0).decode(errors="replace").strip()
+            raise Fault(Exit.STATE, f"the state {self.folder} is in use by process {holder or 'unknown'}") from error
+        try:
+            os.ftruncate(self._lock, 0)
+            os.pwrite(self._lock, f"{os.getpid()}\n".encode(), 0)
+        except OSError as error:
+            raise Fault(Exit.STATE, f"cannot use the state {self.folder}: {reason(error)}") from error
+
+    def _keep_roster(self, text: bytes, given: Path, firm: Sequence[str]) -> None:
+        new = self.roster_path.with_suffix(".new")
+        try:
+            with open(new, "wb") as file:
+                file.write(text)
+                file.flush()
+                os.fsync(file.fileno())
+            try_roster(new, given, firm)
+            new.replace(self.roster_path)
+            sync_folder(self.folder)
+        except OSError as error:
+            raise Fault(Exit.STATE, f"cannot keep the roster in {self.folder}: {reason(error)}") from error
+
+
+def try_roster(path: Path, given: Path, firm: Sequence[str]) -> None:
+    """Lets firm judge the roster, over an empty input."""
+    words = [*firm, "--roster", str(path)]
+    try:
+        done = subprocess.run(words, stdin=subprocess.DEVNULL, capture_output=True, text=True, errors="replace")
+    except OSError as error:
+        raise Fault(Exit.FIRM, f"cannot start {words[0]}: {reason(error)}") from error
+    said = done.stderr.strip()
+    if done.returncode == 3:
+        raise Fault(Exit.ROSTER, f"{given}: {said}; firmctl check-roster {given} names line, field and value")
+    if done.returncode:
+        raise Fault(Exit.FIRM, f"firm ended with status {done.returncode}, and said: {said}")
+
+
+def read(path: Path) -> bytes:
+    try:
+        return path.read_bytes()
+    except OSError as error:
+        raise Fault(Exit.ROSTER, f"cannot read the roster {path}: {reason(error)}") from error

@@ -1,0 +1,62 @@
+"""Tables for a terminal: upper-case heads, aligned columns, no boxes."""
+
+from __future__ import annotations
+
+from collections.abc import Callable, Iterable, Sequence
+from dataclasses import dataclass
+from typing import Any
+
+Row = dict[str, Any]
+
+
+@dataclass(frozen=True, slots=True)
+class Column:
+    head: str
+    cell: Callable[[Row], object]
+    is_number: bool = False  # aligned to the right
+
+
+def text(head: str, key: str) -> Column:
+    """A column of a row's value; a dash where it has none."""
+    return Column(head, lambda row: "-" if row[key] is None else row[key])
+
+
+def number(head: str, key: str) -> Column:
+    return Column(head, lambda row: "-" if row[key] is None else row[key], is_number=True)
+
+
+def names(head: str, key: str) -> Column:
+    """A column of a row's list."""
+    return Column(head, lambda row: ",".join(row[key]) or "-")
+
+
+def duration(seconds: float | None) -> str:
+    """As squeue prints it: M:SS, H:MM:SS or D-HH:MM:SS; a dash where it is not known."""
+    if seconds is None:
+        return "-"
+    minutes, second = divmod(int(seconds), 60)
+    hours, minute = divmod(minutes, 60)
+    days, hour = divmod(hours, 24)
+    if days:
+        return f"{days}-{hour:02}:{minute:02}:{second:02}"
+    return f"{hour}:{minute:02}:{second:02}" if hour else f"{minute}:{second:02}"
+
+
+def table(columns: Sequence[Column], rows: Iterable[Row]) -> str:
+    """The rows below their heads, each line with its end."""
+    cells = [[column.head for column in columns]]
+    cells += [[str(column.cell(row)) for column in columns] for row in rows]
+    widths = [max(map(len, column)) for column in zip(*cells)]
+    lines = []
+    for line in cells:
+        aligned = [
+            cell.rjust(width) if column.is_number else cell.ljust(width)
+            for cell, width, column in zip(line, widths, columns)
+        ]
+        lines.append("  ".join(aligned).rstrip() + "\n")
+    return "".join(lines)
+
+
+def printable(line: str) -> str:
+    """The text with every control character escaped, so that no line of a client can steer a terminal."""
+    return "".join(c if c.isprintable() else c.encode("unicode_escape").decode() for c in line)

@@ -1,0 +1,226 @@
+"""The view socket: what is going on, as JSON, one request and one answer a line. It only reads."""
+
+from __future__ import annotations
+
+import asyncio
+import json
+import time
+from collections import Counter
+from collections.abc import Callable, Iterator
+from dataclasses import asdict
+from functools import partial
+from pathlib import Path
+
+from .books import Book, Books
+from .observers import Status
+
+MOST_CLIENTS = 64  # at a time
+MOST_UNREAD = 4 << 20  # bytes, beside the rows at first, that a watcher may leave unread before it is closed
+
+Json = dict[str, object]
+Lists = dict[str, Callable[[Book], Iterator[Json]]]
+
+
+class Refused(Exception):
+    """A request that has no answer."""
+
+    def __init__(self, name: str, text: str) -> None:
+        super().__init__(text)
+        self.name = name
+
+
+def summary_of(book: Book) -> Json:
+    """A tenant in numbers."""
+    return {
+        "tenant": book.limits.tenant,
+        "machines": len(book.machines),
+        "jobs": len(book.jobs),
+        "running": book.running,
+        "waiting": book.waiting,
+        "slots": book.slots,
+        "free_slots": book.slots - book.running,
+        "rounds": book.rounds,
+        "last_cost": book.last_cost,
+        "commands": book.commands,
+        "life": book.limits.life,
+    }
+
+
+def machines_of(book: Book) -> Iterator[Json]:
+    for name, machine in book.loads().items():
+        yield {"tenant": book.limits.tenant, "machine": name, "slots": machine.slots, "tasks": machine.tasks}
+
+
+def jobs_of(book: Book) -> Iterator[Json]:
+    running = Counter(task.job for task in book.tasks.values() if task.machine is not None)
+    waiting = Counter(task.job for task in book.tasks.values() if task.machine is None)
+    for name, weight in book.jobs.items():
+        counts = {"running": running[name], "waiting": waiting[name]}
+        yield {"tenant": book.limits.tenant, "job": name, "weight": weight, **counts}
+
+
+def task_of(book: Book, name: str, now: float) -> Json:
+    task = book.tasks[name]
+    return {
+        "tenant": book.limits.tenant,
+        "task": name,
+        "job": task.job,
+        "state": "waits" if task.machine is None else "runs",
+        "machine": task.machine,
+        "waited": book.waited(task),
+        "seconds": None if task.since is None else round(max(0.0, now - task.since), 3),
+        "prefers": task.prefers,
+        "line": task.line,
+    }
+
+
+def tasks_of(book: Book) -> Iterator[Json]:
+    now = time.time()
+    return (task_of(book, name, now) for name in book.tasks)
+
+
+def rows_of(book: Book) -> Json:
+    """A tenant with all its rows."""
+    return {
+        "tenant": book.limits.tenant,
+        "limits": {name: limit for name, limit in asdict(book.limits).items() if name != "tenant"},
+        "commands": book.commands,
+        "rounds": book.rounds,
+        "last_cost": book.last_cost,
+        "costs": list(book.costs),
+        "machines": list(machines_of(book)),
+        "jobs": list(jobs_of(book)),
+        "tasks": list(tasks_of(book)),
+    }
+
+
+def status_of(books: Books, status: Status) -> Json:
+    """The service and each tenant in numbers."""
+    return {"status": asdict(status), "tenants": [summary_of(book) for book in books.tenants.values()]}
+
+
+LISTS: Lists = {"tasks": tasks_of, "machines": machines_of, "jobs": jobs_of}  # what may be asked of all tenants too
+
+
+class View:
+    """Answers what may be asked once; see `Connection` for a watch."""
+
+    def __init__(self, books: Books, status: Status) -> None:
+        self.books, self.status = books, status
+        self.clients = 0
+
+    async def answer(self, request: Json) -> str:
+        """The answer to a request other than to watch; raises `Refused`."""
+        ask = request.get("ask")
+        if isinstance(ask, str) and ask in LISTS:
+            return await self.rows(ask, self.chosen(request))
+        if ask == "status":
+            return json.dumps(status_of(self.books, self.status))
+        if ask == "book":
+            return json.dumps({"book": rows_of(self.book(request))})
+        if ask == "lines":
+            book = self.book(request)
+            return json.dumps({"row": book.limits.row(), "lines": list(book.lines())})
+        raise Refused("bad-request", f"nothing to be asked: {ask!r}")
+
+    async def rows(self, ask: str, books: list[Book]) -> str:
+        """A list of rows, one tenant at a time: lines are served between two of them."""
+        rows: list[str] = []
+        for book in books:
+            rows += map(json.dumps, LISTS[ask](book))
+            await asyncio.sleep(0)
+        return f'{{"{ask}":[{",".join(rows)}]}}'
+
+    def book(self, request: Json) -> Book:
+        tenant = request.get("tenant")
+        book = self.books.tenants.get(tenant) if isinstance(tenant, str) else None
+        if book is None:
+            raise Refused("no-such-tenant", f"no tenant {tenant!r} is there")
+        return book
+
+    def chosen(self, request: Json) -> list[Book]:
+        """The tenant that the request names, or all of them."""
+        return list(self.books.tenants.values()) if request.get("tenant") is None else [self.book(request)]
+
+    async def serve(self, reader: asyncio.StreamReader, writer: asyncio.StreamWriter) -> None:
+        """One client, until it leaves."""
+        if self.clients == MOST_CLIENTS:
+            send(writer, {"error": "too-many-clients", "text": f"{MOST_CLIENTS} views are open; close one"})
+            writer.close()
+            return
+        self.clients += 1
+        connection = Connection(self, writer)
+        try:
+            while line := await reader.readline():
+                await connection.obey(line)
+                await writer.drain()
+        except (ConnectionError, ValueError):  # it is gone, or its line is endless
+            pass
+        finally:
+            self.clients -= 1
+            connection.unwatch()
+            writer.close()
+
+
+class Connection:
+    """A client of the view socket."""
+
+    def __init__(self, view: View, writer: asyncio.StreamWriter) -> None:
+        self.view, self.writer = view, writer
+        self.wanted: object = None  # the tenant that is watched, or None for all
+        self.most_unread = MOST_UNREAD
+
+    async def obey(self, line: bytes) -> None:
+        """Answers a request."""
+        try:
+            request = json.loads(line)
+            if not isinstance(request, dict):
+                raise Refused("bad-request", "a request is an object")
+            if request.get("ask") == "watch":
+                self.watch(request.get("tenant"))
+            else:
+                self.writer.write((await self.view.answer(request)).encode() + b"\n")
+        except Refused as refusal:
+            send(self.writer, {"error": refusal.name, "text": str(refusal)})
+        except (ValueError, RecursionError) as error:
+            send(self.writer, {"error": "bad-request", "text": f"no JSON: {error}"})
+
+    def watch(self, wanted: object) -> None:
+        """Sends the tenant's rows as they are, or a row for each tenant, and then each line until the client leaves."""
+        self.unwatch()
+        self.wanted = wanted
+        tenants = self.view.books.tenants
+        if wanted is None:
+            answer: Json = {"tenants": [summary_of(book) for book in tenants.values()]}
+        else:
+            answer = {"book": rows_of(tenants[wanted]) if isinstance(wanted, str) and wanted in tenants else None}
+        self.most_unread = MOST_UNREAD + send(self.writer, answer)
+        self.view.books.watchers.append(self.tell)
+
+    def unwatch(self) -> None:
+        if self.tell in self.view.books.watchers:
+            self.view.books.watchers.remove(self.tell)
+
+    def tell(self, tenant: str | None, line: bytes, reply: bytes) -> None:
+        """Sends a line and its reply, where they concern what is watched."""
+        if self.wanted not in (None, tenant):
+            return
+        if self.writer.transport.get_write_buffer_size() > self.most_unread:
+            send(self.writer, {"error": "too-slow", "text": f"more than {self.most_unread:,} bytes were left unread"})
+            self.unwatch()
+            self.writer.close()
+            return
+        text = line.decode("utf-8", "backslashreplace")
+        send(self.writer, {"line": text, "reply": reply.decode("ascii"), "number": self.view.books.lines})
+
+
+def send(writer: asyncio.StreamWriter, answer: Json) -> int:
+    """Sends an answer; gives its length in bytes."""
+    text = json.dumps(answer).encode() + b"\n"
+    writer.write(text)
+    return len(text)
+
+
+async def serve_view(path: Path, books: Books, status: Status) -> asyncio.Server:
+    """Begins to answer on a Unix socket, with the mode that the umask leaves; replaces one of a dead service."""
+    return await asyncio.start_unix_server(partial(View.serve, View(books, status)), path)

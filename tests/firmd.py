@@ -1,0 +1,1008 @@
+#!/usr/bin/env python3
+"""Asks firmd as many clients do, kills it, fills its disk, takes its firm away, and looks whether anything is lost.
+
+usage: tests/firmd.py [--quick] [--program FILE] [--only WORDS] [--seed N]
+Each check has a line; the last line is 'N passed, M failed', and the exit status is 1 where one failed. --quick needs
+Python 3 and the built program alone; the rest needs a C compiler for refuse.c, and root for a small file system to fill
+and one to write-protect. What can't be asked here is said and skipped.
+"""
+
+from __future__ import annotations
+
+import argparse
+import os
+import random
+import re
+import shutil
+import signal
+import socket
+import stat
+import subprocess
+import sys
+import tempfile
+import threading
+import time
+from collections.abc import Callable, Iterator, Sequence
+from concurrent.futures import ThreadPoolExecutor
+from contextlib import contextmanager, suppress
+from dataclasses import dataclass, field
+from functools import partial
+from pathlib import Path
+
+from harness import program, service
+from harness.checks import Skipped, count_ends, passes, print_skipped, require, run_script
+from harness.small_streams import Stream
+
+SERVICE = program.ROOT / "service"
+NO_LIMITS = service.Limits(2, 0, 1, 0, 0)
+FIRMD = [sys.executable, str(SERVICE / "firmd")]
+CHECKS_AT_A_TIME = 4
+HEADING = b"tenant,nodes,arcs,life,spread,churn\n"
+ROSTER = HEADING + b"alpha,30,300,1000000000,1,2\nbeta,30,300,1000000000,0,3\n"
+START_SECONDS = 20
+REPLY_SECONDS = 20
+ROWS = [
+    b"alpha machine m1 2",
+    b"alpha job j 10",
+    b"alpha task j a",
+    b"beta machine m1 1",
+    b"beta job low 2",
+    b"beta task low l",
+]
+SHOWN = b"ok machines 1 jobs 1 tasks 1 running %d nodes 5 of 30 arcs 7 of 300"
+
+
+class Gone(Exception):
+    """The daemon has left, or closed the connection."""
+
+
+class Client:
+    """A connection to a socket of firmd."""
+
+    def __init__(self, path: Path) -> None:
+        self.socket = socket.socket(socket.AF_UNIX)
+        self.socket.settimeout(REPLY_SECONDS)
+        try:
+            self.socket.connect(str(path))
+        except OSError as error:
+            raise Gone from error
+        self.received = b""
+
+    def __enter__(self) -> Client:
+        return self
+
+    def __exit__(self, *_: object) -> None:
+        self.socket.close()
+
+    def send(self, text: bytes) -> None:
+        try:
+            self.socket.sendall(text)
+        except ConnectionError as error:
+            raise Gone from error
+
+    def reply(self) -> bytes:
+        """The next line, without its end."""
+        while b"\n" not in self.received:
+            try:
+                more = self.socket.recv(65536)
+            except ConnectionError as error:
+                raise Gone from error
+            if not more:
+                raise Gone
+            self.received += more
+        line, self.received = self.received.split(b"\n", 1)
+        return line
+
+    def ask(self, line: bytes) -> bytes:
+        self.send(line + b"\n")
+        return self.reply()
+
+    def rest(self) -> bytes:
+        """All that is sent until the connection is closed."""
+        with suppress(ConnectionError):
+            while more := self.socket.recv(65536):
+                self.received += more
+        return self.received
+
+    def end(self) -> bytes:
+        """The same, once nothing more is asked."""
+        self.socket.shutdown(socket.SHUT_WR)
+        return self.rest()
+
+
+@dataclass
+class Daemon:
+    """firmd, over a state in a folder of its own."""
+
+    folder: Path
+    firm: str
+    options: list[str] = field(default_factory=list)
+    words: list[str] = field(default_factory=lambda: FIRMD)
+    process: subprocess.Popen[bytes] | None = None
+
+    @property
+    def state(self) -> Path:
+        return self.folder / "state"
+
+    @property
+    def any(self) -> Path:
+        return self.folder / "any"
+
+    @property
+    def operator(self) -> Path:
+        return self.folder / "operator"
+
+    def spawn(self) -> subprocess.Popen[bytes]:
+        words = [
+            *self.words,
+            "--firm",
+            self.firm,
+            "--state",
+            str(self.state),
+            "--roster",
+            str(self.folder / "roster.csv"),
+        ]
+        words += ["--socket", str(self.any), "--operator", str(self.operator), *self.options]
+        with open(self.folder / "errors", "wb") as errors:
+            self.process = subprocess.Popen(words, stdin=subprocess.DEVNULL, stderr=errors)
+        return self.process
+
+    def start(self) -> Daemon:
+        """Starts it and waits until it serves."""
+        process, ends = self.spawn(), time.monotonic() + START_SECONDS
+        while b"firmd: ready" not in self.said():
+            require(process.poll() is None, f"it ended with status {process.poll()}: {self.said().decode()}")
+            require(time.monotonic() < ends, "it is not ready in time")
+            time.sleep(0.005)
+        return self
+
+    def said(self) -> bytes:
+        return (self.folder / "errors").read_bytes()
+
+    def running(self) -> subprocess.Popen[bytes]:
+        require(self.process is not None, "it was started")
+        return self.process  # type: ignore[return-value]
+
+    def status(self) -> int:
+        """Its exit status, once it ends by itself."""
+        return self.running().wait(START_SECONDS)
+
+    def refuses(self, status: int, *texts: str) -> None:
+        """Asks that it ends at its start, with this status and these words."""
+        self.spawn()
+        got = self.status()
+        said = self.said().decode()
+        require(got == status and all(text in said for text in texts), f"status {got}: {said}")
+
+    def stop(self, number: int = signal.SIGTERM) -> None:
+        self.running().send_signal(number)
+        status = self.status()
+        require(status == 0, f"status {status} at its stop: {self.said().decode()}")
+
+    def kill(self) -> None:
+        process = self.running()
+        process.kill()
+        process.wait()
+
+    def client(self) -> Client:
+        return Client(self.any)
+
+    def firm_process(self) -> int:
+        pid = self.running().pid
+        return int(Path(f"/proc/{pid}/task/{pid}/children").read_text().split()[0])
+
+    def segments(self) -> list[Path]:
+        return sorted((self.state / "journal").glob("*.lines"))
+
+    def journal(self) -> bytes:
+        return b"".join(path.read_bytes() for path in self.segments())
+
+
+@dataclass(frozen=True)
+class Setup:
+    """What the checks run, and how much of it."""
+
+    program: str
+    is_quick: bool
+    seed: int
+
+    @contextmanager
+    def daemon(self, *options: str, roster: bytes = ROSTER, firm: str | None = None) -> Iterator[Daemon]:
+        """A daemon in a new folder, which is not started yet; nothing of it is left behind."""
+        with tempfile.TemporaryDirectory(prefix="firmd-") as name:
+            folder = Path(name)
+            (folder / "roster.csv").write_bytes(roster)
+            daemon = Daemon(folder, firm or self.program, list(options))
+            try:
+                yield daemon
+            finally:
+                if daemon.process is not None and daemon.process.poll() is None:
+                    daemon.kill()
+
+    def alone(self, roster: bytes, text: bytes) -> list[bytes]:
+        """The replies of firm alone."""
+        with program.Roster(roster) as path:
+            done = program.run([self.program], path, text)
+        require((done.status, done.faults) == (0, b""), f"firm alone: {done.status} {done.faults!r}")
+        output: bytes = done.output
+        return output.splitlines()
+
+
+def stand_in(folder: Path, text: str) -> str:
+    """A program in the place of firm."""
+    path = folder / "stand-in"
+    path.write_text(text)
+    path.chmod(0o755)
+    return str(path)
+
+
+def wait_for(holds: Callable[[], bool], what: str, seconds: float = REPLY_SECONDS) -> None:
+    ends = time.monotonic() + seconds
+    while not holds():
+        require(time.monotonic() < ends, f"{what}, in time")
+        time.sleep(0.005)
+
+
+def memory_kilobytes(pid: int) -> int:
+    """What a process has in memory."""
+    found = re.search(r"VmRSS:\s+([0-9]+)", Path(f"/proc/{pid}/status").read_text())
+    return int(found[1]) if found else 0
+
+
+# Random clients.
+
+
+@dataclass(frozen=True)
+class Answered:
+    line: bytes
+    reply: bytes
+
+
+class Tenant:
+    """The lines of one tenant, for several clients at a time."""
+
+    def __init__(self, name: str, seed: int) -> None:
+        self.name = name
+        self.lock = threading.Lock()
+        self.stream = Stream(random.Random(seed), [name], 6)
+        self.stream.operators = 0
+        self.opening = self.stream.opening()
+        self.answered: list[Answered] = []
+
+    def lines(self, count: int) -> list[bytes]:
+        with self.lock:
+            first, self.opening = self.opening, []
+            found: list[bytes] = first + [self.stream.line() for _ in range(count)]
+            return found
+
+    def tell(self, answered: Answered) -> None:
+        with self.lock:
+            self.answered.append(answered)
+
+
+def expected_note(line: bytes, is_bound: bool, tenant: str) -> bytes | None:
+    """What firmd itself says to a line: None where it is firm's to answer."""
+    line = line.removesuffix(b"\r")
+    words = re.split(rb"[ \t]+", line.strip(b" \t"))
+    if len(line) > 256:
+        return None
+    if is_bound:
+        return None if words[0] == tenant.encode() else b"? other-tenant"
+    return b"? operator-only" if words[0] == b"+" else None
+
+
+def converse(tenant: Tenant, client: Client, is_bound: bool, draw: random.Random, count: int) -> None:
+    """Sends so many lines in bursts that are cut anywhere, and asks of each reply that it is for its line."""
+    nobody = service.Service({})
+    while count > 0:
+        lines = tenant.lines(min(count, draw.choice([1, 1, 2, 5, 20])))
+        count -= len(lines)
+        text = b"".join(line + b"\n" for line in lines)
+        cuts = sorted(draw.choices(range(len(text) + 1), k=draw.choice([0, 0, 1, 3])))
+        for start, end in zip([0, *cuts], [*cuts, len(text)]):
+            client.send(text[start:end])
+        for line in lines:
+            if service.answer_line(nobody, line.removesuffix(b"\r")) is None:
+                continue
+            reply = client.reply()
+            note = expected_note(line, is_bound, tenant.name)
+            require(reply.split(b":")[0] == note if note else not reply.startswith(b"?"), f"{reply!r} to {line!r}")
+            if note is None:
+                tenant.tell(Answered(line, reply))
+
+
+def in_threads(works: Sequence[Callable[[], None]]) -> list[BaseException]:
+    """Does all at a time; what was raised."""
+    raised: list[BaseException] = []
+
+    def run(work: Callable[[], None]) -> None:
+        try:
+            work()
+        except BaseException as error:
+            raised.append(error)
+
+    threads = [threading.Thread(target=run, args=(work,)) for work in works]
+    for thread in threads:
+        thread.start()
+    for thread in threads:
+        thread.join()
+    return raised
+
+
+def roster_of(tenants: list[Tenant]) -> bytes:
+    return HEADING + b"".join(b"%s,30,300,1000000000,1,2\n" % tenant.name.encode() for tenant in tenants)
+
+
+def check_alone(setup: Setup, tenant: Tenant) -> None:
+    """A tenant's replies, all of them told, are those of a firm that holds it alone."""
+    own = [answered for answered in tenant.answered if not answered.reply.startswith(b"!")]
+    own.sort(key=lambda answered: int(answered.reply.split()[1]))
+    alone = setup.alone(roster_of([tenant]), b"".join(answered.line + b"\n" for answered in own))
+    require([answered.reply for answered in own] == alone, f"{tenant.name}: other replies than alone")
+    for answered in tenant.answered:
+        if answered.reply.startswith(b"!"):
+            wanted = service.answer_line(
+                service.Service({tenant.name: service.Tenant(tenant.name, NO_LIMITS)}),
+                answered.line.removesuffix(b"\r"),
+            )
+            require(answered.reply == wanted, f"{answered.reply!r} to {answered.line!r}")
+
+
+def many_clients(setup: Setup) -> None:
+    """Fifty clients with random lines: each tenant's replies are firm's alone, and the journal gives them again."""
+    tenants = [Tenant(f"t{place}", setup.seed + place) for place in range(10)]
+    with setup.daemon("--segment-bytes", "20000", roster=roster_of(tenants)) as daemon:
+        for tenant in tenants:
+            daemon.options += ["--client", f"{tenant.name}={daemon.folder / tenant.name}"]
+        daemon.start()
+        with_clients = []
+        for place in range(50):
+            tenant, is_bound = tenants[place % 10], place % 3 == 0
+            client = Client(daemon.folder / tenant.name if is_bound else daemon.any)
+            draw = random.Random(setup.seed + 100 + place)
+            with_clients.append(partial(converse, tenant, client, is_bound, draw, 60 if setup.is_quick else 1000))
+        raised = in_threads(with_clients)
+        require(not raised, raised[:3])
+        for tenant in tenants:
+            check_alone(setup, tenant)
+        require(len(daemon.segments()) > 1, "segments")
+        daemon.stop()
+        daemon.start().stop()
+        told = sorted(answered.reply for tenant in tenants for answered in tenant.answered)
+        require(sorted(setup.alone(roster_of(tenants), daemon.journal())) == told, "the journal gives what was told")
+
+
+def kills(setup: Setup, part: int) -> None:
+    """kill -9 at random moments, in a replay too: then each answered line is there, and the replay's state."""
+    seed = setup.seed + 1000 * (part + 1)
+    draw = random.Random(seed)
+    tenants = [Tenant(f"t{place}", seed + place) for place in range(4)]
+    with setup.daemon("--segment-bytes", "30000", "--after", "1", roster=roster_of(tenants)) as daemon:
+        for _ in range((20 if setup.is_quick else 200) // CHECKS_AT_A_TIME):
+            if draw.random() < 0.2:  # at any moment of its start
+                daemon.spawn()
+                time.sleep(draw.uniform(0.05, 0.5))
+                daemon.kill()
+            daemon.start()
+            works = [
+                partial(converse, tenant, daemon.client(), False, random.Random(draw.random()), 10**9)
+                for tenant in tenants
+                for _ in range(2)
+            ]
+            killer = threading.Timer(draw.uniform(0.0, 0.15), daemon.kill)
+            killer.start()
+            raised = in_threads(works)
+            killer.join()
+            require(all(isinstance(error, Gone) for error in raised), raised)
+        daemon.start()
+        with daemon.client() as client:
+            for tenant in tenants:
+                names = [f"where {task}" for task in tenant.stream.held[tenant.name]["task"]]
+                for command in ["show", "costs", *names]:
+                    line = f"{tenant.name} {command}".encode()
+                    tenant.tell(Answered(line, client.ask(line)))
+        daemon.stop()
+        check_kept(setup, daemon, tenants)
+
+
+def check_kept(setup: Setup, daemon: Daemon, tenants: list[Tenant]) -> None:
+    """Each line that was answered stands in the journal, and firm alone answers it the same from there."""
+    journal = daemon.journal()
+    lines = journal.split(b"\n")[:-1]
+    alone = setup.alone(roster_of(tenants), journal)
+    require(len(lines) == len(alone), "a reply for each line of the journal")
+    kept = {tuple(reply.split()[:2]): (line, reply) for line, reply in zip(lines, alone)}
+    count = 0
+    for tenant in tenants:
+        for answered in tenant.answered:
+            if not answered.reply.startswith(b"!"):
+                found = kept.get(tuple(answered.reply.split()[:2]))
+                require(found == (answered.line, answered.reply), f"{found} and not {answered}")
+                count += 1
+    require(count > 100, f"{count} lines alone were answered")
+
+
+def torn_line(setup: Setup) -> None:
+    """A last line that is not whole is cut off, wherever it was torn; what was answered stays."""
+    with setup.daemon() as daemon:
+        daemon.start()
+        with daemon.client() as client:
+            for line in ROWS:
+                require(client.ask(line).endswith(b" ok"), line)
+        daemon.kill()
+        whole, torn = daemon.journal(), b"alpha task j other"
+        for length in (1, len(torn) // 2, len(torn)) if setup.is_quick else range(1, len(torn) + 1):
+            with open(daemon.segments()[-1], "ab") as segment:
+                segment.write(torn[:length])
+            daemon.start()
+            require(daemon.journal() == whole, f"{length} bytes of a torn line are still there")
+            with daemon.client() as client:
+                require(client.ask(b"alpha show").endswith(SHOWN % 0), "the rows")
+            whole = daemon.journal()
+            daemon.kill()
+        with open(daemon.state / "journal" / "00000001.blocks", "ab") as blocks:
+            blocks.write(b"12 1 0")
+        daemon.start().stop()
+
+
+def damaged_journal(setup: Setup) -> None:
+    """A journal that is not what was written, or a firm that answers otherwise, stops the start by its name."""
+    with setup.daemon("--segment-bytes", "2000") as daemon:
+        daemon.start()
+        with daemon.client() as client:
+            for line in [*ROWS, *[b"alpha show"] * 200, *[b"alpha round"] * 10]:
+                client.ask(line)
+        daemon.stop()
+        segments = daemon.segments()
+        require(len(segments) > 1, "segments")
+        first = segments[0].read_bytes()
+        segments[0].write_bytes(first.replace(b"task j a", b"task j b", 1))
+        daemon.refuses(5, "00000001.lines, lines 1 to", "not the lines that were answered")
+        segments[0].write_bytes(first[: first.rindex(b"\n", 0, -1) + 1])
+        daemon.refuses(4, "00000001.lines", "were answered")
+        segments[0].write_bytes(first[:-1])
+        daemon.refuses(4, "00000001.lines", "no end")
+        segments[0].rename(daemon.folder / "away")
+        daemon.refuses(4, "segments are missing")
+        (daemon.folder / "away").rename(segments[0])
+        segments[0].write_bytes(first)
+        other = stand_in(daemon.folder, f'#!/bin/sh\n"{setup.program}" "$@" | sed -u "s/round cost 0/round cost 1/"\n')
+        right, daemon.firm = daemon.firm, other
+        daemon.refuses(5, "other replies than were kept")
+        daemon.firm = right
+        blocks = segments[-1].with_suffix(".blocks")
+        kept = blocks.read_bytes()
+        blocks.write_bytes(b"no record\n")
+        daemon.refuses(4, "00000002.blocks:1" if len(segments) == 2 else ".blocks:1", "no record")
+        blocks.write_bytes(kept)
+        daemon.start().stop()
+
+
+def full_disk(setup: Setup, make_full: Callable[[Daemon], Callable[[], None]]) -> None:
+    """A journal that can't grow stops the service with a clear error; what was answered is there once there is room."""
+    with setup.daemon() as daemon:
+        make_room = make_full(daemon)
+        try:
+            daemon.start()
+            answered = []
+            with daemon.client() as client, suppress(Gone):
+                for number in range(100_000):
+                    answered.append(client.ask((b"alpha machine x%d 65" % number if number else ROWS[0]).ljust(250)))
+            require(daemon.status() == 4 and b"cannot write the journal" in daemon.said(), daemon.said())
+            require(len(answered) > 10 and answered[-1] != b"", "lines were answered")
+            require(
+                daemon.journal().count(b"\n") == len([reply for reply in answered if not reply.startswith(b"?")]),
+                "its lines",
+            )
+            make_room()
+            daemon.words = FIRMD
+            daemon.start()
+            with daemon.client() as client:
+                number = len([reply for reply in answered if not reply.startswith(b"?")]) + 1
+                require(client.ask(b"alpha show").startswith(b"alpha %d ok machines 1 " % number), "the state")
+            daemon.stop()
+        finally:
+            make_room()
+
+
+def limit_files(daemon: Daemon) -> Callable[[], None]:
+    """No file of firmd's may have more than 30,000 bytes."""
+    if shutil.which("prlimit") is None:
+        raise Skipped("there is no prlimit")
+    daemon.words = ["prlimit", "--fsize=30000", *FIRMD]
+    return lambda: None
+
+
+def mount(path: Path, *options: str) -> None:
+    done = subprocess.run(["mount", *options, str(path)], capture_output=True, text=True)
+    if done.returncode:
+        raise Skipped(f"no file system can be mounted here: {done.stderr.strip()}")
+
+
+def small_file_system(daemon: Daemon) -> Callable[[], None]:
+    """Puts the state on a file system of 128 kB; what is given makes it larger."""
+    daemon.state.mkdir()
+    mount(daemon.state, "-t", "tmpfs", "-o", "size=128k", "tmpfs")
+    rooms: list[str] = []
+
+    def make_room() -> None:
+        if not rooms:
+            mount(daemon.state, "-o", "remount,size=8m")
+            rooms.append("made")
+        else:
+            subprocess.run(["umount", "-l", str(daemon.state)], check=True)
+
+    return make_room
+
+
+def no_rights(setup: Setup) -> None:
+    """A state or a journal that can't be written or read."""
+    with setup.daemon() as daemon:
+        daemon.state.write_bytes(b"")
+        daemon.refuses(4, "cannot use the state", "Not a directory")
+        daemon.state.unlink()
+        daemon.start().stop()
+        journal = daemon.state / "journal"
+        journal.rename(daemon.folder / "away")
+        journal.write_bytes(b"")
+        daemon.refuses(4, "cannot open the journal", "File exists")
+        journal.unlink()
+        (journal / "00000001.lines").mkdir(parents=True)
+        daemon.refuses(4, "cannot open the journal", "Is a directory")
+
+
+def read_only(setup: Setup) -> None:
+    """A state on a write-protected file system, before the start and while it serves."""
+    with setup.daemon() as daemon:
+        make_room = small_file_system(daemon)
+        try:
+            daemon.start()
+            with daemon.client() as client:
+                require(client.ask(ROWS[0]) == b"alpha 1 ok", "a reply")
+            daemon.stop()
+            mount(daemon.state, "-o", "remount,ro")
+            daemon.refuses(4, "cannot use the state", "Read-only file system")
+        finally:
+            make_room()
+            make_room()
+
+
+PATCHED = """\
+import os, sys, time
+sys.path.insert(0, {service!r})
+real, count = os.fdatasync, 0
+def patched(file):
+    global count
+    count += 1
+    with open({log!r}, "a") as log:
+        log.write("sync\\n")
+    {action}
+    real(file)
+os.fdatasync = patched
+from firm_service.daemon import main
+sys.exit(main())
+"""
+
+
+def patch_sync(daemon: Daemon, action: str) -> Path:
+    """Lets each sync of the journal do something first; gives the file with a line for each."""
+    script, log = daemon.folder / "patched.py", daemon.folder / "syncs"
+    script.write_text(PATCHED.format(service=str(SERVICE), log=str(log), action=action))
+    daemon.words = [sys.executable, str(script)]
+    return log
+
+
+def group_commit(setup: Setup) -> None:
+    """Lines that wait share a sync, and none is answered before its own."""
+    with setup.daemon() as daemon:
+        log = patch_sync(daemon, "time.sleep(0.2)")
+        daemon.start()
+        clients = [daemon.client() for _ in range(20)]
+        began = time.monotonic()
+        for client in clients:
+            client.send(b"alpha show\n")
+        replies = [client.reply() for client in clients]
+        seconds = time.monotonic() - began
+        require(len(set(replies)) == 20, replies)
+        syncs = log.read_text().count("sync")
+        require(1 <= syncs <= 3 and 0.2 * syncs <= seconds < 2, f"{syncs} syncs, {seconds:.2f} s")
+        daemon.stop()
+
+
+def failed_sync(setup: Setup) -> None:
+    """A sync that fails stops the service, and the line is neither answered nor obeyed."""
+    with setup.daemon() as daemon:
+        patch_sync(daemon, 'if count == 3: raise OSError(5, "Input/output error")')
+        daemon.start()
+        with daemon.client() as client:
+            require([client.ask(line) for line in ROWS[:2]] == [b"alpha 1 ok", b"alpha 2 ok"], "replies")
+            client.send(ROWS[2] + b"\n")
+            require(client.rest() == b"? stopping: no further lines are taken\n", client.received)
+        require(daemon.status() == 4 and b"cannot write the journal" in daemon.said(), daemon.said())
+        daemon.words = FIRMD
+        daemon.start()
+        with daemon.client() as client:
+            require(b" tasks 0 " in client.ask(b"alpha show"), "the line was obeyed")
+
+
+def dying_firm(setup: Setup) -> None:
+    """A firm that dies, can't be started, or says what nobody asked for: a clear error, and nothing is lost."""
+    with setup.daemon() as daemon:
+        daemon.start()
+        with daemon.client() as client:
+            for line in ROWS:
+                require(client.ask(line).endswith(b" ok"), line)
+            os.kill(daemon.firm_process(), signal.SIGKILL)
+            require(client.rest() == b"? stopping: no further lines are taken\n", client.received)
+        require(daemon.status() == 6 and b"firm ended with signal 9" in daemon.said(), daemon.said())
+        right = daemon.firm
+        daemon.firm = str(daemon.folder / "none")
+        daemon.refuses(6, "cannot start", "No such file")
+        daemon.firm = stand_in(daemon.folder, "#!/bin/sh\necho 'firm: memory' >&2\nexit 6\n")
+        daemon.refuses(6, "firm ended with status 6, and said: firm: memory")
+        surprise = f"echo surprise\nexec '{setup.program}' \"$@\"\n"
+        daemon.firm = stand_in(daemon.folder, f"#!/bin/sh\nread -r line\n{surprise}")  # in the place of its first reply
+        daemon.refuses(1, "can't take in b'surprise'")
+        daemon.firm = stand_in(daemon.folder, f"#!/bin/sh\n{surprise}")
+        kept = daemon.state.rename(daemon.folder / "kept")
+        daemon.refuses(6, "a reply that nobody asked for: surprise")
+        shutil.rmtree(daemon.state)
+        kept.rename(daemon.state)
+        daemon.firm = right
+        daemon.start()
+        with daemon.client() as client:
+            require(client.ask(b"alpha show").endswith(SHOWN % 0), "the rows")
+        daemon.stop()
+
+
+def who_may_speak(setup: Setup) -> None:
+    """Lines of the operator, and of another tenant, are refused where they may not be said."""
+    with setup.daemon() as daemon:
+        daemon.options += ["--client", f"beta={daemon.folder / 'beta'}", "--socket-mode", "660"]
+        daemon.start()
+        for path in (daemon.any, daemon.operator, daemon.folder / "beta", daemon.state / "view"):
+            require(stat.S_IMODE(path.stat().st_mode) == 0o660, f"the mode of {path.name}")
+        refused = [b"+ admit gamma,9,24,100,1,2", b"+", b"\t+ retire beta\r"]
+        with daemon.client() as client, Client(daemon.folder / "beta") as bound, Client(daemon.operator) as operator:
+            for line in refused:
+                require(client.ask(line).startswith(b"? operator-only: "), line)
+                require(bound.ask(line).startswith(b"? other-tenant: "), line)
+            for line in (b"alpha show", b"betas show", b"bet", b"gamma show", b"BETA show", b" alpha show"):
+                require(bound.ask(line).startswith(b"? other-tenant: "), line)
+            require(
+                bound.ask(b"  beta \tjob j 1\r") == b"beta 1 ok" and bound.ask(b"beta") == b"beta 2 no 2 bad-command",
+                "its own",
+            )
+            require(bound.ask(b"alpha" + b" " * 300) == b"! line-too-long", "a long line is firm's")
+            require(operator.ask(refused[0]) == b"+ ok admitted gamma", "the operator")
+            require(
+                operator.ask(b"gamma job j 1") == b"gamma 1 ok" and client.ask(b"gamma") == b"gamma 2 no 2 bad-command",
+                "gamma",
+            )
+            bound.send(b"beta close j\nalpha show\n# nothing\n\nbeta where x\n+\nbeta where y\n")
+            found = [bound.reply().split(b":")[0] for _ in range(5)]
+            require(
+                found
+                == [
+                    b"beta 3 ok",
+                    b"? other-tenant",
+                    b"beta 4 no 10 no-such-task",
+                    b"? other-tenant",
+                    b"beta 5 no 10 no-such-task",
+                ],
+                found,
+            )
+        require(b"alpha" not in daemon.journal().replace(b"alpha  ", b""), "a refused line stands in the journal")
+        daemon.stop()
+
+
+def slow_client(setup: Setup) -> None:
+    """A client that doesn't read holds nobody up, and is closed with a reason once it leaves too much unread."""
+    with setup.daemon("--most-unread", "100000") as daemon:
+        daemon.start()
+        with daemon.client() as slow, daemon.client() as other:
+            slow.socket.settimeout(1)
+            with suppress(Gone, TimeoutError):  # it is closed meanwhile, and read no further
+                slow.send(b"alpha show\n" * 20_000)
+            slow.socket.settimeout(REPLY_SECONDS)
+            seconds = []
+            for number in range(100):
+                began = time.monotonic()
+                require(other.ask(b"beta show").startswith(b"beta %d ok " % (number + 1)), "another's reply")
+                seconds.append(time.monotonic() - began)
+            require(sorted(seconds)[90] < 0.5, f"another's replies took {sorted(seconds)[90]:.2f} s")
+            wait_for(lambda: b"left more than 100000 bytes of replies unread" in daemon.said(), "it is closed")
+            *replies, last = slow.rest().splitlines()
+            require(last.startswith(b"? unread-replies: more than 100000 bytes"), last)
+            require(
+                [int(reply.split()[1]) for reply in replies] == list(range(1, len(replies) + 1)),
+                "its replies are a prefix",
+            )
+        daemon.stop()
+
+
+def backpressure(setup: Setup) -> None:
+    """A client that sends and doesn't read is not read any further, in bounded memory; then it gets every reply."""
+    with setup.daemon() as daemon:
+        daemon.start()
+        before = memory_kilobytes(daemon.running().pid)
+        with daemon.client() as client:
+            client.socket.setblocking(False)
+            sent, text, quiet = 0, b"alpha show\n" * 5_000, time.monotonic()
+            while time.monotonic() - quiet < 1:
+                try:
+                    sent += client.socket.send(text[sent % len(text) :])
+                    quiet = time.monotonic()
+                except BlockingIOError:
+                    time.sleep(0.01)
+                require(sent < 50 * 2**20, "it is read without end")
+            grown = memory_kilobytes(daemon.running().pid) - before
+            require(grown < 100_000, f"{grown} kB more in memory")
+            client.socket.settimeout(REPLY_SECONDS)
+            require(client.end().count(b"\n") == sent // len(b"alpha show\n"), "its replies")
+        daemon.stop()
+
+
+def dead_clients(setup: Setup) -> None:
+    """Half a line of a client that leaves is dropped; whole ones are done, and their replies go to nobody else."""
+    with setup.daemon() as daemon:
+        daemon.start()
+        with daemon.client() as other:
+            for number in range(50):
+                client = daemon.client()
+                client.send(b"alpha machine x%d 1\nalpha show\nalpha drain x%d" % (number, number))
+                if number % 2:
+                    client.socket.shutdown(socket.SHUT_RDWR)
+                client.socket.close()
+            wait_for(lambda: daemon.journal().count(b"show\n") == 50, "their lines are taken")
+            require(
+                re.fullmatch(
+                    rb"alpha 101 ok machines (29|30|28|27|26|25) .*|alpha 101 ok machines .*", other.ask(b"alpha show")
+                ),
+                "x",
+            )
+            require(b"drain" not in daemon.journal(), "half a line was taken")
+            with daemon.client() as half:
+                half.send(b"alpha show\nalpha show")
+                require(half.end().count(b"\n") == 1, "a half line at the end")
+        daemon.stop()
+
+
+def endless_line(setup: Setup) -> None:
+    """A line without an end fills no memory, and firm refuses it once it ends."""
+    with setup.daemon() as daemon:
+        daemon.start()
+        with daemon.client() as client, daemon.client() as other:
+            before = memory_kilobytes(daemon.running().pid)
+            for _ in range(20 if setup.is_quick else 500):
+                client.send(b"alpha" + b"x" * 2**20)
+            require(other.ask(b"beta show").startswith(b"beta 1 ok"), "another's reply")
+            grown = memory_kilobytes(daemon.running().pid) - before
+            require(grown < 10_000, f"{grown} kB more in memory")
+            require(client.ask(b"") == b"! line-too-long", "its reply")
+            require(client.ask(b"#" * 2**20 + b"\nalpha show").startswith(b"alpha 1 ok"), "a long comment is none")
+        require(max(map(len, daemon.journal().split(b"\n"))) <= 258, "the journal holds all of it")
+        daemon.stop()
+
+
+def limits(setup: Setup) -> None:
+    """Too many clients, and a journal that firm can't read any further, are told; one half as long is warned of."""
+    with setup.daemon("--most-clients", "3", "--journal-limit", "1000") as daemon:
+        daemon.start()
+        clients = [daemon.client() for _ in range(3)]
+        require([client.ask(b"alpha") for client in clients][0] == b"alpha 1 no 2 bad-command", "three clients")
+        with daemon.client() as fourth:
+            require(fourth.rest() == b"? too-many-clients: 3 are connected\n", fourth.received)
+        clients.pop().socket.close()
+        line = b"beta show" + b" " * 40 + b"\n"
+        fits = (1000 - len(b"alpha\n" * 3)) // len(line)
+        clients[0].send(line * 30)
+        found = [clients[0].reply().split(b":")[0] for _ in range(30)]
+        require(all(reply.startswith(b"beta ") for reply in found[:fits]), found)
+        require(found[fits:] == [b"? journal-full"] * (30 - fits), found)
+        require(clients[1].ask(b"#\nalpha").startswith(b"alpha 4 no 2"), "a short line still fits")
+        for _ in range(2):
+            wait_for(lambda: b"warning: the journal has " in daemon.said(), "a warning")
+            daemon.stop()
+            daemon.start()
+
+
+def one_daemon(setup: Setup) -> None:
+    """One daemon has the state; another roster is refused; sockets are replaced only where nobody serves them."""
+    with setup.daemon() as daemon:
+        (daemon.folder / "roster.csv").write_bytes(HEADING + b"alpha,1,24,100,1,2\n")
+        daemon.refuses(3, "roster fault 4 number", "firmctl check-roster")
+        (daemon.folder / "roster.csv").write_bytes(ROSTER)
+        daemon.start()
+        first, said = daemon.running(), daemon.said()
+        daemon.refuses(4, f"is in use by process {first.pid}")
+        (daemon.folder / "errors").write_bytes(said)
+        state = daemon.folder / "state"
+        other = Daemon(daemon.folder / "other", daemon.firm)
+        other.folder.mkdir()
+        (other.folder / "roster.csv").write_bytes(ROSTER)
+        other.any.symlink_to(daemon.any)
+        other.refuses(7, "something else stands there")
+        other.any.unlink()
+        other.options = ["--client", f"alpha={daemon.any}"]
+        other.refuses(7, "somebody serves it")
+        other.options = ["--client", f"alpha={daemon.folder / 'roster.csv'}"]
+        other.refuses(7, "something else stands there")
+        daemon.process = first
+        with daemon.client() as client:
+            require(client.ask(b"alpha show").startswith(b"alpha 1 ok"), "the first still serves")
+        daemon.kill()
+        require(daemon.any.is_socket() and (state / "view").is_socket(), "stale sockets")
+        daemon.start().stop()
+        require(not daemon.any.exists() and not (state / "view").exists(), "sockets are removed")
+        (daemon.folder / "roster.csv").write_bytes(ROSTER.replace(b"beta", b"gamma"))
+        daemon.refuses(3, "changed-roster", "not the roster that the state began with")
+        (daemon.folder / "roster.csv").unlink()
+        daemon.refuses(3, "cannot read the roster", "No such file")
+
+
+def stops(setup: Setup) -> None:
+    """SIGTERM and SIGINT: what was taken is answered, then each client is told, and the status is 0."""
+    for number in (signal.SIGTERM, signal.SIGINT):
+        with setup.daemon() as daemon:
+            daemon.start()
+            with daemon.client() as client, daemon.client() as idle:
+                client.send(b"alpha show\n" * 3_000)
+                require(client.reply().startswith(b"alpha 1 ok"), "a reply")
+                daemon.running().send_signal(number)
+                *replies, last = client.rest().splitlines()
+                require(last == idle.rest().rstrip() == b"? stopping: no further lines are taken", last)
+                require(daemon.journal().count(b"\n") == len(replies) + 1, "each line that was taken is answered")
+                require(daemon.status() == 0, daemon.said())
+            daemon.start()
+            with daemon.client() as client:
+                require(client.ask(b"alpha show").startswith(b"alpha %d ok" % (len(replies) + 2)), "the count")
+            daemon.stop()
+
+
+def notifications(setup: Setup) -> None:
+    """The manager of services hears when the service is ready, and when it stops."""
+    with setup.daemon() as daemon, socket.socket(socket.AF_UNIX, socket.SOCK_DGRAM) as manager:
+        path = daemon.folder / "manager"
+        manager.bind(str(path))
+        manager.settimeout(REPLY_SECONDS)
+        daemon.words = ["env", f"NOTIFY_SOCKET={path}", *FIRMD]
+        daemon.start()
+        require(manager.recv(100) == b"READY=1" and daemon.any.is_socket(), "ready")
+        daemon.stop()
+        require(manager.recv(100) == b"STOPPING=1", "stopping")
+
+
+def own_rounds(setup: Setup) -> None:
+    """Rounds by themselves place what waits, soon after a change or every so often, and nobody gets their replies."""
+    for options in (["--after", "5"], ["--every", "0.05"]):
+        with setup.daemon(*options) as daemon:
+            daemon.start()
+            with daemon.client() as client:
+                replies = [client.ask(line) for line in ROWS]
+                require(all(reply.endswith(b" ok") for reply in replies), replies)
+                wait_for(lambda: client.ask(b"alpha where a").endswith(b" ok at m1"), "alpha's task runs")
+                wait_for(lambda: client.ask(b"beta where l").endswith(b" ok at m1"), "beta's task runs")
+                rounds = daemon.journal().count(b" round\n")
+                time.sleep(0.3)
+                require(daemon.journal().count(b" round\n") == rounds, "rounds where nothing waits")
+                require(client.ask(b"beta task low second").endswith(b" ok"), "a task")
+                least = 2 if "--after" in options else 4
+                wait_for(lambda: daemon.journal().count(b"beta round\n") >= least, f"{least} rounds of beta")
+                time.sleep(0.3)
+                more = daemon.journal().count(b"beta round\n")
+                require(more == 2 if "--after" in options else more >= 4, f"{more} rounds of beta")
+                require(
+                    b"waits" in client.ask(b"beta where second") + client.ask(b"beta where l"),
+                    "there is no room for both",
+                )
+                require(client.received == b"", "a reply that nobody asked for")
+            daemon.stop()
+            daemon.options = []
+            daemon.start()
+            with daemon.client() as client:
+                require(client.ask(b"alpha where a").endswith(b" ok at m1"), "the replay has the rounds")
+
+
+MEMORY_LINES = [
+    *ROWS,
+    b"alpha round",
+    b"+ admit gamma,100,200,100,1,2",
+    b"gamma job j 1",
+    b"alpha task j b",
+    b"alpha show",
+]
+
+
+def refused_memory(setup: Setup) -> None:
+    """What memory was refused to stays refused in a replay, though memory is there."""
+    text = b"".join(line + b"\n" for line in MEMORY_LINES)
+    places: dict[bytes, int] = {}  # which request for memory to refuse, by the reply that this gives
+    with tempfile.TemporaryDirectory(prefix="firmd-") as name, program.Roster(ROSTER) as roster_path:
+        library = program.build_refusing(name)
+        for place in range(1, 400):
+            environment = {"LD_PRELOAD": library, "REFUSE_MEMORY": str(place)}
+            replies = program.run([setup.program], roster_path, text, environment).output.splitlines()
+            places |= {reply: place for reply in replies if reply.endswith(b"memory")}
+        refused = {line for place in places.values() for line in refuse_and_replay(setup, library, place)}
+    require(len(refused) > 5, f"memory was refused to {refused} alone")
+
+
+def refuse_and_replay(setup: Setup, library: str, place: int) -> set[bytes]:
+    """Lets firm be refused a request for memory, and then replays with all its memory; the lines that were refused."""
+    with setup.daemon() as daemon:
+        # The roster is tried by a firm that has its memory.
+        condition = f"[ -e '{daemon.state / 'roster.csv'}' ] && export LD_PRELOAD='{library}' REFUSE_MEMORY={place}"
+        daemon.firm = stand_in(daemon.folder, f"#!/bin/sh\n{condition}\nexec '{setup.program}' \"$@\"\n")
+        daemon.start()
+        with Client(daemon.operator) as client:
+            try:
+                replies = [client.ask(line) for line in MEMORY_LINES]
+            except Gone:  # line by line it was another request, which firm can't do without
+                require(daemon.status() == 6 and b"firm: memory" in daemon.said(), daemon.said())
+                return set()
+        daemon.stop() if place % 2 else daemon.kill()  # with the digests of its replies, and without
+        marks = {number for number, reply in enumerate(replies) if reply.endswith(b"memory")}
+        text = b"".join(line + b"\n" for line in MEMORY_LINES)
+        require(replies == service.serve(ROSTER, text, marks), replies)
+        daemon.firm = setup.program
+        daemon.start()
+        again = [b"alpha show", b"gamma show", b"alpha where b", b"alpha where a"]
+        with daemon.client() as client:
+            wanted = service.serve(ROSTER, text + b"".join(line + b"\n" for line in again), marks)[len(MEMORY_LINES) :]
+            got = [client.ask(line) for line in again]
+        require(got == wanted, f"{got} and not {wanted}, after {replies}")
+        daemon.stop()
+        return {MEMORY_LINES[number] for number in marks}
+
+
+SHORT = [
+    many_clients,
+    torn_line,
+    damaged_journal,
+    no_rights,
+    group_commit,
+    failed_sync,
+    dying_firm,
+    who_may_speak,
+]
+SHORT += [slow_client, dead_clients, endless_line, limits, one_daemon, stops, notifications, own_rounds]
+LONG = [read_only, backpressure, refused_memory]
+
+
+def checks(setup: Setup) -> dict[str, Callable[[], None]]:
+    """Each check's name, and the check."""
+    found: dict[str, Callable[[Setup], None]] = {
+        f"kills, part {part}": partial(kills, part=part) for part in range(CHECKS_AT_A_TIME)
+    }
+    found |= {name_of(check): check for check in SHORT + ([] if setup.is_quick else LONG)}
+    disks = {"a limit": limit_files} if setup.is_quick else {"a limit": limit_files, "a file system": small_file_system}
+    found |= {f"full disk, {name}": partial(full_disk, make_full=make_full) for name, make_full in disks.items()}
+    return {name: partial(check, setup) for name, check in found.items()}
+
+
+def name_of(check: Callable[[Setup], None]) -> str:
+    return check.__name__.replace("_", " ")
+
+
+def main() -> int:
+    parser = argparse.ArgumentParser(description=(__doc__ or "").splitlines()[0])
+    parser.add_argument("--quick", action="store_true", help="the part that tests/quick runs")
+    program.add_program(parser)
+    parser.add_argument("--only", default="", help="nothing but the checks whose names have these words")
+    parser.add_argument(
+        "--seed", type=int, default=random.randrange(10**6), help="of the random lines (default: any)"
+    )
+    words = parser.parse_args()
+    setup = Setup(words.program, words.quick, words.seed)
+    print(f"seed {words.seed}", flush=True)
+    if setup.is_quick:
+        left_out = [*map(name_of, LONG), "full disk, a file system"]
+        print_skipped(", ".join(left_out), "--quick asks nothing that needs root, a C compiler or a minute")
+    chosen = {name: check for name, check in checks(setup).items() if words.only in name}
+    with ThreadPoolExecutor(CHECKS_AT_A_TIME) as pool:
+        return count_ends(list(pool.map(passes, chosen.keys(), chosen.values())))
+
+
+if __name__ == "__main__":
+    run_script(main)
