@@ -4,8 +4,8 @@
 usage: build.py ARGUMENT..
 
 ./firm calls it where the program is not there or a source is newer; the arguments and standard input are the program's.
-Crates are proved lowest first, side by side where they share none. What an interrupted run has proved stands, and the next
-goes on from there.
+Crates are proved lowest first, side by side where they share none. What an interrupted run has proved stands, and the
+next goes on from there.
 """
 
 from __future__ import annotations
@@ -38,7 +38,11 @@ class Failed(Exception):
 
 
 class Stopped(Exception):
-    """A signal asks for an end; its number is the only argument."""
+    """A signal asks for an end."""
+
+    def __init__(self, number: int) -> None:
+        super().__init__(number)
+        self.number = number
 
 
 # The signals that have come. They are heeded between steps, so that no check is started and then lost sight of.
@@ -92,7 +96,7 @@ class Crate:
 
 
 def needed_crates() -> list[Crate]:
-    """The crates that the program stands on, lowest first and itself last, by the lines NAME: LIBRARY .. of crates.txt."""
+    """The crates that the program stands on, lowest first and itself last, by the lines of crates.txt."""
     lines = [line.partition(":") for line in (ROOT / "crates.txt").read_text().splitlines() if line[:1].isalpha()]
     listed = {name.split()[0]: libraries.split() for name, _, libraries in lines}
     found: dict[str, Crate] = {}
@@ -225,7 +229,7 @@ class Build:
 
 
 def wait_for_turn() -> bool:
-    """Whether no other run was building; waits for one that was. Others wait until this process ends or is the program."""
+    """Whether no other run was building; waits for one that was. Others wait until this one ends or is the program."""
     turn = os.open(ROOT / "crates.txt", os.O_RDONLY)
     try:
         fcntl.flock(turn, fcntl.LOCK_EX | fcntl.LOCK_NB)
@@ -272,7 +276,7 @@ def main(arguments: list[str]) -> int:
         return 1
     except Stopped as stopped:
         say("stopped; the next run goes on from here")
-        return 128 + stopped.args[0]
+        return 128 + stopped.number
     become(BUILT, arguments)
     return 0
 

@@ -1,21 +1,29 @@
 #!/usr/bin/env python3
 """Runs the gate and says what it cost: processor minutes by crate, for its proof, its tests and its must-fail edits.
 
-usage: bench/gate.py [COMMAND ...]        the command is `rt ci` where none is named; `rt must-fail firm_net` for edits alone
+usage: bench/gate.py [COMMAND ...]
+The command is `rt ci` where none is named; `rt must-fail firm_net` for edits alone.
 The command's own output goes to standard error, the table to standard output; the exit status is the command's. Each
-check of a crate is a process of the prover's: five times a second this script reads how much time each of them has taken
-(user and system, with that of the copies that it forks), so a check's last fifth of a second may be missing from its
-row. The last row is what the system charged for all.
+check of a crate is a process of the prover's: five times a second this script reads how much time each of them has
+taken (user and system, with that of the copies that it forks), so a check's last fifth of a second may be missing from
+its row. The last row is what the system charged for all.
 """
+
+from __future__ import annotations
 
 import os
 import resource
+import shutil
 import subprocess
 import sys
 import time
 from collections import defaultdict
 from pathlib import Path
 from typing import NamedTuple
+
+sys.path.insert(0, str(Path(__file__).resolve().parent.parent / "tests"))
+
+from harness.checks import CannotRun, run_script
 
 PAUSE = 0.2
 TICKS = os.sysconf("SC_CLK_TCK")
@@ -41,8 +49,22 @@ def processes() -> dict[int, Process]:
     return found
 
 
-def check_of(number: int) -> tuple[str, str] | None:
+class Check(NamedTuple):
     """The crate and the part of the gate that a process of the prover works on."""
+
+    crate: str
+    part: str
+
+
+class Cost(NamedTuple):
+    """A check, and the seconds that it took."""
+
+    check: Check
+    seconds: float
+
+
+def check_of(number: int) -> Check | None:
+    """What a process works on; None where it is none of the prover's."""
     folder = Path("/proc") / str(number)
     try:
         words = (folder / "cmdline").read_bytes().decode(errors="replace").split("\0")
@@ -52,7 +74,7 @@ def check_of(number: int) -> tuple[str, str] | None:
     if Path(words[0]).name != "rattle" or "--crate-name" not in words:
         return None
     part = "edits" if "rt-edit-" in place else "tests" if "--test" in words else "proof"
-    return words[words.index("--crate-name") + 1], part
+    return Check(words[words.index("--crate-name") + 1], part)
 
 
 def below(number: int, known: dict[int, Process]) -> list[int]:
@@ -63,9 +85,9 @@ def below(number: int, known: dict[int, Process]) -> list[int]:
     return found
 
 
-def follow(command: list[str]) -> tuple[int, dict[int, tuple[tuple[str, str], float]]]:
-    """Runs the command; its exit status, and for each check by its process what it was and the seconds it took."""
-    checks: dict[int, tuple[tuple[str, str], float]] = {}
+def follow(command: list[str]) -> tuple[int, list[Cost]]:
+    """Runs the command; its exit status, and what each check cost."""
+    costs: dict[int, Cost] = {}
     with subprocess.Popen(command, stdin=subprocess.DEVNULL, stdout=sys.stderr) as gate:
         while gate.poll() is None:
             known = processes()
@@ -73,31 +95,42 @@ def follow(command: list[str]) -> tuple[int, dict[int, tuple[tuple[str, str], fl
             # A copy that a check forks has the check's own words.
             for number in (number for number in named if known[number].parent not in named):
                 seconds = sum(known[each].seconds for each in below(number, known))
-                checks[number] = named[number], max(seconds, checks.get(number, ("", 0.0))[1])
+                before = costs[number].seconds if number in costs else 0.0
+                costs[number] = Cost(named[number], max(seconds, before))
             time.sleep(PAUSE)
-    return gate.returncode, checks
+    return gate.returncode, list(costs.values())
 
 
-def main() -> None:
-    command = sys.argv[1:] or ["rt", "ci"]
-    if command[0] in ("-h", "--help"):
-        print(__doc__.rstrip())
-        return
-    started = time.monotonic()
-    status, checks = follow(command)
+def print_table(costs: list[Cost]) -> None:
+    """A row for each crate, the dearest first, and one for all."""
     minutes: dict[str, dict[str, float]] = defaultdict(lambda: dict.fromkeys(PARTS, 0.0))
-    for (crate, part), seconds in checks.values():
-        minutes[crate][part] += seconds / 60
+    for check, seconds in costs:
+        minutes[check.crate][check.part] += seconds / 60
     print("| crate | proof | tests | edits | sum |\n| --- | ---: | ---: | ---: | ---: |")
     for crate, parts in sorted(minutes.items(), key=lambda row: -sum(row[1].values())):
-        print(f"| `{crate}` | " + " | ".join(f"{parts[part]:.1f}" for part in PARTS) + f" | {sum(parts.values()):.1f} |")
-    sums = [sum(parts[part] for parts in minutes.values()) for part in PARTS]
-    print("| **all checks** | " + " | ".join(f"{part:.1f}" for part in sums) + f" | {sum(sums):.1f} |")
+        print(row(f"`{crate}`", [parts[part] for part in PARTS]))
+    print(row("**all checks**", [sum(parts[part] for parts in minutes.values()) for part in PARTS]))
+
+
+def row(name: str, minutes: list[float]) -> str:
+    return f"| {name} | " + " | ".join(f"{each:.1f}" for each in [*minutes, sum(minutes)]) + " |"
+
+
+def main() -> int:
+    command = sys.argv[1:] or ["rt", "ci"]
+    if command[0] in ("-h", "--help"):
+        print((__doc__ or "").rstrip())
+        return 0
+    if shutil.which(command[0]) is None:
+        raise CannotRun(f"there is no command {command[0]}")
+    started = time.monotonic()
+    status, costs = follow(command)
+    print_table(costs)
     used = resource.getrusage(resource.RUSAGE_CHILDREN)
     print(f"| with builds and runs | | | | {(used.ru_utime + used.ru_stime) / 60:.1f} |")
     print(f"\n{(time.monotonic() - started) / 60:.1f} minutes on the clock")
-    sys.exit(status)
+    return status
 
 
 if __name__ == "__main__":
-    main()
+    run_script(main)

@@ -1,100 +1,141 @@
 """Processor time of the rounds of a stream, and of LEMON's solvers on one network."""
 
+from __future__ import annotations
+
 import os
 import subprocess
 import sys
 import tempfile
 import time
-from collections import namedtuple
 from pathlib import Path
+from typing import NamedTuple
 
-from rows import ask, hear, hear_round, network, open_rows
+from harness.checks import CannotRun, compile_source, require
+from harness.kinds import TENANT, Stream
+from harness.rows import hear, hear_round, network, open_rows
 
 HERE = Path(__file__).resolve().parent
 LONG = 45  # seconds after which a stream is not run again
+ROUND = f"{TENANT} round"
 
-Round = namedtuple("Round", "cost arcs tasks seconds beside network")
-Solved = namedtuple("Solved", "seconds setup cost")
+
+class Round(NamedTuple):
+    """A round's cost and network, its processor time, and that of the other program where there is one."""
+
+    cost: int
+    arcs: int
+    tasks: int
+    seconds: float
+    beside: float | None
+    network: str
+
+
+class Counts(NamedTuple):
+    """The searches of a round, and the looks at arcs."""
+
+    searches: int
+    looks: int
+
+
+class Solved(NamedTuple):
+    """What a solver took for a network, what its setup took, and the cost that it found."""
+
+    seconds: float
+    setup: float
+    cost: int
+
+
+class Measured(NamedTuple):
+    """The replies of each part of a stream, the round's last, and the processor time of each round."""
+
+    replies: list[list[str]]
+    seconds: list[float]
 
 
 class Served:
     """The program with one worker, over a roster; each run reads a file and writes a file."""
 
-    def __init__(self, program, roster):
+    def __init__(self, program: str, roster: str) -> None:
         self.file = tempfile.NamedTemporaryFile("w", suffix=".csv")
         self.file.write(roster)
         self.file.flush()
         self.words = [program, "--workers", "1", "--roster", self.file.name]
 
-    def run(self, lines):
+    def run(self, lines: list[str]) -> tuple[list[str], float]:
         """The replies to these lines, and the processor time of the whole run."""
         with tempfile.TemporaryFile("w+") as text, tempfile.TemporaryFile("w+") as output:
             text.writelines(line + "\n" for line in lines)
             text.seek(0)
             process = subprocess.Popen(self.words, stdin=text, stdout=output)
             _, status, used = os.wait4(process.pid, 0)
-            ask(status == 0, "the program failed")
+            process.returncode = os.waitstatus_to_exitcode(status)
+            require(status == 0, "the program failed")
             output.seek(0)
             return output.read().splitlines(), used.ru_utime + used.ru_stime
 
 
-def run_repeatedly(program, stream, repeats):
-    """The replies of each part, the round's last, and the processor time of each round: that of a run to the round's end,
-    less that of a run to the line before it, each the least of some, of fewer where they take long."""
-    served, begun, lines, replies, seconds = Served(program, stream.roster), time.monotonic(), [], [], []
+def run_repeatedly(program: str, stream: Stream, repeats: int) -> Measured:
+    """Runs a stream part by part.
+
+    A round's time is that of a run to the round's end, less that of a run to the line before it, each the least of
+    some, of fewer where they take long.
+    """
+    served, begun, measured = Served(program, stream.roster), time.monotonic(), Measured([], [])
+    lines: list[str] = []
     for part in stream.parts:
-        lines, spent = lines + list(part), ([], [])
+        lines += part
+        before: list[float] = []
+        behind: list[float] = []
         for turn in range(repeats):
             if turn and time.monotonic() - begun > LONG:
                 break
-            for text, times in zip((lines, lines + ["t round"]), spent):
-                answers, used = served.run(text)
-                times.append(used)
-        seconds.append(min(spent[1]) - min(spent[0]))
-        lines.append("t round")
-        replies.append(answers[-len(part) - 1:])
-    return replies, seconds
+            before.append(served.run(lines)[1])
+            replies, used = served.run([*lines, ROUND])
+            behind.append(used)
+        lines.append(ROUND)
+        measured.seconds.append(min(behind) - min(before))
+        measured.replies.append(replies[-len(part) - 1 :])
+    return measured
 
 
-def run_stream(program, other, stream, repeats):
+def run_stream(program: str, other: str | None, stream: Stream, repeats: int) -> list[Round]:
     """The rounds of a stream, with their times; those of the other program, if there is one, must be the same."""
-    replies, best = run_repeatedly(program, stream, repeats)
-    others = [None] * len(best)
+    measured = run_repeatedly(program, stream, repeats)
+    others: list[float | None] = [None] * len(measured.seconds)
     if other:
-        other_replies, others = run_repeatedly(other, stream, repeats)
-        ask(other_replies == replies, "the two programs gave two outputs")
+        beside = run_repeatedly(other, stream, repeats)
+        require(beside.replies == measured.replies, "the two programs gave two outputs")
+        others = [*beside.seconds]
     tenant, rounds = open_rows(stream.roster), []
-    for lines, answers, seconds, beside in zip(stream.parts, replies, best, others):
-        for line, answer in zip(lines, answers):
-            hear(tenant, line, answer)
-        text, arcs = network(tenant)
-        rounds.append(Round(hear_round(tenant, answers[-1]), arcs, len(tenant.tasks), seconds, beside, text))
+    for lines, replies, seconds, other_seconds in zip(stream.parts, measured.replies, measured.seconds, others):
+        for line, reply in zip(lines, replies):
+            hear(tenant, line, reply)
+        rows = network(tenant)
+        cost = hear_round(tenant, replies[-1])
+        rounds.append(Round(cost, len(rows.arcs), len(tenant.tasks), seconds, other_seconds, rows.text()))
     return rounds
 
 
-def tell_counts(program, stream):
-    """The searches and the looks of each round."""
-    lines = [line for part in stream.parts for line in (*part, "t round")]
-    done = subprocess.run([program], input=stream.roster + "".join(line + "\n" for line in lines),
-                          capture_output=True, text=True, check=True)
-    return [tuple(map(int, line.split())) for line in done.stdout.splitlines()]
+def read_counts(program: str, stream: Stream) -> list[Counts]:
+    """The counts of each round, by the program that prints them."""
+    lines = [line for part in stream.parts for line in (*part, ROUND)]
+    text = stream.roster + "".join(line + "\n" for line in lines)
+    done = subprocess.run([program], input=text, capture_output=True, text=True, check=True)
+    return [Counts(*map(int, line.split())) for line in done.stdout.splitlines()]
 
 
-def build_lemon(folder):
+def build_lemon(folder: str) -> str | None:
     """The program over LEMON's solvers, or None where LEMON is not installed."""
-    program = Path(folder) / "lemon"
-    words = ["g++", "-O2", "-std=c++14", "-w", "-o", str(program), str(HERE / "lemon.cc")]
+    program = str(Path(folder) / "lemon")
     try:
-        made = subprocess.run(words, capture_output=True, text=True)
-    except FileNotFoundError:
-        return None
-    if made.returncode:
+        compile_source(["g++", "-O2", "-std=c++14", "-w", "-o", program, str(HERE / "lemon.cc")])
+    except CannotRun:
         print("LEMON is not measured: lemon.cc does not compile (Debian has LEMON as liblemon-dev)", file=sys.stderr)
         return None
-    return str(program)
+    return program
 
 
-def solve(lemon, text, repeats):
+def solve(lemon: str, text: str, repeats: int) -> dict[str, Solved]:
     """What LEMON's solvers took and found, by their names."""
     done = subprocess.run([lemon, str(repeats)], input=text, capture_output=True, text=True, check=True)
     lines = [line.split() for line in done.stdout.splitlines()]

@@ -9,12 +9,17 @@ the part of a function in which every field of each value is followed on every w
 contract, and Proof searches for what no answer says.
 """
 
+from __future__ import annotations
+
 import argparse
 import sys
 from pathlib import Path
 from typing import NamedTuple
 
-ROOT = Path(__file__).resolve().parent.parent
+sys.path.insert(0, str(Path(__file__).resolve().parent.parent / "tests"))
+
+from harness.checks import CannotRun, run_script
+from harness.program import ROOT
 
 
 class Module(NamedTuple):
@@ -37,22 +42,23 @@ def report(crate: str, most: int, since: float) -> None:
     """Prints the crate's dearest modules, with their shares of it."""
     modules = modules_of(crate, since)
     if not modules:
-        sys.exit(f"modules.py: nothing is kept of {crate}: run rt check in crates/{crate} first")
+        raise CannotRun(f"nothing is kept of {crate}: run rt check in crates/{crate} first")
     whole = sum(module.seconds for module in modules)
     print(f"{crate}: {len(modules)} modules, {whole:.0f} s")
     for name, seconds in sorted(modules, key=lambda module: -module.seconds)[:most]:
         print(f"  {seconds:7.1f} s  {seconds / whole:6.1%}  {name}")
 
 
-def main() -> None:
-    parser = argparse.ArgumentParser(description=__doc__.splitlines()[0])
+def main() -> int:
+    parser = argparse.ArgumentParser(description=(__doc__ or "").splitlines()[0])
     parser.add_argument("crates", nargs="+", metavar="CRATE", help="a crate that was checked, as firm_rules")
     parser.add_argument("--most", type=int, default=10, help="modules shown of each crate (default: %(default)s)")
-    parser.add_argument("--since", type=float, default=0, help="only modules of the last so many seconds of the check")
-    words = parser.parse_args()
-    for crate in words.crates:
-        report(crate, words.most, words.since)
+    parser.add_argument("--since", type=float, default=0, help="only modules of as many last seconds of the check")
+    options = parser.parse_args()
+    for crate in options.crates:
+        report(crate, options.most, options.since)
+    return 0
 
 
 if __name__ == "__main__":
-    main()
+    run_script(main)

@@ -1,36 +1,63 @@
 #!/usr/bin/env python3
-"""Compares the built program with the plain service of service.py on random small streams and rosters.
+"""Compares the built program with the plain service of harness/service.py on random small streams and rosters.
 
-usage: tests/compare.py [--program FILE] [--under COMMAND] [--streams N] [--rosters N] [--first SEED] [--tasks T]
-Each difference is told with the seed and kept under out/tests; the exit status is 1 where there is one.
+usage: tests/compare.py [--program FILE] [--under COMMAND] [--workers N] [--streams N] [--rosters N] [--first SEED]
+                        [--tasks T] [--pieces] [--noise] [--ages]
+Each difference has a line with its seed and is kept under out/tests; the exit status is 1 where there is one.
 """
+
+from __future__ import annotations
 
 import argparse
 import os
 import random
-import sys
 from collections import Counter
 from concurrent.futures import ProcessPoolExecutor
+from dataclasses import dataclass
 from functools import partial
 from tempfile import TemporaryDirectory
 
-import program
-import service
-from small_streams import random_bad_roster, random_stream, with_noise
+from harness import program, service
+from harness.checks import run_script
+from harness.small_streams import random_bad_roster, random_stream, with_noise
 
 
-def expected(roster, text):
+@dataclass(frozen=True)
+class Options(program.ProgramOptions):
+    streams: int
+    rosters: int
+    first: int
+    tasks: int
+    pieces: bool
+    noise: bool
+    ages: bool
+
+
+@dataclass(frozen=True)
+class Case:
+    """What a run is given. With a library its input comes in pieces and its output goes in pieces."""
+
+    name: str
+    roster: bytes
+    text: bytes
+    environment: program.Environment | None = None
+
+
+Outcomes = Counter[str]  # how often each outcome of a line and each change of a round came
+
+
+def expected(case: Case) -> program.Run:
     """What the definitions say that a run gives."""
-    tenants = service.read_roster(roster)
-    if isinstance(tenants, int):
-        fault = f"firm: roster fault {tenants} {service.ROSTER_FAULTS[tenants - 1]}\n"
-        return program.Run(3, b"", fault.encode())
-    return program.Run(0, b"".join(line + b"\n" for line in service.serve(roster, text)), b"")
+    try:
+        lines = service.serve(case.roster, case.text)
+    except service.RosterFault as fault:
+        faults = f"firm: roster fault {fault.code} {service.ROSTER_FAULTS[fault.code - 1]}\n"
+        return program.Run(3, b"", faults.encode())
+    return program.Run(0, b"".join(line + b"\n" for line in lines), b"")
 
 
-def words_of(output):
-    """How often each outcome and each change stands in an output."""
-    counts = Counter()
+def outcomes_of(output: bytes) -> Outcomes:
+    counts: Outcomes = Counter()
     for line in output.decode().splitlines():
         words = line.split()
         outcome = words[2:5] if words[2:3] == ["no"] else words[2:4]
@@ -39,45 +66,52 @@ def words_of(output):
     return counts
 
 
-def check(command, name, roster, text, environment=None):
+def check(command: list[str], case: Case) -> Outcomes | None:
     """The outcomes of one run, or None where it differs from the definitions."""
-    wanted = expected(roster, text)
-    with program.Roster(roster) as roster_path:
-        got = program.run(command, roster_path, text, environment)
+    wanted = expected(case)
+    with program.Roster(case.roster) as roster_path:
+        got = program.run(command, roster_path, case.text, case.environment)
     if got == wanted:
-        return words_of(got.output + got.faults)
-    kept = program.keep(name, roster, text)
-    lines = [(place, was, should) for place, (was, should) in enumerate(
-        zip(got.output.split(b"\n"), wanted.output.split(b"\n"))) if was != should]
-    print(f"DIFFERENT: {kept}: status {got.status} for {wanted.status}, {got.faults} for {wanted.faults};"
-          f" first line that differs: {lines[:1]}", flush=True)
+        return outcomes_of(got.output + got.faults)
+    kept = program.keep(case.name, case.roster, case.text)
+    pairs = zip(got.output.split(b"\n"), wanted.output.split(b"\n"))
+    lines = [(place, was, should) for place, (was, should) in enumerate(pairs) if was != should]
+    print(
+        f"DIFFERENT: {kept}: status {got.status} for {wanted.status}, {got.faults!r} for {wanted.faults!r};"
+        f" first line that differs: {lines[:1]}",
+        flush=True,
+    )
     return None
 
 
-def check_stream(command, tasks, library, is_noisy, seed):
-    """A random stream; with the library its input comes in pieces and its output goes in pieces of some size."""
+def check_stream(options: Options, library: str | None, seed: int) -> Outcomes | None:
+    """A random stream, in pieces of some size where there is a library."""
     draw = random.Random(seed)
-    roster, text = random_stream(draw, tasks)
-    text = with_noise(draw, text) if is_noisy else text
+    roster, text = random_stream(draw, options.tasks)
+    text = with_noise(draw, text) if options.noise else text
     pieces = {"READ_MOST": draw.choice("1 2 3 7 64 257 4095".split()), "WRITE_MOST": draw.choice("0 1 5 100".split())}
-    return check(command, f"stream-{seed}", roster, text, {"LD_PRELOAD": library, **pieces} if library else None)
+    environment = {"LD_PRELOAD": library, **pieces} if library else None
+    return check(options.command(), Case(f"stream-{seed}", roster, text, environment))
 
 
-def check_roster(command, seed):
-    return check(command, f"roster-{seed}", random_bad_roster(random.Random(seed)), b"a0 show\n")
+def check_roster(options: Options, seed: int) -> Outcomes | None:
+    roster = random_bad_roster(random.Random(seed))
+    return check(options.command(), Case(f"roster-{seed}", roster, b"a0 show\n"))
 
 
-def check_ages(command, rounds=service.LONGEST_WAIT + 3):
+def check_ages(options: Options, rounds: int = service.LONGEST_WAIT + 3) -> Outcomes | None:
     """A task that waits as long as its age can grow, and longer."""
     lines = ["a job j 5", "a task j x"] + ["a round"] * rounds
     lines += ["a where x", "a costs", "a machine m 1", "a round", "a where x", "a drain m", "a round", "a where x"]
     roster = b",".join(service.HEADING) + b"\na,5,9,1099511627776,0,0\n"
-    return check(command, "ages", roster, "\n".join(lines).encode())
+    return check(options.command(), Case("ages", roster, "\n".join(lines).encode()))
 
 
-def main():
-    parser = argparse.ArgumentParser(description=__doc__.splitlines()[0])
+def read_options() -> Options:
+    parser = argparse.ArgumentParser(description=(__doc__ or "").splitlines()[0])
     program.add_program(parser)
+    program.add_under(parser)
+    program.add_workers(parser)
     parser.add_argument("--streams", type=int, default=5000)
     parser.add_argument("--rosters", type=int, default=500)
     parser.add_argument("--first", type=int, default=1, help="the first seed")
@@ -85,22 +119,27 @@ def main():
     parser.add_argument("--pieces", action="store_true", help="pieces of all sizes, by refuse.c; needs a C compiler")
     parser.add_argument("--noise", action="store_true", help="some bytes changed in each stream; best with --tasks 4")
     parser.add_argument("--ages", action="store_true", help="also a task that waits for 1,000,003 rounds")
-    words = parser.parse_args()
-    counts, different = Counter(), 0
+    return Options(**vars(parser.parse_args()))
+
+
+def main() -> int:
+    options = read_options()
+    counts: Outcomes = Counter()
+    different = 0
     with TemporaryDirectory(prefix="firm-") as folder, ProcessPoolExecutor(max(1, (os.cpu_count() or 2) // 2)) as pool:
-        library = program.build_refusing(folder) if words.pieces else None
-        streams = pool.map(partial(check_stream, program.command(words), words.tasks, library, words.noise),
-                           range(words.first, words.first + words.streams), chunksize=20)
-        rosters = pool.map(partial(check_roster, program.command(words)),
-                           range(words.first, words.first + words.rosters), chunksize=20)
-        ages = [pool.submit(check_ages, program.command(words)).result()] if words.ages else []
+        library = program.build_refusing(folder) if options.pieces else None
+        stream_seeds = range(options.first, options.first + options.streams)
+        streams = pool.map(partial(check_stream, options, library), stream_seeds, chunksize=20)
+        roster_seeds = range(options.first, options.first + options.rosters)
+        rosters = pool.map(partial(check_roster, options), roster_seeds, chunksize=20)
+        ages = [pool.submit(check_ages, options).result()] if options.ages else []
         for found in [*streams, *rosters, *ages]:
             counts.update(found or {})
             different += found is None
-    print(f"{words.streams} streams and {words.rosters} rosters, {different} different")
+    print(f"{options.streams} streams and {options.rosters} rosters, {different} different")
     print(", ".join(f"{count} {outcome}" for outcome, count in sorted(counts.items())))
     return 1 if different else 0
 
 
 if __name__ == "__main__":
-    sys.exit(main())
+    run_script(main)

@@ -1,6 +1,7 @@
 #!/usr/bin/env bash
-# Runs the built program on inputs and outputs that fail by themselves: full and closed devices, folders, a pipe that nobody
-# reads, an input without an end. Each run must end with the promised status and words. usage: tests/devices.sh [PROGRAM]
+# Runs the built program on inputs and outputs that fail by themselves: full and closed devices, folders, a pipe that
+# nobody reads, an input without an end. Each run must end with the promised status and words, or the status is 1.
+# usage: tests/devices.sh [PROGRAM]
 set -u
 root=$(cd "$(dirname "$0")/.." && pwd)
 program=${1:-$root/crates/firm/out/firm}

@@ -2,71 +2,100 @@
 """Checks that the built program's rounds are the first of the least placements, for more tasks than can be tried out.
 
 usage: tests/first.py [--program FILE] [--sizes 40x8,100x20] [--kinds fresh,..] [--seeds N]
-Runs the streams of bench/kinds.py and hands each round to first.cc, which solves the rest anew by LEMON's network simplex for each
-choice that ranks before one that was taken. It needs a C++ compiler and LEMON (Debian's liblemon-dev).
+Runs the streams of harness/kinds.py and hands each round to first.cc, which solves the rest anew by LEMON's network
+simplex for each choice that ranks before one that was taken. It needs a C++ compiler and LEMON (Debian's
+liblemon-dev). The exit status is 1 where a round is wrong.
 """
+
+from __future__ import annotations
 
 import argparse
 import subprocess
-import sys
 import tempfile
 from concurrent.futures import ThreadPoolExecutor
+from dataclasses import dataclass
 from itertools import product
 from pathlib import Path
+from typing import NamedTuple
 
-import program
+from harness import kinds, program
+from harness.checks import compile_source, require, run_script
+from harness.rows import hear, hear_round, open_rows
+from harness.service import Tenant
 
-sys.path.insert(0, str(program.ROOT / "bench"))
-
-import kinds  # noqa: E402
-from rows import hear, hear_round, open_rows  # noqa: E402
+HERE = Path(__file__).resolve().parent
 
 
-def case_of(tenant, before):
+@dataclass(frozen=True)
+class Options(program.ProgramOptions):
+    sizes: str
+    kinds: str
+    seeds: int
+
+
+class Before(NamedTuple):
+    """A task's row before a round: where it runs, and what it would cost to leave it waiting."""
+
+    machine: str | None
+    waiting_cost: int
+
+
+def case_of(tenant: Tenant, rows: list[Before]) -> str:
     """A round as first.cc reads it: the rows before it, and where each task runs now."""
-    place = {name: number for number, name in enumerate(tenant.machines)}
+    place: dict[str | None, int] = {name: number for number, name in enumerate(tenant.machines)}
     place[None] = -1
-    lines = [f"{len(tenant.machines)} {len(tenant.tasks)} {tenant.spread} {tenant.churn} {tenant.remote}"]
+    limits = tenant.limits
+    lines = [f"{len(tenant.machines)} {len(tenant.tasks)} {limits.spread} {limits.churn} {limits.remote}"]
     lines += [str(slots) for slots in tenant.machines.values()]
-    for task, (own, waiting) in zip(tenant.tasks.values(), before):
-        preferred = [place[machine] for machine in task[3]]
-        lines.append(" ".join(map(str, [place[own], waiting, place[task[1]], len(preferred), *preferred])))
+    for task, before in zip(tenant.tasks.values(), rows):
+        preferred = [place[machine] for machine in task.preferred]
+        numbers = [place[before.machine], before.waiting_cost, place[task.machine], len(preferred), *preferred]
+        lines.append(" ".join(map(str, numbers)))
     return "\n".join(lines) + "\n"
 
 
-def rounds_of(command, stream):
+def rounds_of(command: list[str], stream: kinds.Stream) -> list[str]:
     """The rounds of a stream, as cases."""
     text = "".join(line + "\n" for lines in stream.parts for line in [*lines, f"{kinds.TENANT} round"])
     with program.Roster(stream.roster.encode()) as roster:
         found = program.run(command, roster, text.encode())
+    require(found.status == 0, f"{stream.kind}: status {found.status}, {found.faults!r}")
     replies = iter(found.output.decode().splitlines())
     tenant, cases = open_rows(stream.roster), []
     for lines in stream.parts:
         for line in lines:
             hear(tenant, line, next(replies))
-        before = [(task[1], tenant.waiting_cost(task)) for task in tenant.tasks.values()]
+        rows = [Before(task.machine, tenant.waiting_cost(task)) for task in tenant.tasks.values()]
         hear_round(tenant, next(replies))
-        cases.append(case_of(tenant, before))
+        cases.append(case_of(tenant, rows))
     return cases
 
 
-def main():
-    parser = argparse.ArgumentParser(description=__doc__.splitlines()[0])
+def read_options() -> Options:
+    parser = argparse.ArgumentParser(description=(__doc__ or "").splitlines()[0])
     program.add_program(parser)
+    program.add_under(parser)
+    program.add_workers(parser)
     parser.add_argument("--sizes", default="40x8,100x20")
     parser.add_argument("--kinds", default=",".join(kinds.KINDS))
     parser.add_argument("--seeds", type=int, default=2)
-    words = parser.parse_args()
+    return Options(**vars(parser.parse_args()))
+
+
+def main() -> int:
+    options = read_options()
     checked = solved = wrong = 0
+    seeds = range(1, options.seeds + 1)
     with tempfile.TemporaryDirectory(prefix="firm-") as folder, ThreadPoolExecutor(2) as pool:
         checker = str(Path(folder) / "first")
-        source = str(Path(__file__).resolve().parent / "first.cc")
-        subprocess.run(["g++", "-O2", "-std=c++14", "-w", "-o", checker, source], check=True)
-        for size, kind, seed in product(words.sizes.split(","), words.kinds.split(","), range(1, words.seeds + 1)):
-            stream = kinds.make(kind, *map(int, size.split("x")), seed)
-            cases = rounds_of(program.command(words), stream)
-            answers = pool.map(lambda case: subprocess.run([checker], input=case, capture_output=True, text=True), cases)
-            for place, answer in enumerate(answers):
+        compile_source(["g++", "-O2", "-std=c++14", "-w", "-o", checker, str(HERE / "first.cc")])
+
+        def judge(case: str) -> subprocess.CompletedProcess[str]:
+            return subprocess.run([checker], input=case, capture_output=True, text=True)
+
+        for size, kind, seed in product(options.sizes.split(","), options.kinds.split(","), seeds):
+            cases = rounds_of(options.command(), kinds.make(kind, *kinds.read_size(size), seed))
+            for place, answer in enumerate(pool.map(judge, cases)):
                 checked += 1
                 if answer.returncode:
                     wrong += 1
@@ -78,4 +107,4 @@ def main():
 
 
 if __name__ == "__main__":
-    sys.exit(main())
+    run_script(main)

@@ -12,7 +12,8 @@ import time
 from pathlib import Path
 from typing import Callable
 
-from program import ROOT, Run
+from harness.checks import require
+from harness.program import ROOT, Run
 
 TOOLS = ("awk", "bash", "cat", "dirname", "env", "find", "realpath")
 LIMIT_SECONDS = 60  # for each run of the launcher
@@ -79,8 +80,14 @@ class Place:
     def start(self, has_rt: bool = True, launcher: Path | None = None, **behaviour: str) -> subprocess.Popen[bytes]:
         environment = {**os.environ, "PATH": str(self.paths[has_rt]), **behaviour}
         words = [str(launcher or self.top / "firm"), "--roster", "day.csv"]
-        return subprocess.Popen(words, env=environment, preexec_fn=heed_signals, stdin=subprocess.PIPE,
-                                stdout=subprocess.PIPE, stderr=subprocess.PIPE)
+        return subprocess.Popen(
+            words,
+            env=environment,
+            preexec_fn=heed_signals,
+            stdin=subprocess.PIPE,
+            stdout=subprocess.PIPE,
+            stderr=subprocess.PIPE,
+        )
 
     def end(self, launched: subprocess.Popen[bytes]) -> Run:
         with launched:
@@ -119,29 +126,50 @@ class Place:
 
     def build(self) -> None:
         done = self.run()
-        assert done.status == 0, done
+        require(done.status == 0, done)
         self.asked()
+
+
+def require_reply(done: Run) -> None:
+    """The program ran on the words and the input of the run."""
+    require(done.status == 0 and done.output == REPLY, done)
+
+
+def require_quiet_reply(done: Run) -> None:
+    """It did so at once: nothing is said on standard error."""
+    require(done == (0, REPLY, b""), done)
+
+
+def require_nothing_asked(place: Place) -> None:
+    asked = place.asked()
+    require(not asked, f"rt was asked: {asked}")
+
+
+def require_made(place: Place, wanted: set[str]) -> None:
+    made = place.made()
+    require(set(made) == wanted, f"made: {made}, and not {wanted}")
 
 
 def first_run(place: Place) -> None:
     """The first run proves what the program stands on, lowest first, and side by side only crates that share none."""
     done = place.run()
-    assert done.status == 0 and done.output == REPLY, done
+    require_reply(done)
     running: set[str] = set()
     ended: set[str] = set()
     for word, crate in place.asked():
         own = family(crate, place.crates)
-        assert word != "robbed", f"{crate} was given the program's input"
+        require(word != "robbed", f"{crate} was given the program's input")
         if word == "begin":
-            assert crate not in ended, f"{crate} twice"
-            assert own - {crate} <= ended, f"{crate} before {own - ended}"
-            assert not any(own & family(other, place.crates) for other in running), f"{crate} beside {running}"
+            require(crate not in ended, f"{crate} twice")
+            require(own - {crate} <= ended, f"{crate} before {own - ended}")
+            beside = [other for other in running if own & family(other, place.crates)]
+            require(not beside, f"{crate} beside {beside}")
             running.add(crate)
         elif word == "end":
             running.remove(crate)
             ended.add(crate)
-    assert ended == place.needed, ended
-    assert f"0 of {len(ended)} left".encode() in done.faults, done.faults
+    require(ended == place.needed, ended)
+    require(f"0 of {len(ended)} left".encode() in done.faults, done.faults)
 
 
 def current(place: Place) -> None:
@@ -150,31 +178,29 @@ def current(place: Place) -> None:
     link = place.top.parent / "linked"
     link.symlink_to(place.top / "firm")
     for launcher in (None, link):
-        done = place.run(launcher=launcher)
-        assert done == (0, REPLY, b""), done
-    assert not place.asked()
+        require_quiet_reply(place.run(launcher=launcher))
+    require_nothing_asked(place)
 
 
 def newer_documents(place: Place) -> None:
     """Newer documents, tests, edits and crates that the program does not stand on ask for nothing."""
     place.build()
     others = [f"crates/{crate}/src/lib.rt" for crate in set(place.crates) - place.needed]
-    for name in ["README.md", "docs/USING.md", "tests/quick", "crates/firm/stdin", "crates/firm_net/must-fail/one.edit",
-                 "crates/firm_net/more-edits/two.edit", *others]:
+    edits = ["crates/firm_net/must-fail/one.edit", "crates/firm_net/more-edits/two.edit"]
+    for name in ["README.md", "docs/USING.md", "tests/quick", "crates/firm/stdin", *edits, *others]:
         place.write(name)
     (place.top / "crates.txt").touch()
-    done = place.run()
-    assert done == (0, REPLY, b""), done
-    assert not place.asked()
+    require_quiet_reply(place.run())
+    require_nothing_asked(place)
 
 
 def newer_source(place: Place) -> None:
     """A newer source of a crate below is proved, and the program is current then."""
     place.build()
     place.write("crates/firm_net/src/lib.rt")
-    assert place.run().output == REPLY
-    assert set(place.made()) == place.above("firm_net")
-    assert place.run() == (0, REPLY, b"")
+    require_reply(place.run())
+    require_made(place, place.above("firm_net"))
+    require_quiet_reply(place.run())
 
 
 def edit_during_build(place: Place) -> None:
@@ -182,25 +208,24 @@ def edit_during_build(place: Place) -> None:
     launched = place.start()
     place.wait_for("end firm_net", launched)
     place.write("crates/firm_net/src/lib.rt")
-    assert place.end(launched).output == REPLY
+    require_reply(place.end(launched))
     place.asked()
-    assert place.run().output == REPLY
-    assert set(place.made()) == place.above("firm_net")
+    require_reply(place.run())
+    require_made(place, place.above("firm_net"))
 
 
 def no_rt(place: Place) -> None:
-    """Without rt the program that is there runs, with a note where a source is newer; without either, the status is 127."""
+    """Without rt the program that is there runs, with a note where a source is newer; without either, status 127."""
     done = place.run(has_rt=False)
-    assert done.status == 127 and done.output == b"", done
-    assert b"rt" in done.faults and b"PATH" in done.faults and b"README.md" in done.faults, done.faults
+    require(done.status == 127 and done.output == b"", done)
+    require(all(word in done.faults for word in (b"rt", b"PATH", b"README.md")), done.faults)
     place.build()
-    done = place.run(has_rt=False)
-    assert done == (0, REPLY, b""), done
+    require_quiet_reply(place.run(has_rt=False))
     place.write("crates/firm_hall/src/lib.rt")
     done = place.run(has_rt=False)
-    assert done.status == 0 and done.output == REPLY, done
-    assert done.faults.count(b"\n") == 1 and b"rt" in done.faults, done.faults
-    assert not place.asked()
+    require_reply(done)
+    require(done.faults.count(b"\n") == 1 and b"rt" in done.faults, done.faults)
+    require_nothing_asked(place)
 
 
 def interrupted(place: Place) -> None:
@@ -211,37 +236,47 @@ def interrupted(place: Place) -> None:
         place.wait_for("begin firm_graph", launched)
         launched.send_signal(number)
         done = place.end(launched)
-        assert done.status == 128 + number and done.output == b"", done
-        assert b"goes on from here" in done.faults, done.faults
-        assert not place.still_runs()
+        require(done.status == 128 + number and done.output == b"", done)
+        require(b"goes on from here" in done.faults, done.faults)
+        require(not place.still_runs(), "a check goes on")
         made += place.made()
-    assert "firm_flow" in made and "firm_graph" not in made, made
-    assert place.run().output == REPLY
-    assert sorted(made + place.made()) == sorted(place.needed)
+    require("firm_flow" in made and "firm_graph" not in made, made)
+    require_reply(place.run())
+    made += place.made()
+    require(sorted(made) == sorted(place.needed), made)
 
 
 def failing_crate(place: Place) -> None:
     """A crate that is not proved ends the run with its log's name; nothing above it is tried, and no program runs."""
     done = place.run(RT_BROKEN="firm_paths")
     log = place.top / "crates/firm_paths/out/build.log"
-    assert done.status == 1 and done.output == b"", done
-    assert str(log).encode() in done.faults, done.faults
-    assert "a goal is open" in log.read_text()
-    assert not {"firm_paths", "firm_flow", "firm"} & set(place.made())
+    require(done.status == 1 and done.output == b"", done)
+    require(str(log).encode() in done.faults, done.faults)
+    require("a goal is open" in log.read_text(), log.read_text())
+    made = place.made()
+    require(not {"firm_paths", "firm_flow", "firm"} & set(made), made)
 
 
 def two_at_once(place: Place) -> None:
     """Of two runs at a time one builds; the other waits, and both are served."""
     both = [place.start(), place.start()]
     for launched in both:
-        done = place.end(launched)
-        assert done.status == 0 and done.output == REPLY, done
+        require_reply(place.end(launched))
     begun = sorted(crate for word, crate in place.asked() if word == "begin")
-    assert begun == sorted(place.needed), begun
+    require(begun == sorted(place.needed), begun)
 
 
 CHECKS: list[Callable[[Place], None]] = [
-    first_run, current, newer_documents, newer_source, edit_during_build, no_rt, interrupted, failing_crate, two_at_once]
+    first_run,
+    current,
+    newer_documents,
+    newer_source,
+    edit_during_build,
+    no_rt,
+    interrupted,
+    failing_crate,
+    two_at_once,
+]
 
 
 def run_in_place(check: Callable[[Place], None]) -> None:

@@ -1,14 +1,18 @@
-// Preloaded into the program by faults.py: refuses requests for memory, and fails, shortens or interrupts reads and writes.
+// Preloaded into the program: refuses requests for memory and threads, fails, shortens or interrupts reads and writes, and delays.
 //
 // The environment says which, each a number, counted from 1 and from the start of the program:
 //   REFUSE_MEMORY, REFUSE_MEMORY_LAST   the first and the last request for memory that is refused (the last is the first if unset)
 //   FAIL_READ, FAIL_WRITE, FAIL_FILE    which read of standard input, write of standard output, or read of another file fails, once
 //   FAIL_WITH                           with which error; 0: a write answers 0
 //   READ_MOST, WRITE_MOST               how many bytes a read of standard input gives, a write of standard output takes, at most
-//   COUNTS                              a file to which the counts are written: memory, reads, writes, other reads
+//   REFUSE_THREAD                       which thread can't be started
+//   DELAY_MEMORY                        how many milliseconds each request for memory takes on another thread than the first
+//   COUNTS                              a file to which the counts are written: memory, reads, writes, other reads, threads
 #define _GNU_SOURCE
+#include <dlfcn.h>
 #include <errno.h>
 #include <fcntl.h>
+#include <pthread.h>
 #include <stdatomic.h>
 #include <stddef.h>
 #include <stdlib.h>
@@ -16,6 +20,7 @@
 #include <sys/syscall.h>
 #include <sys/types.h>
 #include <sys/uio.h>
+#include <time.h>
 #include <unistd.h>
 
 void *__libc_malloc(size_t size);
@@ -23,11 +28,12 @@ void *__libc_calloc(size_t count, size_t size);
 void *__libc_realloc(void *block, size_t size);
 void *__libc_memalign(size_t alignment, size_t size);
 
-enum { MEMORY, READS, WRITES, FILES, COUNTED };
+enum { MEMORY, READS, WRITES, FILES, THREADS, COUNTED };
 
 static atomic_ulong unshared[COUNTED];
 static atomic_ulong *counts = unshared;
 static unsigned long refuse_first, refuse_last, fail_read, fail_write, fail_file, fail_with, read_most, write_most;
+static unsigned long refuse_thread, delay_memory;
 static int is_ready;
 
 static unsigned long number(const char *name) {
@@ -44,6 +50,8 @@ __attribute__((constructor)) static void begin(void) {
     fail_with = number("FAIL_WITH");
     read_most = number("READ_MOST");
     write_most = number("WRITE_MOST");
+    refuse_thread = number("REFUSE_THREAD");
+    delay_memory = number("DELAY_MEMORY");
     const char *path = getenv("COUNTS");
     int file = path ? open(path, O_RDWR | O_CREAT | O_TRUNC, 0600) : -1;
     if (file >= 0 && ftruncate(file, sizeof unshared) == 0) {
@@ -59,8 +67,16 @@ static unsigned long count(int what) {
     return atomic_fetch_add(&counts[what], 1) + 1;
 }
 
+static int is_first_thread(void) {
+    return syscall(SYS_gettid) == getpid();
+}
+
 static int is_refused(void) {
     if (!is_ready) return 0;
+    if (delay_memory != 0 && !is_first_thread()) {
+        struct timespec delay = {delay_memory / 1000, delay_memory % 1000 * 1000000};
+        nanosleep(&delay, NULL);
+    }
     unsigned long place = count(MEMORY);
     if (refuse_first == 0 || place < refuse_first || place > refuse_last) return 0;
     errno = ENOMEM;
@@ -127,4 +143,11 @@ ssize_t readv(int file, const struct iovec *parts, int number) {
 
 ssize_t writev(int file, const struct iovec *parts, int number) {
     return number > 0 ? write(file, parts[0].iov_base, parts[0].iov_len) : 0;
+}
+
+int pthread_create(pthread_t *thread, const pthread_attr_t *attributes, void *(*run)(void *), void *argument) {
+    static int (*start)(pthread_t *, const pthread_attr_t *, void *(*)(void *), void *);
+    if (start == NULL) *(void **)&start = dlsym(RTLD_NEXT, "pthread_create");
+    if (is_ready && count(THREADS) == refuse_thread) return EAGAIN;
+    return start(thread, attributes, run, argument);
 }

@@ -1,9 +1,11 @@
 #!/usr/bin/env python3
-"""Stands in for rt in the launcher's checks: makes in a moment what a proof would make, and writes down what it was asked.
+"""Stands in for rt in the launcher's checks: makes in a moment what a proof would make, and keeps a record.
 
-The file `asked` at the top of the repository gets a line at each begin and each end, and one where something is made anew.
-The environment can have a crate fail (RT_BROKEN) or take very long (RT_SLOW), by its name.
+The file `asked` at the top of the repository gets a line at each begin and each end, and one where something is made
+anew. The environment can have a crate fail (RT_BROKEN) or take very long (RT_SLOW), by its name.
 """
+
+from __future__ import annotations
 
 import os
 import sys

@@ -1,11 +1,18 @@
 #!/usr/bin/env bash
-# Runs the program under ThreadSanitizer: the code that the kit's compiler hands to LLVM, built once more with each access to memory
-# watched. usage: tests/threads.sh [STREAMS]
-# A data race, or an output that differs, gives status 1. So does a control in which nothing is found: the same code with the
-# orderings of its atomic accesses taken away has to race. It needs the kit, Python 3, and Debian's clang with its sanitizers.
+# Runs the program under ThreadSanitizer: the code that the kit's compiler hands to LLVM, built once more with each
+# access to memory watched. usage: tests/threads.sh [STREAMS]
+# A data race, or an output that differs, gives status 1. So does a control in which nothing is found: the same code
+# with the orderings of its atomic accesses taken away has to race. It needs the kit, Python 3, and Debian's clang with
+# its sanitizers; the status is 2 where one of them is not there.
 set -eu -o pipefail
 here=$(cd "$(dirname "$0")" && pwd)
 streams=${1:-200}
+for tool in rt clang python3; do
+    command -v "$tool" >/dev/null || {
+        echo "tests/threads.sh: $tool is not on the PATH" >&2
+        exit 2
+    }
+done
 kit=$(dirname "$(rt doc)")
 folder=$(mktemp -d)
 trap 'rm -r "$folder"' EXIT
@@ -40,6 +47,7 @@ build() {
 }
 
 crate=$here/../crates/firm
+examples=$here/../examples
 rm -f "$crate/out/firm"
 (cd "$crate" && "$folder/kit/bin/rt" run -- --help) >"$folder/log" 2>&1 || {
     cat "$folder/log"
@@ -57,7 +65,8 @@ missed=0
 
 # day NAME WORKERS: the example day; 99 where a race was seen.
 day() {
-    "$folder/$1" --workers "$2" --roster "$here/../examples/roster.csv" <"$here/../examples/commands.txt" 2>"$folder/races" >"$folder/output"
+    "$folder/$1" --workers "$2" --roster "$examples/roster.csv" <"$examples/commands.txt" \
+        2>"$folder/races" >"$folder/output"
 }
 
 for workers in 1 2 8; do
@@ -70,6 +79,7 @@ for workers in 1 2 8; do
 done
 "$here/compare.py" --program "$folder/watched" --workers 2 --streams "$streams" --rosters 5 || missed=1
 "$here/compare.py" --program "$folder/watched" --workers 8 --streams "$streams" --rosters 5 --pieces || missed=1
+"$here/live.py" --program "$folder/watched" --only "line by line" --streams 20 || missed=1
 if day unordered 2; then
     echo "MISSED: without orderings nothing was found, so nothing was watched"
     missed=1

@@ -1,6 +1,7 @@
 #!/usr/bin/env bash
-# Runs the built program under a checker of valgrind: on the example day, on random small streams, and on a day of rounds for
-# 100 tasks. A finding, or an output that differs, gives status 1. usage: tests/valgrind.sh [PROGRAM] [TOOL] [WORKERS]
+# Runs the built program under a checker of valgrind: on the example day, on random small streams, and on a day of
+# rounds for 100 tasks. A finding, or an output that differs, gives a status that is not 0.
+# usage: tests/valgrind.sh [PROGRAM] [TOOL] [WORKERS]
 # TOOL is memcheck (reads of what was not written, memory that is lost) or, for threads, helgrind or drd.
 set -eu -o pipefail
 here=$(cd "$(dirname "$0")" && pwd)
@@ -12,6 +13,7 @@ under="valgrind -q --tool=$tool --error-exitcode=99"
 folder=$(mktemp -d)
 trap 'rm -r "$folder"' EXIT
 
+# same ROSTER COMMANDS NAME: the output under the checker is the program's own.
 same() {
     # shellcheck disable=SC2086
     $under "$program" ${workers:+--workers "$workers"} --roster "$1" <"$2" >"$folder/checked"
@@ -21,6 +23,6 @@ same() {
 }
 
 same "$here/../examples/roster.csv" "$here/../examples/commands.txt" "the example day"
-python3 "$here/../bench/kinds.py" steady 100 20 "$folder/steady"
+(cd "$here" && python3 -m harness.kinds steady 100 20 "$folder/steady")
 same "$folder/steady.csv" "$folder/steady.txt" "rounds of 100 tasks"
 "$here/compare.py" --program "$program" --under "$under" ${workers:+--workers "$workers"} --streams 60 --rosters 20

@@ -1,0 +1,30 @@
+"""The files of the repository."""
+
+from __future__ import annotations
+
+import subprocess
+from pathlib import Path
+
+from harness.checks import CannotRun
+from harness.program import ROOT
+
+
+def tracked_files() -> list[Path]:
+    """The files that git tracks, and new ones that it does not ignore, by their paths in the repository."""
+    words = ["git", "ls-files", "-z", "--cached", "--others", "--exclude-standard"]
+    done = subprocess.run(words, cwd=ROOT, stdin=subprocess.DEVNULL, capture_output=True, text=True)
+    if done.returncode:
+        raise CannotRun(f"git does not list the files: {done.stderr.strip()}")
+    return [Path(name) for name in done.stdout.split("\0") if name and (ROOT / name).exists()]
+
+
+def lines_of(path: Path) -> list[str]:
+    """The lines of a file of the repository, without their ends; none where it is no text."""
+    try:
+        return (ROOT / path).read_text().splitlines()
+    except (UnicodeDecodeError, IsADirectoryError):
+        return []
+
+
+def first_line(path: Path) -> str:
+    return next(iter(lines_of(path)), "")

@@ -1,0 +1,214 @@
+"""Runs the built program on a roster and an input."""
+
+from __future__ import annotations
+
+import argparse
+import os
+import select
+import shlex
+import subprocess
+import tempfile
+import time
+from dataclasses import dataclass
+from pathlib import Path
+from types import TracebackType
+from typing import IO, Mapping, NamedTuple, Sequence
+
+from harness.checks import compile_source
+
+ROOT = Path(__file__).resolve().parents[2]
+OUT = ROOT / "out" / "tests"
+WORKERS = 2  # where no number is named
+LIMIT_SECONDS = 120  # for a run
+REPLY_SECONDS = 20  # for a reply, and for an end
+
+Environment = Mapping[str, str]
+
+
+def built(crate: str) -> Path:
+    """The program that is built from a crate."""
+    return ROOT / "crates" / crate / "out" / crate
+
+
+BUILT = built("firm")
+
+
+class Run(NamedTuple):
+    """How a run ended: its exit status, where a signal gives a negative one, and what it wrote."""
+
+    status: int
+    output: bytes
+    faults: bytes
+
+
+def program_file(path: str) -> str:
+    """The path of a program that is there, as an argument."""
+    if not os.access(path, os.X_OK) or os.path.isdir(path):
+        raise argparse.ArgumentTypeError(f"there is no program {path} (./firm builds the repository's own)")
+    return path
+
+
+@dataclass(frozen=True)
+class ProgramOptions:
+    """The program as a command line names it, by `add_program`, `add_under` and `add_workers`."""
+
+    program: str
+    under: str
+    workers: str
+
+    def command(self, workers: str | None = None) -> list[str]:
+        """The first words of a run; with another number of workers, if one is named."""
+        count = self.workers if workers is None else workers
+        return shlex.split(self.under) + [self.program] + (["--workers", count] if count else [])
+
+
+def add_program(parser: argparse.ArgumentParser) -> None:
+    named = "the built program (default: %(default)s)"
+    parser.add_argument("--program", type=program_file, default=str(BUILT), metavar="FILE", help=named)
+
+
+def add_under(parser: argparse.ArgumentParser) -> None:
+    parser.add_argument("--under", default="", metavar="COMMAND", help="a command that runs it, as 'valgrind -q'")
+
+
+def add_workers(parser: argparse.ArgumentParser, default: str = "") -> None:
+    named = "the number of its workers (default: the program's own)"
+    parser.add_argument("--workers", default=default, metavar="N", help=named)
+
+
+class Roster:
+    """A roster in a file of its own, for as long as the `with` block lasts."""
+
+    def __init__(self, text: bytes) -> None:
+        self.text = text
+
+    def __enter__(self) -> str:
+        handle, self.path = tempfile.mkstemp(prefix="firm-", suffix=".csv")
+        with os.fdopen(handle, "wb") as file:
+            file.write(self.text)
+        return self.path
+
+    def __exit__(self, *_: object) -> None:
+        os.unlink(self.path)
+
+
+def run(
+    command: Sequence[str],
+    roster_path: str,
+    text: bytes,
+    environment: Environment | None = None,
+    seconds: float = LIMIT_SECONDS,
+) -> Run:
+    """A run of the program on a roster and an input."""
+    return run_words([*command, "--roster", roster_path], text, environment, seconds)
+
+
+def run_words(
+    words: Sequence[str], text: bytes, environment: Environment | None = None, seconds: float = LIMIT_SECONDS
+) -> Run:
+    """As `run`, with all the words of the command line."""
+    whole = {**os.environ, **(environment or {})}
+    done = subprocess.run(words, input=text, capture_output=True, timeout=seconds, env=whole)
+    return Run(done.returncode, done.stdout, done.stderr)
+
+
+class Client:
+    """A client of the program, over pipes that stay open."""
+
+    def __init__(
+        self,
+        command: Sequence[str],
+        roster_path: str,
+        environment: Environment | None = None,
+        stdin: int = subprocess.PIPE,
+    ) -> None:
+        self.process = subprocess.Popen(
+            [*command, "--roster", roster_path],
+            stdin=stdin,
+            stdout=subprocess.PIPE,
+            stderr=subprocess.PIPE,
+            bufsize=0,
+            env={**os.environ, **(environment or {})},
+        )
+        self.received = b""
+
+    def __enter__(self) -> Client:
+        return self
+
+    def __exit__(self, kind: type[BaseException] | None, error: BaseException | None, _: TracebackType | None) -> None:
+        self.process.kill()
+        self.process.wait()
+        for pipe in (self.process.stdin, self.process.stdout, self.process.stderr):
+            if pipe is not None:
+                pipe.close()
+
+    @property
+    def input(self) -> IO[bytes]:
+        return opened(self.process.stdin)
+
+    @property
+    def output(self) -> IO[bytes]:
+        return opened(self.process.stdout)
+
+    def send(self, text: bytes) -> None:
+        self.input.write(text)
+
+    def reply(self, seconds: float = REPLY_SECONDS) -> bytes | None:
+        """The next line of the output, without its end; None where none has come in time, or the output has ended."""
+        ends = time.monotonic() + seconds
+        while b"\n" not in self.received:
+            if not select.select([self.output], [], [], max(0, ends - time.monotonic()))[0]:
+                return None
+            more = os.read(self.output.fileno(), 65536)
+            if not more:
+                return None
+            self.received += more
+        line, self.received = self.received.split(b"\n", 1)
+        return line
+
+    def ask(self, line: bytes, seconds: float = REPLY_SECONDS) -> bytes | None:
+        """The reply to a line."""
+        self.send(line + b"\n")
+        return self.reply(seconds)
+
+    def threads(self) -> int:
+        """How many threads it has."""
+        return len(os.listdir(f"/proc/{self.process.pid}/task"))
+
+    def processor_seconds(self) -> float:
+        """The processor time that it has taken, user and system."""
+        fields = Path(f"/proc/{self.process.pid}/stat").read_text().rpartition(")")[2].split()
+        return (int(fields[11]) + int(fields[12])) / os.sysconf("SC_CLK_TCK")
+
+    def end(self, seconds: float = REPLY_SECONDS) -> Run:
+        """How it ends within the time, without a close of its input, with what is left of its output."""
+        status = self.process.wait(seconds)
+        left = b"" if self.output.closed else self.output.read()
+        return Run(status, self.received + left, opened(self.process.stderr).read())
+
+    def close(self, seconds: float = REPLY_SECONDS) -> Run:
+        """As `end`, once its input has ended."""
+        self.input.close()
+        return self.end(seconds)
+
+
+def opened(pipe: IO[bytes] | None) -> IO[bytes]:
+    """A pipe to a process that was started with one."""
+    if pipe is None:
+        raise ValueError("the process has no such pipe")
+    return pipe
+
+
+def build_refusing(folder: str | Path) -> str:
+    """The library that is preloaded to refuse memory and to fail or shorten reads and writes."""
+    library = str(Path(folder) / "refuse.so")
+    compile_source(["cc", "-O2", "-shared", "-fPIC", "-o", library, str(ROOT / "tests" / "refuse.c")])
+    return library
+
+
+def keep(name: str, roster: bytes, text: bytes) -> Path:
+    """Keeps a roster and an input under out/, to be run again by hand; gives the path's beginning."""
+    OUT.mkdir(parents=True, exist_ok=True)
+    (OUT / f"{name}.csv").write_bytes(roster)
+    (OUT / f"{name}.txt").write_bytes(text)
+    return OUT / name

@@ -1,0 +1,147 @@
+"""The sessions in the documents: fenced blocks that a reader can type, each with what comes out right behind it.
+
+A block of `sh` or `python` is run in a folder where ./firm is the launcher and examples/ are the examples; a block of
+`firm` is the input of ./firm. So are the lines of a table whose first column is Line and whose last is Reply. The
+roster, roster.csv, is the block of `csv` right above, or else the page's first. A block without what comes out is there
+to be read, and is not run.
+"""
+
+from __future__ import annotations
+
+import itertools
+import re
+import subprocess
+import sys
+import tempfile
+from pathlib import Path
+from typing import Iterator, NamedTuple
+
+from harness.checks import require
+from harness.program import ROOT
+
+LIMIT_SECONDS = 300
+FENCE = "```"
+TABLE = re.compile(r"\| Line \|.*\| Reply[^|]*\|")
+FIRST_AND_LAST = re.compile(r"\| `([^`]+)` \|.*\| `([^`]+)`[^|]*\|")
+
+
+class Block(NamedTuple):
+    """A fenced block: the line of its first fence, from 1, and of its last; what it is of; its text."""
+
+    first_line: int
+    last_line: int
+    kind: str
+    text: str
+
+
+class Session(NamedTuple):
+    """What is typed, the roster for it, if the page has one, and what comes out."""
+
+    page: str
+    typed: Block
+    roster: str | None
+    output: str
+
+    @property
+    def name(self) -> str:
+        return f"{self.page}, line {self.typed.first_line}"
+
+
+def blocks_of(text: str) -> list[Block]:
+    blocks: list[Block] = []
+    opened: tuple[int, str] | None = None
+    lines = text.splitlines(keepends=True)
+    for number, line in enumerate(lines, 1):
+        if not line.startswith(FENCE):
+            continue
+        if opened is None:
+            opened = number, line[len(FENCE) :].strip()
+        else:
+            first_line, kind = opened
+            blocks.append(Block(first_line, number, kind, "".join(lines[first_line : number - 1])))
+            opened = None
+    return blocks
+
+
+class Pair(NamedTuple):
+    """What is typed, and what comes out."""
+
+    typed: Block
+    output: str
+
+
+def are_adjoined(lines: list[str], first: Block, second: Block) -> bool:
+    """Whether nothing but empty lines stands between two blocks."""
+    return not "".join(lines[first.last_line : second.first_line - 1]).strip()
+
+
+def fenced_pairs(text: str) -> Iterator[Pair]:
+    """The blocks that have what comes out right behind them."""
+    lines, blocks = text.splitlines(), blocks_of(text)
+    for typed, output in zip(blocks, blocks[1:]):
+        if typed.kind in COMMANDS and output.kind == "" and are_adjoined(lines, typed, output):
+            yield Pair(typed, output.text)
+
+
+def table_pairs(text: str) -> Iterator[Pair]:
+    """The tables of lines and replies, as blocks of commands. The replies stand there without tenant and number."""
+    lines = text.splitlines()
+    for place, heading in enumerate(lines):
+        if TABLE.fullmatch(heading) is None:
+            continue
+        rows = itertools.takewhile(lambda line: line.startswith("|"), lines[place + 2 :])
+        found = [FIRST_AND_LAST.fullmatch(row) for row in rows]
+        typed = [row[1] for row in found if row]
+        require(len(typed) == len(found), f"the table in line {place + 1} has a row without a line or a reply")
+        replies = [f"{row[1].split()[0]} {number} {row[2]}" for number, row in enumerate(found, 1) if row]
+        block = Block(place + 1, place + 2 + len(found), "firm", "".join(line + "\n" for line in typed))
+        yield Pair(block, "".join(reply + "\n" for reply in replies))
+
+
+def roster_for(typed: Block, text: str) -> str | None:
+    """The roster right above a block, or else the page's first."""
+    lines = text.splitlines()
+    rosters = [block for block in blocks_of(text) if block.kind == "csv"]
+    own = [roster for roster in rosters if roster.last_line < typed.first_line and are_adjoined(lines, roster, typed)]
+    chosen = own or rosters
+    return chosen[0].text if chosen else None
+
+
+def sessions_of(page: Path) -> list[Session]:
+    """The sessions of a page."""
+    text, name = page.read_text(), str(page.relative_to(ROOT))
+    pairs = [*fenced_pairs(text), *table_pairs(text)]
+    return [Session(name, typed, roster_for(typed, text), output) for typed, output in pairs]
+
+
+COMMANDS = {
+    "sh": ["bash", "-eu"],
+    "python": [sys.executable, "-"],
+    "firm": ["./firm", "--roster", "roster.csv"],
+}
+
+
+def play(session: Session) -> None:
+    """Types a session; what comes out must be what the page says."""
+    with tempfile.TemporaryDirectory(prefix="firm-") as folder:
+        for name in ("firm", "examples"):
+            (Path(folder) / name).symlink_to(ROOT / name)
+        if session.roster is not None:
+            (Path(folder) / "roster.csv").write_text(session.roster)
+        done = subprocess.run(
+            COMMANDS[session.typed.kind],
+            input=session.typed.text,
+            cwd=folder,
+            capture_output=True,
+            text=True,
+            timeout=LIMIT_SECONDS,
+        )
+    require(done.returncode == 0, f"status {done.returncode}: {done.stderr}")
+    require(done.stdout == session.output, f"it gives\n{done.stdout}and not\n{session.output}")
+
+
+def block_with(page: Path, words: str) -> Block:
+    """The only block of a page that has these words."""
+    found = [block for block in blocks_of(page.read_text()) if re.search(re.escape(words), block.text)]
+    require(len(found) == 1, f"{page.name} has {len(found)} blocks with {words}")
+    return found[0]

@@ -1,0 +1,253 @@
+#!/usr/bin/env python3
+"""Asks the built program as live clients do, which hold its input open and wait for each reply.
+
+usage: tests/live.py [--program FILE] [--under COMMAND] [--only WORDS] [--streams N] [--first SEED]
+Each check has a line, and the exit status is 1 where one failed. It needs a C compiler (cc) for refuse.c, which makes a
+round as long as a check wants it.
+"""
+
+from __future__ import annotations
+
+import argparse
+import os
+import pty
+import random
+import select
+import signal
+import subprocess
+import tempfile
+import time
+import tty
+from dataclasses import dataclass
+from functools import partial
+from typing import Iterator
+
+from harness import program, service
+from harness.checks import Check, require, run_script, status_of
+from harness.small_streams import random_stream
+
+ROSTER = b"tenant,nodes,arcs,life,spread,churn\nalpha,9,24,1000,1,2\nbeta,8,30,1000000,0,3\n"
+ROWS = [
+    b"alpha machine m1 2",
+    b"alpha machine m2 2",
+    b"alpha job j 10",
+    b"alpha task j a",
+    b"beta machine m1 1",
+    b"beta job low 2",
+    b"beta task low l",
+]
+FIRST_ROUND = b"alpha 5 ok round cost 0 start a m1"
+# How long a worker waits for each memory that it asks for in a round, and how soon what waits behind that round comes.
+DELAY_SECONDS = 0.3
+AT_ONCE_SECONDS = 0.1
+# A pause in which the service has gone to sleep.
+PAUSE_SECONDS = 0.05
+# More than a pipe holds, in fewer lines than answers are held.
+LINES_MEANWHILE, LINE_BYTES = 1000, 250
+
+
+@dataclass(frozen=True)
+class Options(program.ProgramOptions):
+    only: str
+    streams: int
+    first: int
+
+
+class Starter:
+    """Starts clients of the program, each with a roster of its own."""
+
+    def __init__(self, options: Options, folder: str) -> None:
+        self.options, self.library = options, program.build_refusing(folder)
+
+    def client(
+        self,
+        roster_path: str,
+        workers: str = "2",
+        stdin: int = subprocess.PIPE,
+        is_slow: bool = False,
+        **asked: int,
+    ) -> program.Client:
+        """A client, whose rounds may take a while; what is asked of refuse.c goes by the names that it has for it."""
+        if is_slow:
+            asked["delay_memory"] = int(1000 * DELAY_SECONDS)
+        environment = {"LD_PRELOAD": self.library} if asked else {}
+        environment.update({name.upper(): str(number) for name, number in asked.items()})
+        return program.Client(self.options.command(workers), roster_path, environment, stdin)
+
+
+def add_rows(client: program.Client) -> None:
+    for line in ROWS:
+        require(is_ok(client.ask(line)), line)
+
+
+def is_ok(reply: bytes | None) -> bool:
+    return reply is not None and reply.endswith(b" ok")
+
+
+def is_waiting(client: program.Client) -> bool:
+    """Whether no reply is there yet."""
+    return not client.received and not select.select([client.output], [], [], 0)[0]
+
+
+def line_by_line(starter: Starter, workers: str) -> None:
+    """Each reply of a random stream comes before the next line is sent; all are those of the whole stream in one go."""
+    options = starter.options
+    for seed in range(options.first, options.first + options.streams):
+        roster, text = random_stream(random.Random(seed))
+        plain = service.Service(service.read_roster(roster))
+        with program.Roster(roster) as roster_path, starter.client(roster_path, workers) as client:
+            replies: list[bytes] = []
+            *lines, rest = text.split(b"\n")
+            for raw, line in zip(lines, service.lines_of(text)):
+                wanted = service.answer_line(plain, line)
+                client.send(raw + b"\n")
+                if wanted is not None:
+                    got = client.reply()
+                    require(got == wanted, f"seed {seed}: {got!r} to {raw!r} and not {wanted!r}")
+                    replies.append(wanted + b"\n")
+            client.send(rest)
+            end = client.close()
+            whole = program.run(options.command(workers), roster_path, text)
+            require(whole == (0, b"".join(replies) + end.output, b""), f"seed {seed}: {whole} in one go")
+            require(end == (0, end.output, b""), f"seed {seed}: {end} at the end")
+
+
+def lines_during_a_round(starter: Starter, workers: str) -> None:
+    """While a round is solved another tenant's lines are answered; the replies come right behind its own."""
+    with program.Roster(ROSTER) as roster_path, starter.client(roster_path, workers=workers, is_slow=True) as client:
+        add_rows(client)
+        client.send(b"alpha round\n")
+        time.sleep(PAUSE_SECONDS)
+        client.send(b"".join(b"beta where l".ljust(LINE_BYTES) + b"\n" for _ in range(LINES_MEANWHILE)))
+        require(is_waiting(client), "the lines were read, but not while the round was solved")
+        require(client.reply() == FIRST_ROUND, "the round's reply comes first")
+        solved = time.monotonic()
+        for number in range(LINES_MEANWHILE):
+            require(client.reply() == b"beta %d ok waits 0" % (number + 4), f"reply {number + 4}")
+        behind = time.monotonic() - solved
+        require(behind < AT_ONCE_SECONDS, f"the replies came {behind:.3f} s behind the round")
+        require(client.close() == (0, b"", b""), "its end")
+
+
+def closed_output(starter: Starter, line: bytes, is_slow: bool) -> None:
+    """Where nobody reads the replies any more the service ends with the next one, while its input is still open."""
+    with program.Roster(ROSTER) as roster_path, starter.client(roster_path, is_slow=is_slow) as client:
+        add_rows(client)
+        if is_slow:
+            client.send(line)
+            time.sleep(PAUSE_SECONDS)
+        client.output.close()
+        if not is_slow:
+            client.send(line)
+        require(client.end() == (5, b"", b"firm: write\n"), "its end")
+
+
+def rest_of_the_input(starter: Starter) -> None:
+    """What follows the last line feed is answered at the end of the input, behind the rounds that are asked."""
+    with program.Roster(ROSTER) as roster_path, starter.client(roster_path, is_slow=True) as client:
+        add_rows(client)
+        client.send(b"alpha round\nbeta round\nalpha where a")
+        wanted = b"%s\nbeta 4 ok round cost 0 start l m1\nalpha 6 ok at m1\n" % FIRST_ROUND
+        require(client.close() == (0, wanted, b""), "the replies at the end")
+
+
+def terminal(starter: Starter, is_hung_up: bool) -> None:
+    """A terminal's end of input ends the service well, its hang-up as a failed read, also while a round is solved."""
+    for is_slow in (False, True):
+        ours, theirs = pty.openpty()
+        if is_hung_up:
+            tty.setraw(theirs)
+        with program.Roster(ROSTER) as roster_path, starter.client(
+            roster_path, stdin=theirs, is_slow=is_slow
+        ) as client:
+            os.close(theirs)
+            for line in ROWS:
+                os.write(ours, line + b"\n")
+                require(is_ok(client.reply()), line)
+            os.write(ours, b"alpha round\n")
+            if not is_slow:
+                require(client.reply() == FIRST_ROUND, "the round's reply")
+            time.sleep(PAUSE_SECONDS)
+            if not is_hung_up:
+                os.write(ours, b"\x04")
+                end = client.end()
+                require(end == (0, FIRST_ROUND + b"\n" if is_slow else b"", b""), f"at the end of input: {end}")
+            os.close(ours)
+            if is_hung_up:
+                end = client.end()
+                require((end.status, end.faults) == (4, b"firm: read\n"), f"at the hang-up: {end}")
+                require(end.output in ([b"", FIRST_ROUND + b"\n"] if is_slow else [b""]), f"at the hang-up: {end}")
+
+
+def suspended(starter: Starter) -> None:
+    """A program that is stopped and goes on, as by a shell, goes on with its reads."""
+    with program.Roster(ROSTER) as roster_path, starter.client(roster_path, is_slow=True) as client:
+        add_rows(client)
+        for line, wanted in ((b"beta where l\n", b"beta 4 ok waits 0"), (b"alpha round\n", FIRST_ROUND)):
+            for number in (signal.SIGSTOP, signal.SIGCONT):
+                client.process.send_signal(number)
+                time.sleep(PAUSE_SECONDS)
+            client.send(line)
+            time.sleep(PAUSE_SECONDS)  # in which the round begins
+            for number in (signal.SIGSTOP, signal.SIGCONT):
+                client.process.send_signal(number)
+                time.sleep(PAUSE_SECONDS)
+            require(client.reply() == wanted, wanted)
+        require(client.close() == (0, b"", b""), "its end")
+
+
+def threads(starter: Starter, workers: str) -> None:
+    """Beside the workers there are two threads: the one that serves, and the one that reads ahead."""
+    with program.Roster(ROSTER) as roster_path, starter.client(roster_path, workers) as client:
+        require(client.ask(b"alpha costs") == b"alpha 1 ok costs", "a reply")
+        count = client.threads()
+        require(count == int(workers) + 2, f"{count} threads with {workers} workers")
+        require(client.close() == (0, b"", b""), "its end")
+
+
+def no_reading_thread(starter: Starter) -> None:
+    """Without the thread that reads ahead a round's reply comes with a later line at the latest."""
+    with program.Roster(ROSTER) as roster_path, starter.client(roster_path, refuse_thread=1) as client:
+        add_rows(client)
+        require(client.threads() == 3, "the threads")
+        client.send(b"alpha round\nalpha where a\n")
+        require((client.reply(), client.reply()) == (FIRST_ROUND, b"alpha 6 ok at m1"), "the replies")
+        require(client.close() == (0, b"", b""), "its end")
+
+
+def checks(starter: Starter) -> Iterator[tuple[str, Check]]:
+    """Each check's name, and the check."""
+    for workers in ("1", "2", "8"):
+        yield f"line by line, workers {workers}", partial(line_by_line, starter, workers)
+        yield f"lines during a round, workers {workers}", partial(lines_during_a_round, starter, workers)
+        yield f"threads, workers {workers}", partial(threads, starter, workers)
+    yield "closed output, a line", partial(closed_output, starter, b"alpha show\n", False)
+    yield "closed output, a round", partial(closed_output, starter, b"alpha round\n", False)
+    yield "closed output while a round is solved", partial(closed_output, starter, b"alpha round\n", True)
+    yield "rest of the input", partial(rest_of_the_input, starter)
+    yield "terminal, end of input", partial(terminal, starter, False)
+    yield "terminal, hang-up", partial(terminal, starter, True)
+    yield "suspended", partial(suspended, starter)
+    yield "no reading thread", partial(no_reading_thread, starter)
+
+
+def read_options() -> Options:
+    parser = argparse.ArgumentParser(description=(__doc__ or "").splitlines()[0])
+    program.add_program(parser)
+    program.add_under(parser)
+    parser.set_defaults(workers="")
+    parser.add_argument("--only", default="", help="nothing but the checks whose names have these words")
+    parser.add_argument("--streams", type=int, default=20, help="how many random streams go line by line")
+    parser.add_argument("--first", type=int, default=1, help="the first seed")
+    return Options(**vars(parser.parse_args()))
+
+
+def main() -> int:
+    options = read_options()
+    with tempfile.TemporaryDirectory(prefix="firm-") as folder:
+        found = checks(Starter(options, folder))
+        return status_of((name, check) for name, check in found if options.only in name)
+
+
+if __name__ == "__main__":
+    run_script(main)

@@ -1,0 +1,208 @@
+#!/usr/bin/env python3
+"""Asks the built program for its exit statuses, by words, rosters and inputs, and for what it says with them.
+
+usage: tests/statuses.py [--program FILE]
+Each check has a line, and the exit status is 1 where one failed.
+"""
+
+from __future__ import annotations
+
+import argparse
+import fcntl
+import os
+import subprocess
+import tempfile
+from functools import partial
+from pathlib import Path
+from typing import NamedTuple, Sequence
+
+from harness import program
+from harness.checks import require, run_script, status_of
+from harness.program import Run
+
+HEADING = b"tenant,nodes,arcs,life,spread,churn\n"
+ROW = b"a,2,0,1,0,0\n"
+MOST_ROSTER = 65_536
+LIMIT_SECONDS = 60
+SHOWN = b"a 1 ok machines 0 jobs 0 tasks 0 running 0 nodes 2 of 2 arcs 0 of 0\n"
+
+HELP = b"""\
+Schedules the tasks of a cluster's tenants
+
+Usage: firm [OPTIONS] --roster <FILE>
+
+Options:
+      --roster <FILE>  The roster of tenants, a CSV file
+      --workers <N>    How many threads solve rounds, from 1 to 8 [default: 2]
+  -h, --help           Print help
+"""
+
+
+class FaultyWords(NamedTuple):
+    """Words at fault, and the first line of what is said of them."""
+
+    words: list[str]
+    first_line: str
+
+
+FAULTY_WORDS = [
+    FaultyWords([], "the following required arguments were not provided:"),
+    FaultyWords(["--roster"], "a value is required for '--roster <FILE>' but none was supplied"),
+    FaultyWords(["--workers", "2"], "the following required arguments were not provided:"),
+    FaultyWords(["--roster", "r.csv", "more"], "unexpected argument 'more' found"),
+    FaultyWords(["--roster", "r.csv", "--fast"], "unexpected argument '--fast' found"),
+    FaultyWords(
+        ["--roster", "r.csv", "--roster", "r.csv"], "the argument '--roster <FILE>' cannot be used multiple times"
+    ),
+    FaultyWords(["--roster", "r.csv", "--workers"], "a value is required for '--workers <N>' but none was supplied"),
+    FaultyWords(
+        ["--roster", "r.csv", "--workers", ""],
+        "invalid value '' for '--workers <N>': cannot parse integer from empty string",
+    ),
+    FaultyWords(["--roster", "r.csv", "--workers", "0"], "invalid value '0' for '--workers <N>': 0 is not in 1..=8"),
+    FaultyWords(["--roster", "r.csv", "--workers", "9"], "invalid value '9' for '--workers <N>': 9 is not in 1..=8"),
+    FaultyWords(
+        ["--roster", "r.csv", "--workers", "257"], "invalid value '257' for '--workers <N>': 257 is not in 1..=8"
+    ),
+    FaultyWords(["--roster", "r.csv", "--workers", "-1"], "unexpected argument '-1' found"),
+    FaultyWords(
+        ["--roster", "r.csv", "--workers", "two"],
+        "invalid value 'two' for '--workers <N>': invalid digit found in string",
+    ),
+]
+
+
+class FaultyRoster(NamedTuple):
+    """The text of a roster, and the fault that it has."""
+
+    text: bytes
+    fault: str
+
+
+FAULTY_ROSTERS = [
+    FaultyRoster(b"", "1 header"),
+    FaultyRoster(b"tenant,nodes,arcs,life,spread\n", "1 header"),
+    FaultyRoster(HEADING + b"a,2,0,1,0\n", "2 row"),
+    FaultyRoster(HEADING + ROW + b"\n" * (MOST_ROSTER + 1 - len(HEADING + ROW)), "2 row"),
+    FaultyRoster(HEADING + b"A,2,0,1,0,0\n", "3 name"),
+    FaultyRoster(HEADING + b"a,1,0,1,0,0\n", "4 number"),
+    FaultyRoster(HEADING + b"a,2,0,00000000000001,0,0\n", "4 number"),
+    FaultyRoster(HEADING + ROW + ROW, "5 repeated-name"),
+    FaultyRoster(HEADING, "6 count"),
+    FaultyRoster(HEADING + b"".join(b"t%d,2,0,1,0,0\n" % number for number in range(65)), "6 count"),
+]
+
+
+class Served(NamedTuple):
+    """The text of a roster, an input, and the output."""
+
+    roster: bytes
+    text: bytes
+    output: bytes
+
+
+SERVED = [
+    Served(HEADING + ROW, b"", b""),
+    Served(HEADING + ROW, b"a show\n", SHOWN),
+    Served(HEADING + ROW + b"\n" * (MOST_ROSTER - len(HEADING + ROW)), b"a show", SHOWN),
+    Served(
+        HEADING + b"a,2,0,1000000,0,0\n",
+        b"a fly\n" * 200_000,
+        b"".join(b"a %d no 2 bad-command\n" % number for number in range(1, 200_001)),
+    ),
+]
+
+
+def run(built: str, words: Sequence[str | bytes], text: bytes = b"") -> Run:
+    done = subprocess.run([built, *words], input=text, capture_output=True, timeout=LIMIT_SECONDS)
+    return Run(done.returncode, done.stdout, done.stderr)
+
+
+def faulty_words(built: str) -> None:
+    """Words at fault are told, with status 2, and nothing is written; so are words that are no text."""
+    for words, first in FAULTY_WORDS:
+        found = run(built, words, b"a show\n")
+        require(found.status == 2 and not found.output, f"{words}: {found}")
+        require(found.faults.startswith(f"error: {first}\n".encode()), f"{words}: {found.faults.decode()}")
+    found = run(built, [b"--roster", b"\xff.csv"])
+    require(found == (2, b"", b"firm: the command line is no text\n"), found)
+
+
+def request_for_help(built: str) -> None:
+    requests: list[list[str]] = [["--help"], ["-h"], ["--workers", "3", "--help"]]
+    for words in requests:
+        found = run(built, words, b"a show\n")
+        require(found == (0, HELP, b""), f"{words}: {found}")
+
+
+def faults_that_nobody_reads(built: str, folder: Path) -> None:
+    """A fault that can't be told changes no status."""
+    faulty: dict[int, list[str]] = {2: [], 3: ["--roster", f"{folder}/none"]}
+    with open("/dev/full", "wb") as full:
+        for status, words in faulty.items():
+            done = subprocess.run([built, *words], stdin=subprocess.DEVNULL, stderr=full)
+            require(done.returncode == status, f"{words}: full")
+            done = subprocess.run([built, *words], stdin=subprocess.DEVNULL, preexec_fn=partial(os.close, 2))
+            require(done.returncode == status, f"{words}: closed")
+
+
+def rosters(built: str, folder: Path) -> None:
+    """A roster at fault is told, with status 3, and nothing is read or written; others are served, also the longest."""
+    path = folder / "roster.csv"
+    for text, fault in FAULTY_ROSTERS:
+        path.write_bytes(text)
+        found = run(built, ["--roster", str(path)], b"a show\n")
+        require(found == (3, b"", f"firm: roster fault {fault}\n".encode()), f"{text[-40:]!r}: {found}")
+    for text, commands, output in SERVED:
+        path.write_bytes(text)
+        for words in (["--roster", str(path)], [f"--roster={path}", "--workers=8", "--"]):
+            found = run(built, words, commands)
+            require(found == (0, output, b""), f"{words}: {text[-40:]!r}: {commands[:40]!r}: {found.faults!r}")
+
+
+def bytes_of_the_roster(built: str, folder: Path) -> None:
+    """Of a roster's file one byte more is read than a roster may have, and no further one."""
+    path, size = folder / "fifo", 200_000
+    os.mkfifo(path)
+    pipe = os.open(path, os.O_RDWR | os.O_NONBLOCK)
+    fcntl.fcntl(pipe, fcntl.F_SETPIPE_SZ, 1 << 20)
+    require(os.write(pipe, (HEADING + ROW).ljust(size, b"\n")) == size, "the pipe holds it all")
+    found = run(built, ["--roster", str(path)], b"a show\n")
+    require(found == (3, b"", b"firm: roster fault 2 row\n"), found)
+    left = len(os.read(pipe, 1 << 20))
+    os.close(pipe)
+    require(left == size - MOST_ROSTER - 1, f"{size - left} bytes were read")
+
+
+def unread_input(built: str, folder: Path) -> None:
+    """Where the words or the roster are at fault no byte of the input is read."""
+    unserved: list[list[str]] = [[], ["--help"], ["--roster", f"{folder}/none"]]
+    for words in unserved:
+        ours, theirs = os.pipe()
+        os.write(theirs, b"a show\n")
+        subprocess.run([built, *words], stdin=ours, capture_output=True, timeout=LIMIT_SECONDS)
+        require(os.read(ours, 100) == b"a show\n", words)
+        os.close(ours)
+        os.close(theirs)
+
+
+def main() -> int:
+    parser = argparse.ArgumentParser(description=(__doc__ or "").splitlines()[0])
+    program.add_program(parser)
+    built: str = parser.parse_args().program
+    with tempfile.TemporaryDirectory(prefix="firm-") as name:
+        folder = Path(name)
+        return status_of(
+            [
+                ("words at fault", partial(faulty_words, built)),
+                ("request for help", partial(request_for_help, built)),
+                ("faults that nobody reads", partial(faults_that_nobody_reads, built, folder)),
+                ("rosters", partial(rosters, built, folder)),
+                ("bytes of the roster", partial(bytes_of_the_roster, built, folder)),
+                ("unread input", partial(unread_input, built, folder)),
+            ]
+        )
+
+
+if __name__ == "__main__":
+    run_script(main)
