@@ -5,8 +5,8 @@ usage: bench/lines.py [--program FILE] [--lines N] [--repeats R] [--bytes B] [--
 Streams of refused adders, `show`, `where`, and all three in turn, for a tenant of 10 rows and for one of 4,000, from a
 file to a file. Times are processor times (user and system), the least of R runs, less those of a run that only adds
 the rows; where valgrind is installed, also instructions. Every output is checked: its last number is the count of
-lines, or the exit status is 1. The program may be `firm_single`, which serves on one thread; with `--rates` nothing but
-lines a second is measured.
+lines, or the exit status is 1. The program may be `firm_measure`, which serves on one thread; with `--rates` nothing
+but lines a second is measured.
 """
 
 from __future__ import annotations

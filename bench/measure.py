@@ -12,6 +12,7 @@ from typing import NamedTuple
 
 from harness.checks import CannotRun, compile_source, require
 from harness.kinds import TENANT, Stream
+from harness.program import Roster, run
 from harness.rows import hear, hear_round, network, open_rows
 
 HERE = Path(__file__).resolve().parent
@@ -117,11 +118,15 @@ def run_stream(program: str, other: str | None, stream: Stream, repeats: int) ->
 
 
 def read_counts(program: str, stream: Stream) -> list[Counts]:
-    """The counts of each round, by the program that prints them."""
+    """The counts of each round, by the program that writes them behind the replies."""
     lines = [line for part in stream.parts for line in (*part, ROUND)]
-    text = stream.roster + "".join(line + "\n" for line in lines)
-    done = subprocess.run([program], input=text, capture_output=True, text=True, check=True)
-    return [Counts(*map(int, line.split())) for line in done.stdout.splitlines()]
+    text = "".join(line + "\n" for line in lines).encode()
+    with Roster(stream.roster.encode()) as path:
+        done = run([program, "--counts"], path, text)
+    require(done.status == 0, f"{program}: {done.faults.decode()}")
+    counted = done.output.decode().splitlines()[len(lines) :]
+    require(len(counted) == len(stream.parts), f"{program}: counts of {len(counted)} rounds of {len(stream.parts)}")
+    return [Counts(*map(int, line.split()[1:])) for line in counted]
 
 
 def build_lemon(folder: str) -> str | None:

@@ -1,7 +1,7 @@
 #!/usr/bin/env python3
 """Measures rounds of the built program, with LEMON's solvers on the same networks beside it where LEMON is installed.
 
-usage: bench/rounds.py [--program FILE] [--counts FILE] [--beside FILE] [--sizes 100x20,..] [--kinds fresh,..]
+usage: bench/rounds.py [--program FILE] [--measure FILE] [--beside FILE] [--sizes 100x20,..] [--kinds fresh,..]
                        [--repeats N] [--seed S] [--all-rounds] [--kept]
 Prints tables in Markdown and keeps each round as a line of JSON in out/bench/rounds.jsonl. Times are processor times,
 the least of some runs. Every placement is checked to be legal and to cost what the reply says, and that cost against
@@ -11,30 +11,30 @@ LEMON's optimum; the exit status is 1 where one is wrong. docs/PERFORMANCE.md sa
 from __future__ import annotations
 
 import argparse
-import json
 import os
 import sys
 import tempfile
-from dataclasses import asdict, dataclass
+from dataclasses import dataclass
 from itertools import product
 from pathlib import Path
 from typing import Callable, Iterable, TextIO
 
 sys.path.insert(0, str(Path(__file__).resolve().parent.parent / "tests"))
 
+import kept
 from harness import kinds
 from harness.checks import CannotRun, Missed, require, run_script
-from harness.program import BUILT, ROOT, built, program_file
+from harness.program import BUILT, built, program_file
+from kept import RoundRecord
 from measure import build_lemon, read_counts, run_stream, solve
 
 SIZES = "100x20,500x100,2000x500,3000x1000"
-KEPT = ROOT / "out" / "bench" / "rounds.jsonl"
 
 
 @dataclass(frozen=True)
 class Options:
     program: str
-    counts: str
+    measure: str
     beside: str | None
     sizes: str
     kinds: str
@@ -44,38 +44,12 @@ class Options:
     kept: bool
 
 
-@dataclass
-class Record:
-    """A measured round; times are in seconds, None where there is no other program or no LEMON."""
-
-    kind: str
-    size: str
-    round: int
-    tasks: int
-    arcs: int
-    cost: int
-    searches: int
-    looks: int
-    firm: float
-    beside: float | None
-    simplex: float | None = None
-    scaling: float | None = None
-
-    @property
-    def ratio(self) -> float | None:
-        """The round's time as a part of that of LEMON's faster solver."""
-        solvers = [seconds for seconds in (self.simplex, self.scaling) if seconds is not None]
-        return self.firm / min(solvers) if solvers else None
-
-    def times(self) -> dict[str, float | None]:
-        return {"firm": self.firm, "beside": self.beside, "simplex": self.simplex, "scaling": self.scaling}
-
-    def row(self, timed: Iterable[str]) -> str:
-        """The record as a row of the table, with these of its times."""
-        cells = [self.kind, self.size, str(self.round + 1), str(self.tasks), str(self.arcs)]
-        cells += [f"{self.searches:,}", f"{self.looks:,}", f"{self.looks / self.arcs:.1f}"]
-        cells += [milliseconds(self.times()[name]) for name in timed]
-        return "| " + " | ".join([*cells, "" if self.ratio is None else f"{self.ratio:.2f}"]) + " |"
+def row(record: RoundRecord, timed: Iterable[str]) -> str:
+    """The record as a row of the table, with these of its times."""
+    cells = [record.kind, record.size, str(record.round + 1), str(record.tasks), str(record.arcs)]
+    cells += [f"{record.searches:,}", f"{record.looks:,}", f"{record.looks / record.arcs:.1f}"]
+    cells += [milliseconds(record.times()[name]) for name in timed]
+    return "| " + " | ".join([*cells, "" if record.ratio is None else f"{record.ratio:.2f}"]) + " |"
 
 
 def milliseconds(seconds: float | None) -> str:
@@ -84,16 +58,16 @@ def milliseconds(seconds: float | None) -> str:
     return f"{seconds * 1000:,.0f}" if seconds >= 0.1 else f"{seconds * 1000:.3g}"
 
 
-def measure_stream(options: Options, lemon: str | None, kind: str, size: str) -> list[Record]:
+def measure_stream(options: Options, lemon: str | None, kind: str, size: str) -> list[RoundRecord]:
     """One record for each round of a stream."""
     stream = kinds.make(kind, *kinds.read_size(size), options.seed)
-    records, counts = [], read_counts(options.counts, stream)
+    records, counts = [], read_counts(options.measure, stream)
     for place, found in enumerate(run_stream(options.program, options.beside, stream, options.repeats)):
         solved = solve(lemon, found.network, options.repeats) if lemon else {}
         for name, answer in solved.items():
             fault = f"{kind} {size}, round {place}: cost {found.cost}, and LEMON's {name} finds {answer.cost}"
             require(answer.cost == found.cost, fault)
-        record = Record(
+        record = RoundRecord(
             kind=kind,
             size=size,
             round=place,
@@ -110,7 +84,7 @@ def measure_stream(options: Options, lemon: str | None, kind: str, size: str) ->
     return records
 
 
-def worst(records: list[Record]) -> Record:
+def worst(records: list[RoundRecord]) -> RoundRecord:
     """The record of the worst ratio, or of the longest time where LEMON was not measured."""
     return max(records, key=lambda record: (record.ratio or 0, record.firm))
 
@@ -120,7 +94,7 @@ def names_of(found: Iterable[str]) -> list[str]:
     return list(dict.fromkeys(found))
 
 
-def print_table(records: list[Record], sizes: list[str], all_rounds: bool) -> None:
+def print_table(records: list[RoundRecord], sizes: list[str], all_rounds: bool) -> None:
     """A row for each stream's cold round and for the worst that follows."""
     timed = [name for name, seconds in records[0].times().items() if seconds is not None]
     heads = ("kind", "size", "round", "tasks", "arcs", "searches", "looks", "looks / arc")
@@ -131,10 +105,10 @@ def print_table(records: list[Record], sizes: list[str], all_rounds: bool) -> No
             found = [record for record in records if (record.kind, record.size) == (kind, size)]
             shown = found if all_rounds else found[:1] + ([worst(found[1:])] if found[1:] else [])
             for record in shown:
-                print(record.row(timed))
+                print(row(record, timed))
 
 
-def print_growth(records: list[Record], sizes: list[str], of_each: Callable[[Record], float]) -> None:
+def print_growth(records: list[RoundRecord], sizes: list[str], of_each: Callable[[RoundRecord], float]) -> None:
     """The cold round's figure for each arc, by size, and how it grows."""
     print("| kind | " + " | ".join(sizes) + " | last / first |\n| --- |" + " ---: |" * (len(sizes) + 1))
     for kind in names_of(record.kind for record in records):
@@ -144,7 +118,7 @@ def print_growth(records: list[Record], sizes: list[str], of_each: Callable[[Rec
         print(f"| {kind} | " + " | ".join(cells) + " |")
 
 
-def print_tables(records: list[Record], all_rounds: bool) -> None:
+def print_tables(records: list[RoundRecord], all_rounds: bool) -> None:
     sizes = names_of(record.size for record in records)
     print_table(records, sizes, all_rounds)
     print("\nMicroseconds of the cold round for each arc:\n")
@@ -153,9 +127,9 @@ def print_tables(records: list[Record], all_rounds: bool) -> None:
     print_growth(records, sizes, lambda record: record.looks)
 
 
-def measure_all(options: Options, lemon: str | None, kept: TextIO) -> tuple[list[Record], int]:
+def measure_all(options: Options, lemon: str | None, file: TextIO) -> tuple[list[RoundRecord], int]:
     """The records of all streams, and how many streams were wrong."""
-    records: list[Record] = []
+    records: list[RoundRecord] = []
     wrong = 0
     for size, kind in product(options.sizes.split(","), options.kinds.split(",")):
         try:
@@ -166,23 +140,15 @@ def measure_all(options: Options, lemon: str | None, kept: TextIO) -> tuple[list
             continue
         records += found
         print(f"{kind} {size}: " + ", ".join(milliseconds(each.firm) for each in found) + " ms", file=sys.stderr)
-        kept.writelines(json.dumps(asdict(record)) + "\n" for record in found)
+        kept.keep(file, found)
     return records, wrong
-
-
-def read_kept() -> list[Record]:
-    """The records of the last run."""
-    lines = KEPT.read_text().splitlines() if KEPT.exists() else []
-    if not lines:
-        raise CannotRun(f"no run is kept in {KEPT}")
-    return [Record(**json.loads(line)) for line in lines]
 
 
 def read_options() -> Options:
     parser = argparse.ArgumentParser(description=(__doc__ or "").splitlines()[0])
     parser.add_argument("--program", default=str(BUILT), help="the built program (default: %(default)s)")
-    counts = "the built program that tells the searches and looks of each round (default: %(default)s)"
-    parser.add_argument("--counts", default=str(built("firm_counts")), help=counts)
+    measure = "the built program that says how much each round searched (default: %(default)s)"
+    parser.add_argument("--measure", default=str(built("firm_measure")), help=measure)
     beside = "another built program, as of an earlier state: equal output, and its times"
     parser.add_argument("--beside", type=program_file, help=beside)
     parser.add_argument("--sizes", default=SIZES)
@@ -197,14 +163,13 @@ def read_options() -> Options:
 def main() -> int:
     options = read_options()
     if options.kept:
-        print_tables(read_kept(), options.all_rounds)
+        print_tables(kept.read(kept.ROUNDS, RoundRecord), options.all_rounds)
         return 0
-    for path in (options.program, options.counts):
+    for path in (options.program, options.measure):
         if not os.access(path, os.X_OK):
             raise CannotRun(f"there is no program {path}")
-    KEPT.parent.mkdir(parents=True, exist_ok=True)
-    with tempfile.TemporaryDirectory(prefix="firm-") as folder, open(KEPT, "w") as kept:
-        records, wrong = measure_all(options, build_lemon(folder), kept)
+    with tempfile.TemporaryDirectory(prefix="firm-") as folder, kept.begin(kept.ROUNDS) as file:
+        records, wrong = measure_all(options, build_lemon(folder), file)
     if records:
         print_tables(records, options.all_rounds)
     print(f"\n{len(records)} rounds, {wrong} streams wrong")

@@ -1,13 +1,13 @@
 #!/usr/bin/env python3
 """Measures rounds a second of the built program with some numbers of workers.
 
-usage: bench/workers.py [--program FILE] [--beside FILE] [--single FILE] [--workers 1,2,4] [--tenants N]
+usage: bench/workers.py [--program FILE] [--beside FILE] [--measure FILE] [--workers 1,2,4] [--tenants N]
                         [--size 500x100] [--rounds N] [--repeats R]
 Each tenant has a full cold book and asks its rounds in turn with the others, from a file to a file: the best of R runs,
 less a run that only adds the rows, by the clock on the wall and by processor time. With each number of workers the
-output must be the same, and that of `firm_single`, the service on one thread, where it is built; the exit status is 1
-where one differs. With `--beside` another built program is measured in turn with it. bench/live.py measures what one
-client sees, and an idle service.
+output must be the same, and that of `firm_measure`, the service on one thread, where it is built; the exit status is 1
+where one differs. With `--beside` another built program is measured in turn with it. Each row of the table is kept as a
+line of JSON in out/bench/workers.jsonl. bench/live.py measures what one client sees, and an idle service.
 """
 
 from __future__ import annotations
@@ -25,9 +25,11 @@ from typing import NamedTuple
 
 sys.path.insert(0, str(Path(__file__).resolve().parent.parent / "tests"))
 
+import kept
 from harness.checks import run_script
 from harness.kinds import read_size
 from harness.program import BUILT, built, program_file
+from kept import RateRecord
 
 HEADING = "tenant,nodes,arcs,life,spread,churn\n"
 TABLE = """\
@@ -39,7 +41,7 @@ TABLE = """\
 class Options:
     program: str
     beside: str | None
-    single: str
+    measure: str
     workers: str
     tenants: int
     size: tuple[int, int]
@@ -51,7 +53,7 @@ class Service(NamedTuple):
     """A program, the number of its workers, and how it is started."""
 
     name: str
-    workers: str
+    workers: int | None  # None: it serves on one thread
     command: list[str]
 
 
@@ -107,34 +109,41 @@ def best_of(commands: list[list[str]], repeats: int, path: Path) -> list[Spent]:
 
 
 def services_of(options: Options) -> list[Service]:
-    found = [Service("firm_single", "none", [options.single])] if Path(options.single).exists() else []
+    found = [Service("firm_measure", None, [options.measure])] if Path(options.measure).exists() else []
     for name, program in (("firm", options.program), ("beside", options.beside)):
         if program:
             counts = options.workers.split(",")
-            found += [Service(name, workers, [program, "--workers", workers]) for workers in counts]
+            found += [Service(name, int(workers), [program, "--workers", workers]) for workers in counts]
     return found
 
 
-def print_rounds(options: Options, folder: Path) -> bool:
-    """A row for each service; whether all outputs were the same."""
+def measure(options: Options, folder: Path) -> tuple[list[RateRecord], bool]:
+    """The rate of each service, and whether all outputs were the same."""
     inputs, services = Inputs(folder, options), services_of(options)
     commands = [[*service.command, "--roster", str(inputs.roster)] for service in services]
     rows, whole = (best_of(commands, options.repeats, path) for path in (inputs.rows, inputs.all))
-    print(TABLE)
-    first = 0.0
+    records = []
     for service, before, spent in zip(services, rows, whole):
         rate = inputs.count / (spent.wall - before.wall)
-        first = first or rate
-        each = 1000 * (spent.processor - before.processor) / inputs.count
-        print(f"| {service.name} | {service.workers} | {rate:,.0f} | {rate / first:.2f} | {each:.3f} |")
-    return len({spent.output for spent in whole}) == 1
+        processor = (spent.processor - before.processor) / inputs.count
+        records.append(RateRecord(service.name, service.workers, options.tenants, *options.size, rate, processor))
+    return records, len({spent.output for spent in whole}) == 1
+
+
+def print_rates(records: list[RateRecord]) -> None:
+    """A row for each service."""
+    print(TABLE)
+    for record in records:
+        workers = "none" if record.workers is None else str(record.workers)
+        cells = [f"{record.rate:,.0f}", f"{record.rate / records[0].rate:.2f}", f"{1000 * record.processor:.3f}"]
+        print("| " + " | ".join([record.program, workers, *cells]) + " |")
 
 
 def read_options() -> Options:
     parser = argparse.ArgumentParser(description=(__doc__ or "").splitlines()[0])
     parser.add_argument("--program", type=program_file, default=str(BUILT))
     parser.add_argument("--beside", type=program_file, help="another built program")
-    parser.add_argument("--single", default=str(built("firm_single")), help="left out where it is not there")
+    parser.add_argument("--measure", default=str(built("firm_measure")), help="left out where it is not there")
     parser.add_argument("--workers", default="1,2,4")
     parser.add_argument("--tenants", type=int, default=8)
     parser.add_argument("--size", type=read_size, default="500x100", help="tasks and machines of a tenant")
@@ -147,7 +156,10 @@ def main() -> int:
     options = read_options()
     print(f"load before: {os.getloadavg()[0]:.1f} on {os.cpu_count()} processors\n")
     with tempfile.TemporaryDirectory(prefix="firm-") as name:
-        is_alike = print_rounds(options, Path(name))
+        records, is_alike = measure(options, Path(name))
+    print_rates(records)
+    with kept.begin(kept.RATES) as file:
+        kept.keep(file, records)
     print(f"\nload after: {os.getloadavg()[0]:.1f}" + ("" if is_alike else "; DIFFERENT outputs"))
     return 0 if is_alike else 1
 

@@ -26,8 +26,8 @@ MOST_ROSTER = 65_536
 LIMIT_SECONDS = 60
 SHOWN = b"a 1 ok machines 0 jobs 0 tasks 0 running 0 nodes 2 of 2 arcs 0 of 0\n"
 
-HELP = b"""\
-Schedules the tasks of a cluster's tenants
+HELP = """\
+Decides where the tasks of a shared cluster run, at the lowest cost
 
 Usage: firm [OPTIONS] --roster <FILE>
 
@@ -35,7 +35,36 @@ Options:
       --roster <FILE>  The roster of tenants, a CSV file
       --workers <N>    How many threads solve rounds, from 1 to 8 [default: 2]
   -h, --help           Print help
+  -V, --version        Print version
+
+Input: a command a line, the name of its tenant first. Operator's lines begin
+with +. Empty lines and lines that begin with # are skipped.
+Output: a reply a line, in the order of the commands, with the name of the
+tenant and how many commands it has given. At the end of the input firm ends.
+
+Example:
+  $ cat roster.csv
+  tenant,nodes,arcs,life,spread,churn
+  alpha,9,24,100,1,2
+  beta,8,30,100,0,3
+  $ cat commands.txt
+  alpha machine m1 2
+  alpha job web 10
+  alpha task web a
+  beta machine m1 1
+  alpha round
+  $ firm --roster roster.csv < commands.txt
+  alpha 1 ok
+  alpha 2 ok
+  alpha 3 ok
+  beta 1 ok
+  alpha 4 ok round cost 0 start a m1
+
+In firm's repository docs/USING.md lists commands, replies and exit statuses;
+docs/PLACEMENT.md says what a round decides, docs/SERVICE.md how to serve many
+clients and keep a journal.
 """
+VERSION = "firm 0.1.0\n"
 
 
 class FaultyWords(NamedTuple):
@@ -128,11 +157,34 @@ def faulty_words(built: str) -> None:
     require(found == (2, b"", b"firm: the command line is no text\n"), found)
 
 
-def request_for_help(built: str) -> None:
-    requests: list[list[str]] = [["--help"], ["-h"], ["--workers", "3", "--help"]]
-    for words in requests:
-        found = run(built, words, b"a show\n")
-        require(found == (0, HELP, b""), f"{words}: {found}")
+def requests(built: str) -> None:
+    """The help and the version, of which the words ask for the first, are written with status 0."""
+    asked: dict[str, list[list[str]]] = {
+        HELP: [["--help"], ["-h"], ["--workers", "3", "--help"], ["--help", "--version"]],
+        VERSION: [["--version"], ["-V"], ["--roster", "r.csv", "--version", "--help"]],
+    }
+    for text, requests_for_it in asked.items():
+        for words in requests_for_it:
+            found = run(built, words, b"a show\n")
+            require(found == (0, text.encode(), b""), f"{words}: {found}")
+
+
+def example_of_the_help(built: str, folder: Path) -> None:
+    """The session that the help shows: what its files hold, and what firm writes for them."""
+    indented = [line[2:] for line in HELP.partition("Example:\n")[2].splitlines() if line.startswith("  ")]
+    shown: dict[str, str] = {}
+    for line in indented:
+        if line.startswith("$ "):
+            command = line[2:]
+            shown[command] = ""
+        else:
+            shown[command] += line + "\n"
+    for command in list(shown)[:-1]:
+        (folder / command.removeprefix("cat ")).write_text(shown[command])
+    done = subprocess.run(
+        ["sh", "-c", command.replace("firm", '"$0"', 1), built], cwd=folder, capture_output=True, timeout=LIMIT_SECONDS
+    )
+    require(done.stdout.decode() == shown[command] and not done.stderr, f"{command}: {done}")
 
 
 def faults_that_nobody_reads(built: str, folder: Path) -> None:
@@ -176,7 +228,7 @@ def bytes_of_the_roster(built: str, folder: Path) -> None:
 
 def unread_input(built: str, folder: Path) -> None:
     """Where the words or the roster are at fault no byte of the input is read."""
-    unserved: list[list[str]] = [[], ["--help"], ["--roster", f"{folder}/none"]]
+    unserved: list[list[str]] = [[], ["--help"], ["--version"], ["--roster", f"{folder}/none"]]
     for words in unserved:
         ours, theirs = os.pipe()
         os.write(theirs, b"a show\n")
@@ -195,7 +247,8 @@ def main() -> int:
         return status_of(
             [
                 ("words at fault", partial(faulty_words, built)),
-                ("request for help", partial(request_for_help, built)),
+                ("requests", partial(requests, built)),
+                ("example of the help", partial(example_of_the_help, built, folder)),
                 ("faults that nobody reads", partial(faults_that_nobody_reads, built, folder)),
                 ("rosters", partial(rosters, built, folder)),
                 ("bytes of the roster", partial(bytes_of_the_roster, built, folder)),

@@ -47,7 +47,7 @@ def why(task: Row, state: Path) -> Row:
         raise NotBuilt(f"the reasons come from firm_explain, which is not built: there is no {program}")
     tenant = task["tenant"]
     text = b"".join(journal_of(state, tenant.encode()))
-    words = [program, "--roster", state / "roster.csv", "--tenant", tenant]
+    words = [program, "--roster", state / "roster.csv", "--tenant", tenant, "--why", task["task"]]
     try:
         done = subprocess.run(words, input=text, capture_output=True)
     except OSError as error:
@@ -55,5 +55,6 @@ def why(task: Row, state: Path) -> Row:
     if done.returncode:
         raise NotBuilt(f"{program} ended with status {done.returncode}: {done.stderr.decode(errors='replace').strip()}")
     reply, reasons = last_round(done.stdout.decode("ascii", "backslashreplace"))
-    about = ("cost", task["task"], "least:", "NOT")  # words with which a line on the round or the task begins
+    # the words with which a line on the round or the task begins
+    about = ("cost", task["task"], f"{task['task']}'s", "least", "least:", "NOT")
     return {"task": task, "reply": reply, "reasons": [line for line in reasons if line.split(" ", 1)[0] in about]}

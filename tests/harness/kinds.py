@@ -1,4 +1,4 @@
-"""Streams for measuring rounds: eleven kinds, each at any number of tasks and machines.
+"""Streams for measuring rounds: fourteen kinds, each at any number of tasks and machines.
 
 A stream is a roster of one tenant and a list of parts; each part is a list of command lines, and the round that
 follows it is measured. The first round of a stream is the cold one: no task runs before it.
@@ -54,6 +54,13 @@ KINDS = {
     "close": Kind("costs that differ by one or two", 1, 1, Range(2, 4), Range(0.9, 1.2)),
     "moves": Kind("machines come later, moves just pay", 1, 2, Range(4, 6), Range(1.2, 1.7)),
     "returns": Kind("drained tasks come back to equal costs", 0, 0, Range(12, 12), Range(0.8, 0.8)),
+    "crowded": Kind(
+        "most tasks prefer machines, and there are fewer slots", 20, 1_000, Range(500, 1_000_000), Range(0.5, 0.9), 120
+    ),
+    "packed": Kind("the same, and nothing costs but waiting and preferences", 0, 0, Range(12, 12), Range(0.8, 0.8), 3),
+    "apart": Kind(
+        "preferences that cost more than any load", 1_000, 250, Range(1_000, 1_000_000), Range(0.9, 1.1), 3_000
+    ),
     "local": Kind("most tasks prefer one to four machines", 50, 400, Range(10_000, 1_000_000), Range(1.0, 1.4), 120),
 }
 
@@ -150,7 +157,7 @@ class Maker:
         yield self.exchange(5 * one)
         yield self.exchange(5 * one)
 
-    _rising = _ties = _close = _local = _overload
+    _rising = _ties = _close = _local = _crowded = _packed = _apart = _overload
 
     def _steady(self, one: int, _: int) -> Iterator[list[str]]:
         self.add_tasks(self.tasks - 2 * one)

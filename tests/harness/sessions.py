@@ -1,9 +1,9 @@
 """The sessions in the documents: fenced blocks that a reader can type, each with what comes out right behind it.
 
-A block of `sh` or `python` is run in a folder where ./firm is the launcher and examples/ are the examples; a block of
-`firm` is the input of ./firm. So are the lines of a table whose first column is Line and whose last is Reply. The
-roster, roster.csv, is the block of `csv` right above, or else the page's first. A block without what comes out is there
-to be read, and is not run.
+A block of `sh` or `python` is run in a folder where ./firm is the launcher, and crates/, examples/ and tests/ are
+those of the repository; a block of `firm` is the input of ./firm. So are the lines of a table whose first column is
+Line and whose last is Reply. The roster, roster.csv, is the block of `csv` right above, or else the page's first. A
+block without what comes out is there to be read, and is not run.
 """
 
 from __future__ import annotations
@@ -16,7 +16,7 @@ import tempfile
 from pathlib import Path
 from typing import Iterator, NamedTuple
 
-from harness.checks import require
+from harness.checks import Skipped, require
 from harness.program import ROOT
 
 LIMIT_SECONDS = 300
@@ -122,9 +122,12 @@ COMMANDS = {
 
 
 def play(session: Session) -> None:
-    """Types a session; what comes out must be what the page says."""
+    """Types a session; what comes out must be what the page says. Without a program that it names it is skipped."""
+    for path in re.findall(r"\bcrates/\w+/out/\w+", session.typed.text):
+        if not (ROOT / path).exists():
+            raise Skipped(f"{path} is not built")
     with tempfile.TemporaryDirectory(prefix="firm-") as folder:
-        for name in ("firm", "examples"):
+        for name in ("firm", "crates", "examples", "tests"):
             (Path(folder) / name).symlink_to(ROOT / name)
         if session.roster is not None:
             (Path(folder) / "roster.csv").write_text(session.roster)

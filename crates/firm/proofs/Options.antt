@@ -16,7 +16,7 @@ use Rattle.clap.specs.Built.{IsAuto}
 use Rattle.clap.specs.Facts.{WantsDefault}
 use Rattle.clap.specs.Words.{AddsArg, FailsBy, IsParsedFrom, IsPlain, IsPlainArg, SameRules, app_of, args_of, fault_of}
 use Rattle.clap.specs.Words.{first_value, found_of, groups_of, is_simple, is_simple_and_free, matches_of}
-use Rattle.clap.specs.Words.{new_app, one_text}
+use Rattle.clap.specs.Words.{one_text}
 use Rattle.clap.specs.Words.{HasMatchesOf, ReadsOne, Row, first_of, rows_of, with_rule, without_minus}
 use Rattle.clap.specs.declared.builder.action.ArgAction.TheVariants.{Set}
 use Rattle.clap.specs.declared.builder.arg.Arg.{Arg}
@@ -25,13 +25,13 @@ use Rattle.clap.specs.declared.builder.command.Command.TheViews.{out-Command as 
 use Rattle.clap.specs.declared.builder.value_parser.ValueParser.TheVariants.{Signed}
 use Rattle.clap.specs.declared.error.Error.{Error}
 use Rattle.clap.specs.declared.parser.matches.ArgMatches.{ArgMatches}
-use Rattle.firm.specs.CommandLine.{command_line, faults_in, roster_option, workers_option}
+use Rattle.firm.specs.CommandLine.{command_line, faults_in, roster_option, versioned_app, workers_option}
 use Rattle.firm.specs.inner.Options.{HasNumber, IsCommandLine, IsOption}
 use Rattle.firm.proofs.Entries.{default_is_read}
 
 -- what is said of a command that has no argument yet
 pub record IsBare (command : Command) : Type 0 where
-  pub app : app_of command ≡ new_app (codes "firm")
+  pub app : app_of command ≡ versioned_app
   pub arguments : args_of command ≡ []
   pub groups : groups_of command ≡ []
   pub globals : (fields_of command).has_globals ≡ false

@@ -50,7 +50,8 @@ struct Shared<T> {
     waker: Mutex<Option<Arc<EventCount, Global>>>,
 }
 
-// A reader, and the piece that was read ahead: how many of its bytes were taken, how many are left, and whether the read failed.
+// A reader, and the piece that was read ahead: how many of its bytes were taken, how many are left, and whether the
+// read failed.
 #[derive(Drop)]
 struct PieceReader<T> {
     inner: T,
@@ -61,8 +62,8 @@ struct PieceReader<T> {
     ghost within: { taken + left ≤ 4096 },
 }
 
-/// A source over the reader, with a thread that sleeps until it is asked to read. The error comes for want of memory; where no
-/// thread can be started the source can't tell whether a read would wait.
+/// A source over the reader, with a thread that sleeps until it is asked to read. The error comes for want of memory;
+/// where no thread can be started the source can't tell whether a read would wait.
 pub(crate) fn open<
     'r,
     R: Threads + Wait + Clone + Drop + Send + 'static,
@@ -154,8 +155,8 @@ impl<R: Wait, T: Read> Source for ReadAhead<'_, R, T> {
         read
     }
 
-    // Without a waker nobody waits, so nothing is read ahead. The waker is there before the turn is looked at again, and the
-    // thread looks for it behind its own turn: either this look finds the piece, or the thread finds the waker.
+    // Without a waker nobody waits, so nothing is read ahead. The waker is there before the turn is looked at again,
+    // and the thread looks for it behind its own turn: either this look finds the piece, or the thread finds the waker.
     fn is_ready(&self, waker: Option<&Arc<EventCount, Global>>) -> bool {
         let turn = &self.shared.turn;
         if let Some(waker) = waker {
@@ -220,8 +221,8 @@ impl<T: Read> PieceReader<T> {
         self.left = read.unwrap_or(0);
     }
 
-    // Takes bytes from the front of the piece, and says whether nothing of it is left: neither a byte, nor its failure, nor that it
-    // is the end, of which an empty buffer learns nothing.
+    // Takes bytes from the front of the piece, and says whether nothing of it is left: neither a byte, nor its failure,
+    // nor that it is the end, of which an empty buffer learns nothing.
     fn take(&mut self, buffer: &mut [u8]) -> (Result<usize, Failed>, bool)
         ensures bound { ReadsAtMost result.0 buffer.new }
         ensures bytes { IfOk result.0 (λ count. left_of self.old.piece self.old.taken self.old.left

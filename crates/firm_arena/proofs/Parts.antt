@@ -24,8 +24,8 @@ use denote.Struct.Owning.{shape}
 use Rattle.core.proofs.mem.Param.{El, R, el_x}
 use Rattle.std.specs.Mem.{type_size}
 use Rattle.std.specs.Prelude.{Option}
-use Rattle.firm_arena.specs.Block.{IsBlock}
-use Rattle.firm_arena.specs.Ownership.{each_place, row_owns, row_lends, freeable}
+use Rattle.firm_arena.specs.inner.Block.{IsBlock}
+use Rattle.firm_arena.specs.inner.Ownership.{each_place, row_owns, row_lends, freeable}
 use Rattle.firm_arena.specs.contracts.block.Block as block
 use Rattle.firm_arena.specs.contracts.block.Block.TheInside as inside
 use Rattle.firm_arena.proofs.block.Block.TheInside.TheLaws as inside_laws

@@ -12,7 +12,7 @@ use types.Kit.{‵, ◌⊛◌, ◌$◌, ◌∵◌, !, qed, by, move, drop, use2,
 use denote.Steps.{nothing}
 use Rattle.std.specs.Prelude.{◌≢◌}
 use Rattle.std.proofs.lemmas.Bool.{cases_eq}
-use Rattle.firm_arena.specs.Ownership.{each_place}
+use Rattle.firm_arena.specs.inner.Ownership.{each_place}
 
 -- the same of each place but one, of which nothing is said
 abbrev pub but_for : ℕ → (ℕ → Fml) → ℕ → Fml

@@ -17,8 +17,9 @@ use denote.Struct.Lending.{Lends, Lends-both, Lends-first, Lends-nothing, Lends-
 use Rattle.std.specs.Mem.{type_size}
 use Rattle.std.specs.Prelude.{Option, Some, None, slice_index_or}
 use Rattle.std.proofs.Crossing as heap
-use Rattle.firm_arena.specs.Ownership.{each_place, place_owns, place_lends, row_owns, row_lends, addressable, freeable}
-use Rattle.firm_arena.specs.Ownership.{block_owns, block_lends}
+use Rattle.firm_arena.specs.inner.Ownership.{each_place, place_owns, place_lends, row_owns, row_lends, addressable}
+use Rattle.firm_arena.specs.inner.Ownership.{freeable}
+use Rattle.firm_arena.specs.inner.Ownership.{block_owns, block_lends}
 
 -- what is lent of each place is copied, where what is lent of one is
 each_copied : (lent : Lft → ℕ → Fml) → ((place : ℕ) → ShrLaws (λ κ. lent κ place)) → (first count : ℕ)

@@ -16,7 +16,7 @@ use Rattle.std.proofs.lemmas.List.{get_or-set_same, get_or-set_other}
 use Rattle.std.specs.Mem.{type_size}
 use Rattle.core.proofs.mem.Param.{El, R, el_x, elτ}
 use Rattle.core.proofs.ptr.Rows.{times_below, one_below}
-use Rattle.firm_arena.specs.Ownership.{each_place, place_owns, row_owns, place_lends, row_lends}
+use Rattle.firm_arena.specs.inner.Ownership.{each_place, place_owns, row_owns, place_lends, row_lends}
 use Rattle.firm_arena.proofs.Places.{but_for, taken_out, put_back}
 use Rattle.firm_arena.proofs.Parts.{Row, places_own}
 

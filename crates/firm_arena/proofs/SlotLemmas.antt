@@ -14,7 +14,7 @@ use denote.Bor.{Bor}
 use Rattle.std.specs.Prelude.{option_copied, true}
 use Rattle.firm_arena.specs.declared.Id.{Id}
 use Rattle.firm_arena.specs.Steps.{Step, after}
-use Rattle.firm_arena.specs.Slot.{held_in, with_held, slot_at, IsFreeAt, IsFreeList, IsSound, Claims}
+use Rattle.firm_arena.specs.inner.Slot.{held_in, with_held, slot_at, IsFreeAt, IsFreeList, IsSound, Claims}
 
 module _ {X : Type 0} where
   -- what a place holds, read in the row

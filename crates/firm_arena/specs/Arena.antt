@@ -72,7 +72,7 @@ module _ {X : Type 0} where
   abbrev pub entries : Arena X → List (Id × X)
   entries a = entries_from 0 a.held
 
-  -- an arena of so many places that holds nothing, and gives out this stamp first
+  -- an empty arena of this capacity, which gives out this stamp first
   abbrev pub vacant : ℕ → ℕ → Arena X
   vacant capacity first = record { held = replicate capacity None; counter = first }
 

@@ -4,8 +4,4 @@ pub mod Laws
 pub mod Changes
 pub mod Sums
 pub mod Lends
-pub mod Slot
-pub mod SlotLends
-pub mod Block
-pub mod BlockLends
-pub mod Ownership
+pub mod inner

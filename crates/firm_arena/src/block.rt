@@ -1,5 +1,6 @@
 //! A block of memory that is seen as a row of places, each empty or holding a value. All raw pointers are here.
-ghost use Rattle.std.specs.Prelude.{◌≡◌, ◌^◌, ◌<◌, List, Option, Some, None, length, replicate, slice_index_or, slice_set, IsSome, IfOk};
+ghost use Rattle.std.specs.Prelude.{◌≡◌, ◌^◌, ◌<◌, List, Option, Some, None, length, replicate, slice_index_or};
+ghost use Rattle.std.specs.Prelude.{slice_set, IsSome, IfOk};
 ghost use Rattle.std.specs.Borrow.{sem};
 ghost use Rattle.std.specs.Vec.Ownership.{FitsInBlock};
 
@@ -23,8 +24,8 @@ impl<T> Model for Block<T> {
 
     ghost coded = { coded_list (coded_option T.code) };
 
-    ghost use Rattle.firm_arena.specs.Ownership.{block_owns, block_lends};
-    ghost use Rattle.firm_arena.specs.Block.{IsBlock};
+    ghost use Rattle.firm_arena.specs.inner.Ownership.{block_owns, block_lends};
+    ghost use Rattle.firm_arena.specs.inner.Block.{IsBlock};
 
     ghost view = { λ b. b.row };
 
@@ -40,7 +41,7 @@ unsafe impl<T: Send> Send for Block<T> {}
 unsafe impl<T: Sync> Sync for Block<T> {}
 
 impl<T> Block<T> {
-    ghost use Rattle.firm_arena.specs.BlockLends.{lends_place};
+    ghost use Rattle.firm_arena.specs.inner.BlockLends.{lends_place};
 
     /// A block of `capacity` empty places. `Err` where memory is refused, or the block would have 2^63 bytes or more.
     pub(crate) fn new(alloc: &Global, capacity: u32) -> Result<Block<T>, AllocError>

@@ -1,9 +1,11 @@
 #![tactic(auto)]
 //! A bounded map from ids to values in one block of memory, taken whole by the constructor.
-ghost use Rattle.std.specs.Prelude.{◌≡◌, ℕ, ◌+◌, ◌<◌, ◌≤◌, ◌^◌, ◌↔◌, IsOk, IsSome, OnSome, IfSome, IfNone, IfOk, IfErr, OnOk, OnErr, List, Some, None, option_copied};
+ghost use Rattle.std.specs.Prelude.{◌≡◌, ℕ, ◌+◌, ◌<◌, ◌≤◌, ◌^◌, ◌↔◌, IsOk, IsSome, OnSome, IfSome, IfNone, IfOk, IfErr};
+ghost use Rattle.std.specs.Prelude.{OnOk, OnErr, List, Some, None, option_copied};
 ghost use Rattle.std.specs.Option.{option_copied_mut};
 ghost use Rattle.std.specs.Borrow.{sem};
-ghost use Rattle.firm_arena.specs.Arena.{find, held_at, len_of, capacity_of, id_under, vacant, with_put, without, IsVacant, Refuses, IsBoundedMap, SameOthers};
+ghost use Rattle.firm_arena.specs.Arena.{find, held_at, len_of, capacity_of, id_under, vacant, with_put, without};
+ghost use Rattle.firm_arena.specs.Arena.{IsVacant, Refuses, IsBoundedMap, SameOthers};
 ghost use Rattle.firm_arena.specs.Steps.{Step, after};
 
 mod block;
@@ -54,7 +56,7 @@ impl<T> Model for Arena<T> {
 
     ghost coded = { arena_code T.code };
 
-    ghost use Rattle.firm_arena.specs.Slot.{held_in, IsSound};
+    ghost use Rattle.firm_arena.specs.inner.Slot.{held_in, IsSound};
 
     ghost view = { λ a. record { held = map held_in a.block; counter = a.counter } };
 
@@ -98,7 +100,8 @@ impl<T> Arena<T> {
         // The map has the entry and the others, whose stamps are all below the old counter.
         ensures found { IfOk result (λ id. find self.new id ≡ Some value) }
         ensures others { IfOk result (λ id. SameOthers self.old self.new id) }
-        ensures kept { OnOk result ((other : Id) → other.stamp < self.old.counter → find self.new other ≡ find self.old other) }
+        ensures kept { OnOk result ((other : Id) → other.stamp < self.old.counter
+            → find self.new other ≡ find self.old other) }
         ensures len { OnOk result (len_of self.new ≡ len_of self.old + 1) }
 
         // It succeeds wherever there is a place and a stamp, and a refusal changes nothing.
@@ -178,7 +181,8 @@ impl<T> Arena<T> {
     pub fn id_at(&self, place: u32) -> Option<Id>
         ensures value { result ≡ id_under self.now place }
         ensures found { IfSome result (λ id. (id.place ≡ place) × IsSome (find self.now id)) }
-        ensures only { (stamp : ℕ) → IsSome (find self.now (record { place = place; stamp = stamp })) → result ≡ Some (record { place = place; stamp = stamp }) }
+        ensures only { (stamp : ℕ) → IsSome (find self.now (record { place = place; stamp = stamp }))
+            → result ≡ Some (record { place = place; stamp = stamp }) }
         ensures map { IsBoundedMap self.now }
     {
         if place >= self.used {

@@ -1,8 +1,8 @@
 //! What an arena keeps at a place that was written: a link of the free list, or a value under its stamp.
 ghost use Rattle.std.specs.Prelude.{◌≡◌, ◌+◌, ◌^◌, ◌<◌, Some, None, IfSome, IfNone, slice_index_or, slice_set, IsSome};
 ghost use Rattle.std.specs.Borrow.{sem};
-ghost use Rattle.firm_arena.specs.Slot.{value_in, IsFreeAt, IsHeldAt, ReadsHeld, Claims};
-ghost use Rattle.firm_arena.specs.SlotLends.{lends_held};
+ghost use Rattle.firm_arena.specs.inner.Slot.{value_in, IsFreeAt, IsHeldAt, ReadsHeld, Claims};
+ghost use Rattle.firm_arena.specs.inner.SlotLends.{lends_held};
 
 use crate::block::Block;
 

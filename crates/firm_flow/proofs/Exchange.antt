@@ -22,7 +22,8 @@ IsHeld inside a x = (x ≡ a.flow) ⊎ ((inside a.tail ≡ false) × (a.flow ≤
 crosses : {N K : Type 0} (price : N → ℕ) (inside : N → Bool) (a : Arc N K) (x : ℕ)
     → a.low ≤ x → x ≤ a.cap → ((x ≡ a.flow → ⊥) → Tight price a)
     → IsHeld inside a x ⊎ (Tight price a → StaysInside inside a)
-    → weight inside a.tail * x + weight inside a.head * a.flow ≤ weight inside a.tail * a.flow + weight inside a.head * x
+    → weight inside a.tail * x + weight inside a.head * a.flow ≤ weight inside a.tail * a.flow
+    + weight inside a.head * x
 crosses {N} {K} price inside a x low cap tight why =
     ⊎_elim (λ (e : x ≡ a.flow). omega (
       arith,
@@ -91,7 +92,8 @@ pub exchange : {N K : Type 0} (price : N → ℕ) (arcs : List (Arc N K)) (sourc
     → Contains arcs e → All (λ a. Contains barred a.key → (g a ≡ a.flow) ⊎ (a ≡ e)) arcs
     → IsClosedBut arcs price (Contains barred) inside → inside e.head ≡ true → inside e.tail ≡ false
     → g e ≤ e.flow
-exchange {N} {K} price arcs sources sink g barred inside e valid mine_is within other_is cheap there only closed at_head at_tail =
+exchange {N} {K} price arcs sources sink g barred inside e valid mine_is within other_is cheap there only closed at_head
+    at_tail =
     ⊎_elim (λ (more : e.flow < g e).
     let why : All (λ a. IsHeld inside a (g a) ⊎ (Tight price a → StaysInside inside a)) arcs =
     λ k d h. ⊎_elim

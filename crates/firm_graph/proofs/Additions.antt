@@ -31,8 +31,10 @@ use Rattle.firm_graph.specs.declared.parts.TaskParts.{TaskParts}
 use Rattle.firm_graph.specs.Graph.{Graph, Mirrors, machine_spans, slot_spans, job_spans, task_spans, Target, target_of}
 use Rattle.firm_graph.specs.Network.{away}
 use Rattle.firm_graph.specs.Graph.{preferred_spans, home_node, node_under, weight_under, machine_nodes, job_nodes}
-use Rattle.firm_graph.proofs.Totals.{preferred-count, slots-count, nodes-counted, arcs-counted, flat_sum-push, nodes-total, spans-total, tasks-same, sum-one}
-use Rattle.firm_graph.proofs.Lookups.{position-is, node_under-at, weight_under-at, is_among-push, node_under-push, weight_under-push}
+use Rattle.firm_graph.proofs.Totals.{preferred-count, slots-count, nodes-counted, arcs-counted, flat_sum-push}
+use Rattle.firm_graph.proofs.Totals.{nodes-total, spans-total, tasks-same, sum-one}
+use Rattle.firm_graph.proofs.Lookups.{position-is, node_under-at, weight_under-at, is_among-push, node_under-push}
+use Rattle.firm_graph.proofs.Lookups.{weight_under-push}
 
 length-map : {A B : Type 0} (f : A → B) (xs : List A) → length (map f xs) ≡ length xs
 length-map f [] = refl

@@ -1,5 +1,6 @@
 -- The network told by rows, one by one, is the network of their case.
-use Rattle.std.proofs.Common.{◌≡◌, ℕ, zero, suc, ◌+◌, ◌*◌, ◌<◌, Bool, true, false, cond, ltb, not, is_some, Option, Some}
+use Rattle.std.proofs.Common.{◌≡◌, ℕ, zero, suc, ◌+◌, ◌*◌, ◌<◌, Bool, true, false, cond, ltb, not, is_some, Option}
+use Rattle.std.proofs.Common.{Some}
 use Rattle.std.proofs.Common.{None, List, [], ◌∷◌, ◌++◌, map, length, get_or, bytes_eq, append_assoc, arith, refl, sym}
 use Rattle.std.proofs.Common.{ap, ap₂, ◌∙◌, ⊎_elim}
 use Rattle.std.specs.List.{position_or_len}
@@ -16,7 +17,8 @@ use Rattle.firm_graph.specs.declared.network.Node.{Node}
 use Rattle.firm_graph.specs.declared.network.Node.TheVariants.{Sink, Hub, Machine as MachineAt, Owner, Task as TaskAt}
 use Rattle.firm_graph.specs.declared.network.Key.{Key}
 use Rattle.firm_graph.specs.declared.network.Key.TheVariants.{Through, Slot, Exit, Wide, Stay, Delay, Prefer}
-use Rattle.firm_graph.specs.Network.{gather, arc, slots_of, demand, runs, stay_head, away, machine_arcs, job_arcs, task_arcs}
+use Rattle.firm_graph.specs.Network.{gather, arc, slots_of, demand, runs, stay_head, away, machine_arcs, job_arcs}
+use Rattle.firm_graph.specs.Network.{task_arcs}
 use Rattle.firm_graph.specs.Network.{network}
 use Rattle.firm_graph.specs.Graph.{weight_under}
 

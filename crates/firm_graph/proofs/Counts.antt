@@ -1,5 +1,6 @@
 -- The network of some rows has as many nodes and arcs as they take of the arena.
-use Rattle.std.proofs.Common.{◌≡◌, ℕ, zero, suc, ◌+◌, ◌*◌, cond, is_some, List, [], ◌∷◌, ◌++◌, map, length, arith, refl, sym, ap, length-append}
+use Rattle.std.proofs.Common.{◌≡◌, ℕ, zero, suc, ◌+◌, ◌*◌, cond, is_some, List, [], ◌∷◌, ◌++◌, map, length, arith, refl}
+use Rattle.std.proofs.Common.{sym, ap, length-append}
 use Rattle.std.specs.List.{sum_by}
 use Rattle.std.proofs.lemmas.List.Sums.{sum_by-cons}
 use Rattle.firm_paths.specs.Network.{Arc}

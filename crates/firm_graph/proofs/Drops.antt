@@ -1,6 +1,7 @@
 -- What a graph is once a row was removed from it, and what its net holds on the way.
 use Rattle.std.proofs.Common.{◌≡◌, ℕ, zero, suc, ◌+◌, ◌*◌, ◌<◌, ◌≤◌, true, false, cond, is_some, ◌⊎◌, inl, inr, ⊎_elim}
-use Rattle.std.proofs.Common.{Option, Some, None, IsSome, List, [], ◌∷◌, ◌++◌, map, length, get_or, drop, bytes_eq, arith}
+use Rattle.std.proofs.Common.{Option, Some, None, IsSome, List, [], ◌∷◌, ◌++◌, map, length, get_or, drop, bytes_eq}
+use Rattle.std.proofs.Common.{arith}
 use Rattle.std.proofs.Common.{refl, sym, ap, ◌∙◌, subst, drop-cons}
 use Rattle.std.specs.List.{sum_by, All, AllZip, Contains, remove}
 use Rattle.std.proofs.lemmas.Bool.{cases_Bool, cond-true, cond-false}
@@ -34,7 +35,8 @@ use Rattle.firm_graph.specs.Network.{away}
 use Rattle.firm_graph.proofs.Entries.{sum-slot}
 use Rattle.firm_arena.specs.Sums.{sum-without}
 use Rattle.firm_graph.proofs.NetEdits.{nodes-sum, spans-sum, span_weight, sum-map, arc-below}
-use Rattle.firm_graph.proofs.Found.{Contains-skip, node-there, span-there, HasRow, ones, same_id, same_id-true, same_id-refl}
+use Rattle.firm_graph.proofs.Found.{Contains-skip, node-there, span-there, HasRow, ones, same_id, same_id-true}
+use Rattle.firm_graph.proofs.Found.{same_id-refl}
 use Rattle.firm_graph.proofs.Said.{shrunk}
 use Rattle.firm_graph.proofs.Totals.{nodes-total, spans-total, sum-one}
 
@@ -553,7 +555,8 @@ pub task-dropped : (g : Graph) (before after : Net) (place : ℕ) (parts : TaskP
     → Mirrors (task_dropped g after place)
 task-dropped g before after place parts is below at h edit =
     let here : place < length g.rows.tasks = omega (arith, below, is.tasks) in
-    shrunk g (task_dropped g after place) before parts.node is h edit (task-nodes g after place parts below at) refl refl
+    shrunk g (task_dropped g after place) before parts.node is h edit (task-nodes g after place parts below at)
+    refl refl
     (record {
       slots = is.slots;
       preferred = AllZip-remove (λ (t : Task) (p : TaskParts). length p.arcs.preferred ≡ length t.preferred)

@@ -98,7 +98,8 @@ nowhere name names e =
     (cases_Bool (ltb at (length names)))
 
 -- an arc less to the machines that a task prefers
-near-out : (w : Span → ℕ) (node : NodeId) (cost k : ℕ) (heads : List NodeId) (arcs : List ArcId) (h : NodeId) (a : ArcId)
+near-out : (w : Span → ℕ) (node : NodeId) (cost k : ℕ) (heads : List NodeId) (arcs : List ArcId) (h : NodeId)
+    (a : ArcId)
     → length heads ≡ length arcs → k < length arcs
     → sum_by w (preferred_spans node cost heads arcs)
     ≡ w (near node (get_or heads k h) cost (get_or arcs k a)) + sum_by w

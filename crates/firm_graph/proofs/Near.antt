@@ -1,5 +1,6 @@
 -- A task's arcs to the machines that it prefers, as they are added, changed and removed one by one.
-use Rattle.std.proofs.Common.{◌≡◌, ℕ, zero, suc, ◌+◌, ◌<◌, ◌≤◌, Some, List, [], ◌∷◌, ◌++◌, map, length, get_or, take, drop}
+use Rattle.std.proofs.Common.{◌≡◌, ℕ, zero, suc, ◌+◌, ◌<◌, ◌≤◌, Some, List, [], ◌∷◌, ◌++◌, map, length, get_or, take}
+use Rattle.std.proofs.Common.{drop}
 use Rattle.std.proofs.Common.{arith, refl, sym, ap, ap₂, ◌∙◌, subst, drop-cons}
 use Rattle.std.specs.List.{sum_by}
 use Rattle.std.proofs.lemmas.List.Sums.{sum_by-cons, sum_by-append}
@@ -68,8 +69,13 @@ link-step base old new node under names i name head arcs more arc below at head_
     let whole : map under (take (i + 1) names) ≡ heads ++ head ∷ [] =
     ap (map under) (take-next names i name below at) ∙ map-append under (take i names) (name ∷ [])
     ∙ ap (λ (n : NodeId). heads ++ n ∷ []) (sym head_is) in
-    let paired : length heads ≡ length arcs = omega
-    (arith, length-map (take i names) under, length-front names i (let b : i ≤ length names = omega (arith, below) in b), counted) in
+    let paired : length heads ≡ length arcs = omega (
+      arith,
+      length-map (take i names) under,
+      length-front names i
+          (let b : i ≤ length names = omega (arith, below) in b),
+      counted,
+    ) in
     let spans : preferred_spans node 0 (map under (take (i + 1) names)) more ≡ preferred_spans node 0 heads arcs ++
     near node head 0 arc ∷ [] =
     ap₂ (λ (hs : List NodeId) (ids : List ArcId). preferred_spans node 0 hs ids) whole more_is
@@ -97,7 +103,8 @@ unlink-step base old new ns ss node cost i heads arcs arc e below at h edits =
     let next : suc i ≡ i + 1 = omega arith in
     let rest : List Span = preferred_spans node cost (drop (i + 1) heads) (drop (i + 1) arcs) ++ ss in
     let was : Holds base old ns (near node head cost arc ∷ rest) =
-    subst (λ (k : ℕ). Holds base old ns (near node head cost arc ∷ preferred_spans node cost (drop k heads) (drop k arcs)
+    subst (λ (k : ℕ). Holds base old ns (near node head cost arc
+    ∷ preferred_spans node cost (drop k heads) (drop k arcs)
     ++ ss)) next
     (subst (λ (l : List NodeId). Holds base old ns (preferred_spans node cost l (arc ∷ drop (suc i) arcs) ++ ss))
     (drop-cons heads i node (omega (arith, e, below)))

@@ -1,5 +1,6 @@
 -- What the calls of a net take away and bring.
-use Rattle.std.proofs.Common.{◌≡◌, ℕ, suc, ◌*◌, ◌++◌, length-append, ◌+◌, ◌<◌, Some, List, [], ◌∷◌, map, length, arith, refl, sym, ap, ◌∙◌}
+use Rattle.std.proofs.Common.{◌≡◌, ℕ, suc, ◌*◌, ◌++◌, length-append, ◌+◌, ◌<◌, Some, List, [], ◌∷◌, map, length, arith}
+use Rattle.std.proofs.Common.{refl, sym, ap, ◌∙◌}
 use Rattle.std.specs.List.{sum_by}
 use Rattle.std.proofs.lemmas.List.Sums.{sum_by-append, sum_by-cons}
 use Rattle.firm_arena.specs.Arena.{entries, capacity_of}

@@ -15,9 +15,11 @@ use Rattle.firm_graph.specs.Parts.{MachineParts}
 use Rattle.firm_graph.specs.declared.parts.JobParts.{JobParts}
 use Rattle.firm_graph.specs.declared.parts.TaskParts.{TaskParts}
 use Rattle.firm_graph.specs.Graph.{Graph, Mirrors, flat_zip, slot_spans, machine_spans, job_spans, task_spans, Target}
-use Rattle.firm_graph.specs.Graph.{preferred_spans, node_under, target_of, home_node, weight_under, graph_spans, machine_nodes, job_nodes}
+use Rattle.firm_graph.specs.Graph.{preferred_spans, node_under, target_of, home_node, weight_under, graph_spans}
+use Rattle.firm_graph.specs.Graph.{machine_nodes, job_nodes}
 use Rattle.firm_graph.specs.declared.network.Node.{Node}
-use Rattle.firm_graph.specs.declared.network.Node.TheVariants.{Sink, Hub, Machine as MachineAt, Owner as JobAt, Task as TaskAt}
+use Rattle.firm_graph.specs.declared.network.Node.TheVariants.{Sink, Hub, Machine as MachineAt, Owner as JobAt}
+use Rattle.firm_graph.specs.declared.network.Node.TheVariants.{Task as TaskAt}
 use Rattle.firm_graph.specs.declared.network.Key.{Key}
 use Rattle.firm_graph.specs.declared.network.Key.TheVariants.{Through, Slot, Exit, Wide, Stay, Delay, Prefer}
 use Rattle.firm_graph.specs.Ids.{node_id, arc_id, no_arc, no_machine, no_arcs}

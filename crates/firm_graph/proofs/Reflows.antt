@@ -5,7 +5,8 @@ use Rattle.std.specs.List.{sum_by}
 use Rattle.std.proofs.lemmas.List.{length-map}
 use Rattle.firm_arena.specs.Arena.{held_at, capacity_of}
 use Rattle.firm_net.specs.Row.{Row}
-use Rattle.firm_net.specs.Net.{Net, IsNet, row_at, added_of, with_row, without_flow, slot_changed, CanPush, with_unit, with_numbers}
+use Rattle.firm_net.specs.Net.{Net, IsNet, row_at, added_of, with_row, without_flow, slot_changed, CanPush, with_unit}
+use Rattle.firm_net.specs.Net.{with_numbers}
 use Rattle.firm_net.specs.declared.row.Way.{Way}
 use Rattle.firm_net.specs.declared.row.Way.TheVariants.{Forward, Backward}
 use Rattle.firm_net.specs.declared.row.ArcId.{ArcId}

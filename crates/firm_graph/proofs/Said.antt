@@ -14,7 +14,8 @@ use Rattle.firm_graph.specs.Steps.{Holds}
 use Rattle.firm_graph.proofs.Totals.{sum-one}
 
 -- rows and parts of the same value make the same graph
-pub said : (g : Graph) (rows : TenantRows) (machines : List MachineParts) (jobs : List JobParts) (tasks : List TaskParts)
+pub said : (g : Graph) (rows : TenantRows) (machines : List MachineParts) (jobs : List JobParts)
+    (tasks : List TaskParts)
     → rows ≡ g.rows → machines ≡ g.machines → jobs ≡ g.jobs → tasks ≡ g.tasks → Mirrors g
     → Mirrors (record g { rows = rows; machines = machines; jobs = jobs; tasks = tasks })
 said g rows machines jobs tasks a b c d is =

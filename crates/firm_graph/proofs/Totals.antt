@@ -1,5 +1,6 @@
 -- What the nodes and arcs of a graph weigh, part by part.
-use Rattle.std.proofs.Common.{◌≡◌, ℕ, ◌+◌, ◌*◌, cond, is_some, List, [], ◌∷◌, ◌++◌, map, length, arith, refl, sym, ap, ap₂, ◌∙◌}
+use Rattle.std.proofs.Common.{◌≡◌, ℕ, ◌+◌, ◌*◌, cond, is_some, List, [], ◌∷◌, ◌++◌, map, length, arith, refl, sym, ap}
+use Rattle.std.proofs.Common.{ap₂, ◌∙◌}
 use Rattle.std.proofs.Common.{length-append}
 use Rattle.std.specs.List.{sum_by, All, AllZip}
 use Rattle.std.specs.Prelude.{slice_index_or}
@@ -19,7 +20,8 @@ use Rattle.firm_graph.specs.Parts.{MachineParts}
 use Rattle.firm_graph.specs.declared.parts.JobParts.{JobParts}
 use Rattle.firm_graph.specs.declared.parts.TaskParts.{TaskParts}
 use Rattle.firm_graph.specs.Graph.{Graph, Mirrors, flat_zip, machine_spans, slot_spans, job_spans, task_spans, Target}
-use Rattle.firm_graph.specs.Graph.{preferred_spans, node_under, target_of, graph_nodes, graph_spans, machine_nodes, job_nodes, task_nodes}
+use Rattle.firm_graph.specs.Graph.{preferred_spans, node_under, target_of, graph_nodes, graph_spans, machine_nodes}
+use Rattle.firm_graph.specs.Graph.{job_nodes, task_nodes}
 use Rattle.firm_arena.specs.Laws.{length-entries_from}
 use Rattle.firm_graph.proofs.NetEdits.{sum-map}
 
@@ -79,14 +81,16 @@ abbrev pub jobs_total : (Span → ℕ) → Graph → ℕ
 jobs_total w g = sum_by w (flat_zip (job_spans g.sink g.rows.limits.nodes) g.rows.jobs g.jobs)
 
 abbrev pub tasks_total : (Span → ℕ) → Graph → (Task → Target) → ℕ
-tasks_total w g target = sum_by w (flat_zip (task_spans g.hub g.rows.limits.churn g.rows.limits.remote target) g.rows.tasks g.tasks)
+tasks_total w g target = sum_by w (flat_zip (task_spans g.hub g.rows.limits.churn g.rows.limits.remote target)
+    g.rows.tasks g.tasks)
 
 pub spans-total : (w : Span → ℕ) (g : Graph)
     → sum_by w (graph_spans g) ≡ machines_total w g + (jobs_total w g + tasks_total w g (target_of g))
 spans-total w g =
     let machines : List Span = flat_zip (machine_spans g.hub g.sink g.rows.limits.spread) g.rows.machines g.machines in
     let jobs : List Span = flat_zip (job_spans g.sink g.rows.limits.nodes) g.rows.jobs g.jobs in
-    let tasks : List Span = flat_zip (task_spans g.hub g.rows.limits.churn g.rows.limits.remote (target_of g)) g.rows.tasks g.tasks in
+    let tasks : List Span = flat_zip (task_spans g.hub g.rows.limits.churn g.rows.limits.remote (target_of g))
+    g.rows.tasks g.tasks in
     omega (arith, sum_by-append w machines (jobs ++ tasks), sum_by-append w jobs tasks)
 
 -- the arcs of tasks are the same where their targets are
@@ -95,12 +99,15 @@ pub tasks-same : (w : Span → ℕ) (g : Graph) (one other : Task → Target)
     → tasks_total w g one ≡ tasks_total w g other
 tasks-same w g one other same =
     ap (λ (l : List Span). sum_by w l)
-    (flat_zip-same (task_spans g.hub g.rows.limits.churn g.rows.limits.remote one) (task_spans g.hub g.rows.limits.churn g.rows.limits.remote other) g.rows.tasks
+    (flat_zip-same (task_spans g.hub g.rows.limits.churn g.rows.limits.remote one)
+    (task_spans g.hub g.rows.limits.churn g.rows.limits.remote other) g.rows.tasks
     g.tasks
-    (λ k d below parts. same_target g.hub g.rows.limits.churn g.rows.limits.remote one other (slice_index_or g.rows.tasks k d) parts
+    (λ k d below parts. same_target g.hub g.rows.limits.churn g.rows.limits.remote one other
+    (slice_index_or g.rows.tasks k d) parts
     (same k d below)))
   where
-    same_target : (hub : NodeId) (churn remote : ℕ) (one other : Task → Target) (task : Task) (parts : TaskParts) → one task ≡
+    same_target : (hub : NodeId) (churn remote : ℕ) (one other : Task → Target) (task : Task) (parts : TaskParts)
+        → one task ≡
         other task
         → task_spans hub churn remote one task parts ≡ task_spans hub churn remote other task parts
     same_target hub churn remote one other task parts e =
@@ -200,7 +207,8 @@ pub arcs-counted : (g : Graph) → Mirrors g → arc_count g.net ≡ arena_arcs 
 arcs-counted g is =
     let machines : List Span = flat_zip (machine_spans g.hub g.sink g.rows.limits.spread) g.rows.machines g.machines in
     let jobs : List Span = flat_zip (job_spans g.sink g.rows.limits.nodes) g.rows.jobs g.jobs in
-    let tasks : List Span = flat_zip (task_spans g.hub g.rows.limits.churn g.rows.limits.remote (target_of g)) g.rows.tasks g.tasks in
+    let tasks : List Span = flat_zip (task_spans g.hub g.rows.limits.churn g.rows.limits.remote (target_of g))
+    g.rows.tasks g.tasks in
     omega (
       arith,
       often-length (spans_of g.net) (graph_spans g) is.spans,

@@ -38,7 +38,8 @@ leads-home g place parts home net head s ss is below at head_is tail_is h row th
     let r = holds-row g.net net (graph_nodes g) s ss h in
     let same : Some r.row ≡ Some row = sym r.there ∙ there in
     let own : r.row ≡ row = cc in
-    let tail : row.tail ≡ parts.node = sym (ap (λ (x : Row). x.tail) own) ∙ ap (λ (t : Span). t.tail) r.is ∙ tail_is in (
+    let tail : row.tail ≡ parts.node =
+    sym (ap (λ (x : Row). x.tail) own) ∙ ap (λ (t : Span). t.tail) r.is ∙ tail_is in (
       subst (λ (n : NodeId). IsNode net n) (sym head_is) (home-there g net home h.nodes),
       λ e. home-other g place parts home is below at (sym tail ∙ e ∙ head_is),
     )
@@ -77,7 +78,8 @@ evict-next g rows name place parts stand before after rows_is hub_is runs_is wai
       runs = runs_is;
     }) in
     let zero_waited : Mirrors (moved g (with_task_at (thrown_out_first g.rows name place) place None 0) after) =
-    subst (λ (n : ℕ). Mirrors (moved g (with_task_at (thrown_out_first g.rows name place) place None n) after)) waited_is
+    subst (λ (n : ℕ). Mirrors (moved g (with_task_at (thrown_out_first g.rows name place) place None n) after))
+    waited_is
     made in
     subst (λ (r : TenantRows). Mirrors (moved g r after))
     (throw-yes g.rows name place h.below (h.machine_is name ∙ on))

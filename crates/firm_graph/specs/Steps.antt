@@ -1,5 +1,6 @@
 -- Rows and graphs on the way from one to the next. No public clause cites this module.
-use Rattle.std.specs.Prelude.{◌≡◌, ℕ, zero, suc, ◌+◌, ◌<◌, ◌≤◌, List, [], ◌∷◌, length, map, slice_index_or, Option, None}
+use Rattle.std.specs.Prelude.{◌≡◌, ℕ, zero, suc, ◌+◌, ◌<◌, ◌≤◌, List, [], ◌∷◌, length, map, slice_index_or, Option}
+use Rattle.std.specs.Prelude.{None}
 use Rattle.std.specs.Prelude.{is_some, if◌then◌else◌}
 use Rattle.std.specs.List.{remove}
 use Rattle.firm_arena.specs.Arena.{capacity_of}
@@ -22,7 +23,7 @@ update_at [] place f = []
 update_at (x ∷ xs) zero f = f x ∷ xs
 update_at (x ∷ xs) (suc place) f = x ∷ update_at xs place f
 
--- the first so many elements changed, the first of them as that of number i
+-- the list with its first n elements changed, counted from i
 abbrev pub changed_first : {X : Type 0} → (ℕ → X → X) → ℕ → ℕ → List X → List X
 changed_first f i zero xs = xs
 changed_first f i (suc n) [] = []
@@ -38,31 +39,31 @@ job_gone rows place = record rows { jobs = remove rows.jobs place }
 abbrev pub task_gone : TenantRows → ℕ → TenantRows
 task_gone rows place = record rows { tasks = remove rows.tasks place }
 
--- the task, where it runs and how many rounds left it waiting said anew
+-- the task with another machine and another number of rounds waited
 abbrev pub placed : Option (List ℕ) → ℕ → Task → Task
 placed machine waited task = record task { machine = machine; waited = waited }
 
--- the rows with the task at a place said anew
+-- the rows with another machine and number of rounds waited for the task at a place
 abbrev pub with_task_at : TenantRows → ℕ → Option (List ℕ) → ℕ → TenantRows
 with_task_at rows place machine waited = record rows { tasks = update_at rows.tasks place (placed machine waited) }
 
--- the rows, the first so many tasks of which prefer the machine of this name no longer
+-- the rows with the machine of this name taken from the preferences of the first n tasks
 abbrev pub forgetting_first : TenantRows → List ℕ → ℕ → TenantRows
 forgetting_first rows name n = record rows { tasks = changed_first (λ _. forgetting name) 0 n rows.tasks }
 
--- the rows, no task of which prefers the machine of this name
+-- the rows with the machine of this name taken from all preferences
 abbrev pub forgetting_rows : TenantRows → List ℕ → TenantRows
 forgetting_rows rows name = record rows { tasks = map (forgetting name) rows.tasks }
 
--- a task that waits if it ran on the machine of this name, and was then left waiting by no round
+-- the task, waiting since no round if it ran on the machine of this name
 abbrev pub thrown_out : List ℕ → Task → Task
 thrown_out name task = if is_on name task.machine then placed None 0 task else task
 
--- the rows, the first so many tasks of which were thrown out of the machine
+-- the rows with the first n tasks thrown out of the machine
 abbrev pub thrown_out_first : TenantRows → List ℕ → ℕ → TenantRows
 thrown_out_first rows name n = record rows { tasks = changed_first (λ _. thrown_out name) 0 n rows.tasks }
 
--- the rows, the first so many tasks of which are as a round leaves them
+-- the rows with the first n tasks as a round leaves them
 abbrev pub settled_first : TenantRows → List Choice → ℕ → TenantRows
 settled_first rows choices n =
     let settled : ℕ → Task → Task = λ i task. task_after rows task (slice_index_or choices i Wait) in
@@ -74,7 +75,7 @@ no_task = record { name = []; job = []; preferred = []; machine = None; waited =
 abbrev pub task_at : TenantRows → ℕ → Task
 task_at rows place = slice_index_or rows.tasks place no_task
 
--- the rows, the task at a place of which prefers the machine of this name no longer
+-- the rows with the machine of this name taken from the preferences of the task at a place
 abbrev pub with_forgetting_at : TenantRows → ℕ → List ℕ → TenantRows
 with_forgetting_at rows place name = record rows { tasks = update_at rows.tasks place (forgetting name) }
 
@@ -82,8 +83,8 @@ with_forgetting_at rows place name = record rows { tasks = update_at rows.tasks 
 abbrev pub refitted : Graph → TenantRows → Net → List TaskParts → Graph
 refitted g rows net tasks = record g { rows = rows; net = net; tasks = tasks }
 
--- the graph stands over this net, its rows have the limits of these, and its task at a place, which is theirs, has these
--- parts
+-- the graph stands over this net, its rows have the limits of these, and its task at a place, which is theirs, has
+-- these parts
 pub record IsFitting (g : Graph) (net : Net) (rows : TenantRows) (parts : TaskParts) (place : ℕ) : Type 0 where
   pub mirrors : Mirrors g
   pub over : g.net ≡ net
@@ -122,7 +123,7 @@ pub record Stands (rows : TenantRows) (nodes : List NodeId) (hub : NodeId) (task
 abbrev pub near : NodeId → NodeId → ℕ → ArcId → Span
 near node head cost arc = record { arc = arc; tail = node; head = head; cap = 1; cost = cost }
 
--- a task's arcs to the machines that it prefers, the first so many at another cost
+-- a task's arcs to the machines that it prefers, the first n of them at another cost
 abbrev pub mixed_spans : NodeId → ℕ → ℕ → ℕ → List NodeId → List ArcId → List Span
 mixed_spans node new old zero heads arcs = preferred_spans node old heads arcs
 mixed_spans node new old (suc n) [] arcs = []

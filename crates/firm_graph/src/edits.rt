@@ -224,7 +224,7 @@ pub(crate) fn rate_preferred(net: &mut Net, arcs: PreferredArcs, cost: u32)
     }
 }
 
-/// What the way by the hub costs a task with so many preferences, beside churn.
+/// The cost of the way by the hub for a task with this number of preferences, without churn.
 pub(crate) fn away_cost(limits: Limits, preferences: usize) -> u32
     ensures value { result ≡ (if nat_lt 0 preferences then limits.remote else 0) }
     ensures most { result ≤ 1000000 }

@@ -447,7 +447,7 @@ impl Graph {
         self.net.room()
     }
 
-    // Whether the net has room for so many nodes and arcs more.
+    // Whether the net has room for these numbers of further nodes and arcs.
     fn find_room(&self, nodes: u32, arcs: u32) -> Result<(), GraphRefusal>
         requires nodes { nodes ≤ 1 }
         requires arcs { arcs ≤ 65 }

@@ -128,8 +128,8 @@ impl<'a> Lists<'a> {
     }
 }
 
-// A hog leaves so many bytes of the heap: the lists that have room where the row is refused, and `None` where it is
-// added. The rows are as they were then, and the row is added once the hog is gone.
+// A hog leaves this number of bytes of the heap: the lists that have room where the row is refused, and `None` where it
+// is added. The rows are as they were then, and the row is added once the hog is gone.
 fn refused_at<'a>(
     rt: &impl Abort,
     heap: &'a LocalHeap,

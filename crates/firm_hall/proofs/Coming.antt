@@ -10,9 +10,8 @@ use Rattle.firm_rules.specs.Book.{Book}
 use Rattle.firm_rules.specs.declared.commands.Command.TheVariants.{Round}
 use Rattle.firm_rules.specs.declared.replies.Reply.{Reply}
 use Rattle.firm_tenant.specs.Step.{is_memory}
-use Rattle.firm_text.specs.Registers.{most_places}
-use Rattle.firm_text.specs.Rosters.{Admitted}
-use Rattle.firm_text.specs.declared.registers.Place.{Place as Registered}
+use Rattle.firm_text.specs.Rosters.{RosterRow, most_places}
+use Rattle.firm_text.specs.declared.registers.Entry.{Entry}
 use Rattle.firm_table.specs.Answers.{text_of_answer}
 use Rattle.firm_rounds.specs.Rounds.{weigh}
 use Rattle.firm_rounds.specs.Passes.{QueueId}
@@ -27,32 +26,32 @@ use Rattle.firm_hall.specs.inner.Serving.{SeatIs, Tells, TellsParts, IsBackAt}
 use Rattle.firm_hall.specs.inner.Serving.{ServingIs, Stands, Follows, IsOpen, Keeps, serving_is}
 use Rattle.firm_hall.specs.declared.seats.Seat.{Seat}
 use Rattle.firm_hall.specs.declared.seats.Seat.TheVariants.{Home, Away, Empty, Gone}
-use Rattle.firm_hall.specs.declared.held.Slot.{Slot}
-use Rattle.firm_hall.specs.declared.held.Slot.TheVariants.{Known, Waiting}
-use Rattle.firm_hall.proofs.Slots.{is_place, with_mark, answers_filled, placed_filled, first_filled}
-use Rattle.firm_hall.proofs.Slots.{length_filled}
+use Rattle.firm_hall.specs.declared.held.HeldAnswer.{HeldAnswer}
+use Rattle.firm_hall.specs.declared.held.HeldAnswer.TheVariants.{Known, Waiting}
+use Rattle.firm_hall.proofs.HeldAnswers.{is_place, with_mark, answers_filled, placed_filled, first_filled}
+use Rattle.firm_hall.proofs.HeldAnswers.{length_filled}
 use Rattle.firm_hall.proofs.Seating.{here_is, seats_back, books_back, counts_back, asked_back}
 
 -- the answers once a reply came to the place, if one did
-abbrev pub filled_if : ℕ → Option Reply → List Slot → List Slot
-filled_if place None slots = slots
-filled_if place (Some reply) slots = filled place reply slots
+abbrev pub filled_if : ℕ → Option Reply → List HeldAnswer → List HeldAnswer
+filled_if place None answers = answers
+filled_if place (Some reply) answers = filled place reply answers
 
 -- what still holds of other seats and answers
-pub record Turned (roster : List Admitted) (register : List Registered) (queue : QueueId) (slots later : List Slot)
+pub record Turned (roster : List RosterRow) (register : List Entry) (queue : QueueId) (answers later : List HeldAnswer)
     (seats after : List Seat) : Type 0 where
   pub seats_are : AreSeats queue later after
   pub counts : map seat_counts after ≡ map seat_counts seats
   pub placed : ArePlaced later
   pub keeps : (output text : List ℕ) (written now : Option (List ℕ))
-      → TellsParts roster register seats slots output text written now
+      → TellsParts roster register seats answers output text written now
       → TellsParts roster register after later output text written now
 
-module _ (roster : List Admitted) (register : List Registered) (queue : QueueId) (place : ℕ) (slots : List Slot)
+module _ (roster : List RosterRow) (register : List Entry) (queue : QueueId) (place : ℕ) (answers : List HeldAnswer)
     (seats : List Seat) (default : Seat)
-    (are : AreSeats queue slots seats) (placed : ArePlaced slots) (low : place < most_places) where
+    (are : AreSeats queue answers seats) (placed : ArePlaced answers) (low : place < most_places) where
   stayed : (before last : Seat) → before ≡ get_or seats place default → last ≡ before
-      → Turned roster register queue slots slots seats (set seats place last)
+      → Turned roster register queue answers answers seats (set seats place last)
   stayed before last at same =
       let whole : set seats place last ≡ seats =
       ap (set seats place) (same ∙ at) ∙ set-get_or seats place default in
@@ -65,38 +64,38 @@ module _ (roster : List Admitted) (register : List Registered) (queue : QueueId)
       })
 
   came : (asked desk : DeskIs) (reply : Reply) → Away asked ≡ get_or seats place default → IsStep asked Round reply desk
-      → Turned roster register queue slots (filled place reply slots) seats (set seats place (Home desk))
+      → Turned roster register queue answers (filled place reply answers) seats (set seats place (Home desk))
   came asked desk reply away back =
       record {
-        seats_are = seats_back queue place slots seats asked desk reply default are low away back;
-        counts = counts_back queue place slots seats asked desk reply default are low away back;
-        placed = placed_filled place reply slots placed;
+        seats_are = seats_back queue place answers seats asked desk reply default are low away back;
+        counts = counts_back queue place answers seats asked desk reply default are low away back;
+        placed = placed_filled place reply answers placed;
         keeps = λ output text written now told marks.
             let marked = with_mark place (is_memory reply) marks in
-            let waits : OneWaits place asked slots =
-            (here_is queue place slots seats asked desk reply default are low away back).2 in
+            let waits : OneWaits place asked answers =
+            (here_is queue place answers seats asked desk reply default are low away back).2 in
             let books : map (book_at marked) seats ≡ map (book_at marks) (set seats place (Home desk)) =
-            sym (books_back queue place slots seats asked desk reply default are low away back marks) in
-            let held : held_text marked slots ≡ held_text marks (filled place reply slots) =
+            sym (books_back queue place answers seats asked desk reply default are low away back marks) in
+            let held : held_text marked answers ≡ held_text marks (filled place reply answers) =
             ap (flat_map text_of_answer)
-            (sym (answers_filled place asked reply (is_memory reply) marks slots waits
+            (sym (answers_filled place asked reply (is_memory reply) marks answers waits
             (ap (λ (p : Reply × Book). p.0) back.stepped))) in
             let asked_same : weigh asked_at seats ≡ weigh asked_at (set seats place (Home desk)) =
-            sym (asked_back queue place slots seats asked desk reply default are low away back) in
+            sym (asked_back queue place answers seats asked desk reply default are low away back) in
             let state : List (Option Book) → List ℕ → State =
             λ books text. state_is roster (tenants_are register books) (output ++ text) in
             subst (λ (n : ℕ). Tells
-            (state (map (book_at marks) (set seats place (Home desk))) (held_text marks (filled place reply slots))) n
+            (state (map (book_at marks) (set seats place (Home desk))) (held_text marks (filled place reply answers))) n
             text written now) asked_same
             (subst (λ (l : List ℕ). Tells (state (map (book_at marks) (set seats place (Home desk))) l)
             (weigh asked_at seats) text written now) held
-            (subst (λ (bs : List (Option Book)). Tells (state bs (held_text marked slots))
+            (subst (λ (bs : List (Option Book)). Tells (state bs (held_text marked answers))
             (weigh asked_at seats) text written now) books (told marked)));
       }
 
   pub turned : (before last : Seat) (reply : Option Reply) → before ≡ get_or seats place default
       → IsTurned before last reply
-      → Turned roster register queue slots (filled_if place reply slots) seats (set seats place last)
+      → Turned roster register queue answers (filled_if place reply answers) seats (set seats place last)
   turned before last None at turn = stayed before last at turn
   turned (Away asked) (Home desk) (Some reply) at turn = came asked desk reply at turn
   turned (Away asked) (Away other) (Some reply) at turn = absurd turn
@@ -107,18 +106,18 @@ module _ (roster : List Admitted) (register : List Registered) (queue : QueueId)
   turned Gone last (Some reply) at turn = absurd turn
 
 -- something stands at each place
-pub seated : (queue : QueueId) (place : ℕ) (slots : List Slot) (seat : Seat) → SeatIs queue place slots seat
+pub seated : (queue : QueueId) (place : ℕ) (answers : List HeldAnswer) (seat : Seat) → SeatIs queue place answers seat
     → IsSeated seat
-seated queue place slots (Home desk) is = tt
-seated queue place slots (Away asked) is = tt
-seated queue place slots (Empty empty) is = tt
-seated queue place slots Gone is = absurd is
+seated queue place answers (Home desk) is = tt
+seated queue place answers (Away asked) is = tt
+seated queue place answers (Empty empty) is = tt
+seated queue place answers Gone is = absurd is
 
-pub seated_at : (queue : QueueId) (place : ℕ) (slots : List Slot) (seats : List Seat) (before default : Seat)
-    → AreSeats queue slots seats → place < most_places
+pub seated_at : (queue : QueueId) (place : ℕ) (answers : List HeldAnswer) (seats : List Seat) (before default : Seat)
+    → AreSeats queue answers seats → place < most_places
     → before ≡ get_or seats place default → IsSeated before
-seated_at queue place slots seats before default are low at =
-    subst IsSeated (sym at) (seated queue place slots (get_or seats place default) (are.each place default low))
+seated_at queue place answers seats before default are low at =
+    subst IsSeated (sym at) (seated queue place answers (get_or seats place default) (are.each place default low))
 
 -- no round is away from a place where one came back, nor from others where none was
 pub back_set : (seats : List Seat) (place : ℕ) (put : Seat) → length seats ≡ most_places → IsBack put
@@ -141,71 +140,74 @@ back_others seats place other put long is back default low = dite (ℕ_discrete 
     (λ differ. subst IsBack (sym (get_or-set_other seats place other put default differ)) (back default low))
 
 -- what the first answer is, once its round came back
-first_not : {X : Type 0} (place : ℕ) (slots : List Slot) → NoneWaits place slots → FirstIsFor place slots → X
+first_not : {X : Type 0} (place : ℕ) (answers : List HeldAnswer) → NoneWaits place answers → FirstIsFor place answers
+    → X
 first_not place [] none here = absurd here
-first_not place (slot ∷ rest) none here = cc
+first_not place (answer ∷ rest) none here = cc
 
-first_back : (queue : QueueId) (place : ℕ) (slots : List Slot) (before last : Seat) (reply : Option Reply)
-    → SeatIs queue place slots before
-    → IsTurned before last reply → IsBack last → FirstIsFor place slots → FirstIsKnown (filled_if place reply slots)
-first_back queue place slots (Home old) last None is turn back here = first_not place slots is.2 here
-first_back queue place slots (Home old) last (Some reply) is turn back here = absurd turn
-first_back queue place slots (Away asked) last None is turn back here = absurd (subst IsBack turn back)
-first_back queue place slots (Away asked) last (Some reply) is turn back here = first_filled place reply slots here
-first_back queue place slots (Empty old) last None is turn back here = first_not place slots is.2 here
-first_back queue place slots (Empty old) last (Some reply) is turn back here = absurd turn
-first_back queue place slots Gone last reply is turn back here = absurd is
+first_back : (queue : QueueId) (place : ℕ) (answers : List HeldAnswer) (before last : Seat) (reply : Option Reply)
+    → SeatIs queue place answers before
+    → IsTurned before last reply → IsBack last → FirstIsFor place answers → FirstIsKnown (filled_if place reply answers)
+first_back queue place answers (Home old) last None is turn back here = first_not place answers is.2 here
+first_back queue place answers (Home old) last (Some reply) is turn back here = absurd turn
+first_back queue place answers (Away asked) last None is turn back here = absurd (subst IsBack turn back)
+first_back queue place answers (Away asked) last (Some reply) is turn back here = first_filled place reply answers here
+first_back queue place answers (Empty old) last None is turn back here = first_not place answers is.2 here
+first_back queue place answers (Empty old) last (Some reply) is turn back here = absurd turn
+first_back queue place answers Gone last reply is turn back here = absurd is
 
-pub first_comes : (queue : QueueId) (place : ℕ) (slots later : List Slot) (seats : List Seat)
-    (before last default : Seat) (reply : Option Reply) → AreSeats queue slots seats
-    → place < most_places → before ≡ get_or seats place default → later ≡ filled_if place reply slots
-    → IsTurned before last reply → IsBack last → FirstIsFor place slots → FirstIsKnown later
-first_comes queue place slots later seats before last default reply are low at filled_is turn back here =
+pub first_comes : (queue : QueueId) (place : ℕ) (answers later : List HeldAnswer) (seats : List Seat)
+    (before last default : Seat) (reply : Option Reply) → AreSeats queue answers seats
+    → place < most_places → before ≡ get_or seats place default → later ≡ filled_if place reply answers
+    → IsTurned before last reply → IsBack last → FirstIsFor place answers → FirstIsKnown later
+first_comes queue place answers later seats before last default reply are low at filled_is turn back here =
     subst FirstIsKnown (sym filled_is)
-    (first_back queue place slots before last reply
-    (subst (SeatIs queue place slots) (sym at) (are.each place default low)) turn back here)
+    (first_back queue place answers before last reply
+    (subst (SeatIs queue place answers) (sym at) (are.each place default low)) turn back here)
 
-pub first_waits : (place : ℕ) (slots : List Slot) → FirstIsFor place slots → FirstWaits slots
+pub first_waits : (place : ℕ) (answers : List HeldAnswer) → FirstIsFor place answers → FirstWaits answers
 first_waits place [] here = absurd here
 first_waits place (Waiting at name asked ∷ rest) here = tt
 first_waits place (Known answer ∷ rest) here = cc
 
-waits_low : (place : ℕ) (slot : Slot) → waits_for place slot ≡ true → IsPlaced slot → place < most_places
+waits_low : (place : ℕ) (answer : HeldAnswer) → waits_for place answer ≡ true → IsPlaced answer → place < most_places
 waits_low place (Known answer) here is = cc
 waits_low place (Waiting at name asked) here is = subst (λ (p : ℕ). p < most_places) (eqb-true at place here) is
 
 -- the first answer waits for a place that there is
-pub first_low : (place : ℕ) (slots : List Slot) → FirstIsFor place slots → ArePlaced slots → place < most_places
+pub first_low : (place : ℕ) (answers : List HeldAnswer) → FirstIsFor place answers → ArePlaced answers
+    → place < most_places
 first_low place [] here placed = absurd here
-first_low place (slot ∷ rest) here placed = waits_low place slot here placed.0
+first_low place (answer ∷ rest) here placed = waits_low place answer here placed.0
 
 -- whose round is away
-away_there : (queue : QueueId) (place : ℕ) (slots : List Slot) (seat : Seat) → SeatIs queue place slots seat
-    → FirstIsFor place slots → IsAway seat
-away_there queue place slots (Home desk) is here = first_not place slots is.2 here
-away_there queue place slots (Away asked) is here = tt
-away_there queue place slots (Empty empty) is here = first_not place slots is.2 here
-away_there queue place slots Gone is here = absurd is
+away_there : (queue : QueueId) (place : ℕ) (answers : List HeldAnswer) (seat : Seat) → SeatIs queue place answers seat
+    → FirstIsFor place answers → IsAway seat
+away_there queue place answers (Home desk) is here = first_not place answers is.2 here
+away_there queue place answers (Away asked) is here = tt
+away_there queue place answers (Empty empty) is here = first_not place answers is.2 here
+away_there queue place answers Gone is here = absurd is
 
-pub first_away : (queue : QueueId) (place : ℕ) (slots : List Slot) (seats : List Seat) (before default : Seat)
-    → AreSeats queue slots seats → place < most_places → before ≡ get_or seats place default
-    → FirstIsFor place slots → IsAway before
-first_away queue place slots seats before default are low at here =
-    away_there queue place slots before (subst (SeatIs queue place slots) (sym at) (are.each place default low)) here
+pub first_away : (queue : QueueId) (place : ℕ) (answers : List HeldAnswer) (seats : List Seat) (before default : Seat)
+    → AreSeats queue answers seats → place < most_places → before ≡ get_or seats place default
+    → FirstIsFor place answers → IsAway before
+first_away queue place answers seats before default are low at here =
+    away_there queue place answers before
+    (subst (SeatIs queue place answers) (sym at) (are.each place default low)) here
 
 -- an answer waits for a round that is away
-one_there : (queue : QueueId) (place : ℕ) (slots : List Slot) (seat : Seat) → SeatIs queue place slots seat
-    → IsAway seat → (asked : DeskIs) × OneWaits place asked slots
-one_there queue place slots (Home desk) is away = absurd away
-one_there queue place slots (Away asked) is away = (asked, is.2)
-one_there queue place slots (Empty empty) is away = absurd away
-one_there queue place slots Gone is away = absurd away
+one_there : (queue : QueueId) (place : ℕ) (answers : List HeldAnswer) (seat : Seat) → SeatIs queue place answers seat
+    → IsAway seat → (asked : DeskIs) × OneWaits place asked answers
+one_there queue place answers (Home desk) is away = absurd away
+one_there queue place answers (Away asked) is away = (asked, is.2)
+one_there queue place answers (Empty empty) is away = absurd away
+one_there queue place answers Gone is away = absurd away
 
-pub one_waits : (queue : QueueId) (place : ℕ) (slots : List Slot) (seats : List Seat) (before default : Seat)
-    → AreSeats queue slots seats → place < most_places → before ≡ get_or seats place default
-    → IsAway before → (asked : DeskIs) × OneWaits place asked slots
-one_waits queue place slots seats before default are low at away =
-    one_there queue place slots before (subst (SeatIs queue place slots) (sym at) (are.each place default low)) away
+pub one_waits : (queue : QueueId) (place : ℕ) (answers : List HeldAnswer) (seats : List Seat) (before default : Seat)
+    → AreSeats queue answers seats → place < most_places → before ≡ get_or seats place default
+    → IsAway before → (asked : DeskIs) × OneWaits place asked answers
+one_waits queue place answers seats before default are low at away =
+    one_there queue place answers before (subst (SeatIs queue place answers) (sym at) (are.each place default low)) away
 
 -- one place has one seat
 pub same_seat : (seats : List Seat) (place : ℕ) (first second one other : Seat) → place < length seats
@@ -219,14 +221,14 @@ pub record CameBack (old new : ServingIs) : Type 0 where
   pub follows : Follows old new
   pub keeps : Keeps old new
 
-pub came_back : (queue : QueueId) (register : List Registered) (seats : List Seat) (held : HeldIs) (place : ℕ)
+pub came_back : (queue : QueueId) (register : List Entry) (seats : List Seat) (held : HeldIs) (place : ℕ)
     (before last default : Seat) (reply : Reply) → Stands (serving_is queue register seats held) → place < most_places
     → before ≡ get_or seats place default → IsTurned before last (Some reply)
     → CameBack (serving_is queue register seats held)
-    (serving_is queue register (set seats place last) (held_is (filled place reply held.slots) held.output))
+    (serving_is queue register (set seats place last) (held_is (filled place reply held.answers) held.output))
 came_back queue register seats held place before last default reply stands low at turn =
-    let turn_of = λ (roster : List Admitted).
-    turned roster register queue place held.slots seats default stands.seats stands.placed low before last
+    let turn_of = λ (roster : List RosterRow).
+    turned roster register queue place held.answers seats default stands.seats stands.placed low before last
     (Some reply) at turn in
     record {
       stands = record {
@@ -234,7 +236,7 @@ came_back queue register seats held place before last default reply stands low a
         fits = (turn_of []).counts ∙ stands.fits;
         placed = (turn_of []).placed;
       };
-      follows = record { same_hall = refl; fewer = omega (arith, length_filled place reply held.slots) };
+      follows = record { same_hall = refl; fewer = omega (arith, length_filled place reply held.answers) };
       keeps = λ roster text written now told. (turn_of roster).keeps held.output text written now told;
     }
 

@@ -6,18 +6,19 @@ use Rattle.std.proofs.Math.ListN.{get_or-map}
 use Rattle.std.proofs.lemmas.Bool.Decides.{nat_tests}
 use Rattle.std.proofs.lemmas.List.{get_or_default}
 use Rattle.std.proofs.lemmas.List.Quantifiers.{position-Some}
-use Rattle.firm_text.specs.Registers.{is_free, is_named, most_admissions, most_places, place_for, place_in, vacant}
+use Rattle.firm_text.specs.Registers.{is_free, is_named, most_admissions, place_for, place_in, vacant}
+use Rattle.firm_text.specs.Rosters.{most_places}
 use Rattle.firm_text.specs.declared.operator.OperatorRefusal.{OperatorRefusal}
 use Rattle.firm_text.specs.declared.operator.OperatorRefusal.TheVariants.{TenantExists, Full}
-use Rattle.firm_text.specs.declared.registers.Place.{Place as Registered}
+use Rattle.firm_text.specs.declared.registers.Entry.{Entry}
 use Rattle.firm_rounds.specs.Passes.{QueueId}
 use Rattle.firm_hall.specs.inner.Seats.{IsBack, IsHome, IsHomeOf, IsFree}
 use Rattle.firm_hall.specs.inner.Serving.{AreSeats, Fits, IsBackAt, SeatIs, place_counts, seat_counts}
 use Rattle.firm_hall.specs.declared.seats.Seat.{Seat}
 use Rattle.firm_hall.specs.declared.seats.Seat.TheVariants.{Home, Away, Empty, Gone}
-use Rattle.firm_hall.specs.declared.held.Slot.{Slot}
+use Rattle.firm_hall.specs.declared.held.HeldAnswer.{HeldAnswer}
 
-module _ (register : List Registered) (seats : List Seat) (fits : Fits register seats) (place : ℕ)
+module _ (register : List Entry) (seats : List Seat) (fits : Fits register seats) (place : ℕ)
     (before default : Seat) (low : place < length seats)
     (at : before ≡ get_or seats place default) where
   pub counts_at : seat_counts before ≡ place_counts (get_or register place (vacant 0))
@@ -32,7 +33,7 @@ module _ (register : List Registered) (seats : List Seat) (fits : Fits register 
   has_tenant name found =
       ap (λ (c : Bool × ℕ). c.0) counts_at
       ∙ named (get_or register place (vacant 0)).tenant
-      (position-Some (λ (p : Registered). is_named name p.tenant) register place (vacant 0) found).1
+      (position-Some (λ (p : Entry). is_named name p.tenant) register place (vacant 0) found).1
     where
       named : (tenant : Option (List ℕ)) → is_named name tenant ≡ true → is_some tenant ≡ true
       named None e = cc
@@ -60,7 +61,7 @@ module _ (register : List Registered) (seats : List Seat) (fits : Fits register 
       none_some None e = refl
       none_some (Some tenant) e = cc
 
-      free_parts : (p : Registered) → is_free p ≡ true → (is_some p.tenant ≡ false) × (p.admissions < most_admissions)
+      free_parts : (p : Entry) → is_free p ≡ true → (is_some p.tenant ≡ false) × (p.admissions < most_admissions)
       free_parts p e = by (is_none p.tenant) (nat_lt p.admissions most_admissions) refl refl e
         where
           by : (a b : Bool) → is_none p.tenant ≡ a → nat_lt p.admissions most_admissions ≡ b → (a && b) ≡ true
@@ -70,12 +71,13 @@ module _ (register : List Registered) (seats : List Seat) (fits : Fits register 
           by false b none few both = absurd (cc)
 
 -- the desk of a tenant whose round is not away is home
-pub home_there : (queue : QueueId) (place : ℕ) (slots : List Slot) (seat : Seat) → SeatIs queue place slots seat
+pub home_there : (queue : QueueId) (place : ℕ) (answers : List HeldAnswer) (seat : Seat)
+    → SeatIs queue place answers seat
     → IsBack seat → (seat_counts seat).0 ≡ true → IsHomeOf queue seat
-home_there queue place slots (Home desk) is back has = is.0
-home_there queue place slots (Away asked) is back has = absurd back
-home_there queue place slots (Empty empty) is back has = absurd (cc)
-home_there queue place slots Gone is back has = absurd is
+home_there queue place answers (Home desk) is back has = is.0
+home_there queue place answers (Away asked) is back has = absurd back
+home_there queue place answers (Empty empty) is back has = absurd (cc)
+home_there queue place answers Gone is back has = absurd is
 
 pub is_home : (queue : QueueId) (seat : Seat) → IsHomeOf queue seat → IsHome seat
 is_home queue (Home desk) is = tt
@@ -83,29 +85,30 @@ is_home queue (Away asked) is = absurd is
 is_home queue (Empty empty) is = absurd is
 is_home queue Gone is = absurd is
 
-pub free_there : (queue : QueueId) (place : ℕ) (slots : List Slot) (seat : Seat) → SeatIs queue place slots seat
+pub free_there : (queue : QueueId) (place : ℕ) (answers : List HeldAnswer) (seat : Seat)
+    → SeatIs queue place answers seat
     → (seat_counts seat).0 ≡ false → (seat_counts seat).1 < most_admissions → IsFree seat
-free_there queue place slots (Home desk) is none few = absurd (cc)
-free_there queue place slots (Away asked) is none few = absurd (cc)
-free_there queue place slots (Empty empty) is none few = few
-free_there queue place slots Gone is none few = absurd is
+free_there queue place answers (Home desk) is none few = absurd (cc)
+free_there queue place answers (Away asked) is none few = absurd (cc)
+free_there queue place answers (Empty empty) is none few = few
+free_there queue place answers Gone is none few = absurd is
 
 -- the same, of what a body finds at a place
-module _ (queue : QueueId) (register : List Registered) (slots : List Slot) (seats : List Seat)
-    (are : AreSeats queue slots seats) (fits : Fits register seats) (place : ℕ)
+module _ (queue : QueueId) (register : List Entry) (answers : List HeldAnswer) (seats : List Seat)
+    (are : AreSeats queue answers seats) (fits : Fits register seats) (place : ℕ)
     (before default : Seat) (low : place < most_places) (at : before ≡ get_or seats place default) where
   within : place < length seats
   within = omega (arith, are.long)
 
-  here : SeatIs queue place slots before
-  here = subst (SeatIs queue place slots) (sym at) (are.each place default low)
+  here : SeatIs queue place answers before
+  here = subst (SeatIs queue place answers) (sym at) (are.each place default low)
 
   pub home_of : (name : List ℕ) → place_in register name ≡ Some place → IsBackAt place seats → IsHomeOf queue before
   home_of name found back =
-      home_there queue place slots before here (subst IsBack (sym at) (back default low))
+      home_there queue place answers before here (subst IsBack (sym at) (back default low))
       (has_tenant register seats fits place before default within at name found)
 
   pub free_of : (name : List ℕ) → place_for register name ≡ Ok place → IsFree before
   free_of name given =
       let none = has_none register seats fits place before default within at name given in
-      free_there queue place slots before here none.0 none.1
+      free_there queue place answers before here none.0 none.1

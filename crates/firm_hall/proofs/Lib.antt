@@ -2,7 +2,7 @@ mod Alls
 mod Opening
 mod Once
 mod Shutting
-mod Slots
+mod HeldAnswers
 mod Seating
 mod Telling
 mod Coming

@@ -9,7 +9,7 @@ use Rattle.std.proofs.lemmas.List.Elements.{All-append}
 use Rattle.std.proofs.lemmas.Option.{slice_get_within, get_or_from_slice_get}
 use Rattle.std.proofs.lemmas.Bool.{cases_lt}
 use Rattle.firm_rules.specs.Book.{Book, opening_book}
-use Rattle.firm_text.specs.Rosters.{Admitted}
+use Rattle.firm_text.specs.Rosters.{RosterRow}
 use Rattle.firm_rounds.specs.Passes.{QueueId, PutIs, PopIs, put_is, pop_is, new_puts, new_pops}
 use Rattle.firm_hall.specs.Desks.{DeskIs, desk_is, PlaceIs, place_is}
 use Rattle.firm_hall.specs.Opening.{opening_desks, unused_places}
@@ -49,19 +49,19 @@ pub rest_behind : {A : Type 0} (n : ℕ) (all rest : List A) (x : A) → drop n 
 rest_behind {A = A} n all rest x e = ap (λ (j : ℕ). drop j all) (add-one n) ∙ (drop_tail n all ∙ ap (drop 1) e)
 
 -- the desks from a place on begin with that of its row
-desks_from : (id : QueueId) (at : ℕ) (roster : List Admitted) (tenant : Admitted) → slice_get roster at ≡ Some tenant
+desks_from : (id : QueueId) (at : ℕ) (roster : List RosterRow) (tenant : RosterRow) → slice_get roster at ≡ Some tenant
     → opening_desks id at (drop at roster)
     ≡ desk_is id at 0 1 (opening_book tenant.1) ∷ opening_desks id (at + 1) (drop (at + 1) roster)
 desks_from id at roster tenant e =
     let behind = drop (at + 1) roster in
     let rows : drop at roster ≡ tenant ∷ behind =
     drop_more roster at tenant (slice_get_within roster at tenant e)
-    ∙ ap (λ (t : Admitted). t ∷ behind) (get_or_from_slice_get roster at tenant tenant e) in
+    ∙ ap (λ (t : RosterRow). t ∷ behind) (get_or_from_slice_get roster at tenant tenant e) in
     ap (opening_desks id at) rows
     ∙ ap (λ (j : ℕ). desk_is id at 0 1 (opening_book tenant.1) ∷ opening_desks id j behind) (sym (add-one at))
 
 -- one desk more is opened
-pub opens_next : (id : QueueId) (at : ℕ) (roster : List Admitted) (tenant : Admitted) (desks grown all : List DeskIs)
+pub opens_next : (id : QueueId) (at : ℕ) (roster : List RosterRow) (tenant : RosterRow) (desks grown all : List DeskIs)
     (desk : DeskIs)
     → slice_get roster at ≡ Some tenant → grown ≡ desks ++ desk ∷ [] → desk ≡ desk_is id at 0 1 (opening_book tenant.1)
     → desks ++ opening_desks id at (drop at roster) ≡ all
@@ -73,11 +73,11 @@ opens_next id at roster tenant desks grown all desk row pushed is before =
     (ap (λ (d : DeskIs). d ∷ rest) is ∙ sym (desks_from id at roster tenant row)) ∙ before))
 
 -- all desks are opened
-pub opens_all : (id : QueueId) (at : ℕ) (roster : List Admitted) (desks all : List DeskIs) → length roster ≤ at
+pub opens_all : (id : QueueId) (at : ℕ) (roster : List RosterRow) (desks all : List DeskIs) → length roster ≤ at
     → desks ++ opening_desks id at (drop at roster) ≡ all → desks ≡ all
 opens_all id at roster desks all past before =
     sym (append-nil desks)
-    ∙ (ap (λ (rows : List Admitted). desks ++ opening_desks id at rows) (sym (drop_all at roster past)) ∙ before)
+    ∙ (ap (λ (rows : List RosterRow). desks ++ opening_desks id at rows) (sym (drop_all at roster past)) ∙ before)
 
 -- what holds of the next pass
 pub next_desk : (id : QueueId) (passes : List PutIs) (count at : ℕ) (rest : List PutIs) (pass : PutIs) (desk : DeskIs)
@@ -88,7 +88,7 @@ next_desk id passes count at rest pass desk book e low here is =
     is ∙ ap (λ (p : PutIs). desk_is p.queue p.place 0 1 book) (pass_at id passes count at rest pass e low here)
 
 -- the desks that a hall opens with are of it
-pub desks_of : (id : QueueId) (place : ℕ) (roster : List Admitted)
+pub desks_of : (id : QueueId) (place : ℕ) (roster : List RosterRow)
     → All (λ (d : DeskIs). d.queue ≡ id) (opening_desks id place roster)
 desks_of id place [] k d low = absurd (omega arith)
 desks_of id place (tenant ∷ rest) zero d low = refl

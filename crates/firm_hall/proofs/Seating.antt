@@ -10,7 +10,7 @@ use Rattle.firm_rules.specs.declared.commands.Command.TheVariants.{Round}
 use Rattle.firm_rules.specs.declared.replies.Reply.{Reply}
 use Rattle.firm_tenant.specs.Step.{step, is_memory}
 use Rattle.std.proofs.Math.Seq.{map-set_same}
-use Rattle.firm_text.specs.Registers.{most_places}
+use Rattle.firm_text.specs.Rosters.{most_places}
 use Rattle.firm_rounds.specs.Rounds.{weigh}
 use Rattle.firm_rounds.specs.Passes.{QueueId}
 use Rattle.firm_hall.specs.Desks.{DeskIs, IsStep}
@@ -18,9 +18,9 @@ use Rattle.firm_hall.specs.inner.Held.{filled, waits_for}
 use Rattle.firm_hall.specs.inner.Serving.{book_at, asked_at, seat_counts, SeatIs, AreSeats}
 use Rattle.firm_hall.specs.declared.seats.Seat.{Seat}
 use Rattle.firm_hall.specs.declared.seats.Seat.TheVariants.{Home, Away, Empty, Gone}
-use Rattle.firm_hall.specs.declared.held.Slot.{Slot}
-use Rattle.firm_hall.proofs.Slots.{with_mark, with_here, with_other, none_push, one_push, none_filled, none_other}
-use Rattle.firm_hall.proofs.Slots.{one_other}
+use Rattle.firm_hall.specs.declared.held.HeldAnswer.{HeldAnswer}
+use Rattle.firm_hall.proofs.HeldAnswers.{with_mark, with_here, with_other, none_push, one_push, none_filled, none_other}
+use Rattle.firm_hall.proofs.HeldAnswers.{one_other}
 
 module _ {A : Type 0} where
   pub weigh_set : (g : A → ℕ) (xs : List A) (i : ℕ) (y d : A) → i < length xs
@@ -40,82 +40,88 @@ module _ {A : Type 0} where
       (λ differ. subst (Q j) (sym (get_or-set_other xs i j y d differ)) (there j differ (all within)))
 
 -- another place, of which an answer became known that waited for this one
-pub seat_other : (queue : QueueId) (place other : ℕ) (reply : Reply) (slots : List Slot) (seat : Seat) → other ≢ place
-    → SeatIs queue other slots seat
-    → SeatIs queue other (filled place reply slots) seat
-seat_other queue place other reply slots (Home desk) differ is = (is.0, is.1, none_other place other reply slots is.2)
-seat_other queue place other reply slots (Away asked) differ is =
-    (is.0, is.1, one_other place other asked reply slots differ is.2)
-seat_other queue place other reply slots (Empty empty) differ is = (is.0, is.1, none_other place other reply slots is.2)
-seat_other queue place other reply slots Gone differ is = absurd is
+pub seat_other : (queue : QueueId) (place other : ℕ) (reply : Reply) (answers : List HeldAnswer) (seat : Seat)
+    → other ≢ place
+    → SeatIs queue other answers seat
+    → SeatIs queue other (filled place reply answers) seat
+seat_other queue place other reply answers (Home desk) differ is =
+    (is.0, is.1, none_other place other reply answers is.2)
+seat_other queue place other reply answers (Away asked) differ is =
+    (is.0, is.1, one_other place other asked reply answers differ is.2)
+seat_other queue place other reply answers (Empty empty) differ is =
+    (is.0, is.1, none_other place other reply answers is.2)
+seat_other queue place other reply answers Gone differ is = absurd is
 
 -- a place, with one answer more that waits for another or for none
-pub seat_push : (queue : QueueId) (place : ℕ) (slots : List Slot) (slot : Slot) (seat : Seat)
-    → waits_for place slot ≡ false → SeatIs queue place slots seat
-    → SeatIs queue place (slots ++ slot ∷ []) seat
-seat_push queue place slots slot (Home desk) out is = (is.0, is.1, none_push place slots slot is.2 out)
-seat_push queue place slots slot (Away asked) out is = (is.0, is.1, one_push place asked slots slot is.2 out)
-seat_push queue place slots slot (Empty empty) out is = (is.0, is.1, none_push place slots slot is.2 out)
-seat_push queue place slots slot Gone out is = absurd is
+pub seat_push : (queue : QueueId) (place : ℕ) (answers : List HeldAnswer) (answer : HeldAnswer) (seat : Seat)
+    → waits_for place answer ≡ false → SeatIs queue place answers seat
+    → SeatIs queue place (answers ++ answer ∷ []) seat
+seat_push queue place answers answer (Home desk) out is = (is.0, is.1, none_push place answers answer is.2 out)
+seat_push queue place answers answer (Away asked) out is = (is.0, is.1, one_push place asked answers answer is.2 out)
+seat_push queue place answers answer (Empty empty) out is = (is.0, is.1, none_push place answers answer is.2 out)
+seat_push queue place answers answer Gone out is = absurd is
 
 -- a place, once the first answer is taken, which waits for none
-pub seat_pop : (queue : QueueId) (place : ℕ) (slot : Slot) (rest : List Slot) (seat : Seat)
-    → waits_for place slot ≡ false → SeatIs queue place (slot ∷ rest) seat
+pub seat_pop : (queue : QueueId) (place : ℕ) (answer : HeldAnswer) (rest : List HeldAnswer) (seat : Seat)
+    → waits_for place answer ≡ false → SeatIs queue place (answer ∷ rest) seat
     → SeatIs queue place rest seat
-seat_pop queue place slot rest (Home desk) out is = (is.0, is.1, is.2.1)
-seat_pop queue place slot rest (Away asked) out is = (is.0, is.1, rw out at is.2)
-seat_pop queue place slot rest (Empty empty) out is = (is.0, is.1, is.2.1)
-seat_pop queue place slot rest Gone out is = absurd is
+seat_pop queue place answer rest (Home desk) out is = (is.0, is.1, is.2.1)
+seat_pop queue place answer rest (Away asked) out is = (is.0, is.1, rw out at is.2)
+seat_pop queue place answer rest (Empty empty) out is = (is.0, is.1, is.2.1)
+seat_pop queue place answer rest Gone out is = absurd is
 
 -- the book of a place that is not this one rests on no mark of it
-pub book_other : (queue : QueueId) (place other : ℕ) (mark : Bool) (marks : ℕ → Bool) (slots : List Slot) (seat : Seat)
-    → other ≢ place → SeatIs queue other slots seat
+pub book_other : (queue : QueueId) (place other : ℕ) (mark : Bool) (marks : ℕ → Bool) (answers : List HeldAnswer)
+    (seat : Seat)
+    → other ≢ place → SeatIs queue other answers seat
     → book_at marks seat ≡ book_at (with_mark place mark marks) seat
-book_other queue place other mark marks slots (Home desk) differ is = refl
-book_other queue place other mark marks slots (Away asked) differ is =
+book_other queue place other mark marks answers (Home desk) differ is = refl
+book_other queue place other mark marks answers (Away asked) differ is =
     ap (λ (b : Bool). Some (step asked.book Round b).1)
     (sym (with_other place mark marks asked.place (λ e. differ (sym is.1 ∙ e))))
-book_other queue place other mark marks slots (Empty empty) differ is = refl
-book_other queue place other mark marks slots Gone differ is = absurd is
+book_other queue place other mark marks answers (Empty empty) differ is = refl
+book_other queue place other mark marks answers Gone differ is = absurd is
 
 -- the desk that came back is the one of its place
-pub seat_back : (queue : QueueId) (place : ℕ) (slots : List Slot) (asked desk : DeskIs) (reply : Reply)
+pub seat_back : (queue : QueueId) (place : ℕ) (answers : List HeldAnswer) (asked desk : DeskIs) (reply : Reply)
     → IsStep asked Round reply desk
-    → SeatIs queue place slots (Away asked) → SeatIs queue place (filled place reply slots) (Home desk)
-seat_back queue place slots asked desk reply step is = (
+    → SeatIs queue place answers (Away asked) → SeatIs queue place (filled place reply answers) (Home desk)
+seat_back queue place answers asked desk reply step is = (
   ap (λ (d : DeskIs). d.queue) step.same_desk ∙ is.0,
   ap (λ (d : DeskIs). d.place) step.same_desk ∙ is.1,
-  none_filled place asked reply slots is.2,
+  none_filled place asked reply answers is.2,
 )
 
 -- and its book is the one that its mark tells
-pub book_back : (queue : QueueId) (place : ℕ) (marks : ℕ → Bool) (slots : List Slot) (asked desk : DeskIs)
+pub book_back : (queue : QueueId) (place : ℕ) (marks : ℕ → Bool) (answers : List HeldAnswer) (asked desk : DeskIs)
     (reply : Reply) → IsStep asked Round reply desk
-    → SeatIs queue place slots (Away asked)
+    → SeatIs queue place answers (Away asked)
     → book_at marks (Home desk) ≡ book_at (with_mark place (is_memory reply) marks) (Away asked)
-book_back queue place marks slots asked desk reply stepped is =
+book_back queue place marks answers asked desk reply stepped is =
     let mark = is_memory reply in
     ap (λ (p : Reply × Book). Some p.1) stepped.stepped
     ∙ ap (λ (b : Bool). Some (step asked.book Round b).1) (sym (with_here place mark marks asked.place is.1))
 
-module _ (queue : QueueId) (place : ℕ) (slots : List Slot) (seats : List Seat) (asked desk : DeskIs) (reply : Reply)
+module _ (queue : QueueId) (place : ℕ) (answers : List HeldAnswer) (seats : List Seat) (asked desk : DeskIs)
+    (reply : Reply)
     (default : Seat)
-    (are : AreSeats queue slots seats) (low : place < most_places) (away : Away asked ≡ get_or seats place default)
+    (are : AreSeats queue answers seats) (low : place < most_places) (away : Away asked ≡ get_or seats place default)
     (back : IsStep asked Round reply desk) where
   within : place < length seats
   within = omega (arith, are.long)
 
-  pub here_is : SeatIs queue place slots (Away asked)
-  here_is = subst (SeatIs queue place slots) (sym away) (are.each place default low)
+  pub here_is : SeatIs queue place answers (Away asked)
+  here_is = subst (SeatIs queue place answers) (sym away) (are.each place default low)
 
-  pub seats_back : AreSeats queue (filled place reply slots) (set seats place (Home desk))
+  pub seats_back : AreSeats queue (filled place reply answers) (set seats place (Home desk))
   seats_back = record {
     long = length-set seats place (Home desk) ∙ are.long;
     each = λ j d l.
-        each_set (λ k (s : Seat). SeatIs queue k slots s) (λ k (s : Seat). SeatIs queue k (filled place reply slots) s)
+        each_set (λ k (s : Seat). SeatIs queue k answers s)
+        (λ k (s : Seat). SeatIs queue k (filled place reply answers) s)
         seats place (Home desk) d within
-        (seat_back queue place slots asked desk reply back here_is)
-        (λ k differ is. seat_other queue place k reply slots (get_or seats k d) differ is)
+        (seat_back queue place answers asked desk reply back here_is)
+        (λ k differ is. seat_other queue place k reply answers (get_or seats k d) differ is)
         j (λ w. are.each j d l) (omega (arith, are.long));
   }
 
@@ -131,10 +137,10 @@ module _ (queue : QueueId) (place : ℕ) (slots : List Slot) (seats : List Seat)
       (λ i l.
       let low_i : i < length seats = omega (arith, length-map new f, length-set seats place (Home desk)) in
       get_or-map f new i default (f default) (omega (arith, length-map new f))
-      ∙ each_set (λ k (s : Seat). SeatIs queue k slots s) (λ k (s : Seat). f s ≡ g (get_or seats k default)) seats
+      ∙ each_set (λ k (s : Seat). SeatIs queue k answers s) (λ k (s : Seat). f s ≡ g (get_or seats k default)) seats
       place (Home desk) default within
-      (book_back queue place marks slots asked desk reply back here_is ∙ ap g away)
-      (λ k differ is. book_other queue place k (is_memory reply) marks slots (get_or seats k default) differ is)
+      (book_back queue place marks answers asked desk reply back here_is ∙ ap g away)
+      (λ k differ is. book_other queue place k (is_memory reply) marks answers (get_or seats k default) differ is)
       i (λ w. are.each i default (omega (arith, are.long))) low_i
       ∙ sym (get_or-map g seats i default (f default) low_i))
 

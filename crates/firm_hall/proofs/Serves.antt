@@ -1,11 +1,11 @@
 -- What serving comes to.
-use Rattle.std.proofs.Common.{◌≡◌, ℕ, zero, suc, List, [], ◌∷◌, ◌++◌, length, refl, sym, ap, subst, ◌∙◌, append-nil, length-append}
-use Rattle.std.proofs.Common.{arith, inl}
+use Rattle.std.proofs.Common.{◌≡◌, ℕ, zero, suc, List, [], ◌∷◌, ◌++◌, length, refl, sym, ap, subst, ◌∙◌, append-nil}
+use Rattle.std.proofs.Common.{length-append, arith, inl}
 use Rattle.std.specs.Prelude.{Bool, false, Option}
 use Rattle.std.specs.Io.KnownBytes.{Appends}
 use Rattle.std.proofs.KnownBytes.{Appends-nil, Appends-kept, Consumes-nil}
-use Rattle.firm_text.specs.Rosters.{Admitted}
-use Rattle.firm_text.specs.declared.registers.Place.{Place as Registered}
+use Rattle.firm_text.specs.Rosters.{RosterRow}
+use Rattle.firm_text.specs.declared.registers.Entry.{Entry}
 use Rattle.firm_table.specs.Output.{output_of}
 use Rattle.firm_table.specs.Service.{Device, device, Served, Stopped}
 use Rattle.firm_table.specs.Telling.{ToldToTheEnd}
@@ -16,10 +16,10 @@ use Rattle.firm_hall.specs.Counts.{ServedWith}
 use Rattle.firm_hall.specs.inner.Held.{held_text}
 use Rattle.firm_hall.specs.inner.Serving.{asked_at, TellsParts}
 use Rattle.firm_hall.specs.declared.seats.Seat.{Seat}
-use Rattle.firm_hall.specs.declared.held.Slot.{Slot}
+use Rattle.firm_hall.specs.declared.held.HeldAnswer.{HeldAnswer}
 
 -- nothing was read yet
-pub unread : (roster : List Admitted) (most : ℕ) (left written : Option (List ℕ)) (read_failed write_failed : Bool)
+pub unread : (roster : List RosterRow) (most : ℕ) (left written : Option (List ℕ)) (read_failed write_failed : Bool)
     → read_failed ≡ false → write_failed ≡ false
     → Stopped roster most (device left left read_failed) (device written written write_failed) Memory
 unread roster most left written read_failed write_failed reads writes = record {
@@ -38,16 +38,16 @@ unread roster most left written read_failed write_failed reads writes = record {
 }
 
 -- all was read, and nothing is still to be written
-pub served_with : (roster : List Admitted) (register : List Registered) (seats : List Seat) (slots : List Slot)
-    (output : List ℕ) (most : ℕ) (reader writer : Device) → slots ≡ [] → output ≡ []
-    → ToldToTheEnd (TellsParts roster register seats slots output) most reader writer
+pub served_with : (roster : List RosterRow) (register : List Entry) (seats : List Seat) (answers : List HeldAnswer)
+    (output : List ℕ) (most : ℕ) (reader writer : Device) → answers ≡ [] → output ≡ []
+    → ToldToTheEnd (TellsParts roster register seats answers output) most reader writer
     → Served roster most reader writer → ServedWith roster most reader writer (weigh asked_at seats)
-served_with roster register seats slots output most reader writer none_held none end served =
+served_with roster register seats answers output most reader writer none_held none end served =
     let marks : ℕ → Bool = λ place. false in
     let tells = end.told.told marks in
     let t = tells.told in
-    let empty : output ++ held_text marks slots ≡ [] =
-    ap (λ (l : List ℕ). l ++ held_text marks slots) none ∙ ap (held_text marks) none_held in
+    let empty : output ++ held_text marks answers ≡ [] =
+    ap (λ (l : List ℕ). l ++ held_text marks answers) none ∙ ap (held_text marks) none_held in
     let whole : t.sent ≡ output_of roster t.lines =
     sym (append-nil t.sent) ∙ ap (λ (l : List ℕ). t.sent ++ l) (sym empty) ∙ t.whole in
     let counted = tells.counted in
@@ -71,16 +71,17 @@ served_with roster register seats slots output most reader writer none_held none
     }
 
 -- the same, of the rosters that a body knows to be this one, and of a count that it knows
-pub served_by : (roster own now : List Admitted) (register : List Registered) (seats : List Seat) (slots : List Slot)
+pub served_by : (roster own now : List RosterRow) (register : List Entry) (seats : List Seat)
+    (answers : List HeldAnswer)
     (output : List ℕ) (most asked : ℕ) (reader writer : Device) → own ≡ roster → now ≡ own
-    → asked ≡ weigh asked_at seats → slots ≡ [] → output ≡ []
-    → ToldToTheEnd (TellsParts now register seats slots output) most reader writer → Served own most reader writer
+    → asked ≡ weigh asked_at seats → answers ≡ [] → output ≡ []
+    → ToldToTheEnd (TellsParts now register seats answers output) most reader writer → Served own most reader writer
     → ServedWith roster most reader writer asked
-served_by roster own now register seats slots output most asked reader writer is same all none_held none end served =
+served_by roster own now register seats answers output most asked reader writer is same all none_held none end served =
     let here : ServedWith now most reader writer (weigh asked_at seats) =
-    served_with now register seats slots output most reader writer none_held none end
-    (subst (λ (r : List Admitted). Served r most reader writer) (sym same) served) in
-    subst (λ (r : List Admitted). ServedWith r most reader writer asked) (same ∙ is)
+    served_with now register seats answers output most reader writer none_held none end
+    (subst (λ (r : List RosterRow). Served r most reader writer) (sym same) served) in
+    subst (λ (r : List RosterRow). ServedWith r most reader writer asked) (same ∙ is)
     (subst (λ (n : ℕ). ServedWith now most reader writer n) (sym all) here)
 
 -- a pass for each worker

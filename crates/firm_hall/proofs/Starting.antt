@@ -4,8 +4,8 @@ use Rattle.std.proofs.Common.{sym, ap, ◌∙◌, subst, arith}
 use Rattle.std.specs.Prelude.{Bool, true, false, map, replicate, Option, Some, None}
 use Rattle.std.proofs.lemmas.List.{map-append}
 use Rattle.firm_rules.specs.Book.{Book, opening_book}
-use Rattle.firm_text.specs.Registers.{first_places, most_places, occupied, vacant}
-use Rattle.firm_text.specs.Rosters.{Admitted}
+use Rattle.firm_text.specs.Registers.{first_places, occupied, vacant}
+use Rattle.firm_text.specs.Rosters.{RosterRow, most_places}
 use Rattle.firm_rounds.specs.Rounds.{weigh}
 use Rattle.firm_rounds.specs.Passes.{QueueId}
 use Rattle.firm_table.specs.inner.Line.{state_is, tenants_are, opening_books, opening_tenants}
@@ -21,15 +21,15 @@ use Rattle.firm_hall.specs.inner.Serving.{TellsParts}
 use Rattle.firm_hall.specs.inner.Ending.{IsOf}
 use Rattle.firm_hall.specs.declared.seats.Seat.{Seat}
 use Rattle.firm_hall.specs.declared.seats.Seat.TheVariants.{Home, Away, Empty, Gone}
-use Rattle.firm_hall.specs.declared.held.Slot.{Slot}
+use Rattle.firm_hall.specs.declared.held.HeldAnswer.{HeldAnswer}
 
 -- the seats before the first line, from this place on: so many empty ones behind those of the roster's tenants
-abbrev pub opening_seats : QueueId → ℕ → List Admitted → ℕ → List Seat
+abbrev pub opening_seats : QueueId → ℕ → List RosterRow → ℕ → List Seat
 opening_seats id at roster more =
     map Home (opening_desks id at roster) ++ map Empty (unused_places id (at + length roster) more)
 
 -- the seats that are opened
-pub seats_are : (id : QueueId) (roster : List Admitted) (first second third : List Seat) (desks : List DeskIs)
+pub seats_are : (id : QueueId) (roster : List RosterRow) (first second third : List Seat) (desks : List DeskIs)
     (empty : List PlaceIs) → first ≡ []
     → second ≡ first ++ map Home desks → third ≡ second ++ map Empty empty → desks ≡ opening_desks id 0 roster
     → empty ≡ unused_places id (length roster) (most_places - length roster)
@@ -43,7 +43,7 @@ seats_are id roster first second third desks empty none one both desks_are empty
     ∙ ap (λ (n : ℕ). unused_places id n (most_places - length roster)) same)
 
 -- one tenant, and one empty place
-one_tenant : (id : QueueId) (at : ℕ) (tenant : Admitted) (rest : List Admitted) (more : ℕ)
+one_tenant : (id : QueueId) (at : ℕ) (tenant : RosterRow) (rest : List RosterRow) (more : ℕ)
     → opening_seats id at (tenant ∷ rest) more ≡ Home
     (record { queue = id; place = at; put = 0; admissions = 1; book = opening_book tenant.1 }) ∷ opening_seats id
     (suc at) rest more
@@ -53,7 +53,7 @@ one_tenant id at tenant rest more =
     ∷ (map Home (opening_desks id (suc at) rest) ++ map Empty (unused_places id n more))) same
 
 -- what is told of each seat is told of the list
-module _ {B : Type 0} (f : Seat → B) (of_tenant : Admitted → B) (of_empty : B) where
+module _ {B : Type 0} (f : Seat → B) (of_tenant : RosterRow → B) (of_empty : B) where
   empty_as : (id : QueueId) (at more : ℕ)
       → ((k : ℕ) → f (Empty (record { queue = id; place = k; put = 0; admissions = 0 })) ≡ of_empty)
       → map f (map Empty (unused_places id at more)) ≡ replicate more of_empty
@@ -62,8 +62,8 @@ module _ {B : Type 0} (f : Seat → B) (of_tenant : Admitted → B) (of_empty : 
       ap (λ (b : B). b ∷ map f (map Empty (unused_places id (suc at) more))) (same at)
       ∙ ap (λ (bs : List B). of_empty ∷ bs) (empty_as id (suc at) more same)
 
-  homes_as : (id : QueueId) (at : ℕ) (roster : List Admitted)
-      → ((k : ℕ) (t : Admitted)
+  homes_as : (id : QueueId) (at : ℕ) (roster : List RosterRow)
+      → ((k : ℕ) (t : RosterRow)
       → f (Home (record { queue = id; place = k; put = 0; admissions = 1; book = opening_book t.1 })) ≡ of_tenant t)
       → map f (map Home (opening_desks id at roster)) ≡ map of_tenant roster
   homes_as id at [] same = refl
@@ -71,8 +71,8 @@ module _ {B : Type 0} (f : Seat → B) (of_tenant : Admitted → B) (of_empty : 
       ap (λ (b : B). b ∷ map f (map Home (opening_desks id (suc at) rest))) (same at tenant)
       ∙ ap (λ (bs : List B). of_tenant tenant ∷ bs) (homes_as id (suc at) rest same)
 
-  pub seats_as : (id : QueueId) (roster : List Admitted) (more : ℕ)
-      → ((k : ℕ) (t : Admitted)
+  pub seats_as : (id : QueueId) (roster : List RosterRow) (more : ℕ)
+      → ((k : ℕ) (t : RosterRow)
       → f (Home (record { queue = id; place = k; put = 0; admissions = 1; book = opening_book t.1 })) ≡ of_tenant t)
       → ((k : ℕ) → f (Empty (record { queue = id; place = k; put = 0; admissions = 0 })) ≡ of_empty)
       → map f (opening_seats id 0 roster more) ≡ map of_tenant roster ++ replicate more of_empty
@@ -83,21 +83,21 @@ module _ {B : Type 0} (f : Seat → B) (of_tenant : Admitted → B) (of_empty : 
       ∙ ap (λ (bs : List B). map of_tenant roster ++ bs) (empty_as id (0 + length roster) more empties)
 
 -- the register fits them
-places_as : (roster : List Admitted) (n : ℕ)
+places_as : (roster : List RosterRow) (n : ℕ)
     → map place_counts (map (λ tenant. occupied tenant.0 1) roster ++ replicate n (vacant 0)) ≡ map
     (λ tenant. (true, 1)) roster ++ replicate n (false, 0)
 places_as [] zero = refl
 places_as [] (suc n) = ap (λ (cs : List (Bool × ℕ)). (false, 0) ∷ cs) (places_as [] n)
 places_as (tenant ∷ rest) n = ap (λ (cs : List (Bool × ℕ)). (true, 1) ∷ cs) (places_as rest n)
 
-pub fits_open : (id : QueueId) (roster : List Admitted)
+pub fits_open : (id : QueueId) (roster : List RosterRow)
     → Fits (first_places roster) (opening_seats id 0 roster (most_places - length roster))
 fits_open id roster =
     seats_as seat_counts (λ tenant. (true, 1)) (false, 0) id roster (most_places - length roster) (λ k t. refl)
     (λ k. refl)
     ∙ sym (places_as roster (most_places - length roster))
 
-books_open : (marks : ℕ → Bool) (id : QueueId) (roster : List Admitted)
+books_open : (marks : ℕ → Bool) (id : QueueId) (roster : List RosterRow)
     → map (book_at marks) (opening_seats id 0 roster (most_places - length roster)) ≡ opening_books roster
 books_open marks id roster =
     seats_as (book_at marks) (λ tenant. Some (opening_book tenant.1)) None id roster (most_places - length roster)
@@ -109,7 +109,7 @@ none_asked id at zero = refl
 none_asked id at (suc more) = let behind : weigh asked_at (map Empty (unused_places id (suc at) more)) ≡ 0 =
     none_asked id (suc at) more in omega arith
 
-asked_open : (id : QueueId) (at : ℕ) (roster : List Admitted) (more : ℕ)
+asked_open : (id : QueueId) (at : ℕ) (roster : List RosterRow) (more : ℕ)
     → weigh asked_at (opening_seats id at roster more) ≡ 0
 asked_open id at [] more = none_asked id (at + 0) more
 asked_open id at (tenant ∷ rest) more =
@@ -122,10 +122,10 @@ empties_wide : (id : QueueId) (at more : ℕ) → length (map Empty (unused_plac
 empties_wide id at zero = refl
 empties_wide id at (suc more) = ap suc (empties_wide id (suc at) more)
 
-pub long_open : (id : QueueId) (at : ℕ) (roster : List Admitted) (more : ℕ)
+pub long_open : (id : QueueId) (at : ℕ) (roster : List RosterRow) (more : ℕ)
     → length (opening_seats id at roster more) ≡ length roster + more
 long_open id at [] more =
-    empties_wide id (at + 0) more ∙ (let same : more ≡ length {A = Admitted} [] + more = omega arith in same)
+    empties_wide id (at + 0) more ∙ (let same : more ≡ length {A = RosterRow} [] + more = omega arith in same)
 long_open id at (tenant ∷ rest) more =
     let behind : length (opening_seats id (suc at) rest more) ≡ length rest + more = long_open id (suc at) rest more in
     let front = ap (λ (xs : List Seat). length xs) (one_tenant id at tenant rest more) in
@@ -138,7 +138,7 @@ empty_open id at (suc more) zero sum default e low = (refl, (let same : at ≡ s
 empty_open id at (suc more) (suc place) sum default e low =
     empty_open id (suc at) more place sum default (omega arith) (omega arith)
 
-seat_open : (id : QueueId) (at : ℕ) (roster : List Admitted) (more place sum : ℕ) (default : Seat) → sum ≡ at + place
+seat_open : (id : QueueId) (at : ℕ) (roster : List RosterRow) (more place sum : ℕ) (default : Seat) → sum ≡ at + place
     → place < length roster + more
     → SeatIs id sum [] (get_or (opening_seats id at roster more) place default)
 seat_open id at [] more place sum default e low =
@@ -149,10 +149,10 @@ seat_open id at (tenant ∷ rest) more (suc place) sum default e low =
     (sym (one_tenant id at tenant rest more))
     (seat_open id (suc at) rest more place sum default (omega arith) (omega arith))
 
-pub seats_open : (id : QueueId) (roster : List Admitted) (seats : List Seat) (slots : List Slot)
+pub seats_open : (id : QueueId) (roster : List RosterRow) (seats : List Seat) (answers : List HeldAnswer)
     → length roster ≤ most_places
-    → seats ≡ opening_seats id 0 roster (most_places - length roster) → slots ≡ [] → AreSeats id slots seats
-seats_open id roster seats slots few is none =
+    → seats ≡ opening_seats id 0 roster (most_places - length roster) → answers ≡ [] → AreSeats id answers seats
+seats_open id roster seats answers few is none =
     let whole : length roster + (most_places - length roster) ≡ most_places = omega arith in
     rw (is, none)
     (record {
@@ -162,10 +162,10 @@ seats_open id roster seats slots few is none =
     })
 
 pub tells_open : NothingIsTold
-    → (id : QueueId) (roster : List Admitted) (seats : List Seat) (slots : List Slot) (output : List ℕ)
-    → seats ≡ opening_seats id 0 roster (most_places - length roster) → slots ≡ [] → output ≡ []
-    → (written : Option (List ℕ)) → TellsParts roster (first_places roster) seats slots output [] written written
-tells_open nothing id roster seats slots output is none empty written marks =
+    → (id : QueueId) (roster : List RosterRow) (seats : List Seat) (answers : List HeldAnswer) (output : List ℕ)
+    → seats ≡ opening_seats id 0 roster (most_places - length roster) → answers ≡ [] → output ≡ []
+    → (written : Option (List ℕ)) → TellsParts roster (first_places roster) seats answers output [] written written
+tells_open nothing id roster seats answers output is none empty written marks =
     let more = most_places - length roster in
     let n = nothing roster written in
     let zero_lines : Counted 0 n.0.lines (answers_of roster n.0.lines) =
@@ -183,15 +183,17 @@ tells_open nothing id roster seats slots output is none empty written marks =
     (sym (books_open marks id roster)) t))
 
 -- what stands at each seat is of this hall
-seat_of : (id : QueueId) (place : ℕ) (slots : List Slot) (seat : Seat) → SeatIs id place slots seat → IsOf id seat
-seat_of id place slots (Home desk) is = is.0
-seat_of id place slots (Away asked) is = is.0
-seat_of id place slots (Empty empty) is = is.0
-seat_of id place slots Gone is = absurd is
+seat_of : (id : QueueId) (place : ℕ) (answers : List HeldAnswer) (seat : Seat) → SeatIs id place answers seat
+    → IsOf id seat
+seat_of id place answers (Home desk) is = is.0
+seat_of id place answers (Away asked) is = is.0
+seat_of id place answers (Empty empty) is = is.0
+seat_of id place answers Gone is = absurd is
 
-pub all_of : (id : QueueId) (slots : List Slot) (seats : List Seat) → AreSeats id slots seats → All (IsOf id) seats
-all_of id slots seats are place default low =
-    seat_of id place slots (get_or seats place default) (are.each place default (omega (arith, are.long)))
+pub all_of : (id : QueueId) (answers : List HeldAnswer) (seats : List Seat) → AreSeats id answers seats
+    → All (IsOf id) seats
+all_of id answers seats are place default low =
+    seat_of id place answers (get_or seats place default) (are.each place default (omega (arith, are.long)))
 
 pub seated_of : (id : QueueId) (seat : Seat) → IsOf id seat → IsSeated seat
 seated_of id (Home desk) is = tt

@@ -15,11 +15,11 @@ use Rattle.firm_rules.specs.declared.replies.Refusal.TheVariants.{Worn, Memory}
 use Rattle.firm_tenant.specs.Step.{step, is_memory}
 use Rattle.firm_tenant.specs.Laws.{RepliesTellTheirMarks}
 use Rattle.firm_text.specs.Inputs.{input_lines}
-use Rattle.firm_text.specs.Registers.{AreSound, most_places, place_in}
-use Rattle.firm_text.specs.Rosters.{Admitted}
+use Rattle.firm_text.specs.Registers.{AreSound, place_in}
+use Rattle.firm_text.specs.Rosters.{RosterRow, most_places}
 use Rattle.firm_text.specs.declared.inputs.Line.{Line}
 use Rattle.firm_text.specs.declared.inputs.Line.TheVariants.{Nothing, Long, Nameless, For}
-use Rattle.firm_text.specs.declared.registers.Place.{Place as Registered}
+use Rattle.firm_text.specs.declared.registers.Entry.{Entry}
 use Rattle.firm_table.specs.Answers.{text_of_answer}
 use Rattle.firm_table.specs.declared.answers.LineAnswer.{LineAnswer}
 use Rattle.firm_table.specs.declared.answers.LineAnswer.TheVariants.{Silent, LineTooLong, UnknownTenant, Replied}
@@ -37,82 +37,85 @@ use Rattle.firm_hall.specs.inner.Serving.{book_at, asked_at, seat_counts, state_
 use Rattle.firm_hall.specs.inner.Serving.{ArePlaced, SeatIs, IsPlaced, TellsParts}
 use Rattle.firm_hall.specs.declared.seats.Seat.{Seat}
 use Rattle.firm_hall.specs.declared.seats.Seat.TheVariants.{Home, Away, Empty, Gone}
-use Rattle.firm_hall.specs.declared.held.Slot.{Slot}
-use Rattle.firm_hall.specs.declared.held.Slot.TheVariants.{Known, Waiting}
-use Rattle.firm_hall.proofs.Slots.{is_place, none_push, one_here, placed_push}
+use Rattle.firm_hall.specs.declared.held.HeldAnswer.{HeldAnswer}
+use Rattle.firm_hall.specs.declared.held.HeldAnswer.TheVariants.{Known, Waiting}
+use Rattle.firm_hall.proofs.HeldAnswers.{is_place, none_push, one_here, placed_push}
 use Rattle.firm_hall.proofs.Seating.{weigh_set, each_set, seat_push}
 use Rattle.firm_hall.proofs.Telling.{Adds, tells_more, held_push}
 
 -- what one line makes of the tenants and of what is held, however memory is granted to the rounds that are away
-pub record LineStep (register later_register : List Registered) (seats after : List Seat) (slots later : List Slot)
+pub record LineStep (register later_register : List Entry) (seats after : List Seat) (answers later : List HeldAnswer)
     (output : List ℕ) (line : Line) (marks : ℕ → Bool) : Type 0 where
   pub answer : IsAnswer (tenants_are register (map (book_at marks) seats))
-      (tenants_are later_register (map (book_at marks) after)) line (output ++ held_text marks slots)
+      (tenants_are later_register (map (book_at marks) after)) line (output ++ held_text marks answers)
       (output ++ held_text marks later)
   pub adds : Adds (weigh asked_at seats) (weigh asked_at after) line answer.answer
 
 pub line_told : OneMoreIsTold
-    → (roster : List Admitted) (register later_register : List Registered) (seats after : List Seat)
-    (slots later : List Slot) (output : List ℕ) (line : Line)
-    → ((marks : ℕ → Bool) → LineStep register later_register seats after slots later output line marks)
+    → (roster : List RosterRow) (register later_register : List Entry) (seats after : List Seat)
+    (answers later : List HeldAnswer) (output : List ℕ) (line : Line)
+    → ((marks : ℕ → Bool) → LineStep register later_register seats after answers later output line marks)
     → (text text_after : List ℕ) (written now : Option (List ℕ))
     → input_lines text_after ≡ input_lines text ++ line ∷ []
-    → TellsParts roster register seats slots output text written now
+    → TellsParts roster register seats answers output text written now
     → TellsParts roster later_register after later output text_after written now
-line_told one_more roster register later_register seats after slots later output line steps text text_after written now
-    more told marks =
+line_told one_more roster register later_register seats after answers later output line steps text text_after written
+    now more told marks =
     let s = steps marks in
-    tells_more one_more (state_with marks roster register seats slots output)
+    tells_more one_more (state_with marks roster register seats answers output)
     (tenants_are later_register (map (book_at marks) after)) (output ++ held_text marks later) line
     (weigh asked_at seats) (weigh asked_at after) text text_after written now more s.answer s.adds (told marks)
 
 -- an answer more is held behind the others
-pub text_push : (marks : ℕ → Bool) (slots : List Slot) (slot : Slot) (output : List ℕ)
-    → output ++ held_text marks (slots ++ slot ∷ []) ≡ (output ++ held_text marks slots) ++ text_of_answer
-    (answer_in marks slot)
-text_push marks slots slot output =
-    ap (λ (l : List ℕ). output ++ l) (held_push marks slots slot)
-    ∙ sym (append_assoc output (held_text marks slots) (text_of_answer (answer_in marks slot)))
+pub text_push : (marks : ℕ → Bool) (answers : List HeldAnswer) (answer : HeldAnswer) (output : List ℕ)
+    → output ++ held_text marks (answers ++ answer ∷ []) ≡ (output ++ held_text marks answers) ++ text_of_answer
+    (answer_in marks answer)
+text_push marks answers answer output =
+    ap (λ (l : List ℕ). output ++ l) (held_push marks answers answer)
+    ∙ sym (append_assoc output (held_text marks answers) (text_of_answer (answer_in marks answer)))
 
 -- lines that no tenant answers
-module _ (register : List Registered) (seats : List Seat) (slots : List Slot) (output : List ℕ) (marks : ℕ → Bool) where
-  nothing_step : LineStep register register seats seats slots slots output Nothing marks
+module _ (register : List Entry) (seats : List Seat) (answers : List HeldAnswer) (output : List ℕ)
+    (marks : ℕ → Bool) where
+  nothing_step : LineStep register register seats seats answers answers output Nothing marks
   nothing_step = record {
     answer = record {
       answer = Silent;
       right = record { answers = λ places shows. refl; leaves = λ places shows. shows };
-      text = sym (append-nil (output ++ held_text marks slots));
+      text = sym (append-nil (output ++ held_text marks answers));
     };
     adds = record { least = omega arith; most = omega arith };
   }
 
-  long_step : LineStep register register seats seats slots (slots ++ Known LineTooLong ∷ []) output Long marks
+  long_step : LineStep register register seats seats answers (answers ++ Known LineTooLong ∷ []) output Long marks
   long_step = record {
     answer = record {
       answer = LineTooLong;
       right = record { answers = λ places shows. refl; leaves = λ places shows. shows };
-      text = text_push marks slots (Known LineTooLong) output;
+      text = text_push marks answers (Known LineTooLong) output;
     };
     adds = record { least = omega arith; most = omega arith };
   }
 
-  nameless_step : LineStep register register seats seats slots (slots ++ Known UnknownTenant ∷ []) output Nameless marks
+  nameless_step : LineStep register register seats seats answers
+      (answers ++ Known UnknownTenant ∷ []) output Nameless marks
   nameless_step = record {
     answer = record {
       answer = UnknownTenant;
       right = record { answers = λ places shows. refl; leaves = λ places shows. shows };
-      text = text_push marks slots (Known UnknownTenant) output;
+      text = text_push marks answers (Known UnknownTenant) output;
     };
     adds = record { least = omega arith; most = omega arith };
   }
 
   stranger_step : StrangersAreAnswered → (name : List ℕ) (command : Command) → place_in register name ≡ None
-      → LineStep register register seats seats slots (slots ++ Known UnknownTenant ∷ []) output (For name command) marks
+      → LineStep register register seats seats answers (answers ++ Known UnknownTenant ∷ []) output
+      (For name command) marks
   stranger_step strangers name command none = record {
     answer = record {
       answer = UnknownTenant;
       right = strangers (tenants_are register (map (book_at marks) seats)) name command none;
-      text = text_push marks slots (Known UnknownTenant) output;
+      text = text_push marks answers (Known UnknownTenant) output;
     };
     adds = record { least = omega arith; most = omega arith };
   }
@@ -133,7 +136,7 @@ refused_counts command reply why =
   where
     is_a_round : (c : Command) → is_round c ≡ true → c ≡ Round
     is_a_round Round e = refl
-    is_a_round (AddMachine name slots) e = cc
+    is_a_round (AddMachine name answers) e = cc
     is_a_round (AddJob name weight) e = cc
     is_a_round (AddTask job name preferred) e = cc
     is_a_round (Drain name) e = cc
@@ -149,15 +152,15 @@ round_counts : (b : Book) (mark : Bool) → b.given < b.rows.limits.life → rou
 round_counts b true left = rw (lt-leb b.rows.limits.life b.given left) refl
 round_counts b false left = rw (lt-leb b.rows.limits.life b.given left) refl
 
-module _ (register : List Registered) (queue : QueueId) (place : ℕ) (name : List ℕ) (command : Command)
-    (slots : List Slot) (seats : List Seat) (output : List ℕ) (default : Seat) (desk : DeskIs)
-    (are : AreSeats queue slots seats) (home : Home desk ≡ get_or seats place default) (sound : AreSound register)
+module _ (register : List Entry) (queue : QueueId) (place : ℕ) (name : List ℕ) (command : Command)
+    (answers : List HeldAnswer) (seats : List Seat) (output : List ℕ) (default : Seat) (desk : DeskIs)
+    (are : AreSeats queue answers seats) (home : Home desk ≡ get_or seats place default) (sound : AreSound register)
     (found : place_in register name ≡ Some place) (low : place < most_places) where
   within : place < length seats
   within = omega (arith, are.long)
 
-  here_is : SeatIs queue place slots (Home desk)
-  here_is = subst (SeatIs queue place slots) (sym home) (are.each place default low)
+  here_is : SeatIs queue place answers (Home desk)
+  here_is = subst (SeatIs queue place answers) (sym home) (are.each place default low)
 
   book_here : (marks : ℕ → Bool) → get_or (map (book_at marks) seats) place None ≡ Some desk.book
   book_here marks = get_or-map (book_at marks) seats place default None within ∙ ap (book_at marks) (sym home)
@@ -189,26 +192,27 @@ module _ (register : List Registered) (queue : QueueId) (place : ℕ) (name : Li
       (known tenants name command place desk.book after reply sound found (book_here marks) stepped)
 
   -- the seats behind a line, of which the answer is held last
-  seats_set : (slot : Slot) (last : Seat) → ((other : ℕ) → other ≢ place → waits_for other slot ≡ false)
-      → SeatIs queue place (slots ++ slot ∷ []) last
-      → AreSeats queue (slots ++ slot ∷ []) (set seats place last)
-  seats_set slot last out is =
+  seats_set : (answer : HeldAnswer) (last : Seat) → ((other : ℕ) → other ≢ place → waits_for other answer ≡ false)
+      → SeatIs queue place (answers ++ answer ∷ []) last
+      → AreSeats queue (answers ++ answer ∷ []) (set seats place last)
+  seats_set answer last out is =
       record {
         long = length-set seats place last ∙ are.long;
         each = λ j d l.
-            each_set (λ k (s : Seat). SeatIs queue k slots s) (λ k (s : Seat). SeatIs queue k (slots ++ slot ∷ []) s)
+            each_set (λ k (s : Seat). SeatIs queue k answers s)
+            (λ k (s : Seat). SeatIs queue k (answers ++ answer ∷ []) s)
             seats place last d within is
-            (λ k differ old. seat_push queue k slots slot (get_or seats k d) (out k differ) old)
+            (λ k differ old. seat_push queue k answers answer (get_or seats k d) (out k differ) old)
             j (λ w. are.each j d l) (omega (arith, are.long));
       }
 
   -- what a command leaves there, with its answer
-  pub record Taken (seat : Seat) (slot : Slot) : Type 0 where
-    pub seats_are : AreSeats queue (slots ++ slot ∷ []) (set seats place seat)
+  pub record Taken (seat : Seat) (answer : HeldAnswer) : Type 0 where
+    pub seats_are : AreSeats queue (answers ++ answer ∷ []) (set seats place seat)
     pub counts : map seat_counts (set seats place seat) ≡ map seat_counts seats
-    pub placed : IsPlaced slot
+    pub placed : IsPlaced answer
     pub steps : (marks : ℕ → Bool)
-        → LineStep register register seats (set seats place seat) slots (slots ++ slot ∷ []) output
+        → LineStep register register seats (set seats place seat) answers (answers ++ answer ∷ []) output
         (For name command) marks
 
   answered : TenantsAreAnswered → (after : DeskIs) (reply : Reply) → Answered desk command after reply
@@ -218,7 +222,7 @@ module _ (register : List Registered) (queue : QueueId) (place : ℕ) (name : Li
       ap (λ (d : DeskIs). d.queue) a.stepped.same_desk ∙ here_is.0,
       ap (λ (d : DeskIs). d.place) a.stepped.same_desk
           ∙ here_is.1,
-      none_push place slots (Known (Replied name reply)) here_is.2 refl,
+      none_push place answers (Known (Replied name reply)) here_is.2 refl,
     );
     counts = counts_set after (ap (λ (d : DeskIs). d.admissions) a.stepped.same_desk) (Home after) refl;
     placed = tt;
@@ -230,7 +234,7 @@ module _ (register : List Registered) (queue : QueueId) (place : ℕ) (name : Li
           answer = record {
             answer = Replied name reply;
             right = right_step known marks (Home after) reply after.book refl a.stepped.stepped;
-            text = text_push marks slots (Known (Replied name reply)) output;
+            text = text_push marks answers (Known (Replied name reply)) output;
           };
           adds = record {
             least = omega (arith, asked);
@@ -240,15 +244,15 @@ module _ (register : List Registered) (queue : QueueId) (place : ℕ) (name : Li
         };
   }
 
-  went : TenantsAreAnswered → RepliesTellTheirMarks → (asked : DeskIs) (slot : Slot)
-      → IsTaken desk place name command (Away asked) slot → Taken (Away asked) slot
-  went answers tell asked (Known answer) w = absurd w
-  went answers tell asked (Waiting at tenant known) w = record {
+  went : TenantsAreAnswered → RepliesTellTheirMarks → (asked : DeskIs) (answer : HeldAnswer)
+      → IsTaken desk place name command (Away asked) answer → Taken (Away asked) answer
+  went by_step tell asked (Known answer) w = absurd w
+  went by_step tell asked (Waiting at tenant known) w = record {
     seats_are = seats_set (Waiting at tenant known) (Away asked)
         (λ other differ. ne_eqb at other (λ e. differ (sym e ∙ w.here))) (
           ap (λ (d : DeskIs). d.queue) w.asked_is ∙ here_is.0,
           ap (λ (d : DeskIs). d.place) w.asked_is ∙ here_is.1,
-          one_here place asked slots (Waiting at tenant known) here_is.2 (is_place at place w.here) w.known_is,
+          one_here place asked answers (Waiting at tenant known) here_is.2 (is_place at place w.here) w.known_is,
         );
     counts = counts_set asked (ap (λ (d : DeskIs). d.admissions) w.asked_is) (Away asked) refl;
     placed = subst (λ (p : ℕ). p < most_places) (sym w.here) low;
@@ -276,127 +280,129 @@ module _ (register : List Registered) (queue : QueueId) (place : ℕ) (name : Li
         record {
           answer = record {
             answer = Replied name reply;
-            right = right_step answers marks (Away asked) reply new here stepped;
-            text = text_push marks slots (Waiting at tenant known) output
-                ∙ ap (λ (x : LineAnswer). (output ++ held_text marks slots) ++ text_of_answer x) waits;
+            right = right_step by_step marks (Away asked) reply new here stepped;
+            text = text_push marks answers (Waiting at tenant known) output
+                ∙ ap (λ (x : LineAnswer). (output ++ held_text marks answers) ++ text_of_answer x) waits;
           };
           adds = record { least = omega (arith, asked_more, counts); most = omega (arith, asked_more, counts) };
         };
   }
 
   -- either
-  pub taken : TenantsAreAnswered → RepliesTellTheirMarks → (seat : Seat) (slot : Slot)
-      → IsTaken desk place name command seat slot → Taken seat slot
+  pub taken : TenantsAreAnswered → RepliesTellTheirMarks → (seat : Seat) (answer : HeldAnswer)
+      → IsTaken desk place name command seat answer → Taken seat answer
   taken known tell (Home after) (Known answer) t =
       subst (λ (x : LineAnswer). Taken (Home after) (Known x)) (sym t.1) (answered known after t.0 t.2)
-  taken known tell (Away asked) slot t = went known tell asked slot t
+  taken known tell (Away asked) answer t = went known tell asked answer t
   taken known tell (Home after) (Waiting at tenant snapshot) t = absurd t
-  taken known tell (Empty after) slot t = absurd t
-  taken known tell Gone slot t = absurd t
+  taken known tell (Empty after) answer t = absurd t
+  taken known tell Gone answer t = absurd t
 
 -- the same, of what a body knows of the seat that it put there and of the answers that it left
-pub record TakenBy (roster : List Admitted) (register : List Registered) (queue : QueueId) (slots later : List Slot)
+pub record TakenBy (roster : List RosterRow) (register : List Entry) (queue : QueueId) (answers later : List HeldAnswer)
     (seats after : List Seat) (output : List ℕ) (line : Line) : Type 0 where
   pub seats_are : AreSeats queue later after
   pub counts : map seat_counts after ≡ map seat_counts seats
   pub placed : ArePlaced later
   pub takes : (text text_after : List ℕ) (written now : Option (List ℕ))
       → input_lines text_after ≡ input_lines text ++ line ∷ []
-      → TellsParts roster register seats slots output text written now
+      → TellsParts roster register seats answers output text written now
       → TellsParts roster register after later output text_after written now
 
-pub taken_by : (roster : List Admitted) (register : List Registered) (queue : QueueId) (place : ℕ) (name : List ℕ)
-    (command : Command) (slots later : List Slot) (seats : List Seat) (output : List ℕ)
-    (default before last : Seat) (slot : Slot)
-    → AreSeats queue slots seats → ArePlaced slots → before ≡ get_or seats place default → AreSound register
+pub taken_by : (roster : List RosterRow) (register : List Entry) (queue : QueueId) (place : ℕ) (name : List ℕ)
+    (command : Command) (answers later : List HeldAnswer) (seats : List Seat) (output : List ℕ)
+    (default before last : Seat) (answer : HeldAnswer)
+    → AreSeats queue answers seats → ArePlaced answers → before ≡ get_or seats place default → AreSound register
     → place_in register name ≡ Some place
-    → later ≡ slots ++ slot ∷ [] → OneMoreIsTold → TenantsAreAnswered → RepliesTellTheirMarks
-    → IsTakenAt before place name command last slot
+    → later ≡ answers ++ answer ∷ [] → OneMoreIsTold → TenantsAreAnswered → RepliesTellTheirMarks
+    → IsTakenAt before place name command last answer
     → place < most_places
-    → TakenBy roster register queue slots later seats (set seats place last) output (For name command)
-taken_by roster register queue place name command slots later seats output default
-    (Home desk) last slot are placed at sound found held one_more known tell t low =
-    let done = taken register queue place name command slots seats output default desk are at sound found low known
-    tell last slot t in
+    → TakenBy roster register queue answers later seats (set seats place last) output (For name command)
+taken_by roster register queue place name command answers later seats output default
+    (Home desk) last answer are placed at sound found held one_more known tell t low =
+    let done = taken register queue place name command answers seats output default desk are at sound found low known
+    tell last answer t in
     rw held
     (record {
       seats_are = done.seats_are;
       counts = done.counts;
-      placed = placed_push slots slot placed done.placed;
+      placed = placed_push answers answer placed done.placed;
       takes = λ text text_after written now more told.
-          line_told one_more roster register register seats (set seats place last) slots (slots ++ slot ∷ []) output
+          line_told one_more roster register register seats (set seats place last) answers
+          (answers ++ answer ∷ []) output
           (For name command) done.steps text text_after written now more told;
     })
-taken_by roster register queue place name command slots later seats output default
-    (Away asked) last slot are placed at sound found held one_more known tell t low = absurd t
-taken_by roster register queue place name command slots later seats output default
-    (Empty empty) last slot are placed at sound found held one_more known tell t low = absurd t
-taken_by roster register queue place name command slots later seats output default Gone last slot are placed at sound
-    found held one_more known tell t low = absurd t
+taken_by roster register queue place name command answers later seats output default
+    (Away asked) last answer are placed at sound found held one_more known tell t low = absurd t
+taken_by roster register queue place name command answers later seats output default
+    (Empty empty) last answer are placed at sound found held one_more known tell t low = absurd t
+taken_by roster register queue place name command answers later seats output default Gone last answer are placed at
+    sound found held one_more known tell t low = absurd t
 
-module _ (one_more : OneMoreIsTold) (roster : List Admitted) (register : List Registered) (seats : List Seat)
-    (slots later : List Slot) (output : List ℕ) (line : Line) where
-  pub nothing_follows : line ≡ Nothing → later ≡ slots → (text text_after : List ℕ) (written now : Option (List ℕ))
+module _ (one_more : OneMoreIsTold) (roster : List RosterRow) (register : List Entry) (seats : List Seat)
+    (answers later : List HeldAnswer) (output : List ℕ) (line : Line) where
+  pub nothing_follows : line ≡ Nothing → later ≡ answers → (text text_after : List ℕ) (written now : Option (List ℕ))
       → input_lines text_after ≡ input_lines text ++ line ∷ []
-      → TellsParts roster register seats slots output text written now
+      → TellsParts roster register seats answers output text written now
       → TellsParts roster register seats later output text_after written now
   nothing_follows is held =
-      rw (is, held) (line_told one_more roster register register seats seats slots slots output Nothing
-      (nothing_step register seats slots output))
+      rw (is, held) (line_told one_more roster register register seats seats answers answers output Nothing
+      (nothing_step register seats answers output))
 
-  pub long_follows : line ≡ Long → later ≡ slots ++ Known LineTooLong ∷ []
+  pub long_follows : line ≡ Long → later ≡ answers ++ Known LineTooLong ∷ []
       → (text text_after : List ℕ) (written now : Option (List ℕ))
       → input_lines text_after ≡ input_lines text ++ line ∷ []
-      → TellsParts roster register seats slots output text written now
+      → TellsParts roster register seats answers output text written now
       → TellsParts roster register seats later output text_after written now
   long_follows is held =
-      rw (is, held) (line_told one_more roster register register seats seats slots (slots ++ Known LineTooLong ∷ [])
+      rw (is, held) (line_told one_more roster register register seats seats answers (answers ++ Known LineTooLong ∷ [])
       output Long
-      (long_step register seats slots output))
+      (long_step register seats answers output))
 
-  pub nameless_follows : line ≡ Nameless → later ≡ slots ++ Known UnknownTenant ∷ []
+  pub nameless_follows : line ≡ Nameless → later ≡ answers ++ Known UnknownTenant ∷ []
       → (text text_after : List ℕ) (written now : Option (List ℕ))
       → input_lines text_after ≡ input_lines text ++ line ∷ []
-      → TellsParts roster register seats slots output text written now
+      → TellsParts roster register seats answers output text written now
       → TellsParts roster register seats later output text_after written now
   nameless_follows is held =
-      rw (is, held) (line_told one_more roster register register seats seats slots
-      (slots ++ Known UnknownTenant ∷ []) output Nameless (nameless_step register seats slots output))
+      rw (is, held) (line_told one_more roster register register seats seats answers
+      (answers ++ Known UnknownTenant ∷ []) output Nameless (nameless_step register seats answers output))
 
   pub stranger_follows : StrangersAreAnswered → (name : List ℕ) (command : Command) → line ≡ For name command
-      → place_in register name ≡ None → later ≡ slots ++ Known UnknownTenant ∷ []
+      → place_in register name ≡ None → later ≡ answers ++ Known UnknownTenant ∷ []
       → (text text_after : List ℕ) (written now : Option (List ℕ))
       → input_lines text_after ≡ input_lines text ++ line ∷ []
-      → TellsParts roster register seats slots output text written now
+      → TellsParts roster register seats answers output text written now
       → TellsParts roster register seats later output text_after written now
   stranger_follows strangers name command is none held =
       rw (is, held)
-      (line_told one_more roster register register seats seats slots (slots ++ Known UnknownTenant ∷ []) output
+      (line_told one_more roster register register seats seats answers (answers ++ Known UnknownTenant ∷ []) output
       (For name command)
-      (λ marks. stranger_step register seats slots output marks strangers name command none))
+      (λ marks. stranger_step register seats answers output marks strangers name command none))
 
 -- an answer that waits for nothing, behind the others
-pub known_seats : (queue : QueueId) (slots later : List Slot) (seats : List Seat) (slot : Slot)
-    → later ≡ slots ++ slot ∷ [] → ((place : ℕ) → waits_for place slot ≡ false)
-    → AreSeats queue slots seats → AreSeats queue later seats
-known_seats queue slots later seats slot held out are =
+pub known_seats : (queue : QueueId) (answers later : List HeldAnswer) (seats : List Seat) (answer : HeldAnswer)
+    → later ≡ answers ++ answer ∷ [] → ((place : ℕ) → waits_for place answer ≡ false)
+    → AreSeats queue answers seats → AreSeats queue later seats
+known_seats queue answers later seats answer held out are =
     rw held
     (record {
       long = are.long;
       each =
-          λ place default low. seat_push queue place slots slot (get_or seats place default) (out place)
+          λ place default low. seat_push queue place answers answer (get_or seats place default) (out place)
           (are.each place default low);
     })
 
-pub known_placed : (slots later : List Slot) (slot : Slot) → later ≡ slots ++ slot ∷ [] → IsPlaced slot
-    → ArePlaced slots → ArePlaced later
-known_placed slots later slot held is placed = rw held (placed_push slots slot placed is)
+pub known_placed : (answers later : List HeldAnswer) (answer : HeldAnswer) → later ≡ answers ++ answer ∷ []
+    → IsPlaced answer
+    → ArePlaced answers → ArePlaced later
+known_placed answers later answer held is placed = rw held (placed_push answers answer placed is)
 
-pub known_stands : (queue : QueueId) (register : List Registered) (seats : List Seat) (held : HeldIs) (slot : Slot)
-    → ((place : ℕ) → waits_for place slot ≡ false) → IsPlaced slot → Stands (serving_is queue register seats held)
-    → Stands (serving_is queue register seats (held_is (held.slots ++ slot ∷ []) held.output))
-known_stands queue register seats held slot out is stands = record {
-  seats = known_seats queue held.slots (held.slots ++ slot ∷ []) seats slot refl out stands.seats;
+pub known_stands : (queue : QueueId) (register : List Entry) (seats : List Seat) (held : HeldIs) (answer : HeldAnswer)
+    → ((place : ℕ) → waits_for place answer ≡ false) → IsPlaced answer → Stands (serving_is queue register seats held)
+    → Stands (serving_is queue register seats (held_is (held.answers ++ answer ∷ []) held.output))
+known_stands queue register seats held answer out is stands = record {
+  seats = known_seats queue held.answers (held.answers ++ answer ∷ []) seats answer refl out stands.seats;
   fits = stands.fits;
-  placed = known_placed held.slots (held.slots ++ slot ∷ []) slot refl is stands.placed;
+  placed = known_placed held.answers (held.answers ++ answer ∷ []) answer refl is stands.placed;
 }

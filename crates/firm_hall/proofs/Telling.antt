@@ -20,7 +20,7 @@ use Rattle.firm_table.specs.inner.Adding.{OneMoreIsTold}
 use Rattle.firm_hall.specs.Counts.{rounds_in, round_of, refusal_in, refusals_in}
 use Rattle.firm_hall.specs.inner.Held.{answer_in, held_text}
 use Rattle.firm_hall.specs.inner.Serving.{Tells}
-use Rattle.firm_hall.specs.declared.held.Slot.{Slot}
+use Rattle.firm_hall.specs.declared.held.HeldAnswer.{HeldAnswer}
 
 -- the counts, with one line more
 rounds_more : (lines : List MarkedLine) (answers : List LineAnswer) (given : MarkedLine) (answer : LineAnswer)
@@ -76,12 +76,12 @@ tells_more one_more state tenants pending line asked later text after written no
     }
 
 -- one answer more is held
-pub held_push : (marks : ℕ → Bool) (slots : List Slot) (slot : Slot)
-    → held_text marks (slots ++ slot ∷ []) ≡ held_text marks slots ++ text_of_answer (answer_in marks slot)
-held_push marks slots slot =
-    ap (flat_map text_of_answer) (map-append (answer_in marks) slots (slot ∷ []))
-    ∙ flat_map-append text_of_answer (map (answer_in marks) slots) (answer_in marks slot ∷ [])
-    ∙ ap (λ (l : List ℕ). held_text marks slots ++ l) (append-nil (text_of_answer (answer_in marks slot)))
+pub held_push : (marks : ℕ → Bool) (answers : List HeldAnswer) (answer : HeldAnswer)
+    → held_text marks (answers ++ answer ∷ []) ≡ held_text marks answers ++ text_of_answer (answer_in marks answer)
+held_push marks answers answer =
+    ap (flat_map text_of_answer) (map-append (answer_in marks) answers (answer ∷ []))
+    ∙ flat_map-append text_of_answer (map (answer_in marks) answers) (answer_in marks answer ∷ [])
+    ∙ ap (λ (l : List ℕ). held_text marks answers ++ l) (append-nil (text_of_answer (answer_in marks answer)))
 
 -- some of what is still to be written was
 pub tells_begins : (state : State) (asked : ℕ) (text : List ℕ) (written now later : Option (List ℕ)) (count : ℕ)

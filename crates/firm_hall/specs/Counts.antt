@@ -9,7 +9,7 @@ use Rattle.firm_rules.specs.declared.replies.Refusal.TheVariants.{Worn}
 use Rattle.firm_tenant.specs.Step.{is_memory}
 use Rattle.firm_text.specs.declared.inputs.Line.{Line}
 use Rattle.firm_text.specs.declared.inputs.Line.TheVariants.{Nothing, Long, Nameless, For, Operator}
-use Rattle.firm_text.specs.Rosters.{Admitted}
+use Rattle.firm_text.specs.Rosters.{RosterRow}
 use Rattle.firm_table.specs.Places.{MarkedLine}
 use Rattle.firm_table.specs.Output.{answers_of}
 use Rattle.firm_table.specs.Service.{Device, Served}
@@ -41,7 +41,7 @@ round_of (For name command) LineTooLong = 0
 round_of (For name command) UnknownTenant = 0
 round_of (For name command) (Replied tenant reply) = round_in command reply
 round_of (For name command) (ToOperator reply) = 0
-round_of (Operator asked) answer = 0
+round_of (Operator request) answer = 0
 
 -- how many rounds these lines tell, which have these answers: those of tenants that had life for them, over all stays
 abbrev pub rounds_in : List MarkedLine → List LineAnswer → ℕ
@@ -69,7 +69,7 @@ pub record Counted (asked : ℕ) (lines : List MarkedLine) (answers : List LineA
 
 -- What Ok says of a service: what was written is the output for all that was read; and so many rounds were asked, which
 -- are all that the lines tell where no reply of a tenant says that memory was refused.
-pub record ServedWith (roster : List Admitted) (most : ℕ) (reader writer : Device) (asked : ℕ) : Type 0 where
+pub record ServedWith (roster : List RosterRow) (most : ℕ) (reader writer : Device) (asked : ℕ) : Type 0 where
   pub served : Served roster most reader writer
   pub counted : Counted asked served.answers.lines (answers_of roster served.answers.lines)
   pub exact : refusals_in (answers_of roster served.answers.lines) ≡ 0

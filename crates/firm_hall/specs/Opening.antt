@@ -1,14 +1,14 @@
 -- The desks with which a hall opens.
 use Rattle.std.specs.Prelude.{ℕ, zero, suc, List, [], ◌∷◌}
 use Rattle.firm_rules.specs.Book.{opening_book}
-use Rattle.firm_text.specs.Rosters.{Admitted}
+use Rattle.firm_text.specs.Rosters.{RosterRow}
 use Rattle.firm_rounds.specs.Passes.{QueueId}
 use Rattle.firm_hall.specs.Desks.{DeskIs, desk_is, PlaceIs, place_is}
 
 -- from this place on, a desk for each row of the roster, where nothing was asked, which was given once, and which has
 -- the
 -- opening book of the row's limits
-abbrev pub opening_desks : QueueId → ℕ → List Admitted → List DeskIs
+abbrev pub opening_desks : QueueId → ℕ → List RosterRow → List DeskIs
 opening_desks queue place [] = []
 opening_desks queue place (tenant ∷ rest) =
     desk_is queue place 0 1 (opening_book tenant.1) ∷ opening_desks queue (suc place) rest

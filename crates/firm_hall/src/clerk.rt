@@ -2,7 +2,7 @@
 ghost use Rattle.std.specs.Prelude.{◌≡◌, ℕ, ◌+◌, ◌-◌, ◌++◌, ◌∷◌, IfErr, IfOk, List, OnErr, OnOk, Option, [], false};
 ghost use Rattle.std.specs.Prelude.{length, vec_capacity};
 ghost use Rattle.firm_text.specs.Inputs.{input_lines};
-ghost use Rattle.firm_text.specs.Registers.{most_places};
+ghost use Rattle.firm_text.specs.Rosters.{most_places};
 ghost use Rattle.firm_table.specs.Service.{Answers, BeginsAnswers};
 ghost use Rattle.firm_table.specs.inner.Faults.{IsWritingFault};
 ghost use Rattle.firm_rounds.specs.Passes.{QueueIs};

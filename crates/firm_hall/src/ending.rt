@@ -1,6 +1,6 @@
 //! The end of a service: its desks come home and are put together.
 ghost use Rattle.std.specs.Prelude.{◌≡◌, ◌+◌, ◌<◌, ◌≤◌, ◌^◌, ◌++◌, ◌∷◌, [], length, vec_capacity, vec_len};
-ghost use Rattle.firm_text.specs.Registers.{most_places};
+ghost use Rattle.firm_text.specs.Rosters.{most_places};
 ghost use Rattle.firm_rounds.specs.Passes.{QueueId};
 ghost use Rattle.firm_rounds.specs.Rounds.{weigh};
 ghost use Rattle.firm_hall.specs.inner.Ending.{AreOf, IsOf};

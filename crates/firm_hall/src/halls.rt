@@ -2,7 +2,7 @@
 ghost use Rattle.std.specs.Prelude.{◌≡◌, ◌+◌, ◌-◌, ◌<◌, ◌≤◌, ◌^◌, ◌++◌, ◌∷◌, [], All, IfOk, MatchOption, length, map};
 ghost use Rattle.firm_rounds.specs.Passes.{put_is, pop_is, new_puts, new_pops};
 ghost use Rattle.firm_rounds.specs.Rounds.{ticket};
-ghost use Rattle.firm_text.specs.Registers.{most_places};
+ghost use Rattle.firm_text.specs.Rosters.{most_places};
 ghost use Rattle.firm_hall.specs.Desks.{place_is};
 ghost use Rattle.firm_hall.specs.Opening.{opening_desks, unused_places};
 
@@ -73,8 +73,8 @@ impl Hall {
         self.stop.load(Ordering::SeqCst) == 1
     }
 
-    // After enough looks in vain a worker announces its sleep and looks once more. A round put after that look, or a shut after
-    // that read, follows the announcement, so its notification ends the sleep.
+    // After enough looks in vain a worker announces its sleep and looks once more. A round put after that look, or a
+    // shut after that read, follows the announcement, so its notification ends the sleep.
     pub(crate) fn announce(&self, looks: u32) -> Option<Key<'_>> {
         (LOOKS_BEFORE_SLEEP <= looks).then(|| self.work.prepare_wait())
     }

@@ -6,7 +6,7 @@ ghost use Rattle.std.specs.Io.KnownBytes.{Appends};
 ghost use Rattle.firm_table.specs.Answers.{text_of_answer};
 ghost use Rattle.firm_table.specs.inner.Faults.{IsWritingFault};
 ghost use Rattle.firm_hall.specs.Desks.{DeskIs};
-ghost use Rattle.firm_hall.specs.declared.held.Slot.{Slot};
+ghost use Rattle.firm_hall.specs.declared.held.HeldAnswer.{HeldAnswer};
 ghost use Rattle.firm_hall.specs.inner.Held.{answer_in, answered, filled, held_is, most_held, waits_for};
 ghost use Rattle.firm_hall.specs.inner.Held.{FirstIsKnown, IsFirst, OneWaits};
 
@@ -24,7 +24,7 @@ const MOST_HELD: usize = 1_024;
 
 /// The answer to a line, which is held.
 #[derive(Drop)]
-pub(crate) enum Slot {
+pub(crate) enum HeldAnswer {
     /// It is known.
     Known(LineAnswer),
     /// It is the reply to the round of the tenant of this name, which is away from this place.
@@ -45,7 +45,7 @@ pub(crate) enum First {
 /// The answers that are held, in the order of their lines, and the text that is still to be written before them.
 #[derive(Drop)]
 pub(crate) struct Held {
-    slots: VecDeque<Slot>,
+    answers: VecDeque<HeldAnswer>,
     output: Vec<u8>,
 }
 
@@ -56,9 +56,9 @@ impl Model for Held {
 
     ghost Value = { HeldIs };
 
-    ghost view = { λ h. held_is h.slots.items h.output.items };
+    ghost view = { λ h. held_is h.answers.items h.output.items };
 
-    ghost invariant = { λ h. (deque_len h.slots ≤ most_held) × (most_held ≤ deque_capacity h.slots) };
+    ghost invariant = { λ h. (deque_len h.answers ≤ most_held) × (most_held ≤ deque_capacity h.answers) };
 }
 
 impl Held {
@@ -66,63 +66,65 @@ impl Held {
     pub(crate) fn open(alloc: Global) -> Result<Held, AllocError>
         ensures { IfOk result (λ held. held ≡ held_is [] []) }
     {
-        let slots = VecDeque::with_capacity(alloc, MOST_HELD)?;
+        let answers = VecDeque::with_capacity(alloc, MOST_HELD)?;
         Ok(Held {
-            slots,
+            answers,
             output: Vec::new(alloc),
         })
     }
 
     pub(crate) fn is_empty(&self) -> bool
-        ensures { MatchBool result (self.now.slots ≡ []) (0 < length self.now.slots) }
+        ensures { MatchBool result (self.now.answers ≡ []) (0 < length self.now.answers) }
     {
-        self.slots.is_empty()
+        self.answers.is_empty()
     }
 
     pub(crate) fn is_full(&self) -> bool
-        ensures { MatchBool result (length self.now.slots ≡ most_held) (length self.now.slots < most_held) }
+        ensures { MatchBool result (length self.now.answers ≡ most_held) (length self.now.answers < most_held) }
     {
-        self.slots.len() == MOST_HELD
+        self.answers.len() == MOST_HELD
     }
 
     // Holds one answer more.
-    pub(crate) fn push(&mut self, slot: Slot)
-        requires { length self.old.slots < most_held }
-        ensures { self.new ≡ held_is (self.old.slots ++ slot ∷ []) self.old.output }
+    pub(crate) fn push(&mut self, answer: HeldAnswer)
+        requires { length self.old.answers < most_held }
+        ensures { self.new ≡ held_is (self.old.answers ++ answer ∷ []) self.old.output }
     {
-        self.slots.push_back_reserved(slot);
+        self.answers.push_back_reserved(answer);
     }
 
     pub(crate) fn first(&self) -> First
-        ensures { IsFirst self.now.slots result }
+        ensures { IsFirst self.now.answers result }
     {
-        match self.slots.front() {
+        match self.answers.front() {
             None => First::Missing,
-            Some(Slot::Waiting(place, _, _)) => First::Waits(*place),
-            Some(Slot::Known(_)) => First::Ready,
+            Some(HeldAnswer::Waiting(place, _, _)) => First::Waits(*place),
+            Some(HeldAnswer::Known(_)) => First::Ready,
         }
     }
 
     // The answer that waits for the round of this place is its reply.
     pub(crate) fn fill(&mut self, place: usize, reply: Reply)
-        requires { (asked : DeskIs) × OneWaits place asked self.old.slots }
-        ensures { self.new ≡ held_is (filled place reply self.old.slots) self.old.output }
+        requires { (asked : DeskIs) × OneWaits place asked self.old.answers }
+        ensures { self.new ≡ held_is (filled place reply self.old.answers) self.old.output }
     {
-        fill(&mut self.slots, place, reply);
+        fill(&mut self.answers, place, reply);
     }
 
     // The text of the first answer, which is known, is to be written. Where memory runs out the answer is lost, and a
     // part of its text may be there.
     pub(crate) fn put_first(&mut self) -> Result<(), AllocError>
-        requires { FirstIsKnown self.old.slots }
-        ensures first { (first : Slot) × (self.old.slots ≡ first ∷ self.new.slots) }
-        ensures put { OnOk result ((first : Slot) → self.old.slots ≡ first ∷ self.new.slots → (marks : ℕ → Bool)
-            → self.new.output ≡ self.old.output ++ text_of_answer (answer_in marks first)) }
+        requires { FirstIsKnown self.old.answers }
+        ensures first { (first : HeldAnswer) × (self.old.answers ≡ first ∷ self.new.answers) }
+        ensures put { OnOk result ((first : HeldAnswer) → self.old.answers ≡ first ∷ self.new.answers
+            → (marks : ℕ → Bool) → self.new.output ≡ self.old.output ++ text_of_answer (answer_in marks first)) }
     {
-        let Slot::Known(answer) = self.slots.pop_front().unwrap() else {
+        let Some(HeldAnswer::Known(answer)) = self.answers.front() else {
             unreachable!()
         };
-        answer.put(&mut self.output)
+        let put = answer.put(&mut self.output);
+        let _answered = self.answers.pop_front();
+        put
     }
 
     // Writes the text that is to be written.
@@ -130,7 +132,7 @@ impl Held {
         requires { W.write_failed writer.old ≡ false }
         ensures ok { OnOk result (Appends (W.written writer.old) (W.written writer.new) self.old.output) }
         ensures empty { OnOk result (self.new.output ≡ []) }
-        ensures slots { self.new.slots ≡ self.old.slots }
+        ensures answers { self.new.answers ≡ self.old.answers }
         ensures err { OnErr result ((count : ℕ) × (count ≤ length self.old.output)
             × Appends (W.written writer.old) (W.written writer.new) (take count self.old.output)) }
         ensures cause { IfErr result (λ fault. IsWritingFault fault (W.write_failed writer.new)) }
@@ -140,13 +142,13 @@ impl Held {
     }
 }
 
-impl Slot {
+impl HeldAnswer {
     // Whether the answer is the reply to the round of this place.
     fn waits_for(&self, place: usize) -> bool
         ensures { result ≡ waits_for place self.now }
     {
         match self {
-            Slot::Waiting(waiting, _, _) => *waiting == place,
+            HeldAnswer::Waiting(waiting, _, _) => *waiting == place,
             _ => false,
         }
     }
@@ -156,23 +158,23 @@ impl Slot {
         requires { (place : ℕ) × (waits_for place self.old ≡ true) }
         ensures { self.new ≡ answered reply self.old }
     {
-        let Slot::Waiting(_, name, _) = self else {
+        let HeldAnswer::Waiting(_, name, _) = self else {
             unreachable!()
         };
-        *self = Slot::Known(LineAnswer::Replied(*name, reply));
+        *self = HeldAnswer::Known(LineAnswer::Replied(*name, reply));
     }
 }
 
 // The answer that waits for the round of this place is its reply.
-fn fill(slots: &mut VecDeque<Slot>, place: usize, reply: Reply)
-    requires { (asked : DeskIs) × OneWaits place asked slots.old.items }
-    ensures filled { slots.new.items ≡ filled place reply slots.old.items }
-    ensures length { deque_len slots.new ≡ deque_len slots.old }
-    ensures capacity { deque_capacity slots.new ≡ deque_capacity slots.old }
+fn fill(answers: &mut VecDeque<HeldAnswer>, place: usize, reply: Reply)
+    requires { (asked : DeskIs) × OneWaits place asked answers.old.items }
+    ensures filled { answers.new.items ≡ filled place reply answers.old.items }
+    ensures length { deque_len answers.new ≡ deque_len answers.old }
+    ensures capacity { deque_capacity answers.new ≡ deque_capacity answers.old }
 {
-    for at in 0..slots.len() {
-        if slots[at].waits_for(place) {
-            slots[at].answer(reply);
+    for at in 0..answers.len() {
+        if answers[at].waits_for(place) {
+            answers[at].answer(reply);
             return;
         }
     }

@@ -6,7 +6,7 @@ ghost use Rattle.firm_rules.specs.declared.commands.Command.TheVariants.{Round};
 
 use crate::desks::{Asked, AskedPoll, Desk};
 use crate::empty::{AdmitFault, EmptyDesk};
-use crate::held::Slot;
+use crate::held::HeldAnswer;
 use crate::setting::Setting;
 use firm_rules::{Command, Limits, Name, Reply};
 use firm_table::LineAnswer;
@@ -77,7 +77,7 @@ impl Seat {
         place: usize,
         name: Name,
         command: Command,
-    ) -> Slot
+    ) -> HeldAnswer
         requires { IsHomeOf setting.now.hall.now.id self.old }
         ensures { IsTakenAt self.old place name command self.new result }
     {
@@ -88,20 +88,21 @@ impl Seat {
             unreachable!()
         };
         let reply = desk.command(setting.alloc, command);
-        Slot::Known(LineAnswer::Replied(name, reply))
+        HeldAnswer::Known(LineAnswer::Replied(name, reply))
     }
 
-    // The same for a round.
-    fn ask<R: Wait>(&mut self, setting: &Setting<'_, R>, place: usize, name: Name) -> Slot
+    // The same for a round. Other commands do not pay for its locals.
+    #[inline(never)]
+    fn ask<R: Wait>(&mut self, setting: &Setting<'_, R>, place: usize, name: Name) -> HeldAnswer
         requires { IsHomeOf setting.now.hall.now.id self.old }
         ensures { IsTakenAt self.old place name Round self.new result }
     {
         let Seat::Home(desk) = mem::replace(self, Seat::Gone) else {
             unreachable!()
         };
-        let (seat, slot) = ask(setting, desk, place, name);
+        let (seat, answer) = ask(setting, desk, place, name);
         let _gone = mem::replace(self, seat);
-        slot
+        answer
     }
 
     // A tenant with these limits comes to the empty place. Tells whether it did: it does not for want of memory alone,
@@ -135,18 +136,23 @@ impl Seat {
 }
 
 // What a round makes of the desk of this place, and the answer to its line.
-fn ask<R: Wait>(setting: &Setting<'_, R>, desk: Desk, place: usize, name: Name) -> (Seat, Slot)
+fn ask<R: Wait>(
+    setting: &Setting<'_, R>,
+    desk: Desk,
+    place: usize,
+    name: Name,
+) -> (Seat, HeldAnswer)
     requires { desk.queue ≡ setting.now.hall.now.id }
     ensures { IsTaken desk place name Round result.0 result.1 }
 {
     match desk.ask(setting.rt, setting.alloc, setting.hall) {
         Ok(asked) => {
-            let slot = Slot::Waiting(place, name, Snapshot::of(&asked));
-            (Seat::Away(asked), slot)
+            let answer = HeldAnswer::Waiting(place, name, Snapshot::of(&asked));
+            (Seat::Away(asked), answer)
         }
         Err((desk, reply)) => (
             Seat::Home(desk),
-            Slot::Known(LineAnswer::Replied(name, reply)),
+            HeldAnswer::Known(LineAnswer::Replied(name, reply)),
         ),
     }
 }

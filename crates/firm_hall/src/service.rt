@@ -1,8 +1,9 @@
 //! The service: a hall, its desks and one to eight workers, from the first byte to the last.
-ghost use Rattle.std.specs.Prelude.{◌≡◌, ℕ, ◌+◌, ◌≤◌, ◌^◌, List, Option, [], All, IfOk, IfErr, OnOk, false, length, true};
+ghost use Rattle.std.specs.Prelude.{◌≡◌, ℕ, ◌+◌, ◌≤◌, ◌^◌, List, Option, [], All, IfOk, IfErr, OnOk, false, length};
+ghost use Rattle.std.specs.Prelude.{true};
 ghost use Rattle.std.specs.Thread.{IsSync};
 ghost use Rattle.firm_table.specs.Service.{Stopped, device};
-ghost use Rattle.firm_text.specs.Registers.{most_places};
+ghost use Rattle.firm_text.specs.Rosters.{most_places};
 ghost use Rattle.firm_hall.specs.Counts.{ServedWith};
 ghost use Rattle.firm_hall.specs.inner.Ending.{AreOf, Ran};
 ghost use Rattle.firm_hall.specs.inner.Serving.{IsOpen, TellsAll};
@@ -110,7 +111,8 @@ fn serve_with<S: Source, W: Sink, R: Threads + Wait + Sync, G: Gate + Sync>(
         move |scope| -> (Result<Ended, ServeFault>, Vec<Report>, &mut S, &mut W)
             requires threads { IsSync R.row × IsSync G.row }
             requires open { IsOpen clerk.setting.hall.now.id clerk.serving }
-            requires told { (written : Option (List ℕ)) → TellsAll clerk.setting.roster.now clerk.serving [] written written }
+            requires told { (written : Option (List ℕ))
+                → TellsAll clerk.setting.roster.now clerk.serving [] written written }
             requires most { most ≤ 2 ^ 32 }
             requires reader { S.read_failed reader.now ≡ false }
             requires writer { W.write_failed writer.now ≡ false }

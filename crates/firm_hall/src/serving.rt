@@ -2,8 +2,8 @@
 ghost use Rattle.std.specs.Prelude.{◌≡◌, ℕ, ◌-◌, ◌<◌, ◌++◌, ◌∷◌, IfErr, IfOk, List, MatchBool, OnErr, OnOk, Option};
 ghost use Rattle.std.specs.Prelude.{Some, [], false, length, map};
 ghost use Rattle.firm_text.specs.Inputs.{input_lines};
-ghost use Rattle.firm_text.specs.Registers.{AreSound, most_places, place_in};
-ghost use Rattle.firm_text.specs.Rosters.{Admitted};
+ghost use Rattle.firm_text.specs.Registers.{AreSound, place_in};
+ghost use Rattle.firm_text.specs.Rosters.{RosterRow, most_places};
 ghost use Rattle.firm_text.specs.declared.inputs.Line.TheVariants.{For};
 ghost use Rattle.firm_table.specs.Service.{BeginsAnswers};
 ghost use Rattle.firm_table.specs.inner.Faults.{IsWritingFault};
@@ -16,7 +16,7 @@ ghost use Rattle.firm_hall.specs.inner.Serving.{Keeps, Passes, Takes, TellsAll};
 use crate::desks::Desk;
 use crate::empty::EmptyDesk;
 use crate::halls::Hall;
-use crate::held::{First, Held, Slot};
+use crate::held::{First, Held, HeldAnswer};
 use crate::seats::Seat;
 use crate::setting::Setting;
 use firm_rules::{Command, Name};
@@ -87,11 +87,11 @@ impl Serving {
     ) -> Result<(), ServeFault>
         requires writer { W.write_failed writer.old ≡ false }
         requires open { IsOpen setting.now.hall.now.id self.old }
-        ensures told { OnOk result ((roster : List Admitted) (text after : List ℕ) (written : Option (List ℕ))
+        ensures told { OnOk result ((roster : List RosterRow) (text after : List ℕ) (written : Option (List ℕ))
             → input_lines after ≡ input_lines text ++ line ∷ []
             → TellsAll roster self.old text written (W.written writer.old)
             → TellsAll roster self.new after written (W.written writer.new)) }
-        ensures begins { OnErr result ((roster : List Admitted) (text after : List ℕ) (written : Option (List ℕ))
+        ensures begins { OnErr result ((roster : List RosterRow) (text after : List ℕ) (written : Option (List ℕ))
             → input_lines after ≡ input_lines text ++ line ∷ []
             → TellsAll roster self.old text written (W.written writer.old)
             → BeginsAnswers roster after written (W.written writer.new)) }
@@ -113,18 +113,19 @@ impl Serving {
         answers_add_up();
         match line {
             Line::Nothing => {}
-            Line::Long => self.held.push(Slot::Known(LineAnswer::LineTooLong)),
-            Line::Nameless => self.held.push(Slot::Known(LineAnswer::UnknownTenant)),
+            Line::Long => self.held.push(HeldAnswer::Known(LineAnswer::LineTooLong)),
+            Line::Nameless => self.held.push(HeldAnswer::Known(LineAnswer::UnknownTenant)),
             Line::For(name, command) => match self.register.place_of(name) {
-                None => self.held.push(Slot::Known(LineAnswer::UnknownTenant)),
+                None => self.held.push(HeldAnswer::Known(LineAnswer::UnknownTenant)),
                 Some(place) => {
                     self.come_home(setting.rt, place);
                     self.command(setting, place, name, command);
                 }
             },
-            Line::Operator(asked) => {
-                let reply = self.obey(setting, asked);
-                self.held.push(Slot::Known(LineAnswer::ToOperator(reply)));
+            Line::Operator(request) => {
+                let reply = self.obey(setting, request);
+                self.held
+                    .push(HeldAnswer::Known(LineAnswer::ToOperator(reply)));
             }
         }
     }
@@ -148,15 +149,15 @@ impl Serving {
         // Laws: of one line more, and of marks that replies tell.
         answers_add_up();
         replies_tell_their_marks();
-        let slot = self.seats[place].take(setting, place, name, command);
-        self.held.push(slot);
+        let answer = self.seats[place].take(setting, place, name, command);
+        self.held.push(answer);
     }
 
     // Whether the first answer that is held is known, after a look where it waits for a round.
     fn first_is_known(&mut self) -> bool
         ensures follows { Follows self.old self.new }
         ensures keeps { Keeps self.old self.new }
-        ensures first { MatchBool result (FirstIsKnown self.new.slots) (FirstWaits self.new.slots) }
+        ensures first { MatchBool result (FirstIsKnown self.new.answers) (FirstWaits self.new.answers) }
     {
         match self.held.first() {
             First::Missing => false,
@@ -167,10 +168,10 @@ impl Serving {
 
     // Waits until the first answer that is held is known.
     fn first_comes_home<R: Wait>(&mut self, rt: &R)
-        requires { 0 < length self.old.slots }
+        requires { 0 < length self.old.answers }
         ensures follows { Follows self.old self.new }
         ensures keeps { Keeps self.old self.new }
-        ensures first { FirstIsKnown self.new.slots }
+        ensures first { FirstIsKnown self.new.answers }
     {
         match self.held.first() {
             First::Missing => unreachable!(),
@@ -181,11 +182,11 @@ impl Serving {
 
     // Puts the first answer that is held, which is known, behind the text to be written.
     fn put_first(&mut self) -> Result<(), AllocError>
-        requires { FirstIsKnown self.old.slots }
+        requires { FirstIsKnown self.old.answers }
         ensures keeps { OnOk result (Keeps self.old self.new) }
         ensures hall { self.new.queue ≡ self.old.queue }
         ensures seats { self.new.seats ≡ self.old.seats }
-        ensures fewer { length self.new.slots < length self.old.slots }
+        ensures fewer { length self.new.answers < length self.old.answers }
     {
         self.held.put_first()
     }
@@ -194,7 +195,7 @@ impl Serving {
     fn put_known(&mut self) -> Result<(), AllocError>
         ensures follows { Follows self.old self.new }
         ensures keeps { OnOk result (Keeps self.old self.new) }
-        ensures first { OnOk result (FirstWaits self.new.slots) }
+        ensures first { OnOk result (FirstWaits self.new.answers) }
     {
         while self.first_is_known() {
             self.put_first()?;
@@ -207,7 +208,7 @@ impl Serving {
         requires { AllBack self.old.seats }
         ensures follows { Follows self.old self.new }
         ensures keeps { OnOk result (Keeps self.old self.new) }
-        ensures none { OnOk result (self.new.slots ≡ []) }
+        ensures none { OnOk result (self.new.answers ≡ []) }
     {
         while !self.held.is_empty() {
             self.put_first()?;
@@ -252,7 +253,7 @@ impl Serving {
 
     /// Whether no answer is held.
     pub(crate) fn is_idle(&self) -> bool
-        ensures { MatchBool result (self.now.slots ≡ []) (0 < length self.now.slots) }
+        ensures { MatchBool result (self.now.answers ≡ []) (0 < length self.now.answers) }
     {
         self.held.is_empty()
     }

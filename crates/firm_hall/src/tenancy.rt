@@ -1,6 +1,7 @@
 //! Who has which place: tenants are admitted, come home with their rounds and leave.
 ghost use Rattle.std.specs.Prelude.{◌≡◌, ◌<◌, MatchBool, Some, ℕ};
-ghost use Rattle.firm_text.specs.Registers.{most_places, place_in};
+ghost use Rattle.firm_text.specs.Registers.{place_in};
+ghost use Rattle.firm_text.specs.Rosters.{most_places};
 ghost use Rattle.firm_text.specs.declared.operator.OperatorLine.TheVariants.{Admit, Retire};
 ghost use Rattle.firm_text.specs.declared.operator.OperatorReply.TheVariants.{Retired};
 ghost use Rattle.firm_hall.specs.inner.Held.{FirstIsFor, FirstIsKnown, FirstWaits};
@@ -15,18 +16,20 @@ use std::alloc::Global;
 use std::sync::Wait;
 
 impl Serving {
-    // Does what the operator asks for, where it can be done. The answer is still to be held.
+    // Does what the operator asks for, where it can be done. The answer is still to be held. A tenant's line does not
+    // pay for its locals.
+    #[inline(never)]
     pub(crate) fn obey<R: Wait>(
         &mut self,
         setting: &Setting<'_, R>,
-        asked: OperatorLine,
+        request: OperatorLine,
     ) -> OperatorReply
-        ensures obeys { Obeys self.old self.new asked result }
+        ensures obeys { Obeys self.old self.new request result }
         ensures follows { Follows self.old self.new }
     {
         // Laws: of one line more.
         answers_add_up();
-        match asked {
+        match request {
             OperatorLine::Admit(name, limits) => self.admit(setting.alloc, name, limits),
             OperatorLine::Retire(name) => self.retire(setting.rt, name),
             OperatorLine::Faulty(refusal) => OperatorReply::Refused(refusal),
@@ -90,7 +93,7 @@ impl Serving {
         ensures register { self.new.register ≡ self.old.register }
         ensures back { IsBackAt place self.new.seats }
         ensures others { (other : ℕ) → IsBackAt other self.old.seats → IsBackAt other self.new.seats }
-        ensures first { FirstIsFor place self.old.slots → FirstIsKnown self.new.slots }
+        ensures first { FirstIsFor place self.old.answers → FirstIsKnown self.new.answers }
     {
         if self.seats[place].is_back() {
             return;
@@ -101,10 +104,10 @@ impl Serving {
 
     // The same without waiting: where the round is not answered yet, all stays. Tells whether it was answered.
     pub(crate) fn look_at(&mut self, place: usize) -> bool
-        requires { FirstIsFor place self.old.slots }
+        requires { FirstIsFor place self.old.answers }
         ensures follows { Follows self.old self.new }
         ensures keeps { Keeps self.old self.new }
-        ensures first { MatchBool result (FirstIsKnown self.new.slots) (FirstWaits self.new.slots) }
+        ensures first { MatchBool result (FirstIsKnown self.new.answers) (FirstWaits self.new.answers) }
     {
         let Some(reply) = self.seats[place].look() else {
             return false;

@@ -13,8 +13,8 @@ use std::hint::spin_loop;
 use std::marker::Model;
 use std::sync::Wait;
 
-// How often a worker looks for a round in vain before it sleeps: for some microseconds, since there may be eight. Nobody
-// yields: on a busy machine one yield takes longer than all looks and the sleep.
+// How often a worker looks for a round in vain before it sleeps: for some microseconds, since there may be eight.
+// Nobody yields: on a busy machine one yield takes longer than all looks and the sleep.
 pub(crate) const LOOKS_BEFORE_SLEEP: u32 = 64;
 
 /// What a worker does between taking a round and solving it.
@@ -96,8 +96,8 @@ impl Report {
 }
 
 /// Solves the rounds that it gets from the queue, each after it passed the gate. It ends once it has read the stop word
-/// as set and then found the queue empty. Where it finds nothing otherwise it looks again, and after 64 looks in vain it
-/// sleeps until a round is put or the hall is shut. The allocator is for the lists in replies.
+/// as set and then found the queue empty. Where it finds nothing otherwise it looks again, and after 64 looks in vain
+/// it sleeps until a round is put or the hall is shut. The allocator is for the lists in replies.
 pub fn worker<R: Wait, G: Gate>(
     rt: &R,
     alloc: Global,

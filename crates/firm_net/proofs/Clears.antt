@@ -2,7 +2,7 @@
 use Rattle.std.proofs.Common.{◌≡◌, ℕ, ◌+◌, ◌≤◌, ◌==◌, inl, inr, refl, sym, ap, ◌∙◌, arith, eq-eqb, ne_eqb, Option, None}
 use Rattle.std.proofs.lemmas.Bool.{cases_eq, cases_lt}
 use Rattle.firm_arena.specs.Arena.{Arena, held_at, changed_at, changed_all, slot_changed}
-use Rattle.firm_net.specs.Links.{cleared_link, IsClearedTo}
+use Rattle.firm_net.specs.inner.Links.{cleared_link, IsClearedTo}
 use Rattle.firm_net.specs.declared.links.Link.{Link}
 use Rattle.std.proofs.lemmas.Bool.{cond-true, cond-false}
 use Rattle.firm_arena.specs.Changes.{held_at-changed_at, held_at-changed_all, capacity_of-changed_at}

@@ -6,7 +6,7 @@ use Rattle.firm_arena.specs.Arena.{Arena, find, capacity_of, id_of}
 use Rattle.firm_net.specs.Row.{Row}
 use Rattle.firm_net.specs.Net.{Lists, Net, IsNet, IsNode, IsListed, side_list, EachOnce, row_at, listed_in, arcs_on}
 use Rattle.firm_net.specs.Net.{end_of, first_of, next_in, next_on, behind, same_arc, Follows, rows_of, with_its_row}
-use Rattle.firm_net.specs.Links.{neighbours_of, list_of, arc_at, walk_rows, nodes_shown, IsChain, Shows}
+use Rattle.firm_net.specs.inner.Links.{neighbours_of, list_of, arc_at, walk_rows, nodes_shown, IsChain, Shows}
 use Rattle.firm_net.specs.declared.row.NodeId.{NodeId}
 use Rattle.firm_net.specs.declared.row.ArcId.{ArcId}
 use Rattle.firm_net.specs.declared.links.Side.{Side}

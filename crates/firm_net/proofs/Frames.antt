@@ -10,8 +10,9 @@ use Rattle.firm_arena.specs.Arena.{slot_changed}
 use Rattle.firm_arena.specs.declared.Id.{Id}
 use Rattle.firm_net.specs.Row.{Row}
 use Rattle.firm_net.specs.Net.{Lists, Net, side_list, end_of, row_at, rows_of, with_its_row}
-use Rattle.firm_net.specs.Links.{neighbours_of, list_of, empty_node, walk, walk_rows, arcs_in, lists_of, nodes_shown}
-use Rattle.firm_net.specs.Links.{IsChain, ShowsList, ShowsSlot, Shows}
+use Rattle.firm_net.specs.inner.Links.{neighbours_of, list_of, empty_node, walk, walk_rows, arcs_in, lists_of}
+use Rattle.firm_net.specs.inner.Links.{nodes_shown}
+use Rattle.firm_net.specs.inner.Links.{IsChain, ShowsList, ShowsSlot, Shows}
 use Rattle.firm_net.specs.declared.row.NodeId.{NodeId}
 use Rattle.firm_net.specs.declared.row.ArcId.{ArcId}
 use Rattle.firm_net.specs.declared.links.Side.{Side}

@@ -6,9 +6,9 @@ use Rattle.firm_arena.specs.Arena.{Arena, find, changed_at}
 use Rattle.firm_arena.specs.declared.Id.{Id}
 use Rattle.firm_net.specs.Row.{Row}
 use Rattle.firm_net.specs.Net.{Lists, side_list, end_of, EachOnce, without_arc, linked_at_front, unlinked}
-use Rattle.firm_net.specs.Links.{neighbours_of, with_neighbours, with_next, with_previous, list_of, with_arc_list}
-use Rattle.firm_net.specs.Links.{at_option, list_from, list_past, first_past, links_from, links_past, IsChain}
-use Rattle.firm_net.specs.Links.{ShowsList, Shows}
+use Rattle.firm_net.specs.inner.Links.{neighbours_of, with_neighbours, with_next, with_previous, list_of, with_arc_list}
+use Rattle.firm_net.specs.inner.Links.{at_option, list_from, list_past, first_past, links_from, links_past, IsChain}
+use Rattle.firm_net.specs.inner.Links.{ShowsList, Shows}
 use Rattle.firm_net.specs.declared.row.NodeId.{NodeId}
 use Rattle.firm_net.specs.declared.row.ArcId.{ArcId}
 use Rattle.firm_net.specs.declared.links.Side.{Side}

@@ -7,8 +7,9 @@ use Rattle.firm_net.specs.Row.{Row, IsRow}
 use Rattle.firm_net.specs.Net.{Lists, Net, IsNet, IsNode, side_list, listed_in, with_list, EachOnce, without_arc}
 use Rattle.firm_net.specs.Net.{linked_at_front, unlinked, with_node, without_node, with_arc, without_row, out_list}
 use Rattle.firm_net.specs.Net.{in_list}
-use Rattle.firm_net.specs.Links.{list_of, with_next, with_previous, with_arc_list, empty_node, list_from, list_past}
-use Rattle.firm_net.specs.Links.{links_from, links_past, at_option, lists_of, nodes_shown, rows_shown, Shows}
+use Rattle.firm_net.specs.inner.Links.{list_of, with_next, with_previous, with_arc_list, empty_node, list_from}
+use Rattle.firm_net.specs.inner.Links.{list_past}
+use Rattle.firm_net.specs.inner.Links.{links_from, links_past, at_option, lists_of, nodes_shown, rows_shown, Shows}
 use Rattle.firm_net.specs.declared.row.NodeId.{NodeId}
 use Rattle.firm_net.specs.declared.row.ArcId.{ArcId}
 use Rattle.firm_net.specs.declared.links.Side.{Side}

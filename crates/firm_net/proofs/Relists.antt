@@ -6,7 +6,7 @@ use Rattle.std.proofs.lemmas.Option.{same_Some}
 use Rattle.firm_arena.specs.Arena.{Arena, find, held_at, changed_at, slot_changed}
 use Rattle.firm_arena.specs.declared.Id.{Id}
 use Rattle.firm_net.specs.Net.{Lists, side_list, with_list}
-use Rattle.firm_net.specs.Links.{list_of, with_arc_list, at_option, ShowsList, ShowsNode, ShowsSlot, Shows}
+use Rattle.firm_net.specs.inner.Links.{list_of, with_arc_list, at_option, ShowsList, ShowsNode, ShowsSlot, Shows}
 use Rattle.firm_net.specs.declared.row.NodeId.{NodeId}
 use Rattle.firm_net.specs.declared.row.ArcId.{ArcId}
 use Rattle.firm_net.specs.declared.links.Side.{Side}

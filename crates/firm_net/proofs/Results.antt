@@ -15,8 +15,9 @@ use Rattle.firm_net.specs.Net.{SameOtherRows, SameOtherNodes, CountsAre, node_co
 use Rattle.firm_net.specs.Net.{arcs_on, IsResidual, CanPush, HasOtherTail, with_unit}
 use Rattle.firm_net.specs.Edits.{IsEdit, SameNodes, span_of}
 use Rattle.firm_net.specs.Laws.{changed_row}
-use Rattle.firm_net.specs.Links.{list_of, with_arc_list, with_link_row, cleared_link, loose_link, empty_node, list_from}
-use Rattle.firm_net.specs.Links.{list_past, links_from, links_past, lists_of, nodes_shown, rows_shown, Shows}
+use Rattle.firm_net.specs.inner.Links.{list_of, with_arc_list, with_link_row, cleared_link, loose_link, empty_node}
+use Rattle.firm_net.specs.inner.Links.{list_from}
+use Rattle.firm_net.specs.inner.Links.{list_past, links_from, links_past, lists_of, nodes_shown, rows_shown, Shows}
 use Rattle.firm_net.specs.declared.row.NodeId.{NodeId}
 use Rattle.firm_net.specs.declared.row.ArcId.{ArcId}
 use Rattle.firm_net.specs.declared.row.Way.{Way}

@@ -8,8 +8,9 @@ use Rattle.firm_arena.specs.declared.Id.{Id}
 use Rattle.firm_net.specs.Row.{Row, IsRow}
 use Rattle.firm_net.specs.Net.{Lists, Net, IsNet, IsNode, side_list, end_of, unlinked, with_row, with_head}
 use Rattle.firm_net.specs.Net.{without_flow, empty_net}
-use Rattle.firm_net.specs.Links.{neighbours_of, list_of, with_arc_list, with_link_row, cleared_link, list_from}
-use Rattle.firm_net.specs.Links.{list_past, links_from, links_past, lists_of, nodes_shown, rows_shown, ShowsSlot, Shows}
+use Rattle.firm_net.specs.inner.Links.{neighbours_of, list_of, with_arc_list, with_link_row, cleared_link, list_from}
+use Rattle.firm_net.specs.inner.Links.{list_past, links_from, links_past, lists_of, nodes_shown, rows_shown, ShowsSlot}
+use Rattle.firm_net.specs.inner.Links.{Shows}
 use Rattle.firm_net.specs.declared.row.NodeId.{NodeId}
 use Rattle.firm_net.specs.declared.row.ArcId.{ArcId}
 use Rattle.firm_net.specs.declared.links.Side.{Side}

@@ -6,8 +6,9 @@ use Rattle.firm_arena.specs.Arena.{Arena, find, capacity_of, len_of, without}
 use Rattle.firm_arena.specs.declared.Id.{Id}
 use Rattle.firm_net.specs.Row.{Row}
 use Rattle.firm_net.specs.Net.{Lists, Net, IsNet, listed_in, EachOnce}
-use Rattle.firm_net.specs.Links.{list_of, with_neighbours, with_next, with_previous, at_option, links_from, links_past}
-use Rattle.firm_net.specs.Links.{lists_of, nodes_shown, rows_shown, Shows}
+use Rattle.firm_net.specs.inner.Links.{list_of, with_neighbours, with_next, with_previous, at_option, links_from}
+use Rattle.firm_net.specs.inner.Links.{links_past}
+use Rattle.firm_net.specs.inner.Links.{lists_of, nodes_shown, rows_shown, Shows}
 use Rattle.firm_net.specs.declared.row.NodeId.{NodeId}
 use Rattle.firm_net.specs.declared.row.ArcId.{ArcId}
 use Rattle.firm_net.specs.declared.links.Side.{Side}

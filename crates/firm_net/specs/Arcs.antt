@@ -1,7 +1,7 @@
 -- What a contract sees of a walk: the arcs that are left, each with its row.
 use Rattle.std.specs.Prelude.{List}
 use Rattle.firm_net.specs.Row.{Row}
-use Rattle.firm_net.specs.Links.{walk_rows}
+use Rattle.firm_net.specs.inner.Links.{walk_rows}
 use Rattle.firm_net.specs.declared.row.ArcId.{ArcId}
 use Rattle.firm_net.specs.declared.walk.Arcs.TheInside.{Inside}
 

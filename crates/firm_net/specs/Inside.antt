@@ -2,7 +2,7 @@
 use Rattle.std.specs.Prelude.{◌≡◌, ◌+◌, IsTrue}
 use Rattle.firm_arena.specs.Arena.{changed_all}
 use Rattle.firm_net.specs.Net.{Net, IsNet}
-use Rattle.firm_net.specs.Links.{nodes_shown, rows_shown, cleared_link, Shows}
+use Rattle.firm_net.specs.inner.Links.{nodes_shown, rows_shown, cleared_link, Shows}
 use Rattle.firm_net.specs.declared.net.Net.TheInside.{Inside}
 
 abbrev pub net_of : Inside → Net

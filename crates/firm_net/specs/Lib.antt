@@ -3,7 +3,6 @@ pub mod Fields
 pub mod Net
 pub mod Edits
 pub mod Laws
-pub mod Place
-pub mod Links
 pub mod Inside
 pub mod Arcs
+pub mod inner

@@ -82,7 +82,7 @@ node_count net = len_of net.nodes
 abbrev pub arc_count : Net → ℕ
 arc_count net = len_of net.arcs
 
--- so many nodes and so many arcs are there
+-- the net has these numbers of nodes and arcs
 pub record CountsAre (net : Net) (nodes arcs : ℕ) : Type 0 where
   pub counted_nodes : len_of net.nodes ≡ nodes
   pub counted_arcs : len_of net.arcs ≡ arcs
@@ -112,7 +112,7 @@ pub record IsNet (net : Net) : Type 0 where
   pub node_map : IsBoundedMap net.nodes
   pub arc_map : IsBoundedMap net.arcs
 
--- a net with room for so many nodes and arcs that has none
+-- a net without nodes and arcs, with room for these numbers of them
 abbrev pub empty_net : ℕ → ℕ → Net
 empty_net nodes arcs = record { nodes = vacant nodes 0; arcs = vacant arcs 0 }
 

@@ -3,9 +3,9 @@
 ghost use Rattle.std.specs.Prelude.{◌≡◌, ◌+◌, ◌-◌, ◌<◌, ◌^◌, IsSome, IfSome, IfOk, Some, None};
 ghost use Rattle.std.specs.Option.{IsSomeAnd};
 ghost use Rattle.firm_arena.specs.Arena.{find, vacant, changed_at, changed_all};
-ghost use Rattle.firm_net.specs.Links.{neighbours_of, list_of, with_neighbours, with_next, with_previous};
-ghost use Rattle.firm_net.specs.Links.{with_arc_list, empty_node, at_option, list_from, list_past, first_past};
-ghost use Rattle.firm_net.specs.Links.{links_from, links_past, loose_link, arc_at, with_link_row, cleared_link};
+ghost use Rattle.firm_net.specs.inner.Links.{neighbours_of, list_of, with_neighbours, with_next, with_previous};
+ghost use Rattle.firm_net.specs.inner.Links.{with_arc_list, empty_node, at_option, list_from, list_past, first_past};
+ghost use Rattle.firm_net.specs.inner.Links.{links_from, links_past, loose_link, arc_at, with_link_row, cleared_link};
 
 use crate::row::{ArcId, ArcRow, NodeId};
 use firm_arena::Arena;
@@ -25,7 +25,7 @@ pub struct Place {
     number: u32,
 }
 
-// The number that stands for none. No net has room for so many arcs.
+// The number that stands for none: more than a net has room for.
 const NOWHERE: u32 = u32::MAX;
 
 impl Model for Place {
@@ -33,7 +33,7 @@ impl Model for Place {
 
     ghost Value = { Option ℕ };
 
-    ghost use Rattle.firm_net.specs.Place.{named, number_of, number_kept};
+    ghost use Rattle.firm_net.specs.inner.Place.{named, number_of, number_kept};
 
     ghost view = { named };
 
@@ -202,7 +202,7 @@ impl Node {
     }
 }
 
-/// Two arenas with room for so many; where memory for one is refused, neither.
+/// Two arenas with these capacities; neither where memory for one is refused.
 pub fn two_arenas<N: Drop, L: Drop>(
     alloc: Global,
     nodes: u32,

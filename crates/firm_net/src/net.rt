@@ -1,6 +1,6 @@
 //! The network: a bounded map of nodes and a bounded map of arcs.
-ghost use Rattle.std.specs.Prelude.{◌≡◌, ◌+◌, ◌-◌, ◌<◌, ◌≤◌, ◌^◌, ◌↔◌, ◌∷◌, length, map, IsSome, IfSome, IfNone, IfOk};
-ghost use Rattle.std.specs.Prelude.{IsOk, OnErr, Some, None, IsTrue};
+ghost use Rattle.std.specs.Prelude.{◌≡◌, ◌≢◌, ◌+◌, ◌-◌, ◌<◌, ◌≤◌, ◌^◌, ◌↔◌, ◌∷◌, length, map, IsSome, IfSome, IfNone};
+ghost use Rattle.std.specs.Prelude.{IfOk, IsOk, OnErr, Some, None, IsTrue};
 ghost use Rattle.std.specs.Prelude.{[], false, true, ◌⊎◌};
 ghost use Rattle.firm_arena.specs.Arena.{IsVacant, IsFull, capacity_of};
 ghost use Rattle.firm_net.specs.Row.{Row, IsRow};
@@ -72,8 +72,8 @@ impl Model for Net {
 }
 
 impl Net {
-    /// An empty net with room for so many nodes and arcs; it takes all its memory now. `Err` only where memory is
-    /// refused.
+    /// An empty net with room for these numbers of nodes and arcs; it takes all its memory now. `Err` only where memory
+    /// is refused.
     pub fn new(alloc: Global, nodes: u32, arcs: u32) -> Result<Net, AllocError>
         requires nodes { nodes ≤ 4096 }
         requires arcs { arcs ≤ 65536 }
@@ -271,6 +271,30 @@ impl Net {
     {
         let link = self.links.get(arc.id)?;
         Some(link.row)
+    }
+
+    /// The arc at a place, with its row; `None` exactly where no arc stands there. With `used` it visits every arc once
+    /// without following the walks.
+    pub fn arc_at(&self, place: u32) -> Option<(ArcId, ArcRow)>
+        ensures there { IfSome result (λ entry. (entry.0.id.place ≡ place) × (row_at self.now entry.0 ≡ Some entry.1)) }
+        ensures ends { IfSome result (λ entry. IsNode self.now entry.1.tail × IsNode self.now entry.1.head) }
+        ensures none { IfNone result ((a : ArcId) → IsArc self.now a → a.id.place ≢ place) }
+        ensures net { IsNet self.now }
+    {
+        let id = self.links.id_at(place)?;
+        let Some(link) = self.links.get(id) else {
+            unreachable!()
+        };
+        Some((ArcId { id }, link.row))
+    }
+
+    /// A place behind those of all arcs, at most the limit of arcs.
+    pub fn used(&self) -> u32
+        ensures below { (a : ArcId) → IsArc self.now a → a.id.place < result }
+        ensures within { result ≤ capacity_of self.now.arcs }
+        ensures net { IsNet self.now }
+    {
+        self.links.used()
     }
 
     /// Gives an arc these numbers. False, and nothing changes, exactly where the arc is not there or not

@@ -1,7 +1,7 @@
 //! The walk over one list of a node.
 ghost use Rattle.std.specs.Prelude.{◌≡◌};
 ghost use Rattle.std.specs.Iterator.{YieldsFirst, item_count};
-ghost use Rattle.firm_net.specs.Links.{walk_rows};
+ghost use Rattle.firm_net.specs.inner.Links.{walk_rows};
 
 use crate::links::{ArcList, Link, Place, Side};
 use crate::row::{ArcId, ArcRow};

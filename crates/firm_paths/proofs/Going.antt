@@ -75,12 +75,12 @@ going_start net price from goal ms turns keys node listed size low there at idle
     }
 
 -- where a walk begins, all steps that leave the node are left
-record IsBegun (net : Net) (node : NodeId) (first : Option Step) (left : List Step) : Type 0 where
+pub record IsBegun (net : Net) (node : NodeId) (first : Option Step) (left : List Step) : Type 0 where
   pub round : IsRound net node left
   pub first_is : first ≡ first_step left
   pub some : first ≡ None ⊎ (1 ≤ length left)
 
-begun : (net : Net) (node : NodeId) (first : Option Step)
+pub begun : (net : Net) (node : NodeId) (first : Option Step)
     → MatchOption first (steps_from net node ≡ []) (Contains (steps_from net node))
     → (left : List Step) × IsBegun net node first left
 begun net node None none = (
@@ -95,7 +95,7 @@ begun net node (Some s) c =
     let own = round_from net node s c in
     (s ∷ own.0, record { round = own.1; first_is = refl; some = inr (omega arith) })
 
-round_length : (net : Net) (node : NodeId) (around : List Step) → IsRound net node around
+pub round_length : (net : Net) (node : NodeId) (around : List Step) → IsRound net node around
     → length around ≡ length (steps_from net node)
 round_length net node around round =
     omega (
@@ -107,7 +107,7 @@ round_length net node around round =
     )
 
 -- a step that leaves a node by a row of the net
-leaving : (net : Net) (node : NodeId) (way : Way) (id : ArcId) (row : Row) → IsNet net → IsNode net node
+pub leaving : (net : Net) (node : NodeId) (way : Way) (id : ArcId) (row : Row) → IsNet net → IsNode net node
     → row_at net id ≡ Some row → (start_of way row).id.place ≡ node.id.place
     → Contains (steps_from net node) (along way id)
 leaving net node Forward id row is there row_is at =

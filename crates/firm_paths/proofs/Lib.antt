@@ -17,4 +17,10 @@ pub mod Turns
 pub mod Offsets
 pub mod Raised
 pub mod Spreading
+pub mod Fronts
+pub mod FrontLooks
+pub mod Meetings
+pub mod Ends
+pub mod Splits
+pub mod Within
 mod Examples

@@ -4,5 +4,7 @@ pub mod Paths
 pub mod Laws
 pub mod PriceTable
 pub mod Workspace
+pub mod Classes
+pub mod ClassLaws
 pub mod Lending
 pub mod inner

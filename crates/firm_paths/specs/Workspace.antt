@@ -1,13 +1,14 @@
 -- What a contract sees of a `Scratch`, and how searches are counted.
-use Rattle.std.specs.Prelude.{◌≡◌, ℕ, ◌+◌, ◌-◌, ◌*◌, ◌^◌, ◌<◌, ◌≤◌}
+use Rattle.std.specs.Prelude.{◌≡◌, ℕ, List, ◌+◌, ◌-◌, ◌*◌, ◌^◌, ◌<◌, ◌≤◌}
 
--- the limits of the net for whose searches the room was reserved, how often `begin` was called, and how many searches
--- and looks were counted since
+-- the limits of the net for whose searches the room was reserved, how often `begin` was called, how many searches and
+-- looks were counted since, and the class of the node at each place
 pub record Workspace : Type 0 where
   pub limits : ℕ × ℕ
   pub begins : ℕ
   pub searches : ℕ
   pub looks : ℕ
+  pub classes : List ℕ
 
 -- a counter grew by this number where there was room for it below 2^64; else it stands at 2^64 - 1, and did not fall
 pub record HasCounted (old new more : ℕ) : Type 0 where

@@ -5,3 +5,6 @@ pub mod Walk
 pub mod Queue
 pub mod Turn
 pub mod Going
+pub mod Front
+pub mod Meeting
+pub mod Valid

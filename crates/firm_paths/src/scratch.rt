@@ -1,14 +1,17 @@
 //! The room in which the searches work.
-ghost use Rattle.std.specs.Prelude.{◌≡◌, IfOk};
+ghost use Rattle.std.specs.Prelude.{◌≡◌, ◌↔◌, ℕ, IfOk, IsTrue};
+ghost use Rattle.firm_net.specs.Net.{IsNode};
+ghost use Rattle.firm_paths.specs.Classes.{AreTogether};
 ghost use Rattle.firm_paths.specs.Workspace.{HasCounted};
 ghost use Rattle.firm_paths.specs.NetArcs.{limits_of};
 
+use crate::classes::Classes;
 use crate::queue::Queue;
 use crate::search::{NodeState, Step};
 use crate::shortest::Labels;
 use crate::tight::Reach;
 use crate::turn::Turn;
-use firm_net::Net;
+use firm_net::{Net, NodeId};
 use std::alloc::{AllocError, Global};
 use std::marker::Model;
 
@@ -21,6 +24,7 @@ pub struct Scratch {
     pub(crate) looks: u64,
     pub(crate) labels: Labels,
     pub(crate) reach: Reach,
+    pub(crate) classes: Classes,
     pub(crate) steps: Vec<Step>,
 }
 
@@ -29,16 +33,23 @@ impl Model for Scratch {
     ghost use Rattle.firm_paths.specs.Workspace.{Workspace};
     ghost use Rattle.firm_paths.specs.inner.Queue.{IsIdle};
     ghost use Rattle.firm_paths.specs.inner.Spread.{AreMarked};
+    ghost use Rattle.firm_paths.specs.inner.Meeting.{AreFit};
 
     ghost Value = { Workspace };
 
-    ghost view = { λ s. record { limits = s.limits; begins = s.begins; searches = s.searches; looks = s.looks } };
+    ghost view = { λ s. record {
+      limits = s.limits;
+      begins = s.begins;
+      searches = s.searches;
+      looks = s.looks;
+      classes = s.classes.of.items;
+    } };
 
     ghost invariant = { λ s. (length s.labels.states.items ≡ s.limits.0)
         × (length s.labels.turns.items ≡ s.limits.0) × (length s.reach.seen.items ≡ s.limits.0)
         × IsIdle s.labels.states.items s.labels.queue × AreMarked s.reach.seen.items s.reach.visits.items 0
         × (s.limits.0 ≤ vec_capacity s.labels.visits) × (s.limits.0 ≤ vec_capacity s.reach.visits)
-        × (s.limits.0 ≤ vec_capacity s.steps) };
+        × (s.limits.0 ≤ vec_capacity s.steps) × AreFit s.limits.0 s.classes };
 }
 
 impl Scratch {
@@ -61,6 +72,7 @@ impl Scratch {
             visits: Vec::with_capacity(alloc, nodes)?,
             looks: 0,
         };
+        let classes = Classes::new(alloc, nodes)?;
         Ok(Scratch {
             limits,
             begins: 0,
@@ -68,6 +80,7 @@ impl Scratch {
             looks: 0,
             labels,
             reach,
+            classes,
             steps: Vec::with_capacity(alloc, nodes)?,
         })
     }
@@ -102,5 +115,28 @@ impl Scratch {
         ensures { result ≡ self.now.looks }
     {
         self.looks
+    }
+
+    /// Puts all nodes into one class. The paths that are asked for inside classes from then on split it, and what is
+    /// split is joined by no other call.
+    pub fn join_nodes(&mut self)
+        ensures limits { self.new.limits ≡ self.old.limits }
+        ensures counts { (self.new.begins ≡ self.old.begins) × (self.new.searches ≡ self.old.searches)
+            × (self.new.looks ≡ self.old.looks) }
+        ensures together { (a b : ℕ) → AreTogether self.new a b }
+    {
+        self.classes.join();
+    }
+
+    /// Whether two nodes have one class.
+    pub fn are_together(&self, net: &Net, a: NodeId, b: NodeId) -> bool
+        requires nodes { IsNode net.now a × IsNode net.now b }
+        requires made_for { self.now.limits ≡ limits_of net.now }
+        ensures { IsTrue result ↔ AreTogether self.now a.id.place b.id.place }
+    {
+        let (Some(a), Some(b)) = (net.place(a), net.place(b)) else {
+            unreachable!()
+        };
+        self.classes.are_together(a as usize, b as usize)
     }
 }

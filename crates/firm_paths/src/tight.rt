@@ -1,5 +1,6 @@
 //! Paths over residual arcs of reduced cost 0.
-ghost use Rattle.std.specs.Prelude.{◌≡◌, ◌≢◌, ℕ, ◌+◌, ◌*◌, ◌^◌, ◌<◌, ◌≤◌, ◌↔◌, ◌⊎◌, Bool, false, true, [], length, Contains};
+ghost use Rattle.std.specs.Prelude.{◌≡◌, ◌≢◌, ℕ, ◌+◌, ◌*◌, ◌^◌, ◌<◌, ◌≤◌, ◌↔◌, ◌⊎◌, Bool, false, true, [], length};
+ghost use Rattle.std.specs.Prelude.{Contains};
 ghost use Rattle.std.specs.Prelude.{IsTrue, Some, None, IfSome, IfNone, slice_index, slice_index_or, vec_capacity};
 ghost use Rattle.std.specs.Borrow.{sem};
 ghost use Rattle.firm_arena.specs.Arena.{capacity_of};
@@ -31,7 +32,7 @@ pub struct Reach {
 }
 
 /// Whether the reduced cost of an arc is 0, by the prices of its ends.
-fn is_tight(tail: u64, head: u64, cost: u32) -> bool
+pub fn is_tight(tail: u64, head: u64, cost: u32) -> bool
     ensures { IsTrue result ↔ (cost + tail ≡ head) }
 {
     tail <= head && head - tail == u64::from(cost)
@@ -45,7 +46,7 @@ fn is_barred(barred: &[ArcId], arc: ArcId) -> bool
 }
 
 /// Forgets that the nodes of the visits were seen.
-fn unmark(seen: &mut [bool], visits: &[Visit])
+pub fn unmark(seen: &mut [bool], visits: &[Visit])
     requires places { (k : ℕ) → k < length visits.now → (visit visits.now k).place < length seen.old }
     requires unseen { (v : ℕ) → (slice_index_or seen.old v false ≡ false) ⊎ IsVisited visits.now 0 v }
     ensures { (v : ℕ) → slice_index_or seen.new v false ≡ false }

@@ -119,7 +119,7 @@ got_more t (x ∷ xs) = share x.place x.put (x.got ++ t ∷ []) ∷ xs
 abbrev pub after_pop : Ticket → Sight → Sight
 after_pop t v = sight v.all (got_more t v.shares)
 
--- at most so many tickets were got by a seat
+-- a seat got at most 2 ^ 61 tickets
 abbrev pub FewGot : Sight → Type 0
 FewGot v = weigh (got_by (λ t. 1)) v.shares ≤ 2 ^ 61
 

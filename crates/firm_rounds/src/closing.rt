@@ -4,7 +4,7 @@ ghost use Rattle.firm_rounds.specs.Rounds.{share};
 ghost use Rattle.firm_rounds.specs.Passes.{closing_is, spent_put, spent_pop};
 ghost use Rattle.firm_rounds.specs.Closed.{Settled};
 
-use crate::close::drain;
+use crate::gathering::drain;
 use crate::job::Job;
 use crate::passes::{PopPass, PutPass};
 use crate::protocol::{QueueSeat, Ring, Whole};
@@ -36,7 +36,8 @@ impl Closing {
     /// Takes in what a pass put.
     pub fn put_pass(&mut self, pass: &mut PutPass)
         requires { pass.old.queue ≡ self.old.id }
-        ensures closing { self.new ≡ closing_is self.old.id (self.old.shares ++ share pass.old.place pass.old.put [] ∷ []) }
+        ensures closing { self.new ≡ closing_is self.old.id
+            (self.old.shares ++ share pass.old.place pass.old.put [] ∷ []) }
         ensures pass { pass.new ≡ spent_put pass.old }
     {
         let put = pass.give(&self.ring);
@@ -46,7 +47,8 @@ impl Closing {
     /// Takes in what a pass got.
     pub fn pop_pass(&mut self, pass: &mut PopPass)
         requires { pass.old.queue ≡ self.old.id }
-        ensures closing { (p : ℕ) × (self.new ≡ closing_is self.old.id (self.old.shares ++ share p 0 pass.old.got ∷ [])) }
+        ensures closing { (p : ℕ) × (self.new ≡ closing_is self.old.id
+            (self.old.shares ++ share p 0 pass.old.got ∷ [])) }
         ensures pass { pass.new ≡ spent_pop pass.old }
     {
         let got = pass.give(&self.ring);

@@ -8,7 +8,7 @@ use crate::passes::{PopPass, PutPass};
 use crate::protocol::{Cut, Grow, QueueSeat, Ring};
 use std::alloc::{AllocError, Global};
 
-// So many shares more.
+// Adds this number of shares.
 pub(crate) fn grow(ring: &Ring, keep: &mut QueueSeat, more: usize)
     requires { IsPassOf ring.now keep.old × (view keep.old ≡ grown_to ((view keep.old).all - 1)) }
     ensures { IsPassOf ring.now keep.new × (view keep.new ≡ grown_to (((view keep.old).all - 1) + more)) }
@@ -20,8 +20,10 @@ pub(crate) fn grow(ring: &Ring, keep: &mut QueueSeat, more: usize)
 
 // A seat of its own for the next share, the one of the place `from + more`.
 pub(crate) fn cut(ring: &Ring, keep: &mut QueueSeat, from: usize, more: usize) -> QueueSeat
-    requires { IsPassOf ring.now keep.old × (from + more < (view keep.old).all - 1) × (view keep.old ≡ held_from (from + more) ((view keep.old).all - 1)) }
-    ensures kept { IsPassOf ring.now keep.new × ((view keep.new).all ≡ (view keep.old).all) × (view keep.new ≡ held_from (from + more + 1) ((view keep.old).all - 1)) }
+    requires { IsPassOf ring.now keep.old × (from + more < (view keep.old).all - 1)
+        × (view keep.old ≡ held_from (from + more) ((view keep.old).all - 1)) }
+    ensures kept { IsPassOf ring.now keep.new × ((view keep.new).all ≡ (view keep.old).all)
+        × (view keep.new ≡ held_from (from + more + 1) ((view keep.old).all - 1)) }
     ensures cut { IsPassOf ring.now result × (view result ≡ sight (view keep.old).all (share (from + more) 0 [] ∷ [])) }
 {
     let _ = (from, more);
@@ -34,8 +36,10 @@ pub(crate) fn cut_puts(
     keep: &mut QueueSeat,
     puts: usize,
 ) -> Result<Vec<PutPass>, AllocError>
-    requires { IsPassOf ring.now keep.old × (puts ≤ 64) × (puts ≤ (view keep.old).all - 1) × (view keep.old ≡ held_from 0 ((view keep.old).all - 1)) }
-    ensures kept { IfOk result (λ r. IsPassOf ring.now keep.new × ((view keep.new).all ≡ (view keep.old).all) × (view keep.new ≡ held_from puts ((view keep.old).all - 1))) }
+    requires { IsPassOf ring.now keep.old × (puts ≤ 64) × (puts ≤ (view keep.old).all - 1)
+        × (view keep.old ≡ held_from 0 ((view keep.old).all - 1)) }
+    ensures kept { IfOk result (λ r. IsPassOf ring.now keep.new × ((view keep.new).all ≡ (view keep.old).all)
+        × (view keep.new ≡ held_from puts ((view keep.old).all - 1))) }
     ensures passes { IfOk result (λ r. r.items ≡ new_puts (queue_of keep.old) puts) }
 {
     let mut passes = Vec::with_capacity(alloc, puts)?;
@@ -54,7 +58,8 @@ pub(crate) fn cut_pops(
     puts: usize,
     pops: usize,
 ) -> Result<Vec<PopPass>, AllocError>
-    requires { IsPassOf ring.now keep × (0 < pops) × ((view keep).all ≡ puts + pops) × (view keep ≡ held_from puts ((view keep).all - 1)) }
+    requires { IsPassOf ring.now keep × (0 < pops) × ((view keep).all ≡ puts + pops)
+        × (view keep ≡ held_from puts ((view keep).all - 1)) }
     ensures { IfOk result (λ r. r.items ≡ new_pops (queue_of keep) pops) }
 {
     let mut keep = keep;

@@ -8,8 +8,8 @@ use firm_tray::{AnswerSide, Solved, Spent};
 use std::alloc::Global;
 use std::marker::Model;
 
-/// A tenant on its way to a worker, with its ticket and the side on which it comes back. It is no `Drop`, so it must be spent: by
-/// `Queue::put` or by `finish`.
+/// A tenant on its way to a worker, with its ticket and the side on which it comes back. It is no `Drop`, so it must be
+/// spent: by `Queue::put` or by `finish`.
 pub struct Job {
     parts: JobParts,
 }

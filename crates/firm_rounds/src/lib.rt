@@ -1,9 +1,9 @@
 //! The round queue: jobs, and the passes by which they are put and got.
 #![tactic(auto)]
 
-mod close;
 mod closing;
 mod cuts;
+mod gathering;
 mod job;
 mod passes;
 mod protocol;

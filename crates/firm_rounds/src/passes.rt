@@ -9,7 +9,8 @@ use firm_rules::Ticket;
 use std::marker::Model;
 use std::sync::Wait;
 
-/// The right to put the rounds of one place, numbered from 1 without a gap. Contracts see its place and how many it put.
+/// The right to put the rounds of one place, numbered from 1 without a gap. Contracts see its place and how many it
+/// put.
 #[derive(Drop)]
 pub struct PutPass {
     place: u32,
@@ -25,9 +26,14 @@ impl Model for PutPass {
 
     ghost Value = { PutIs };
 
-    ghost view = { λ p. record { queue = record { table = p.seat.table_id; all = (sees p.seat).all }; place = p.place; put = p.put } };
+    ghost view = { λ p. record {
+      queue = record { table = p.seat.table_id; all = (sees p.seat).all };
+      place = p.place;
+      put = p.put;
+    } };
 
-    ghost invariant = { λ p. (p.seat.me.1 ≡ []) × (p.place < 64) × (p.put ≤ 2 ^ 55) × IsOf (share p.place p.put []) (sees p.seat) };
+    ghost invariant = { λ p. (p.seat.me.1 ≡ []) × (p.place < 64) × (p.put ≤ 2 ^ 55)
+        × IsOf (share p.place p.put []) (sees p.seat) };
 }
 
 /// The right to get rounds. Contracts see the tickets that it got, in order; at run time it keeps their number alone.
@@ -46,15 +52,20 @@ impl Model for PopPass {
 
     ghost Value = { PopIs };
 
-    ghost view = { λ p. record { queue = record { table = p.seat.table_id; all = (sees p.seat).all }; got = (share_of (sees p.seat)).got } };
+    ghost view = { λ p. record {
+      queue = record { table = p.seat.table_id; all = (sees p.seat).all };
+      got = (share_of (sees p.seat)).got;
+    } };
 
-    ghost invariant = { λ p. (p.seat.me.1 ≡ []) × (p.count ≡ length (share_of (sees p.seat)).got) × (p.count ≤ 2 ^ 61) × IsOf (share (share_of (sees p.seat)).place 0 (share_of (sees p.seat)).got) (sees p.seat) };
+    ghost invariant = { λ p. (p.seat.me.1 ≡ []) × (p.count ≡ length (share_of (sees p.seat)).got) × (p.count ≤ 2 ^ 61)
+        × IsOf (share (share_of (sees p.seat)).place 0 (share_of (sees p.seat)).got) (sees p.seat) };
 }
 
 impl PutPass {
     pub(crate) fn of(place: u32, seat: QueueSeat) -> PutPass
         requires { (place < 64) × (seat.me.1 ≡ []) × (view seat ≡ sight (view seat).all (share place 0 [] ∷ [])) }
-        ensures { (result.queue.table ≡ seat.table_id) × (result.queue.all ≡ (view seat).all) × (result.place ≡ place) × (result.put ≡ 0) }
+        ensures { (result.queue.table ≡ seat.table_id) × (result.queue.all ≡ (view seat).all) × (result.place ≡ place)
+            × (result.put ≡ 0) }
     {
         PutPass {
             place,
@@ -80,7 +91,8 @@ impl PutPass {
         ring: &Ring,
         parts: JobParts,
     ) -> Result<(), JobParts>
-        requires of { (self.old.queue.table ≡ ring.now.table.shared.table_id) × (0 < self.old.queue.all) × (ruled_capacity ring.now ≡ 8) }
+        requires of { (self.old.queue.table ≡ ring.now.table.shared.table_id) × (0 < self.old.queue.all)
+            × (ruled_capacity ring.now ≡ 8) }
         requires next { parts.ticket ≡ ticket self.old.place (self.old.put + 1) }
         requires room { self.old.put < 2 ^ 55 }
         ensures { MatchResult result
@@ -100,7 +112,8 @@ impl PutPass {
     pub(crate) fn give(&mut self, ring: &Ring) -> QueueSeat
         requires { (self.old.queue.table ≡ ring.now.table.shared.table_id) × (0 < self.old.queue.all) }
         ensures pass { self.new ≡ spent_put self.old }
-        ensures seat { IsPassOf ring.now result × (view result ≡ sight self.old.queue.all (share self.old.place self.old.put [] ∷ [])) }
+        ensures seat { IsPassOf ring.now result × (view result
+            ≡ sight self.old.queue.all (share self.old.place self.old.put [] ∷ [])) }
     {
         ring.another::<Give>(&mut self.seat)
     }
@@ -116,7 +129,8 @@ impl PopPass {
 
     pub(crate) fn pop<R: Wait>(&mut self, rt: &R, ring: &Ring) -> Option<JobParts>
         requires { (self.old.queue.table ≡ ring.now.table.shared.table_id) × (0 < self.old.queue.all) }
-        ensures { MatchOption result (self.new ≡ self.old) (λ x. self.new ≡ pop_is self.old.queue (self.old.got ++ x.ticket ∷ [])) }
+        ensures { MatchOption result (self.new ≡ self.old)
+            (λ x. self.new ≡ pop_is self.old.queue (self.old.got ++ x.ticket ∷ [])) }
     {
         let parts = ring.pop_as::<Pops, R>(rt, &mut self.seat)?;
         self.count += 1;
@@ -134,7 +148,8 @@ impl PopPass {
     pub(crate) fn give(&mut self, ring: &Ring) -> QueueSeat
         requires { (self.old.queue.table ≡ ring.now.table.shared.table_id) × (0 < self.old.queue.all) }
         ensures pass { self.new ≡ spent_pop self.old }
-        ensures seat { IsPassOf ring.now result × ((p : ℕ) × (view result ≡ sight self.old.queue.all (share p 0 self.old.got ∷ []))) }
+        ensures seat { IsPassOf ring.now result × ((p : ℕ)
+            × (view result ≡ sight self.old.queue.all (share p 0 self.old.got ∷ []))) }
     {
         ring.another::<Give>(&mut self.seat)
     }

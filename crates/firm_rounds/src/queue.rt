@@ -1,13 +1,14 @@
 //! The round queue.
-ghost use Rattle.std.specs.Prelude.{◌≡◌, ℕ, ◌+◌, ◌<◌, ◌≤◌, ◌^◌, [], ◌∷◌, ◌++◌, All, IfOk, MatchOption, MatchResult, length, map, vec_capacity};
+ghost use Rattle.std.specs.Prelude.{◌≡◌, ℕ, ◌+◌, ◌<◌, ◌≤◌, ◌^◌, [], ◌∷◌, ◌++◌, All, IfOk, MatchOption, MatchResult};
+ghost use Rattle.std.specs.Prelude.{length, map, vec_capacity};
 ghost use Rattle.firm_rounds.specs.Rounds.{ticket, share};
 ghost use Rattle.firm_rounds.specs.Closed.{AsOften};
 ghost use Rattle.firm_rounds.specs.Faults.{IsFault};
 ghost use Rattle.firm_rounds.specs.Passes.{put_is, pop_is, new_puts, new_pops, closing_is, spent_put, spent_pop};
 
-use crate::close::{drain, gather};
 use crate::closing::Closing;
 use crate::cuts::{cut_pops, cut_puts, grow};
+use crate::gathering::{drain, gather};
 use crate::job::Job;
 use crate::passes::{PopPass, PutPass};
 use crate::protocol::{JobParts, Ring};
@@ -29,7 +30,8 @@ pub(crate) struct Room {
     ghost reserved: { 8 ≤ vec_capacity jobs },
 }
 
-/// A queue of at most 8 rounds, which threads share with no lock. Contracts see which queue it is and how many passes it has.
+/// A queue of at most 8 rounds, which threads share with no lock. Contracts see which queue it is and how many passes
+/// it has.
 #[derive(Drop)]
 pub struct Queue {
     ring: Ring,
@@ -56,14 +58,18 @@ impl Model for Queue {
 
     ghost Value = { QueueIs };
 
-    ghost view = { λ q. record { id = record { table = q.ring.table.shared.table_id; all = q.puts + q.pops }; puts = q.puts; pops = q.pops } };
+    ghost view = { λ q. record {
+      id = record { table = q.ring.table.shared.table_id; all = q.puts + q.pops };
+      puts = q.puts;
+      pops = q.pops;
+    } };
 
     ghost invariant = { λ q. (ruled_capacity q.ring ≡ 8) × (0 < q.pops) };
 }
 
 impl Queue {
-    /// A queue with a pass for each of so many places, at most 64, and so many passes to get jobs, at least one. All its memory is
-    /// taken here; the error comes for want of it alone.
+    /// A queue with a pass to put jobs for each of `puts` places, at most 64, and `pops` passes to get jobs, at least
+    /// one. All its memory is taken here; the error comes for want of it alone.
     pub fn open(
         alloc: Global,
         puts: usize,
@@ -73,7 +79,8 @@ impl Queue {
         ensures counts { IfOk result (λ r. (r.0.puts ≡ puts) × (r.0.pops ≡ pops)) }
         ensures all { IfOk result (λ r. r.0.id.all ≡ puts + pops) }
         ensures passes { IfOk result (λ r. (r.1.items ≡ new_puts r.0.id puts) × (r.2.items ≡ new_pops r.0.id pops)) }
-        ensures of_this { IfOk result (λ r. All (λ p. p.queue ≡ r.0.id) r.1.items × All (λ p. p.queue ≡ r.0.id) r.2.items) }
+        ensures of_this { IfOk result (λ r. All (λ p. p.queue ≡ r.0.id) r.1.items
+            × All (λ p. p.queue ≡ r.0.id) r.2.items) }
         ensures unused { IfOk result (λ r. All (λ p. p.put ≡ 0) r.1.items) }
     {
         let (ring, mut keep) = Ring::ruled(alloc, ROOM)?;
@@ -108,8 +115,8 @@ impl Queue {
         self.pops
     }
 
-    /// Puts the job, whose ticket is the pass's next, at the back. Where the queue is full it tries again, and after some tries
-    /// in vain it sleeps until there is room. It takes no memory.
+    /// Puts the job, whose ticket is the pass's next, at the back. Where the queue is full it tries again, and after
+    /// some tries in vain it sleeps until there is room. It takes no memory.
     pub fn put<R: Wait>(&self, rt: &R, pass: &mut PutPass, job: Job)
         requires of { pass.old.queue ≡ self.now.id }
         requires next { job.ticket ≡ ticket pass.old.place (pass.old.put + 1) }
@@ -130,8 +137,8 @@ impl Queue {
 
     // One try, after this number of tries in vain. Where the queue is full it rests, and gives the job back.
     //
-    // No wake-up is lost: a sleep is announced before the try. A pop that the try misses comes behind the announcement, so it
-    // notifies, and a notification ends the sleep also where it comes before the thread lies down.
+    // No wake-up is lost: a sleep is announced before the try. A pop that the try misses comes behind the announcement,
+    // so it notifies, and a notification ends the sleep also where it comes before the thread lies down.
     fn try_put<R: Wait>(
         &self,
         rt: &R,
@@ -160,11 +167,12 @@ impl Queue {
         Some(self.freed.prepare_wait())
     }
 
-    /// The job at the front. `None` only where the queue was empty at one step of the call. It wakes a put that sleeps for want of
-    /// room. It takes no memory.
+    /// The job at the front. `None` only where the queue was empty at one step of the call. It wakes a put that sleeps
+    /// for want of room. It takes no memory.
     pub fn pop<R: Wait>(&self, rt: &R, pass: &mut PopPass) -> Option<Job>
         requires { pass.old.queue ≡ self.now.id }
-        ensures { MatchOption result (pass.new ≡ pass.old) (λ x. pass.new ≡ pop_is pass.old.queue (pass.old.got ++ x.ticket ∷ [])) }
+        ensures { MatchOption result (pass.new ≡ pass.old)
+            (λ x. pass.new ≡ pop_is pass.old.queue (pass.old.got ++ x.ticket ∷ [])) }
     {
         match pass.pop(rt, &self.ring) {
             Some(parts) => {
@@ -192,7 +200,8 @@ impl Queue {
         Closing { ring, keep, left }
     }
 
-    /// Ends the queue, with all its passes. Ok says that what was put is, each as often, what was got. It takes no memory.
+    /// Ends the queue, with all its passes. Ok says that what was put is, each as often, what was got. It takes no
+    /// memory.
     pub fn close<R: Wait>(
         self,
         rt: &R,

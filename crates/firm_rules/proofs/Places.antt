@@ -1,5 +1,6 @@
 -- The place of a name in a list of names.
-use Rattle.std.proofs.Common.{◌≡◌, ℕ, ◌<◌, ◌≤◌, Bool, not, ltb, ◌||◌, ◌&&◌, List, [], ◌∷◌, length, map, get_or, bytes_eq, Option, Some, None}
+use Rattle.std.proofs.Common.{◌≡◌, ℕ, ◌<◌, ◌≤◌, Bool, not, ltb, ◌||◌, ◌&&◌, List, [], ◌∷◌, length, map, get_or}
+use Rattle.std.proofs.Common.{bytes_eq, Option, Some, None}
 use Rattle.std.proofs.Common.{refl, sym, ap, ◌∙◌, arith, ⊎_elim}
 use Rattle.std.specs.Prelude.{position, slice_get, nat_lt, ◌==◌}
 use Rattle.std.specs.List.{position_or_len, list_any}

@@ -1,5 +1,6 @@
 -- A table of preferences, and one more; and preferences without one of them.
-use Rattle.std.proofs.Common.{◌≡◌, ℕ, suc, ◌+◌, ◌<◌, ◌≤◌, Bool, true, false, not, cond, ◌||◌, List, [], ◌∷◌, ◌++◌, length}
+use Rattle.std.proofs.Common.{◌≡◌, ℕ, suc, ◌+◌, ◌<◌, ◌≤◌, Bool, true, false, not, cond, ◌||◌, List, [], ◌∷◌, ◌++◌}
+use Rattle.std.proofs.Common.{length}
 use Rattle.std.proofs.Common.{None, take, bytes_eq, true≢false, refl, sym, ap, subst, ◌∙◌, arith}
 use Rattle.std.specs.Prelude.{slice_set, slice_index_or, codes, drop}
 use Rattle.std.specs.Cmp.{IsEquivalence}
@@ -112,7 +113,8 @@ module _ (gone : List ℕ) (names left : List (List ℕ)) (next : List ℕ) (res
   -- the one that is gone is passed over
   pub passed : bytes_eq gone next ≡ true → left ++ without_preference gone rest ≡ without_preference gone names
   passed own =
-      sym (ap (λ (b : Bool). left ++ cond (not b) (next ∷ without_preference gone rest) (without_preference gone rest)) own)
+      sym (ap (λ (b : Bool). left ++ cond (not b) (next ∷ without_preference gone rest) (without_preference gone rest))
+      own)
       ∙ so_far
 
 -- preferences without a name that is none of them

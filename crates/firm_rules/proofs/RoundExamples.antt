@@ -138,7 +138,8 @@ third =
       jobs = record { name = codes "light"; weight = 1 } ∷ record { name = codes "heavy"; weight = 3 } ∷ [];
       tasks =
           record { name = codes "x"; job = codes "light"; preferred = []; machine = None; waited = 2 }
-          ∷ record { name = codes "y"; job = codes "heavy"; preferred = []; machine = Some (codes "m1"); waited = 0 } ∷ [];
+          ∷ record { name = codes "y"; job = codes "heavy"; preferred = []; machine = Some (codes "m1"); waited = 0 }
+          ∷ [];
     }
 
 third_costs : costed third ≡ (On 0 ∷ Wait ∷ [], 3) ∷ (Wait ∷ On 0 ∷ [], 3) ∷ (Wait ∷ Wait ∷ [], 6) ∷ []
@@ -191,7 +192,8 @@ preferring =
       limits = record (limits 0 0) { remote = 7 };
       machines = record { name = codes "m1"; slots = 1 } ∷ record { name = codes "m2"; slots = 1 } ∷ [];
       jobs = record { name = codes "j"; weight = 20 } ∷ [];
-      tasks = new_task (codes "j") (codes "x") (codes "m2" ∷ []) ∷ new_task (codes "j") (codes "y") (codes "m2" ∷ []) ∷ [];
+      tasks = new_task (codes "j") (codes "x") (codes "m2" ∷ []) ∷ new_task (codes "j") (codes "y") (codes "m2" ∷ [])
+          ∷ [];
     }
 
 preferring_costs : costed preferring

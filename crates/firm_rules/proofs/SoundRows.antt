@@ -1,5 +1,6 @@
 -- The rows stay sound: as rows are added, as they are removed, and after a round.
-use Rattle.std.proofs.Common.{◌≡◌, ℕ, zero, suc, ◌+◌, ◌<◌, ◌≤◌, ◌≢◌, AllPairs, Bool, true, false, not, cond, eqb, ◌||◌, List}
+use Rattle.std.proofs.Common.{◌≡◌, ℕ, zero, suc, ◌+◌, ◌<◌, ◌≤◌, ◌≢◌, AllPairs, Bool, true, false, not, cond, eqb, ◌||◌}
+use Rattle.std.proofs.Common.{List}
 use Rattle.std.proofs.Common.{[], ◌∷◌, map, filter, length, count_by, All, slice_index, slice_index_or, Option, None}
 use Rattle.std.proofs.Common.{Some, IfSome, bytes_eq, true≢false, refl, sym, ap, subst, ◌∙◌, arith, ⊎_elim}
 use Rattle.std.specs.Int.{from_bool}

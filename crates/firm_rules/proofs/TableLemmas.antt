@@ -17,7 +17,7 @@ use Rattle.firm_rules.specs.Book.{running_count, with_machine, with_job, with_ta
 use Rattle.firm_rules.specs.Book.{without_task, has_tasks, new_task, forgetting}
 use Rattle.firm_rules.specs.ArenaUse.{FitsLimits, machine_arcs, preference_count}
 use Rattle.firm_rules.specs.Sound.{AreSound}
-use Rattle.firm_rules.specs.Tables.{StandsByName, AreTables, rows_in, settled}
+use Rattle.firm_rules.specs.inner.Tables.{StandsByName, AreTables, rows_in, settled}
 use Rattle.firm_rules.specs.Placement.{IsLegal, is_legal}
 use Rattle.firm_rules.specs.Round.{case_of, rows_after, task_after, zipped}
 use Rattle.firm_rules.specs.declared.parts.Machine.{Machine}
@@ -103,7 +103,8 @@ running-evicted gone (task ∷ tasks) =
     one : one_if (is_some (evicted gone task).machine) + one_if (is_on gone task.machine)
         ≡ one_if (is_some task.machine)
     one = elim (is_on gone task.machine) as (λ b. is_on gone task.machine ≡ b
-        → one_if (is_some (cond b (record (forgetting gone task) { machine = None; waited = 0 }) (forgetting gone task)).machine)
+        → one_if (is_some (cond b (record (forgetting gone task) { machine = None; waited = 0 })
+        (forgetting gone task)).machine)
         + one_if b
         ≡ one_if (is_some task.machine)) [
           | true ↦ λ e. sym (ap one_if (on_runs task.machine e))
@@ -251,7 +252,8 @@ module _ {limits : TenantLimits} {machines : List (List ℕ × Machine)} {jobs :
   pub tables-without_job : (place : ℕ) {less : List (List ℕ × Job)} → less ≡ remove jobs place
       → IsDistinct bytes_eq (keys_of less) → place < length rows.jobs
       → has_tasks rows (name_at (job_names rows) place) ≡ false
-      → AreTablesOf (without_job rows (name_at (job_names rows) place)) limits machines less tasks arcs preferences running
+      → AreTablesOf (without_job rows (name_at (job_names rows) place)) limits machines less tasks arcs preferences
+      running
   tables-without_job place {less} is unique below no_tasks =
       let gone : List ℕ = name_at (job_names rows) place in
       let values : values_of less ≡ remove (values_of jobs) place =

@@ -12,7 +12,7 @@ use Rattle.firm_rules.specs.ArenaUse.{preference_count}
 use Rattle.firm_rules.specs.Round.{zipped}
 use Rattle.firm_rules.specs.declared.rounds.Choice.TheVariants.{On, Wait}
 use Rattle.firm_rules.specs.declared.parts.Task.{Task}
-use Rattle.firm_rules.specs.Tables.{settled, is_placed}
+use Rattle.firm_rules.specs.inner.Tables.{settled, is_placed}
 use Rattle.firm_rules.specs.declared.parts.Machine.{Machine}
 use Rattle.firm_rules.specs.declared.rounds.Choice.{Choice}
 use Rattle.firm_rules.proofs.SoundRows.{one_if, length-zipped}

@@ -9,5 +9,5 @@ pub mod Placement
 pub mod Order
 pub mod Round
 pub mod Recent
-pub mod Tables
 pub mod Refusals
+pub mod inner

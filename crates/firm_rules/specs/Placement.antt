@@ -46,7 +46,7 @@ goes_to j Wait = false
 abbrev pub load : List Choice → ℕ → ℕ
 load placement j = count_by (goes_to j) placement
 
--- the choice is one of so many machines, or to wait
+-- the choice is a machine among this number of them, or to wait
 abbrev pub IsPlace : ℕ → Choice → Type 0
 IsPlace machines (On j) = j < machines
 IsPlace machines Wait = ⊤

@@ -1,10 +1,11 @@
 -- The machines that a task prefers, by name.
-use Rattle.std.specs.Prelude.{◌≡◌, ℕ, ◌-◌, ◌≤◌, not, List, ◌∷◌, [], ◌++◌, filter, length, take, replicate, bytes_eq, codes}
+use Rattle.std.specs.Prelude.{◌≡◌, ℕ, ◌-◌, ◌≤◌, not, List, ◌∷◌, [], ◌++◌, filter, length, take, replicate, bytes_eq}
+use Rattle.std.specs.Prelude.{codes}
 use Rattle.std.specs.Prelude.{if◌then◌else◌}
 use Rattle.std.specs.List.{IsDistinct}
 use Rattle.firm_rules.specs.Names.{is_among}
 
--- a task prefers at most so many machines
+-- the greatest number of machines that a task may prefer
 abbrev pub most_preferences : ℕ
 most_preferences = 4
 
@@ -20,7 +21,7 @@ without_preference name names = filter (λ other. not (bytes_eq name other)) nam
 abbrev pub padded : List (List ℕ) → List (List ℕ)
 padded names = names ++ replicate (most_preferences - length names) (codes "-")
 
--- a table of 4 that begins with so many names, which differ, and says no more past them
+-- a table of 4 that begins with this number of different names and has none past them
 pub record ArePreferences (table : List (List ℕ)) (count : ℕ) : Type 0 where
   pub rest : table ≡ padded (take count table)
   pub counted : length (take count table) ≡ count

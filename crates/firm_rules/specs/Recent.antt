@@ -13,7 +13,7 @@ with_cost costs cost = last_eight (costs ++ cost ∷ [])
 abbrev pub padded : List ℤ → List ℤ
 padded costs = costs ++ replicate (8 - length costs) (pos 0)
 
--- a table of 8 that begins with so many costs and is 0 past them
+-- a table of 8 that begins with this number of costs and is 0 past them
 pub record AreRecentCosts (table : List ℤ) (count : ℕ) : Type 0 where
   pub zeros : table ≡ padded (take count table)
   pub counted : length (take count table) ≡ count

@@ -6,10 +6,10 @@ use Rattle.firm_rules.specs.Preferences.{most_preferences}
 use Rattle.firm_rules.specs.Book.{TenantRows, machine_names, job_names, task_names, running_on}
 use Rattle.firm_rules.specs.ArenaUse.{FitsLimits}
 
--- names differ in each list; each task's job is there, and so is the machine of each that runs; a task prefers at most 4
--- machines, which differ and are there; no machine runs more tasks than it has slots; no task has waited for more than
--- 1,000,000 rounds; the counts fit the limits; slots, weights and the limits of nodes, arcs, spread, churn and remote are
--- in their ranges (the life, which no round reads, is in its range by `Limits`)
+-- names differ in each list; each task's job is there, and so is the machine of each that runs; a task prefers at most
+-- 4 machines, which differ and are there; no machine runs more tasks than it has slots; no task has waited for more
+-- than 1,000,000 rounds; the counts fit the limits; slots, weights and the limits of nodes, arcs, spread, churn and
+-- remote are in their ranges (the life, which no round reads, is in its range by `Limits`)
 pub record AreSound (rows : TenantRows) : Type 0 where
   pub machine_names_differ : IsDistinct bytes_eq (machine_names rows)
   pub job_names_differ : IsDistinct bytes_eq (job_names rows)

@@ -4,7 +4,7 @@
 
 mod amounts;
 mod bounds;
-mod changing;
+mod changes;
 mod commands;
 mod laws;
 mod names;
@@ -19,12 +19,12 @@ mod tickets;
 
 pub use amounts::{Slots, Weight};
 pub use bounds::Limits;
-pub use changing::{Changes, changes_of};
+pub use changes::{Changes, changes_of};
 pub use commands::{Command, LineFault};
 pub use laws::{legality_is_judged, the_first_difference_decides, the_round_is_the_first};
 pub use names::Name;
 pub use parts::{Job, Machine, Task, Use};
-pub use placements::{cost_of, legal, ranks_before};
+pub use placements::{cost_of, cost_of_load, legal, loads_of, ranks_before, weight_of};
 pub use preferences::{MOST_PREFERENCES, Preferred};
 pub use recent::RecentCosts;
 pub use replies::{Outcome, Refusal, Reply};

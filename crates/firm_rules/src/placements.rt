@@ -15,7 +15,7 @@ use crate::tables::Rows;
 use std::alloc::Allocator;
 
 /// As many machines as a tenant may have, and more: its limit of nodes is 4,096 at most.
-const MOST_MACHINES: usize = 4_096;
+pub const MOST_MACHINES: usize = 4_096;
 
 /// Whether there is one choice for each task, each a machine or to wait, and no machine has more tasks than slots.
 pub fn legal<A: Allocator>(rows: &Rows<A>, placement: &[Choice]) -> bool
@@ -88,8 +88,8 @@ fn have_room<A: Allocator>(rows: &Rows<A>, placement: &[Choice]) -> bool
     true
 }
 
-// How many tasks the placement has on each machine, for as many machines as a tenant may have.
-fn loads_of(placement: &[Choice]) -> [u32; MOST_MACHINES]
+/// How many tasks the placement has on each machine, for as many machines as a tenant may have.
+pub fn loads_of(placement: &[Choice]) -> [u32; MOST_MACHINES]
     requires { length placement.now ≤ 4096 }
     ensures { (j : ℕ) → j < 4096 → slice_index result j ≡ load placement.now j }
 {
@@ -120,8 +120,9 @@ fn load_costs<A: Allocator>(rows: &Rows<A>, placement: &[Choice]) -> u64
     cost
 }
 
-// Nothing for the first task, and for each further one `spread` more than for the one before.
-fn cost_of_load(spread: u64, tasks: u64) -> u64
+/// What so many tasks cost as the load of one machine: nothing for the first, and for each further one `spread` more
+/// than for the one before.
+pub fn cost_of_load(spread: u64, tasks: u64) -> u64
     requires least_spread { spread ≤ 1000 }
     requires few_tasks { tasks ≤ 4096 }
     ensures cost { result ≡ load_cost spread tasks }
@@ -220,8 +221,8 @@ fn place_of<A: Allocator>(rows: &Rows<A>, name: Name) -> usize
     rows.machine_place(name).unwrap_or(rows.machine_count())
 }
 
-// The weight of the job of this name; 0, as defined, where no job has it.
-fn weight_of<A: Allocator>(rows: &Rows<A>, job: Name) -> u32
+/// The weight of the job of this name; 0, as defined, where no job has it.
+pub fn weight_of<A: Allocator>(rows: &Rows<A>, job: Name) -> u32
     ensures { result ≡ weight_at rows.now (position_or_len (bytes_eq job) (job_names rows.now)) }
 {
     let place = rows.job_place(job).unwrap_or(rows.job_count());

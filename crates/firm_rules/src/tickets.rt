@@ -1,7 +1,7 @@
 //! Rounds that wait for a worker.
 
-/// A round that was queued. A place may be taken by one tenant after another; its rounds are numbered on, whoever holds
-/// it.
+/// A round that was queued. One tenant after another may have a place; the numbers of its rounds go on through all of
+/// them.
 #[derive(Clone, Copy, Debug, PartialEq, Eq)]
 pub struct Ticket {
     /// The place of its tenant, from 0.

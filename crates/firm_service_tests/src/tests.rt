@@ -1,4 +1,5 @@
-//! Rules, formats, one tenant and the table of tenants. Rows are data, and a helper stands for each answer that is expected.
+//! Rules, formats, one tenant and the table of tenants. Rows are data, and a helper stands for each answer that is
+//! expected.
 
 mod answers;
 mod devices;

@@ -10,14 +10,14 @@ use Rattle.firm_rules.specs.Limits.{TenantLimits}
 use Rattle.firm_rules.specs.declared.commands.Command.{Command}
 use Rattle.firm_rules.specs.declared.replies.Reply.{Reply}
 use Rattle.firm_tenant.specs.Step.{step, is_memory}
-use Rattle.firm_text.specs.Registers.{AreSound, most_places, occupied, place_for, place_in, vacant, with_tenant}
+use Rattle.firm_text.specs.Registers.{AreSound, occupied, place_for, place_in, vacant, with_tenant}
 use Rattle.firm_text.specs.Registers.{without_tenant}
-use Rattle.firm_text.specs.Rosters.{Admitted as Row}
+use Rattle.firm_text.specs.Rosters.{RosterRow, most_places}
 use Rattle.firm_text.specs.declared.operator.OperatorLine.TheVariants.{Admit}
 use Rattle.firm_text.specs.declared.operator.OperatorRefusal.{OperatorRefusal}
 use Rattle.firm_text.specs.declared.operator.OperatorReply.{OperatorReply}
 use Rattle.firm_text.specs.declared.operator.OperatorReply.TheVariants.{Refused}
-use Rattle.firm_text.specs.declared.registers.Place.{Place as Registered}
+use Rattle.firm_text.specs.declared.registers.Entry.{Entry}
 use Rattle.firm_table.specs.Places.{Given, Stay, Place, new_stay, unused_place, place_of_row, opening_places, stay_of}
 use Rattle.firm_table.specs.Places.{with_command, commanded, left_by, register_of, admission, retirement, obeyed}
 use Rattle.firm_table.specs.Answers.{reply_answer, answer_to_command, is_operator_memory}
@@ -46,7 +46,7 @@ module _ (tenants : Tenants) (name : List ℕ) (command : Command) (at : ℕ) (b
     (stepped : (reply, after)
     ≡ step book command (is_memory reply)) (places : List Place) (shows : Shows tenants places) where
   there : StaysAt places name at
-  there = stays_there places name at (ap (λ (r : List Registered). place_in r name) shows.register ∙ found)
+  there = stays_there places name at (ap (λ (r : List Entry). place_in r name) shows.register ∙ found)
 
   its_book : book_of there.stay ≡ book
   its_book =
@@ -69,7 +69,7 @@ module _ (tenants : Tenants) (name : List ℕ) (command : Command) (at : ℕ) (b
       let more : Place → Place =
       λ place. record place { stay = option_map (with_command (command, is_memory reply)) place.stay } in
       let once = changed_once places name more at unused_place (rw shows.register sound.apart)
-      (ap (λ (r : List Registered). place_in r name) shows.register ∙ found) in
+      (ap (λ (r : List Entry). place_in r name) shows.register ∙ found) in
       let new : option_map book_of
       (option_map (with_command (command, is_memory reply)) (get_or places at unused_place).stay) ≡ Some after =
       ap (λ (s : Option Stay). option_map book_of (option_map (with_command (command, is_memory reply)) s))
@@ -93,7 +93,7 @@ tenants_are_answered tenants name command at book after reply sound found here s
 nowhere : (tenants : Tenants) (name : List ℕ) (places : List Place) → place_in tenants.register name ≡ None
     → Shows tenants places → stay_of places name ≡ None
 nowhere tenants name places none shows =
-    none_there places name (ap (λ (r : List Registered). place_in r name) shows.register ∙ none)
+    none_there places name (ap (λ (r : List Entry). place_in r name) shows.register ∙ none)
 
 unchanged : (places : List Place) (name : List ℕ) (given : Given) → stay_of places name ≡ None
     → map (commanded name given) places ≡ places
@@ -116,7 +116,7 @@ admits : (tenants : Tenants) (name : List ℕ) (limits : TenantLimits) (found : 
     → Shows tenants places → obeyed places (Admit name limits) mark ≡ admission places name limits found mark
 admits tenants name limits found mark places is shows =
     ap (λ (r : Result ℕ OperatorRefusal). admission places name limits r mark)
-    (ap (λ (r : List Registered). place_for r name) shows.register ∙ is)
+    (ap (λ (r : List Entry). place_for r name) shows.register ∙ is)
 
 pub admissions_are_answered : AdmissionsAreAnswered
 admissions_are_answered tenants name limits at given = record {
@@ -134,7 +134,7 @@ admissions_are_answered tenants name limits at given = record {
       (sym (ap (λ (p : OperatorReply × List Place). p.1)
       (admits tenants name limits (Ok at) false places given shows))) (record {
         register = register_entered places at name limits
-            ∙ ap (λ (r : List Registered). with_tenant r at name) shows.register;
+            ∙ ap (λ (r : List Entry). with_tenant r at name) shows.register;
         books = books_set places at new
             ∙ ap (λ (bs : List (Option Book)). set bs at (Some (opening_book limits))) shows.books;
       });
@@ -171,18 +171,18 @@ retirements_are_answered tenants name at sound found = record {
       let once : map (left_by name) places ≡ set places at gone =
       changed_once places name (λ (place : Place). let left : Place =
       record place { stay = None } in left) at unused_place (rw shows.register sound.apart)
-      (ap (λ (r : List Registered). place_in r name) shows.register ∙ found) in
+      (ap (λ (r : List Entry). place_in r name) shows.register ∙ found) in
       subst (Shows (tenants_are (without_tenant tenants.register at) (set tenants.books at None)))
       (sym (ap (λ (s : Option Stay). (retirement places name s).1) (there places shows).is)) (record {
         register = ap register_of once ∙ register_left places at
-            ∙ ap (λ (r : List Registered). without_tenant r at) shows.register;
+            ∙ ap (λ (r : List Entry). without_tenant r at) shows.register;
         books = ap books_of once ∙ books_set places at gone
             ∙ ap (λ (bs : List (Option Book)). set bs at None) shows.books;
       });
 }
   where
     there : (places : List Place) → Shows tenants places → StaysAt places name at
-    there places shows = stays_there places name at (ap (λ (r : List Registered). place_in r name) shows.register
+    there places shows = stays_there places name at (ap (λ (r : List Entry). place_in r name) shows.register
         ∙ found)
 
 pub retirements_are_refused : RetirementsAreRefused
@@ -195,19 +195,19 @@ retirements_are_refused tenants name none = record {
 }
 
 -- before the first line each tenant of the roster has its place and its opening book
-register_opening : (roster : List Row) (n : ℕ) → register_of (map place_of_row roster ++ replicate n unused_place)
+register_opening : (roster : List RosterRow) (n : ℕ) → register_of (map place_of_row roster ++ replicate n unused_place)
     ≡ map (λ row. occupied row.0 1) roster ++ replicate n (vacant 0)
 register_opening [] zero = refl
-register_opening [] (suc n) = ap (λ (r : List Registered). vacant 0 ∷ r) (register_opening [] n)
-register_opening (row ∷ rest) n = ap (λ (r : List Registered). occupied row.0 1 ∷ r) (register_opening rest n)
+register_opening [] (suc n) = ap (λ (r : List Entry). vacant 0 ∷ r) (register_opening [] n)
+register_opening (row ∷ rest) n = ap (λ (r : List Entry). occupied row.0 1 ∷ r) (register_opening rest n)
 
-books_opening : (roster : List Row) (n : ℕ) → books_of (map place_of_row roster ++ replicate n unused_place)
+books_opening : (roster : List RosterRow) (n : ℕ) → books_of (map place_of_row roster ++ replicate n unused_place)
     ≡ map (λ row. Some (opening_book row.1)) roster ++ replicate n None
 books_opening [] zero = refl
 books_opening [] (suc n) = ap (λ (bs : List (Option Book)). None ∷ bs) (books_opening [] n)
 books_opening (row ∷ rest) n = ap (λ (bs : List (Option Book)). Some (opening_book row.1) ∷ bs) (books_opening rest n)
 
-pub shows_opening : (roster : List Row) → Shows (opening_tenants roster) (opening_places roster)
+pub shows_opening : (roster : List RosterRow) → Shows (opening_tenants roster) (opening_places roster)
 shows_opening roster = record {
   register = register_opening roster (most_places - length roster);
   books = books_opening roster (most_places - length roster);

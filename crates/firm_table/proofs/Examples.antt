@@ -1,32 +1,39 @@
 -- The answers, computed at worked examples.
-use Rattle.std.proofs.Common.{◌≡◌, ℕ, ◌+◌, true, List, [], ◌∷◌, ◌++◌, refl, codes}
+use Rattle.std.proofs.Common.{◌≡◌, ℕ, ◌+◌, true, false, List, [], ◌∷◌, ◌++◌, refl, codes}
 use Rattle.std.specs.Prelude.{◌/◌, ◌%◌, map, pos}
 use Rattle.std.specs.List.{flat_map, range_with_len}
+use Rattle.firm_rules.specs.declared.commands.Command.TheVariants.{Show, Round}
 use Rattle.firm_rules.specs.declared.replies.Outcome.{Outcome}
 use Rattle.firm_rules.specs.declared.replies.Outcome.TheVariants.{Plain, Shown, Refused, Round as Placed}
 use Rattle.firm_rules.specs.declared.replies.Refusal.TheVariants.{Memory}
-use Rattle.firm_text.specs.Rosters.{Admitted}
+use Rattle.firm_text.specs.Rosters.{RosterRow}
 use Rattle.firm_text.specs.Inputs.{input_lines, line_of}
 use Rattle.firm_text.specs.declared.operator.OperatorRefusal.TheVariants.{BadCommand, BadRow, BadName, BadNumber}
 use Rattle.firm_text.specs.declared.operator.OperatorRefusal.TheVariants.{TenantExists, NoSuchTenant, Full}
 use Rattle.firm_text.specs.declared.operator.OperatorRefusal.TheVariants.{Memory as NoMemory}
-use Rattle.firm_text.specs.declared.operator.OperatorReply.TheVariants.{Admitted as WasAdmitted, Retired}
+use Rattle.firm_text.specs.declared.operator.OperatorReply.TheVariants.{Admitted, Retired}
 use Rattle.firm_text.specs.declared.operator.OperatorReply.TheVariants.{Refused as NotDone}
 use Rattle.firm_table.specs.Answers.{ended}
 use Rattle.firm_table.specs.declared.answers.LineAnswer.{LineAnswer}
 use Rattle.firm_table.specs.declared.answers.LineAnswer.TheVariants.{UnknownTenant, Replied, ToOperator}
+use Rattle.firm_table.specs.Isolation.{BeginsStay, commands_to}
 use Rattle.firm_table.specs.Output.{answers_of, unmarked}
+use Rattle.firm_table.specs.Places.{MarkedLine}
 
-abbrev tenant : List ℕ → ℕ → ℕ → ℕ → Admitted
+abbrev tenant : List ℕ → ℕ → ℕ → ℕ → RosterRow
 tenant name nodes arcs life =
     (name, record { nodes = nodes; arcs = arcs; life = life; spread = 1; churn = 2; remote = 0 })
 
 abbrev says : List ℕ → ℕ → Outcome → LineAnswer
 says name number outcome = Replied name (record { number = number; outcome = outcome })
 
+-- these lines, to none of which memory is refused
+abbrev lines_of : List (List ℕ) → List MarkedLine
+lines_of lines = map unmarked (input_lines (flat_map ended lines))
+
 -- the answers to these lines
-abbrev told : List Admitted → List (List ℕ) → List LineAnswer
-told roster lines = answers_of roster (map unmarked (input_lines (flat_map ended lines)))
+abbrev told : List RosterRow → List (List ℕ) → List LineAnswer
+told roster lines = answers_of roster (lines_of lines)
 
 abbrev alpha : List ℕ
 alpha = codes "alpha"
@@ -34,7 +41,7 @@ alpha = codes "alpha"
 abbrev beta : List ℕ
 beta = codes "beta"
 
-abbrev two_tenants : List Admitted
+abbrev two_tenants : List RosterRow
 two_tenants = tenant alpha 9 24 100 ∷ tenant beta 8 30 100 ∷ []
 
 -- each tenant counts its own commands
@@ -69,7 +76,7 @@ a = codes "a"
 abbrev b : List ℕ
 b = codes "b"
 
-abbrev one_tenant : List Admitted
+abbrev one_tenant : List RosterRow
 one_tenant = (a, record { nodes = 4; arcs = 9; life = 10; spread = 0; churn = 0; remote = 0 }) ∷ []
 
 -- a name is known from its admission to its retirement, and its numbers begin anew; each refusal has its code
@@ -78,9 +85,9 @@ coming_and_going : told one_tenant
     ∷ codes "+ retire b" ∷ codes "b show" ∷ codes "+ admit b,3,2,5,0,0,0" ∷ codes "b round" ∷ codes "+ retire c"
     ∷ codes "+ admit c,1,0,1,0,0"
     ∷ codes "+ admit C,1,0,1,0,0" ∷ codes "+ admit c,2,0,1,0" ∷ codes "+ drop b" ∷ codes "+" ∷ codes "a show" ∷ [])
-    ≡ UnknownTenant ∷ says a 1 Plain ∷ ToOperator (WasAdmitted b) ∷ says b 1 (Shown 0 0 0 0 2 2 0 0)
+    ≡ UnknownTenant ∷ says a 1 Plain ∷ ToOperator (Admitted b) ∷ says b 1 (Shown 0 0 0 0 2 2 0 0)
     ∷ ToOperator (NotDone TenantExists) ∷ ToOperator (Retired b) ∷ UnknownTenant ∷ ToOperator
-    (WasAdmitted b)
+    (Admitted b)
     ∷ says b 1 (Placed (pos 0) []) ∷ ToOperator (NotDone NoSuchTenant) ∷ ToOperator (NotDone BadNumber)
     ∷ ToOperator (NotDone BadName) ∷ ToOperator (NotDone BadRow) ∷ ToOperator
     (NotDone BadCommand) ∷ ToOperator (NotDone BadCommand)
@@ -93,15 +100,30 @@ admitted_later : answers_of one_tenant
     (line_of (codes "a job j 5"), true)
     ∷ unmarked (line_of (codes "+ admit b,2,0,5,0,0")) ∷ unmarked (line_of (codes "b show")) ∷ [])
     ≡ ToOperator (NotDone NoMemory) ∷ UnknownTenant ∷ says a 1 (Refused Memory) ∷ ToOperator
-    (WasAdmitted b) ∷ says b 1 (Shown 0 0 0 0 2 2 0 0) ∷ []
+    (Admitted b) ∷ says b 1 (Shown 0 0 0 0 2 2 0 0) ∷ []
 admitted_later = refl
 
+-- a tenant that comes while the service runs, and to which a refused admission does nothing; before it came no line was
+-- its own
+abbrev before_it : List MarkedLine
+before_it = lines_of (codes "b job i 1" ∷ codes "a job j 5" ∷ [])
+
+abbrev behind_it : List MarkedLine
+behind_it = lines_of (codes "b round" ∷ codes "+ admit b,9,9,9,9,9" ∷ codes "a show" ∷ codes "b show" ∷ [])
+
+begins_there : BeginsStay one_tenant before_it (unmarked (line_of (codes "+ admit b,2,0,5,0,0"))) behind_it b
+    (record { nodes = 2; arcs = 0; life = 5; spread = 0; churn = 0; remote = 0 })
+begins_there = record { asks = refl; admits = refl; stays = refl }
+
+its_commands : commands_to b behind_it ≡ (Round, false) ∷ (Show, false) ∷ []
+its_commands = refl
+
 -- sixty-four tenants, and one more
-abbrev numbered : ℕ → Admitted
+abbrev numbered : ℕ → RosterRow
 numbered number = tenant (codes "t" ++ (48 + number / 10) ∷ (48 + number % 10) ∷ []) 2 0 1
 
 full : told (map numbered (range_with_len 0 64))
     (codes "+ admit z,2,0,1,0,0" ∷ codes "+ retire t63" ∷ codes "+ admit z,2,0,1,0,0" ∷ [])
     ≡ ToOperator (NotDone Full) ∷ ToOperator (Retired (codes "t63")) ∷ ToOperator
-    (WasAdmitted (codes "z")) ∷ []
+    (Admitted (codes "z")) ∷ []
 full = refl

@@ -5,7 +5,7 @@ use Rattle.firm_rules.specs.Limits.{TenantLimits}
 use Rattle.firm_rules.specs.declared.commands.Command.TheVariants.{Show, Round}
 use Rattle.firm_rules.specs.declared.replies.Outcome.{Outcome}
 use Rattle.firm_rules.specs.declared.replies.Outcome.TheVariants.{Shown, Round as Placed}
-use Rattle.firm_text.specs.Rosters.{Admitted as Row}
+use Rattle.firm_text.specs.Rosters.{RosterRow}
 use Rattle.firm_table.specs.Histories.{stays_at}
 use Rattle.firm_table.specs.Interleaving.{MarkedEvent, opening_table, event_answers}
 use Rattle.firm_table.specs.declared.events.Event.{Event}
@@ -15,7 +15,7 @@ use Rattle.firm_table.specs.declared.events.Answer.TheVariants.{Replied, Queued,
 use Rattle.firm_table.specs.declared.events.Answer.TheVariants.{Retired, NotNow}
 use Rattle.firm_rules.specs.declared.tickets.Ticket.{Ticket}
 
-abbrev row : List ℕ → ℕ → ℕ → Row
+abbrev row : List ℕ → ℕ → ℕ → RosterRow
 row name nodes arcs = (name, record { nodes = nodes; arcs = arcs; life = 100; spread = 1; churn = 2; remote = 0 })
 
 abbrev ticket : ℕ → ℕ → Ticket

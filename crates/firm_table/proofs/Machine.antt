@@ -7,8 +7,7 @@ use Rattle.std.proofs.lemmas.Bool.{eqb-true, true_from_ne_false}
 use Rattle.std.proofs.lemmas.List.{append_assoc}
 use Rattle.std.proofs.Math.Dec.{eqb_refl, eqb-suc-suc}
 use Rattle.firm_tenant.specs.Laws.{RepliesTellTheirMarks}
-use Rattle.firm_text.specs.Registers.{most_places}
-use Rattle.firm_text.specs.Rosters.{Admitted as Row}
+use Rattle.firm_text.specs.Rosters.{RosterRow, most_places}
 use Rattle.firm_table.specs.Interleaving.{is_home, Seat, TableState, MarkedEvent, opening_seat, unused_seat}
 use Rattle.firm_table.specs.Interleaving.{opening_table, taken_by, local, seat_behind, at_place, place_held, taking}
 use Rattle.firm_table.specs.Interleaving.{take_front, may_take, answering, happens, event_answers, table_after}
@@ -237,13 +236,13 @@ keeps_unused zero place = (refl, have_none)
 keeps_unused (suc n) zero = record { fits = tt; all = have_none; counted = refl }
 keeps_unused (suc n) (suc place) = keeps_unused n place
 
-keeps_opening : (roster : List Row) (n place : ℕ)
+keeps_opening : (roster : List RosterRow) (n place : ℕ)
     → KeptSeat [] (opening_history roster place) (slice_get (map opening_seat roster ++ replicate n unused_seat) place)
 keeps_opening [] n place = keeps_unused n place
 keeps_opening (row ∷ rest) n zero = record { fits = nothing_past row.1; all = have_none; counted = refl }
 keeps_opening (row ∷ rest) n (suc place) = keeps_opening rest n place
 
-keeps_all : RepliesTellTheirMarks → (roster : List Row) (workers place : ℕ) (events : List MarkedEvent)
+keeps_all : RepliesTellTheirMarks → (roster : List RosterRow) (workers place : ℕ) (events : List MarkedEvent)
     → KeptAt place (ended_at roster workers place events) (history_at roster workers place events)
     (table_after (opening_table roster workers) events).seats
 keeps_all told roster workers place events =

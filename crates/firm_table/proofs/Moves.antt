@@ -13,8 +13,8 @@ use Rattle.firm_rules.specs.declared.commands.Command.{Command}
 use Rattle.firm_rules.specs.declared.commands.Command.TheVariants.{Round}
 use Rattle.firm_rules.specs.declared.tickets.Ticket.{Ticket}
 use Rattle.firm_tenant.specs.Step.{step}
-use Rattle.firm_text.specs.Registers.{most_places, most_admissions}
-use Rattle.firm_text.specs.Rosters.{Admitted as Row}
+use Rattle.firm_text.specs.Registers.{most_admissions}
+use Rattle.firm_text.specs.Rosters.{RosterRow, most_places}
 use Rattle.firm_table.specs.Interleaving.{is_round, Station, empty, home, queued, held, answered, Seat, TableState}
 use Rattle.firm_table.specs.Interleaving.{opening_seat, unused_seat, opening_seats, posted, asked, taken_by, is_held}
 use Rattle.firm_table.specs.Interleaving.{solved, collected, admitted, retired, next_ticket, local, seat_behind}
@@ -345,7 +345,7 @@ takes workers worker seats queue rest ticket seat new sound may queue_is here ne
     ∙ sym (ap (λ (b : Bool). if b then take_front table worker queue else (NotNow, table)) may))
 
 -- before the first event
-pub sound_opening : (workers : ℕ) (roster : List Row) → length (opening_seats roster) ≤ most_places
+pub sound_opening : (workers : ℕ) (roster : List RosterRow) → length (opening_seats roster) ≤ most_places
     → IsSound (table_of workers (opening_seats roster) [])
 sound_opening workers roster few = record {
   few = few;
@@ -357,11 +357,11 @@ sound_opening workers roster few = record {
     none_unused zero = refl
     none_unused (suc n) = let behind = none_unused n in omega (arith, behind)
 
-    none_waits_with : (rows : List Row) (n : ℕ) → 0 ≡ waiting (map opening_seat rows ++ replicate n unused_seat)
+    none_waits_with : (rows : List RosterRow) (n : ℕ) → 0 ≡ waiting (map opening_seat rows ++ replicate n unused_seat)
     none_waits_with [] n = none_unused n
     none_waits_with (row ∷ rest) n = let behind = none_waits_with rest n in omega (arith, behind)
 
-    none_waits : (rows : List Row) → 0 ≡ waiting (opening_seats rows)
+    none_waits : (rows : List RosterRow) → 0 ≡ waiting (opening_seats rows)
     none_waits rows = none_waits_with rows (most_places - length rows)
 
     none_at_unused : (n place : ℕ) → [] ≡ waiting_at (slice_get (replicate n unused_seat) place)
@@ -369,11 +369,11 @@ sound_opening workers roster few = record {
     none_at_unused (suc n) zero = refl
     none_at_unused (suc n) (suc place) = none_at_unused n place
 
-    none_at_with : (rows : List Row) (n place : ℕ)
+    none_at_with : (rows : List RosterRow) (n place : ℕ)
         → [] ≡ waiting_at (slice_get (map opening_seat rows ++ replicate n unused_seat) place)
     none_at_with [] n place = none_at_unused n place
     none_at_with (row ∷ rest) n zero = refl
     none_at_with (row ∷ rest) n (suc place) = none_at_with rest n place
 
-    none_at : (rows : List Row) (place : ℕ) → [] ≡ waiting_at (slice_get (opening_seats rows) place)
+    none_at : (rows : List RosterRow) (place : ℕ) → [] ≡ waiting_at (slice_get (opening_seats rows) place)
     none_at rows place = none_at_with rows (most_places - length rows) place

@@ -3,15 +3,15 @@ use Rattle.std.proofs.Common.{◌≡◌, ℕ, zero, suc, ◌+◌, ◌-◌, ◌<�
 use Rattle.std.proofs.Common.{ap, ◌∙◌, take, arith}
 use Rattle.std.specs.Prelude.{Option, Some, None, slice_get, map, replicate}
 use Rattle.std.proofs.lemmas.List.{length-map, length-replicate, take_all}
-use Rattle.firm_text.specs.Registers.{most_places}
-use Rattle.firm_text.specs.Rosters.{Admitted as Row}
+use Rattle.firm_text.specs.Rosters.{RosterRow, most_places}
 
 -- what is opened at a place, which may have a row
-abbrev pub opened_at : {X : Type 0} → (Row → X) → X → Option Row → X
+abbrev pub opened_at : {X : Type 0} → (RosterRow → X) → X → Option RosterRow → X
 opened_at begin unused None = unused
 opened_at begin unused (Some row) = begin row
 
-opened_more : {X : Type 0} (begin : Row → X) (unused : X) (rows : List Row) (n place : ℕ) → place < length rows + n
+opened_more : {X : Type 0} (begin : RosterRow → X) (unused : X) (rows : List RosterRow) (n place : ℕ)
+    → place < length rows + n
     → take (suc place) (map begin rows ++ replicate n unused)
     ≡ take place (map begin rows ++ replicate n unused) ++ opened_at begin unused (slice_get rows place) ∷ []
 opened_more begin unused [] zero place within = absurd (let none : place < 0 = within in omega (arith, none))
@@ -25,7 +25,8 @@ opened_more {X} begin unused (row ∷ rest) n (suc place) within =
     (opened_more begin unused rest n place (let less : suc place < suc (length rest) + n =
     within in omega (arith, less)))
 
-module _ {X : Type 0} (begin : Row → X) (unused : X) (roster : List Row) (few : length roster ≤ most_places) where
+module _ {X : Type 0} (begin : RosterRow → X) (unused : X) (roster : List RosterRow)
+    (few : length roster ≤ most_places) where
   abbrev opened : List X
   opened = map begin roster ++ replicate (most_places - length roster) unused
 

@@ -13,7 +13,7 @@ use Rattle.std.proofs.lemmas.Bool.Decides.{nat_tests}
 use Rattle.firm_text.specs.Cutters.{Cut, StandsFor}
 use Rattle.firm_text.specs.Inputs.{input_lines, line_of}
 use Rattle.firm_text.specs.Lines.{is_filled, is_line_feed, lines, without_empty_last}
-use Rattle.firm_text.specs.Rosters.{Admitted}
+use Rattle.firm_text.specs.Rosters.{RosterRow}
 use Rattle.firm_text.specs.declared.inputs.Line.{Line}
 use Rattle.firm_table.specs.Service.{BeginsAnswers}
 use Rattle.firm_table.specs.Telling.{Telling}
@@ -126,7 +126,7 @@ both_ended heard text rest bytes front both same =
     ∙ ap (λ (l : List ℕ). text ++ l) (sym (append_assoc rest bytes (10 ∷ [])))
 
 -- what halts at a line's end has read what follows it too
-pub halts_at : (roster : List Admitted) (heard text rest bytes piece behind : List ℕ) (written now : Option (List ℕ))
+pub halts_at : (roster : List RosterRow) (heard text rest bytes piece behind : List ℕ) (written now : Option (List ℕ))
     → heard ≡ text ++ rest
     → piece ≡ (bytes ++ 10 ∷ []) ++ behind → IsEmptyOrEndsWith (text ++ ((rest ++ bytes) ++ 10 ∷ [])) 10
     → BeginsAnswers roster (text ++ ((rest ++ bytes) ++ 10 ∷ [])) written now
@@ -143,7 +143,7 @@ halts_at roster heard text rest bytes piece behind written now both cut ends beg
 }
 
 -- what halts between two lines
-pub halts_between : (roster : List Admitted) (heard text rest more : List ℕ) (written now : Option (List ℕ))
+pub halts_between : (roster : List RosterRow) (heard text rest more : List ℕ) (written now : Option (List ℕ))
     → heard ≡ text ++ rest
     → HasEnded text → BeginsAnswers roster text written now → Halted roster (heard ++ more) written now
 halts_between roster heard text rest more written now both ended begins = record {

@@ -12,7 +12,7 @@ use Rattle.firm_tenant.specs.Laws.{UnmarkedStepsAreGranted}
 use Rattle.firm_text.specs.Inputs.{input_lines, line_of}
 use Rattle.firm_text.specs.LineLaws.{RefusesForTheForm}
 use Rattle.firm_text.specs.Lines.{lines}
-use Rattle.firm_text.specs.Rosters.{Admitted}
+use Rattle.firm_text.specs.Rosters.{RosterRow}
 use Rattle.firm_text.specs.declared.inputs.Line.{Line}
 use Rattle.firm_table.specs.Places.{MarkedLine, Place, opening_places, after_lines}
 use Rattle.firm_table.specs.Answers.{answer_of, tells_memory, text_of_answer}
@@ -28,7 +28,7 @@ use Rattle.firm_table.proofs.Unmarked.{IsOfText, unmarked_answer}
 use Rattle.firm_table.proofs.Books.{shows_opening}
 
 -- the output for these lines and more
-output_of-append : (roster : List Admitted) (lines more : List MarkedLine)
+output_of-append : (roster : List RosterRow) (lines more : List MarkedLine)
     → output_of roster (lines ++ more)
     ≡ output_of roster lines ++ flat_map text_of_answer
     (answers_from (after_lines (opening_places roster) lines) more)
@@ -38,7 +38,7 @@ output_of-append roster lines more =
     (answers_from (after_lines (opening_places roster) lines) more)
 
 -- lines that follow these, with marks that are right behind them
-lines_more : (roster : List Admitted) (text after : List ℕ) (lines more : List MarkedLine)
+lines_more : (roster : List RosterRow) (text after : List ℕ) (lines more : List MarkedLine)
     → AreLinesOf roster text lines
     → input_lines after ≡ input_lines text ++ map (λ (g : MarkedLine). g.0) more
     → map (λ (g : MarkedLine). g.1) more
@@ -112,7 +112,7 @@ front_written state text written now later front held p parts wrote = record {
 }
 
 -- what was sent begins what follows it
-begins_with : (roster : List Admitted) (text : List ℕ) (written now : Option (List ℕ)) (lines : List MarkedLine)
+begins_with : (roster : List RosterRow) (text : List ℕ) (written now : Option (List ℕ)) (lines : List MarkedLine)
     (sent rest : List ℕ)
     → AreLinesOf roster text lines → Appends written now sent → output_of roster lines ≡ sent ++ rest
     → BeginsAnswers roster text written now
@@ -186,7 +186,7 @@ so_much_written (Ok x) now later pending all part =
 so_much_written (Err e) now later pending all part = (part.0, part.2)
 
 -- what was told of lines is the output for them, where nothing is to be written
-pub answers_up_to_date : (roster : List Admitted) (state : State) (reader writer : Device) → state.roster ≡ roster
+pub answers_up_to_date : (roster : List RosterRow) (state : State) (reader writer : Device) → state.roster ≡ roster
     → state.pending ≡ []
     → UpToDate (Told state) reader writer → UpToDate (Answers roster) reader writer
 answers_up_to_date roster state reader writer same empty u = record {
@@ -195,6 +195,6 @@ answers_up_to_date roster state reader writer same empty u = record {
   read = u.read;
   whole = u.whole;
   in_line = u.in_line;
-  told = subst (λ (r : List Admitted). Answers r u.lines writer.before writer.after) same
+  told = subst (λ (r : List RosterRow). Answers r u.lines writer.before writer.after) same
       (all_is_written state u.lines writer.before writer.after u.told empty);
 }

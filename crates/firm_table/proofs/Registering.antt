@@ -10,7 +10,7 @@ use Rattle.firm_rules.specs.Limits.{TenantLimits}
 use Rattle.firm_text.specs.Registers.{AreApart, is_named, place_in, vacant, with_tenant, without_tenant}
 use Rattle.firm_text.specs.declared.operator.OperatorRefusal.{OperatorRefusal}
 use Rattle.firm_text.specs.declared.operator.OperatorRefusal.TheVariants.{TenantExists, Full}
-use Rattle.firm_text.specs.declared.registers.Place.{Place as Registered}
+use Rattle.firm_text.specs.declared.registers.Entry.{Entry}
 use Rattle.firm_table.specs.Places.{Given, Stay, Place, new_stay, unused_place, is_stay_of, stay_of, with_command}
 use Rattle.firm_table.specs.Places.{commanded, entered_at, registered, register_of}
 use Rattle.firm_table.proofs.Firsts.{First, here, behind, first, none_first}
@@ -24,7 +24,7 @@ pub none_there : (places : List Place) (name : List ℕ) → place_in (register_
     → stay_of places name ≡ None
 none_there [] name none = refl
 none_there (place ∷ rest) name none =
-    let parts = none_first (λ (p : Registered). is_named name p.tenant) (registered place) (register_of rest) none in
+    let parts = none_first (λ (p : Entry). is_named name p.tenant) (registered place) (register_of rest) none in
     rw (sym (named_is name place.stay) ∙ parts.0) (none_there rest name parts.1)
 
 -- and one that has a place stays there
@@ -41,10 +41,10 @@ pub stays_there : (places : List Place) (name : List ℕ) (at : ℕ) → place_i
     → StaysAt places name at
 stays_there [] name at found = cc
 stays_there (place ∷ rest) name at found =
-    by at (first (λ (p : Registered). is_named name p.tenant) (registered place) (register_of rest) at found)
+    by at (first (λ (p : Entry). is_named name p.tenant) (registered place) (register_of rest) at found)
     (λ n is. stays_there rest name n is)
   where
-    by : (at : ℕ) → First (λ (p : Registered). is_named name p.tenant) (registered place) (register_of rest) at
+    by : (at : ℕ) → First (λ (p : Entry). is_named name p.tenant) (registered place) (register_of rest) at
         → ((n : ℕ) → place_in (register_of rest) name ≡ Some n → StaysAt rest name n) → StaysAt (place ∷ rest) name at
     by _ (here passes) more =
         let mine : is_stay_of name place.stay ≡ true = sym (named_is name place.stay) ∙ passes in
@@ -94,7 +94,7 @@ pub changed_once : (places : List Place) (name : List ℕ) (change : Place → P
     ≡ set places at (change (get_or places at d))
 changed_once [] name change at d apart found = cc
 changed_once (place ∷ rest) name change at d apart found =
-    by at (first (λ (p : Registered). is_named name p.tenant) (registered place) (register_of rest) at found)
+    by at (first (λ (p : Entry). is_named name p.tenant) (registered place) (register_of rest) at found)
     (λ n is. changed_once rest name change n d
     (λ i j e before low. apart (suc i) (suc j) e (omega (arith, before)) (omega (arith, low))) is)
   where
@@ -104,7 +104,7 @@ changed_once (place ∷ rest) name change at d apart found =
         (λ b. is_stay_of name (get_or rest k e).stay ≡ b → b ≡ false) [
           | true ↦ λ twice.
               let again : (get_or (register_of rest) k (registered e)).tenant ≡ Some name =
-              ap (λ (p : Registered). p.tenant) (get_or-map registered rest k e)
+              ap (λ (p : Entry). p.tenant) (get_or-map registered rest k e)
               ∙ name_of_stay name (get_or rest k e).stay twice in
               let wide : suc k < length (register_of (place ∷ rest)) = search_wide rest k low in
               absurd (apart 0 (suc k) (registered e) (omega arith) wide name (name_of_stay name place.stay mine) again)
@@ -118,7 +118,7 @@ changed_once (place ∷ rest) name change at d apart found =
             length_registered [] = refl
             length_registered (p ∷ ps) = ap (λ (n : ℕ). suc n) (length_registered ps)
 
-    by : (at : ℕ) → First (λ (p : Registered). is_named name p.tenant) (registered place) (register_of rest) at
+    by : (at : ℕ) → First (λ (p : Entry). is_named name p.tenant) (registered place) (register_of rest) at
         → ((n : ℕ) → place_in (register_of rest) name ≡ Some n → map (changed name change) rest
         ≡ set rest n (change (get_or rest n d)))
         → map (changed name change) (place ∷ rest) ≡ set (place ∷ rest) at (change (get_or (place ∷ rest) at d))
@@ -137,16 +137,16 @@ register_commanded (place ∷ rest) name given =
     elim (is_stay_of name place.stay) as (λ b. is_stay_of name place.stay ≡ b
     → register_of (map (commanded name given) (place ∷ rest)) ≡ register_of (place ∷ rest)) [
       | true ↦ λ e. rw e (same_name place.admissions place.stay (register_commanded rest name given))
-      | false ↦ λ e. rw e (ap (λ (ps : List Registered). registered place ∷ ps) (register_commanded rest name given))
+      | false ↦ λ e. rw e (ap (λ (ps : List Entry). registered place ∷ ps) (register_commanded rest name given))
     ] refl
   where
     same_name : (admissions : ℕ) (s : Option Stay) → register_of (map (commanded name given) rest) ≡ register_of rest
         → registered (record { admissions = admissions; stay = option_map (with_command given) s }) ∷ register_of
         (map (commanded name given) rest)
         ≡ registered (record { admissions = admissions; stay = s }) ∷ register_of rest
-    same_name admissions None more = ap (λ (ps : List Registered). vacant admissions ∷ ps) more
+    same_name admissions None more = ap (λ (ps : List Entry). vacant admissions ∷ ps) more
     same_name admissions (Some stay) more =
-        ap (λ (ps : List Registered). registered (record { admissions = admissions; stay = Some stay }) ∷ ps) more
+        ap (λ (ps : List Entry). registered (record { admissions = admissions; stay = Some stay }) ∷ ps) more
 
 -- the tenant at this place has left
 pub register_left : (places : List Place) (at : ℕ)
@@ -154,7 +154,7 @@ pub register_left : (places : List Place) (at : ℕ)
     ≡ without_tenant (register_of places) at
 register_left places at =
     map-set registered places at (record (get_or places at unused_place) { stay = None })
-    ∙ ap (λ (p : Registered). set (register_of places) at (vacant p.admissions))
+    ∙ ap (λ (p : Entry). set (register_of places) at (vacant p.admissions))
     (sym (get_or-map registered places at unused_place))
 
 -- a tenant has come to it
@@ -166,6 +166,6 @@ register_entered places at name limits =
       stay =
           Some (new_stay name limits);
     })
-    ∙ ap (λ (p : Registered). let new : Registered =
+    ∙ ap (λ (p : Entry). let new : Entry =
     record { tenant = Some name; admissions = p.admissions + 1 } in set (register_of places) at new)
     (sym (get_or-map registered places at unused_place))

@@ -4,7 +4,7 @@ use Rattle.std.specs.Prelude.{Bool, true, false, ◌||◌, Option, Some, None, o
 use Rattle.std.specs.List.{list_any}
 use Rattle.firm_rules.specs.Limits.{TenantLimits}
 use Rattle.firm_rules.specs.declared.commands.Command.TheVariants.{Round}
-use Rattle.firm_text.specs.Rosters.{Admitted as Row}
+use Rattle.firm_text.specs.Rosters.{RosterRow}
 use Rattle.firm_table.specs.Interleaving.{TableState, MarkedEvent, opening_table, happens, event_answers}
 use Rattle.firm_table.specs.Histories.{History, new_history, commanded_once, replied_once, history_here, ended_here}
 use Rattle.firm_table.specs.Histories.{named_place, is_at, history_with, history_behind, ended_with, ended_behind}
@@ -80,8 +80,8 @@ stays_behind place history table (given ∷ rest) none =
       behind.1 ∙ same,
     )
 
-row_limits : (found : Option Row) → limits_in (option_map (λ (row : Row). new_history row.1) found)
-    ≡ option_map (λ (row : Row). row.1) found
+row_limits : (found : Option RosterRow) → limits_in (option_map (λ (row : RosterRow). new_history row.1) found)
+    ≡ option_map (λ (row : RosterRow). row.1) found
 row_limits None = refl
 row_limits (Some row) = refl
 

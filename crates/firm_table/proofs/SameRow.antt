@@ -3,8 +3,7 @@ use Rattle.std.proofs.Common.{◌≡◌, ℕ, ◌-◌, List, [], ◌∷◌, ◌+
 use Rattle.std.specs.Prelude.{true, false, Some, map, bytes_eq, option_map, replicate}
 use Rattle.std.proofs.lemmas.Slice.Eq.{bytes_eq-Decides}
 use Rattle.firm_rules.specs.Limits.{TenantLimits}
-use Rattle.firm_text.specs.Registers.{most_places}
-use Rattle.firm_text.specs.Rosters.{Admitted}
+use Rattle.firm_text.specs.Rosters.{RosterRow, most_places}
 use Rattle.firm_table.specs.Places.{Given, MarkedLine, Stay, new_stay, unused_place, place_of_row, stay_of}
 use Rattle.firm_table.specs.Output.{answers_of}
 use Rattle.firm_table.specs.Isolation.{limits_in, stay_in, commands_to, with_commands, NoneIsOperatorsFor}
@@ -12,7 +11,7 @@ use Rattle.firm_table.specs.Isolation.{TenantsAreIsolated}
 use Rattle.firm_table.proofs.Stays.{none_unused, stays_are_isolated}
 use Rattle.firm_table.proofs.Lines.{stays_hold_their_lines}
 
-opening_stay : (name : List ℕ) (roster : List Admitted) (n : ℕ)
+opening_stay : (name : List ℕ) (roster : List RosterRow) (n : ℕ)
     → stay_of (map place_of_row roster ++ replicate n unused_place) name
     ≡ option_map (λ limits. new_stay name limits) (limits_in roster name)
 opening_stay name [] n = none_unused name n
@@ -26,7 +25,7 @@ opening_stay name (tenant ∷ rest) n = elim (bytes_eq tenant.0 name) as (λ b. 
 abbrev stay_with : List ℕ → TenantLimits → List Given → Stay
 stay_with name limits commands = record { name = name; limits = limits; commands = commands }
 
-stays_with : (roster : List Admitted) (lines : List MarkedLine) (name : List ℕ) (limits : TenantLimits)
+stays_with : (roster : List RosterRow) (lines : List MarkedLine) (name : List ℕ) (limits : TenantLimits)
     → limits_in roster name ≡ Some limits → NoneIsOperatorsFor name (answers_of roster lines)
     → stay_in roster lines name ≡ Some (stay_with name limits (commands_to name lines))
 stays_with roster lines name limits row none =

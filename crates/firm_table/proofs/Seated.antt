@@ -9,16 +9,16 @@ use Rattle.std.proofs.lemmas.List.{length-map, map-set}
 use Rattle.std.proofs.lemmas.List.Quantifiers.{position-Some}
 use Rattle.std.proofs.lemmas.Option.{get_or_from_slice_get, slice_get-get_or}
 use Rattle.firm_rules.specs.Book.{Book, opening_book}
-use Rattle.firm_text.specs.Registers.{AreSound, is_named, most_places, occupied, place_in, vacant}
-use Rattle.firm_text.specs.Rosters.{Admitted as Row}
-use Rattle.firm_text.specs.declared.registers.Place.{Place as Registered}
+use Rattle.firm_text.specs.Registers.{AreSound, is_named, occupied, place_in, vacant}
+use Rattle.firm_text.specs.Rosters.{RosterRow, most_places}
+use Rattle.firm_text.specs.declared.registers.Entry.{Entry}
 use Rattle.firm_table.specs.inner.Line.{tenants_are, opening_tenants, Fits}
 
-module _ (register : List Registered) (books : List (Option Book)) (fits : Fits (tenants_are register books)) where
+module _ (register : List Entry) (books : List (Option Book)) (fits : Fits (tenants_are register books)) where
   -- as many books as places
   pub seated_within : AreSound register → (at : ℕ) → at < most_places → at < length books
   seated_within sound at low =
-      let same = sym (length-map register (λ (place : Registered). is_some place.tenant)) ∙ ap length fits
+      let same = sym (length-map register (λ (place : Entry). is_some place.tenant)) ∙ ap length fits
       ∙ length-map books is_some in
       omega (arith, same, low, sound.all)
 
@@ -26,11 +26,11 @@ module _ (register : List Registered) (books : List (Option Book)) (fits : Fits 
   pub seated_here : (name : List ℕ) (at : ℕ) → place_in register name ≡ Some at → is_some (get_or books at None)
       ≡ true
   seated_here name at found =
-      let first = (position-Some (λ (place : Registered). is_named name place.tenant) register at
+      let first = (position-Some (λ (place : Entry). is_named name place.tenant) register at
       (vacant 0) found).1 in
       sym (get_or-map is_some books at None)
       ∙ ap (λ (tests : List Bool). get_or tests at false) (sym fits)
-      ∙ get_or-map (λ (place : Registered). is_some place.tenant) register at (vacant 0)
+      ∙ get_or-map (λ (place : Entry). is_some place.tenant) register at (vacant 0)
       ∙ named name (get_or register at (vacant 0)).tenant first
     where
       named : (name : List ℕ) (tenant : Option (List ℕ)) → is_named name tenant ≡ true → is_some tenant ≡ true
@@ -38,10 +38,10 @@ module _ (register : List Registered) (books : List (Option Book)) (fits : Fits 
       named name (Some tenant) e = refl
 
   -- a place and its book change together
-  pub seated_set : (at : ℕ) (place : Registered) (book : Option Book) → is_some place.tenant ≡ is_some book
+  pub seated_set : (at : ℕ) (place : Entry) (book : Option Book) → is_some place.tenant ≡ is_some book
       → Fits (tenants_are (set register at place) (set books at book))
   seated_set at place book same =
-      map-set (λ (p : Registered). is_some p.tenant) register at place
+      map-set (λ (p : Entry). is_some p.tenant) register at place
       ∙ ap (λ (tests : List Bool). set tests at (is_some place.tenant)) fits
       ∙ ap (λ (test : Bool). set (map is_some books) at test) same
       ∙ sym (map-set is_some books at book)
@@ -60,12 +60,12 @@ seat_is books at found low is =
     ∙ ap (λ (f : Option Book). Some f) (sym is))
 
 -- the first tenants
-opens_seated : (roster : List Row) (n : ℕ)
+opens_seated : (roster : List RosterRow) (n : ℕ)
     → map (λ place. is_some place.tenant) (map (λ row. occupied row.0 1) roster ++ replicate n (vacant 0))
     ≡ map is_some (map (λ row. Some (opening_book row.1)) roster ++ replicate n None)
 opens_seated [] zero = refl
 opens_seated [] (suc n) = ap (λ (tests : List Bool). false ∷ tests) (opens_seated [] n)
 opens_seated (row ∷ rest) n = ap (λ (tests : List Bool). true ∷ tests) (opens_seated rest n)
 
-pub opening_seated : (roster : List Row) → Fits (opening_tenants roster)
+pub opening_seated : (roster : List RosterRow) → Fits (opening_tenants roster)
 opening_seated roster = opens_seated roster (most_places - length roster)

@@ -7,9 +7,9 @@ use Rattle.firm_rules.specs.declared.commands.Command.{Command}
 use Rattle.firm_rules.specs.declared.replies.Reply.{Reply}
 use Rattle.firm_tenant.specs.Step.{step}
 use Rattle.firm_tenant.specs.Alone.{replies_from}
-use Rattle.firm_text.specs.Rosters.{Admitted}
+use Rattle.firm_text.specs.Rosters.{RosterRow, most_places}
 use Rattle.firm_rules.specs.Limits.{TenantLimits}
-use Rattle.firm_text.specs.Registers.{is_free, most_places, place_for, place_in}
+use Rattle.firm_text.specs.Registers.{is_free, place_for, place_in}
 use Rattle.firm_text.specs.declared.inputs.Line.TheVariants.{Nothing, Long, Nameless, For, Operator}
 use Rattle.firm_text.specs.declared.operator.OperatorLine.TheVariants.{Admit, Retire, Faulty}
 use Rattle.firm_text.specs.declared.operator.OperatorRefusal.{OperatorRefusal}
@@ -153,7 +153,7 @@ none_unused name zero = refl
 none_unused name (suc n) = none_unused name n
 
 -- before the first line nobody has replies
-begins_empty : (name : List ℕ) (roster : List Admitted) (n : ℕ)
+begins_empty : (name : List ℕ) (roster : List RosterRow) (n : ℕ)
     → Has name [] (map place_of_row roster ++ replicate n unused_place)
 begins_empty name [] n stay is = let none = none_unused name n in cc
 begins_empty name (tenant ∷ rest) n stay is =

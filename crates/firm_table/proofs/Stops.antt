@@ -3,7 +3,7 @@ use Rattle.std.proofs.Common.{◌≡◌, ℕ, ◌≤◌, List, [], ◌++◌, len
 use Rattle.std.specs.Prelude.{Bool, false, Option, Result, Ok, Err, OnOk, OnErr, IfErr}
 use Rattle.std.specs.Io.KnownBytes.{Consumes, IsAtEnd}
 use Rattle.firm_text.specs.Cutters.{Cut}
-use Rattle.firm_text.specs.Rosters.{Admitted}
+use Rattle.firm_text.specs.Rosters.{RosterRow}
 use Rattle.firm_table.specs.Service.{Answers, BeginsAnswers, Served, Stopped, IsCause, device}
 use Rattle.firm_table.specs.Telling.{Telling}
 use Rattle.firm_table.specs.inner.Faults.{IsWritingFault}
@@ -49,7 +49,7 @@ heard_told IsTold Later cut heard written now later h told = record {
   told = told h.text written h.told;
 }
 
-module _ (roster : List Admitted) (most : ℕ) (left left_after written now : Option (List ℕ))
+module _ (roster : List RosterRow) (most : ℕ) (left left_after written now : Option (List ℕ))
     (read_failed write_failed : Bool) (heard : List ℕ) where
   -- between two lines, or at a line that was cut off
   pub stopped_within : (fault : ServeFault) → Consumes left left_after heard → (h : Halted roster heard written now)

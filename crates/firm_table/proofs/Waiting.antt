@@ -11,7 +11,8 @@ use Rattle.firm_rules.specs.declared.commands.Command.{Command}
 use Rattle.firm_rules.specs.declared.tickets.Ticket.{Ticket}
 use Rattle.firm_rules.specs.declared.commands.Command.TheVariants.{Round}
 use Rattle.firm_tenant.specs.Step.{step}
-use Rattle.firm_text.specs.Registers.{most_places, most_admissions}
+use Rattle.firm_text.specs.Registers.{most_admissions}
+use Rattle.firm_text.specs.Rosters.{most_places}
 use Rattle.firm_table.specs.Interleaving.{is_round, Station, empty, home, queued, held, answered, Seat, TableState}
 use Rattle.firm_table.specs.Interleaving.{posted, asked, taken_by, solved, collected, admitted, retired, local}
 use Rattle.firm_table.specs.Interleaving.{seat_behind, queue_more}

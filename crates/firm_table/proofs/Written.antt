@@ -4,12 +4,12 @@ use Rattle.std.specs.Prelude.{Option}
 use Rattle.std.specs.Io.KnownBytes.{Appends, Keeps}
 use Rattle.std.proofs.KnownBytes.{Appends-nil, Appends-kept}
 use Rattle.std.proofs.Math.Seq.{take-length}
-use Rattle.firm_text.specs.Rosters.{Admitted}
+use Rattle.firm_text.specs.Rosters.{RosterRow}
 use Rattle.firm_table.specs.Output.{output_of}
 use Rattle.firm_table.specs.Service.{Answers, BeginsAnswers}
 
 -- nothing was read, and nothing written
-pub nothing_written : (roster : List Admitted) (written : Option (List ℕ)) → BeginsAnswers roster [] written written
+pub nothing_written : (roster : List RosterRow) (written : Option (List ℕ)) → BeginsAnswers roster [] written written
 nothing_written roster written = record {
   lines = [];
   are_lines = record { each = refl; marks = refl };
@@ -18,7 +18,7 @@ nothing_written roster written = record {
 }
 
 -- all was written, and what came then wrote nothing
-pub all_written : (roster : List Admitted) (input : List ℕ) (written now later : Option (List ℕ))
+pub all_written : (roster : List RosterRow) (input : List ℕ) (written now later : Option (List ℕ))
     → Answers roster input written now → Keeps now later → BeginsAnswers roster input written later
 all_written roster input written now later a kept = record {
   lines = a.lines;
@@ -29,7 +29,7 @@ all_written roster input written now later a kept = record {
       (Appends-kept written now later _ a.wrote kept);
 }
 
-pub answers_kept : (roster : List Admitted) (input : List ℕ) (written now later : Option (List ℕ))
+pub answers_kept : (roster : List RosterRow) (input : List ℕ) (written now later : Option (List ℕ))
     → Answers roster input written now → Keeps now later → Answers roster input written later
 answers_kept roster input written now later a kept = record {
   lines = a.lines;

@@ -40,7 +40,7 @@ answer_of places (Nothing, mark) = Silent
 answer_of places (Long, mark) = LineTooLong
 answer_of places (Nameless, mark) = UnknownTenant
 answer_of places (For name command, mark) = answer_to_command name (stay_of places name) (command, mark)
-answer_of places (Operator asked, mark) = ToOperator (obeyed places asked mark).0
+answer_of places (Operator request, mark) = ToOperator (obeyed places request mark).0
 
 -- whether a reply to the operator says that memory was refused
 abbrev pub is_operator_memory : OperatorReply → Bool

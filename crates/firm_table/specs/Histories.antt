@@ -9,7 +9,7 @@ use Rattle.firm_rules.specs.declared.commands.Command.TheVariants.{Round}
 use Rattle.firm_rules.specs.declared.replies.Reply.{Reply}
 use Rattle.firm_tenant.specs.Step.{is_memory}
 use Rattle.firm_tenant.specs.Alone.{alone_marked}
-use Rattle.firm_text.specs.Rosters.{Admitted as Row}
+use Rattle.firm_text.specs.Rosters.{RosterRow}
 use Rattle.firm_table.specs.Fitting.{is_empty}
 use Rattle.firm_table.specs.Places.{Given}
 use Rattle.firm_table.specs.Interleaving.{is_home, Seat, MarkedEvent, opening_table, event_answers, table_after}
@@ -89,21 +89,21 @@ ended_behind place history (given ∷ rest) (answer ∷ answers) =
     ++ ended_behind place (history_with place history given.0 answer) rest answers
 
 -- the history that a roster opens at a place: a row is its tenant's admission
-abbrev pub opening_history : List Row → ℕ → Option History
+abbrev pub opening_history : List RosterRow → ℕ → Option History
 opening_history roster place = option_map (λ row. new_history row.1) (slice_get roster place)
 
 -- the stay that stands at a place of a table that was opened for this roster, behind these events
-abbrev pub history_at : List Row → ℕ → ℕ → List MarkedEvent → Option History
+abbrev pub history_at : List RosterRow → ℕ → ℕ → List MarkedEvent → Option History
 history_at roster workers place events =
     history_behind place (opening_history roster place) events (event_answers (opening_table roster workers) events)
 
 -- the stays that have ended there
-abbrev pub ended_at : List Row → ℕ → ℕ → List MarkedEvent → List History
+abbrev pub ended_at : List RosterRow → ℕ → ℕ → List MarkedEvent → List History
 ended_at roster workers place events =
     ended_behind place (opening_history roster place) events (event_answers (opening_table roster workers) events)
 
 -- all stays at the place, one after the other
-abbrev pub stays_at : List Row → ℕ → ℕ → List MarkedEvent → List History
+abbrev pub stays_at : List RosterRow → ℕ → ℕ → List MarkedEvent → List History
 stays_at roster workers place events =
     ended_at roster workers place events ++ option_to_list (history_at roster workers place events)
 
@@ -120,7 +120,7 @@ comes_or_goes (Retire place) = true
 -- where no tenant comes or goes, none has ended its stay, and those that stand are those of the roster's rows, each at
 -- its place
 abbrev pub RowsStay : Type 0
-RowsStay = (roster : List Row) (workers place : ℕ) (events : List MarkedEvent)
+RowsStay = (roster : List RosterRow) (workers place : ℕ) (events : List MarkedEvent)
     → list_any (λ given. comes_or_goes given.0) events ≡ false
     → (ended_at roster workers place events ≡ [])
     × (option_map (λ stay. stay.limits) (history_at roster workers place events)
@@ -128,7 +128,7 @@ RowsStay = (roster : List Row) (workers place : ℕ) (events : List MarkedEvent)
 
 -- no stay is left out: a place has had as many as it was given tenants, and one stands there unless nobody does
 abbrev pub StaysAreCounted : Type 0
-StaysAreCounted = (roster : List Row) (workers place : ℕ) (events : List MarkedEvent) (seat : Seat)
+StaysAreCounted = (roster : List RosterRow) (workers place : ℕ) (events : List MarkedEvent) (seat : Seat)
     → slice_get (table_after (opening_table roster workers) events).seats place ≡ Some seat
     → (length (stays_at roster workers place events) ≡ seat.admissions)
     × (is_none (history_at roster workers place events) ≡ is_empty seat.station)
@@ -146,7 +146,7 @@ pub record AreFirstReplies (history : History) : Type 0 where
 -- for every list of events, and for each stay at every place: the replies are the first of a tenant alone that is
 -- admitted with the same limits, and all of them once the stay has ended, and where the tenant is home
 abbrev pub EventsKeepAlone : Type 0
-EventsKeepAlone = (roster : List Row) (workers place stay : ℕ) (events : List MarkedEvent) (history : History)
+EventsKeepAlone = (roster : List RosterRow) (workers place stay : ℕ) (events : List MarkedEvent) (history : History)
     → slice_get (stays_at roster workers place events) stay ≡ Some history
     → (first : AreFirstReplies history)
     × (stay < length (ended_at roster workers place events) → first.waiting ≡ [])
@@ -158,7 +158,7 @@ EventsKeepAlone = (roster : List Row) (workers place stay : ℕ) (events : List 
 -- reply as far as both have come
 abbrev pub EventsAreIsolated : Type 0
 EventsAreIsolated =
-    (roster other_roster : List Row) (workers other_workers place other_place stay other_stay : ℕ)
+    (roster other_roster : List RosterRow) (workers other_workers place other_place stay other_stay : ℕ)
     (events other_events : List MarkedEvent) (history other : History)
     → slice_get (stays_at roster workers place events) stay ≡ Some history
     → slice_get (stays_at other_roster other_workers other_place other_events) other_stay ≡ Some other

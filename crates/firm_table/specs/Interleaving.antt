@@ -9,8 +9,8 @@ use Rattle.firm_rules.specs.declared.commands.Command.TheVariants.{Round}
 use Rattle.firm_rules.specs.declared.replies.Reply.{Reply}
 use Rattle.firm_rules.specs.declared.tickets.Ticket.{Ticket}
 use Rattle.firm_tenant.specs.Step.{step}
-use Rattle.firm_text.specs.Registers.{most_places, most_admissions}
-use Rattle.firm_text.specs.Rosters.{Admitted as Row}
+use Rattle.firm_text.specs.Registers.{most_admissions}
+use Rattle.firm_text.specs.Rosters.{RosterRow, most_places}
 use Rattle.firm_table.specs.declared.events.Event.{Event}
 use Rattle.firm_table.specs.declared.events.Event.TheVariants.{Post, Ask, Take, Answer, Collect, Admit, Retire}
 use Rattle.firm_table.specs.declared.events.Answer.{Answer as EventAnswer}
@@ -56,7 +56,7 @@ abbrev pub MarkedEvent : Type 0
 MarkedEvent = Event × Bool
 
 -- the seat of a row of the roster, which is its place's first admission
-abbrev pub opening_seat : Row → Seat
+abbrev pub opening_seat : RosterRow → Seat
 opening_seat row = record { station = home (opening_book row.1); rounds = 0; admissions = 1 }
 
 -- a place that nobody had
@@ -64,11 +64,11 @@ abbrev pub unused_seat : Seat
 unused_seat = record { station = empty; rounds = 0; admissions = 0 }
 
 -- the places of a roster's tenants, in its order, and then empty ones, so that there are as many as a service has
-abbrev pub opening_seats : List Row → List Seat
+abbrev pub opening_seats : List RosterRow → List Seat
 opening_seats roster = map opening_seat roster ++ replicate (most_places - length roster) unused_seat
 
 -- before the first event each tenant is home, the other places are empty, and so is the queue
-abbrev pub opening_table : List Row → ℕ → TableState
+abbrev pub opening_table : List RosterRow → ℕ → TableState
 opening_table roster workers = record { workers = workers; seats = opening_seats roster; queue = [] }
 
 -- a command that is not a round

@@ -5,10 +5,10 @@ use Rattle.std.specs.List.{filter_map, list_any}
 use Rattle.firm_rules.specs.Limits.{TenantLimits}
 use Rattle.firm_tenant.specs.Alone.{alone_marked}
 use Rattle.firm_text.specs.Inputs.{command_to, input_lines}
-use Rattle.firm_text.specs.Rosters.{Admitted}
+use Rattle.firm_text.specs.Rosters.{RosterRow}
 use Rattle.firm_text.specs.declared.inputs.Line.TheVariants.{For, Operator}
 use Rattle.firm_text.specs.declared.operator.OperatorLine.TheVariants.{Admit}
-use Rattle.firm_text.specs.declared.operator.OperatorReply.TheVariants.{Admitted as WasAdmitted, Retired, Refused}
+use Rattle.firm_text.specs.declared.operator.OperatorReply.TheVariants.{Admitted, Retired, Refused}
 use Rattle.firm_table.specs.Places.{Given, MarkedLine, Stay, Place, new_stay, opening_places, after_lines, stay_of}
 use Rattle.firm_table.specs.Answers.{answer_of, tells_memory}
 use Rattle.firm_table.specs.declared.answers.LineAnswer.{LineAnswer}
@@ -17,31 +17,31 @@ use Rattle.firm_table.specs.declared.answers.LineAnswer.TheVariants.{ToOperator}
 use Rattle.firm_table.specs.Output.{answers_from, answers_of, output, output_of, AreLinesOf, replies_to, unmarked}
 
 -- the limits that the roster gives the tenant of this name
-abbrev pub limits_in : List Admitted → List ℕ → Option TenantLimits
+abbrev pub limits_in : List RosterRow → List ℕ → Option TenantLimits
 limits_in [] name = None
 limits_in (tenant ∷ rest) name = if bytes_eq tenant.0 name then Some tenant.1 else limits_in rest name
 
 -- the stay of the tenant of this name, once a service of this roster has answered these lines
-abbrev pub stay_in : List Admitted → List MarkedLine → List ℕ → Option Stay
+abbrev pub stay_in : List RosterRow → List MarkedLine → List ℕ → Option Stay
 stay_in roster lines name = stay_of (after_lines (opening_places roster) lines) name
 
 -- a line more is answered behind the others, which are answered as they were
 abbrev pub AnswersLineByLine : Type 0
-AnswersLineByLine = (roster : List Admitted) (lines : List MarkedLine) (given : MarkedLine)
+AnswersLineByLine = (roster : List RosterRow) (lines : List MarkedLine) (given : MarkedLine)
     → answers_of roster (lines ++ given ∷ [])
     ≡ answers_of roster lines ++ answer_of (after_lines (opening_places roster) lines) given ∷ []
 
 -- at every moment a tenant has got, since it came, the replies of one that is alone in the service and is given what
 -- it was given
 abbrev pub RepliesAreAlone : Type 0
-RepliesAreAlone = (roster : List Admitted) (lines : List MarkedLine) (name : List ℕ) (stay : Stay)
+RepliesAreAlone = (roster : List RosterRow) (lines : List MarkedLine) (name : List ℕ) (stay : Stay)
     → stay_in roster lines name ≡ Some stay
     → replies_to name (answers_of roster lines) ≡ alone_marked stay.limits stay.commands
 
 -- two stays that began with the same limits and were given the same have got the same, whatever else the two services
 -- hold and were told, and whoever stayed there before
 abbrev pub StaysAreIsolated : Type 0
-StaysAreIsolated = (roster other_roster : List Admitted) (lines other_lines : List MarkedLine) (name : List ℕ)
+StaysAreIsolated = (roster other_roster : List RosterRow) (lines other_lines : List MarkedLine) (name : List ℕ)
     (stay : Stay)
     → stay_in roster lines name ≡ Some stay → stay_in other_roster other_lines name ≡ Some stay
     → replies_to name (answers_of roster lines) ≡ replies_to name (answers_of other_roster other_lines)
@@ -52,7 +52,7 @@ line_to name given = (For name given.0, given.1)
 
 -- and they are what a service answers that admits this tenant alone, and is given its commands alone
 abbrev pub StaysAreServedAlone : Type 0
-StaysAreServedAlone = (roster : List Admitted) (lines : List MarkedLine) (name : List ℕ) (stay : Stay)
+StaysAreServedAlone = (roster : List RosterRow) (lines : List MarkedLine) (name : List ℕ) (stay : Stay)
     → stay_in roster lines name ≡ Some stay
     → map (Replied name) (replies_to name (answers_of roster lines))
     ≡ answers_of ((name, stay.limits) ∷ []) (map (line_to name) stay.commands)
@@ -75,7 +75,7 @@ is_operators_for name Silent = false
 is_operators_for name LineTooLong = false
 is_operators_for name UnknownTenant = false
 is_operators_for name (Replied tenant reply) = false
-is_operators_for name (ToOperator (WasAdmitted tenant)) = bytes_eq tenant name
+is_operators_for name (ToOperator (Admitted tenant)) = bytes_eq tenant name
 is_operators_for name (ToOperator (Retired tenant)) = bytes_eq tenant name
 is_operators_for name (ToOperator (Refused refusal)) = false
 
@@ -86,25 +86,42 @@ NoneIsOperatorsFor name answers = list_any (is_operators_for name) answers ≡ f
 -- a tenant for which no line of the operator's was obeyed was given the commands of its lines, and has the limits that
 -- it had
 abbrev pub StaysHoldTheirLines : Type 0
-StaysHoldTheirLines = (roster : List Admitted) (lines : List MarkedLine) (name : List ℕ)
+StaysHoldTheirLines = (roster : List RosterRow) (lines : List MarkedLine) (name : List ℕ)
     → NoneIsOperatorsFor name (answers_of roster lines)
     → stay_in roster lines name ≡ option_map (with_commands (commands_to name lines)) (stay_in roster [] name)
 
--- a tenant that was admitted behind these lines, and for which no later line of the operator's was obeyed, has the
--- limits of its admission, and was given the commands of the later lines to it
+-- behind these lines that line admitted the tenant, with these limits, and for it no later line of the operator's was
+-- obeyed
+pub record BeginsStay (roster : List RosterRow) (lines : List MarkedLine) (admission : MarkedLine)
+    (later : List MarkedLine) (name : List ℕ) (limits : TenantLimits) : Type 0 where
+  pub asks : admission.0 ≡ Operator (Admit name limits)
+  pub admits : answer_of (after_lines (opening_places roster) lines) admission ≡ ToOperator (Admitted name)
+  pub stays : NoneIsOperatorsFor name
+      (answers_from (after_lines (opening_places roster) (lines ++ admission ∷ [])) later)
+
+-- such a tenant has the limits of its admission, and was given the commands of the later lines to it
 abbrev pub StaysBeginAnew : Type 0
-StaysBeginAnew = (roster : List Admitted) (lines later : List MarkedLine) (admission : MarkedLine) (name : List ℕ)
+StaysBeginAnew = (roster : List RosterRow) (lines later : List MarkedLine) (admission : MarkedLine) (name : List ℕ)
     (limits : TenantLimits)
-    → admission.0 ≡ Operator (Admit name limits)
-    → answer_of (after_lines (opening_places roster) lines) admission ≡ ToOperator (WasAdmitted name)
-    → NoneIsOperatorsFor name (answers_from (after_lines (opening_places roster) (lines ++ admission ∷ [])) later)
+    → BeginsStay roster lines admission later name limits
     → stay_in roster (lines ++ admission ∷ later) name
     ≡ Some (with_commands (commands_to name later) (new_stay name limits))
+
+-- a tenant that two services admitted so, with the same limits, gets the same replies where the later lines to it are
+-- equal, whatever stands before its admission
+abbrev pub AdmissionsAreIsolated : Type 0
+AdmissionsAreIsolated = (roster other_roster : List RosterRow) (lines later other_lines other_later : List MarkedLine)
+    (admission other_admission : MarkedLine) (name : List ℕ) (limits : TenantLimits)
+    → BeginsStay roster lines admission later name limits
+    → BeginsStay other_roster other_lines other_admission other_later name limits
+    → commands_to name later ≡ commands_to name other_later
+    → replies_to name (answers_of roster (lines ++ admission ∷ later))
+    ≡ replies_to name (answers_of other_roster (other_lines ++ other_admission ∷ other_later))
 
 -- a tenant with the same row in two rosters, for which no line of the operator's was obeyed, gets the same replies in
 -- services that are given equal lines for it
 abbrev pub TenantsAreIsolated : Type 0
-TenantsAreIsolated = (roster other_roster : List Admitted) (lines other_lines : List MarkedLine) (name : List ℕ)
+TenantsAreIsolated = (roster other_roster : List RosterRow) (lines other_lines : List MarkedLine) (name : List ℕ)
     (limits : TenantLimits)
     → limits_in roster name ≡ Some limits → limits_in other_roster name ≡ Some limits
     → NoneIsOperatorsFor name (answers_of roster lines) → NoneIsOperatorsFor name (answers_of other_roster other_lines)
@@ -113,7 +130,7 @@ TenantsAreIsolated = (roster other_roster : List Admitted) (lines other_lines : 
 
 -- where no answer says that memory was refused, the output is a function of the roster and of the bytes of the input
 abbrev pub NeedsNoMarks : Type 0
-NeedsNoMarks = (roster : List Admitted) (input : List ℕ) (lines : List MarkedLine) → AreLinesOf roster input lines
+NeedsNoMarks = (roster : List RosterRow) (input : List ℕ) (lines : List MarkedLine) → AreLinesOf roster input lines
     → list_any tells_memory (answers_of roster lines) ≡ false → output_of roster lines ≡ output roster input
 
 -- the lines of an input that are left to answer can be taken as lines to which memory is not refused

@@ -3,9 +3,9 @@ use Rattle.std.specs.Prelude.{ℕ, false, List, [], ◌∷◌, ◌++◌, ◌≡�
 use Rattle.std.specs.List.{flat_map}
 use Rattle.firm_rules.specs.declared.replies.Reply.{Reply}
 use Rattle.firm_text.specs.Inputs.{input_lines}
-use Rattle.firm_text.specs.Rosters.{Admitted}
+use Rattle.firm_text.specs.Rosters.{RosterRow}
 use Rattle.firm_text.specs.declared.inputs.Line.{Line}
-use Rattle.firm_text.specs.declared.operator.OperatorReply.TheVariants.{Admitted as WasAdmitted, Retired, Refused}
+use Rattle.firm_text.specs.declared.operator.OperatorReply.TheVariants.{Admitted, Retired, Refused}
 use Rattle.firm_table.specs.Places.{MarkedLine, Place, opening_places, after_line}
 use Rattle.firm_table.specs.Answers.{answer_of}
 use Rattle.firm_table.specs.declared.answers.LineAnswer.{LineAnswer}
@@ -19,11 +19,11 @@ answers_from places [] = []
 answers_from places (given ∷ rest) = answer_of places given ∷ answers_from (after_line places given) rest
 
 -- the answers of a service of this roster
-abbrev pub answers_of : List Admitted → List MarkedLine → List LineAnswer
+abbrev pub answers_of : List RosterRow → List MarkedLine → List LineAnswer
 answers_of roster lines = answers_from (opening_places roster) lines
 
 -- what a service writes for these lines: the texts of the answers, in order
-abbrev pub output_of : List Admitted → List MarkedLine → List ℕ
+abbrev pub output_of : List RosterRow → List MarkedLine → List ℕ
 output_of roster lines = flat_map text_of_answer (answers_of roster lines)
 
 -- a line to which memory was not refused
@@ -31,11 +31,11 @@ abbrev pub unmarked : Line → MarkedLine
 unmarked line = (line, false)
 
 -- what a service writes for an input where memory is never refused
-abbrev pub output : List Admitted → List ℕ → List ℕ
+abbrev pub output : List RosterRow → List ℕ → List ℕ
 output roster input = output_of roster (map unmarked (input_lines input))
 
 -- the lines of this input, with marks on just those whose answer says that memory was refused
-pub record AreLinesOf (roster : List Admitted) (input : List ℕ) (lines : List MarkedLine) : Type 0 where
+pub record AreLinesOf (roster : List RosterRow) (input : List ℕ) (lines : List MarkedLine) : Type 0 where
   pub each : map (λ given. given.0) lines ≡ input_lines input
   pub marks : map (λ given. given.1) lines ≡ map tells_memory (answers_of roster lines)
 
@@ -45,7 +45,7 @@ replies_with name replies Silent = replies
 replies_with name replies LineTooLong = replies
 replies_with name replies UnknownTenant = replies
 replies_with name replies (Replied tenant reply) = if bytes_eq tenant name then replies ++ reply ∷ [] else replies
-replies_with name replies (ToOperator (WasAdmitted tenant)) = if bytes_eq tenant name then [] else replies
+replies_with name replies (ToOperator (Admitted tenant)) = if bytes_eq tenant name then [] else replies
 replies_with name replies (ToOperator (Retired tenant)) = replies
 replies_with name replies (ToOperator (Refused refusal)) = replies
 

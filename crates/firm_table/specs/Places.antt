@@ -4,8 +4,8 @@ use Rattle.std.specs.Prelude.{Option, Some, None, option_map, Result, Ok, Err, b
 use Rattle.std.specs.Prelude.{if◌then◌else◌}
 use Rattle.firm_rules.specs.Limits.{TenantLimits}
 use Rattle.firm_rules.specs.declared.commands.Command.{Command}
-use Rattle.firm_text.specs.Registers.{most_places, place_for}
-use Rattle.firm_text.specs.Rosters.{Admitted as Row}
+use Rattle.firm_text.specs.Registers.{place_for}
+use Rattle.firm_text.specs.Rosters.{RosterRow, most_places}
 use Rattle.firm_text.specs.declared.inputs.Line.{Line}
 use Rattle.firm_text.specs.declared.inputs.Line.TheVariants.{Nothing, Long, Nameless, For, Operator}
 use Rattle.firm_text.specs.declared.operator.OperatorLine.{OperatorLine}
@@ -14,7 +14,7 @@ use Rattle.firm_text.specs.declared.operator.OperatorRefusal.{OperatorRefusal}
 use Rattle.firm_text.specs.declared.operator.OperatorRefusal.TheVariants.{NoSuchTenant, Memory}
 use Rattle.firm_text.specs.declared.operator.OperatorReply.{OperatorReply}
 use Rattle.firm_text.specs.declared.operator.OperatorReply.TheVariants.{Admitted, Retired, Refused}
-use Rattle.firm_text.specs.declared.registers.Place.{Place as Registered}
+use Rattle.firm_text.specs.declared.registers.Entry.{Entry}
 
 -- a command, and whether memory was refused to it
 abbrev pub Given : Type 0
@@ -44,11 +44,11 @@ abbrev pub unused_place : Place
 unused_place = record { admissions = 0; stay = None }
 
 -- the place of a row of the roster, which counts as an admission
-abbrev pub place_of_row : Row → Place
+abbrev pub place_of_row : RosterRow → Place
 place_of_row row = record { admissions = 1; stay = Some (new_stay row.0 row.1) }
 
 -- the places before the first line: those of the roster's rows, in their order, and then those that nobody had
-abbrev pub opening_places : List Row → List Place
+abbrev pub opening_places : List RosterRow → List Place
 opening_places roster = map place_of_row roster ++ replicate (most_places - length roster) unused_place
 
 -- whether this is a stay of the tenant of this name
@@ -81,11 +81,11 @@ entered_at at name limits places =
     slice_set places at (record { admissions = admissions + 1; stay = Some (new_stay name limits) })
 
 -- a place as the register knows it
-abbrev pub registered : Place → Registered
+abbrev pub registered : Place → Entry
 registered place = record { tenant = option_map (λ stay. stay.name) place.stay; admissions = place.admissions }
 
 -- which tenant has which of these places, and how often each was given
-abbrev pub register_of : List Place → List Registered
+abbrev pub register_of : List Place → List Entry
 register_of places = map registered places
 
 -- the reply to an admission to the place that the register gives, if it gives one, and the places after it; where
@@ -114,7 +114,7 @@ after_line places (Nothing, mark) = places
 after_line places (Long, mark) = places
 after_line places (Nameless, mark) = places
 after_line places (For name command, mark) = map (commanded name (command, mark)) places
-after_line places (Operator asked, mark) = (obeyed places asked mark).1
+after_line places (Operator request, mark) = (obeyed places request mark).1
 
 -- the places after these lines
 abbrev pub after_lines : List Place → List MarkedLine → List Place

@@ -6,7 +6,7 @@ use Rattle.std.specs.Io.KnownBytes.{Appends, Consumes, IsAtEnd}
 use Rattle.firm_table.specs.Places.{MarkedLine}
 use Rattle.firm_table.specs.Output.{output_of, AreLinesOf}
 use Rattle.firm_text.specs.Lines.{is_line_feed}
-use Rattle.firm_text.specs.Rosters.{Admitted}
+use Rattle.firm_text.specs.Rosters.{RosterRow}
 use Rattle.firm_table.specs.declared.faults.ServeFault.{ServeFault}
 use Rattle.firm_table.specs.declared.faults.ServeFault.TheVariants.{Read, Write, TooLong, Memory}
 
@@ -22,13 +22,13 @@ abbrev pub device : Option (List ℕ) → Option (List ℕ) → Bool → Device
 device before after failed = record { before = before; after = after; failed = failed }
 
 -- what was written is the output for this input, with marks on just the lines whose answer says that memory was refused
-pub record Answers (roster : List Admitted) (input : List ℕ) (written written_after : Option (List ℕ)) : Type 0 where
+pub record Answers (roster : List RosterRow) (input : List ℕ) (written written_after : Option (List ℕ)) : Type 0 where
   pub lines : List MarkedLine
   pub are_lines : AreLinesOf roster input lines
   pub wrote : Appends written written_after (output_of roster lines)
 
 -- what was written is a prefix of such an output
-pub record BeginsAnswers (roster : List Admitted) (input : List ℕ)
+pub record BeginsAnswers (roster : List RosterRow) (input : List ℕ)
     (written written_after : Option (List ℕ)) : Type 0 where
   pub lines : List MarkedLine
   pub are_lines : AreLinesOf roster input lines
@@ -37,7 +37,7 @@ pub record BeginsAnswers (roster : List Admitted) (input : List ℕ)
 
 -- all that was left to read was read, at most so many bytes, what was written is the output for it, and no call has
 -- failed
-pub record Served (roster : List Admitted) (most : ℕ) (reader writer : Device) : Type 0 where
+pub record Served (roster : List RosterRow) (most : ℕ) (reader writer : Device) : Type 0 where
   pub input : List ℕ
   pub read : Consumes reader.before reader.after input
   pub at_end : IsAtEnd reader.after
@@ -62,7 +62,7 @@ AreWholeLines lines rest reader =
 
 -- whole lines and a rest were read, and what was written is a prefix of the output for those lines; the fault has its
 -- cause
-pub record Stopped (roster : List Admitted) (most : ℕ) (reader writer : Device) (fault : ServeFault) : Type 0 where
+pub record Stopped (roster : List RosterRow) (most : ℕ) (reader writer : Device) (fault : ServeFault) : Type 0 where
   pub answered : List ℕ
   pub rest : List ℕ
   pub read : Consumes reader.before reader.after (answered ++ rest)

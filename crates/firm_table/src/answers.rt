@@ -6,7 +6,7 @@ ghost use Rattle.firm_text.specs.OperatorReplies.{text_of_operator_reply};
 ghost use Rattle.firm_text.specs.Replies.{text_of_reply};
 ghost use Rattle.firm_table.specs.Answers.{ended, text_of_answer};
 
-use firm_rules::{Name, Reply};
+use firm_rules::{Name, Outcome, Reply};
 use firm_text::{OperatorReply, put_operator_reply, put_reply};
 use std::alloc::AllocError;
 
@@ -26,6 +26,17 @@ pub enum LineAnswer {
 }
 
 impl LineAnswer {
+    // Whether it is the reply to a round that was solved.
+    pub(crate) fn is_round(&self) -> bool {
+        match self {
+            LineAnswer::Replied(_, reply) => match &reply.outcome {
+                Outcome::Round { .. } => true,
+                _ => false,
+            },
+            _ => false,
+        }
+    }
+
     /// Adds the text of the answer, with its line feed; a silent one has none. Where memory runs out, a part may have
     /// been added.
     pub fn put(&self, output: &mut Vec<u8>) -> Result<(), AllocError>
@@ -52,6 +63,7 @@ fn put_line(output: &mut Vec<u8>, name: Name, reply: &Reply) -> Result<(), Alloc
 }
 
 // Adds a reply to the operator.
+#[inline(never)]
 fn put_operator_line(output: &mut Vec<u8>, reply: OperatorReply) -> Result<(), AllocError>
     ensures kept { StartsWith output.new.items output.old.items }
     ensures added { OnOk result (output.new.items ≡ output.old.items ++ ended (text_of_operator_reply reply)) }

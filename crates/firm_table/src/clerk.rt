@@ -2,7 +2,7 @@
 
 ghost use Rattle.std.specs.Prelude.{◌≡◌, ℕ, ◌++◌, ◌∷◌, List, Option, [], false, OnOk, OnErr, IfErr};
 ghost use Rattle.firm_text.specs.Inputs.{input_lines};
-ghost use Rattle.firm_text.specs.Rosters.{Admitted};
+ghost use Rattle.firm_text.specs.Rosters.{RosterRow};
 ghost use Rattle.firm_table.specs.Service.{Answers, BeginsAnswers};
 ghost use Rattle.firm_table.specs.inner.Faults.{IsWritingFault};
 
@@ -20,7 +20,7 @@ pub trait Clerk {
     ghost kept: { Self → Self.Kept };
 
     /// The rows of the tenants for whom it answers.
-    ghost roster: { Self → List Admitted };
+    ghost roster: { Self → List RosterRow };
 
     /// It can be given a line.
     ghost is_open: { Self → Type 0 };
@@ -53,8 +53,8 @@ pub trait Clerk {
         ensures roster { roster self.new ≡ roster self.old }
         ensures kept { kept self.new ≡ kept self.old };
 
-    /// Writes the answers that are known, up to the first that is missing. Where one is missing it may wait for it until
-    /// the reader is ready.
+    /// Writes the answers that are known, up to the first that is missing. Where one is missing it may wait for it
+    /// until the reader is ready.
     fn write_out<S: Source, W: Sink>(
         &mut self,
         reader: &S,

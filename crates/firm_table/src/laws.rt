@@ -1,6 +1,7 @@
 //! What each tenant of the service may rely on, whatever the others are told.
 
-ghost use Rattle.firm_table.specs.Isolation.{AnswersLineByLine, RepliesAreAlone, StaysAreIsolated};
+ghost use Rattle.firm_table.specs.Isolation.{AdmissionsAreIsolated, AnswersLineByLine, RepliesAreAlone};
+ghost use Rattle.firm_table.specs.Isolation.{StaysAreIsolated};
 ghost use Rattle.firm_table.specs.Isolation.{StaysAreServedAlone, StaysBeginAnew, StaysHoldTheirLines};
 ghost use Rattle.firm_table.specs.Isolation.{TenantsAreIsolated, NeedsNoMarks, MayGoUnmarked};
 ghost use Rattle.firm_table.specs.Histories.{EventsKeepAlone, RowsStay, StaysAreCounted};
@@ -15,15 +16,16 @@ use firm_text::refuses_for_the_form;
 
 /// The laws of isolation, first for lines. Answers come line by line. In each stay a tenant's replies are those of a
 /// service that holds this tenant alone and is given its commands alone, whatever else stands in roster and input. A
-/// tenant is given the commands of its own lines, one of the roster from the first line and one admitted later from its
-/// admission, until the operator retires or admits it again. Where memory is refused to no line, the output is a function
-/// of the roster and of the bytes read.
+/// tenant is given the commands of its own lines: one of the roster from the first line, one admitted later from its
+/// admission, each until a line of the operator for it is obeyed; a refused line changes nothing. So two services that
+/// agree on a tenant's limits and on these lines give it the same replies. Where memory is refused to no line, the
+/// output is a function of the roster and of the bytes read.
 ///
 /// Then for every list of the table's events, and for each stay at a place, earlier ones too: the replies are the first
-/// replies of a tenant alone with the same limits to the same commands, and all of them once the stay has ended or while
-/// the tenant is home. No stay is left out; where nobody comes or goes they are those of the roster's rows. Two stays
-/// with the same limits that agree up to a command have the same reply to it, where both have one, whatever events of
-/// others stand between and whoever had the place before.
+/// replies of a tenant alone with the same limits to the same commands, and all of them once the stay has ended or
+/// while the tenant is home. No stay is left out; where nobody comes or goes they are those of the roster's rows. Two
+/// stays with the same limits that agree up to a command have the same reply to it, where both have one, whatever
+/// events of others stand between and whoever had the place before.
 pub fn isolation()
     ensures line_by_line { AnswersLineByLine }
     ensures alone { RepliesAreAlone }
@@ -32,6 +34,7 @@ pub fn isolation()
     ensures lines { StaysHoldTheirLines }
     ensures anew { StaysBeginAnew }
     ensures tenants { TenantsAreIsolated }
+    ensures admissions { AdmissionsAreIsolated }
     ensures no_marks { NeedsNoMarks }
     ensures unmarked { MayGoUnmarked }
     ensures events { EventsKeepAlone }

@@ -12,6 +12,7 @@ mod seats;
 mod serving;
 mod table;
 mod tenants;
+mod watching;
 mod writing;
 
 pub use answers::LineAnswer;
@@ -19,7 +20,8 @@ pub use clerk::Clerk;
 pub use events::{Answer, Event};
 pub use faults::ServeFault;
 pub use laws::{answers_add_up, isolation};
-pub use reading::serve_lines;
+pub use reading::{MOST_INPUT, serve_lines};
 pub use serving::serve_one;
 pub use table::Table;
+pub use watching::{Watcher, serve_watched};
 pub use writing::write_held;

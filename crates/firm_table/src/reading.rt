@@ -12,6 +12,9 @@ use crate::clerk::Clerk;
 use crate::faults::ServeFault;
 use firm_text::{Cutter, Sink, Source};
 
+/// The most bytes of input that a service takes: 2^32.
+pub const MOST_INPUT: u64 = 4_294_967_296;
+
 /// How many bytes one read asks for.
 const PIECE: usize = 4_096;
 

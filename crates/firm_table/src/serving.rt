@@ -11,6 +11,7 @@ use crate::faults::ServeFault;
 use crate::reading::serve_lines;
 use crate::tenants::Tenants;
 use crate::writing::write_held;
+use firm_rules::{Name, Rows};
 use firm_tenant::unmarked_steps_are_granted;
 use firm_text::{Line, Roster, Sink, Source, refuses_for_the_form};
 use std::alloc::{AllocError, Global};
@@ -62,7 +63,7 @@ pub(crate) struct Service<'a> {
 }
 
 impl<'a> Service<'a> {
-    fn open(alloc: Global, roster: &'a Roster) -> Result<Service<'a>, AllocError>
+    pub(crate) fn open(alloc: Global, roster: &'a Roster) -> Result<Service<'a>, AllocError>
         ensures { IfOk result (λ service. state_of service ≡ state_is roster.now (opening_tenants roster.now) []) }
     {
         Ok(Service {
@@ -71,6 +72,16 @@ impl<'a> Service<'a> {
             tenants: Tenants::open(alloc, roster)?,
             output: Vec::new(alloc),
         })
+    }
+
+    // Whether the last line was answered by a round that was solved.
+    pub(crate) fn has_solved(&self) -> bool {
+        self.tenants.has_solved()
+    }
+
+    // The rows of the tenant of this name, if it is there.
+    pub(crate) fn rows_of(&self, name: Name) -> Option<&Rows> {
+        self.tenants.rows_of(name)
     }
 }
 

@@ -15,8 +15,8 @@ use std::alloc::{AllocError, Global};
 use std::collections::VecDeque;
 use std::marker::Model;
 
-/// The 64 places of a service, each empty or with a tenant, the queue of the tenants' rounds, and the workers that solve
-/// these.
+/// The 64 places of a service, each empty or with a tenant, the queue of the tenants' rounds, and the workers that
+/// solve these.
 #[derive(Drop)]
 pub struct Table {
     workers: usize,
@@ -41,7 +41,8 @@ impl Model for Table {
 
 impl Table {
     /// The tenants of the roster, admitted in its order, all of them home, with 1 to 8 workers and an empty queue; the
-    /// other places are empty. All memory that the table itself needs is taken here; the error comes for want of it alone.
+    /// other places are empty. All memory that the table itself needs is taken here; the error comes for want of it
+    /// alone.
     pub fn open(alloc: Global, roster: &Roster, workers: usize) -> Result<Table, AllocError>
         requires some { 1 ≤ workers }
         requires few { workers ≤ 8 }
@@ -57,8 +58,8 @@ impl Table {
 
     /// What happens next, and what it is answered: `NotNow` exactly where the event does not fit, which then changes
     /// nothing; nor does an admission that is answered `NoMemory`, since memory was refused to it. A place is given at
-    /// most 32,768 times, a row of the roster counting as once. The allocator is for the list in a reply, and for a tenant
-    /// that is admitted.
+    /// most 32,768 times, a row of the roster counting as once. The allocator is for the list in a reply, and for a
+    /// tenant that is admitted.
     pub fn event(&mut self, alloc: Global, event: Event) -> Answer
         ensures stepped { IsStep self.old event result self.new }
         ensures not_now { (result ≡ Answer.NotNow) ↔ (fits self.old event ≡ false) }

@@ -1,15 +1,15 @@
 //! The tenants of a service at their places, and the answer to one line for them.
 
-ghost use Rattle.std.specs.Prelude.{◌≡◌, Some, IfOk, MatchOption, OnOk, option_map, slice_get};
+ghost use Rattle.std.specs.Prelude.{◌≡◌, Some, IfOk, OnOk, option_map, slice_get};
 ghost use Rattle.std.specs.Io.{StartsWith};
 ghost use Rattle.firm_rules.specs.Book.{opening_book};
 ghost use Rattle.firm_text.specs.declared.inputs.Line.TheVariants.{For, Operator};
 ghost use Rattle.firm_text.specs.declared.operator.OperatorLine.TheVariants.{Admit, Retire};
-ghost use Rattle.firm_table.specs.declared.answers.LineAnswer.TheVariants.{Replied, ToOperator, UnknownTenant};
+ghost use Rattle.firm_table.specs.declared.answers.LineAnswer.TheVariants.{ToOperator};
 ghost use Rattle.firm_table.specs.inner.Line.{IsAnswer, IsRight, opening_books, opening_tenants};
 
 use crate::answers::LineAnswer;
-use firm_rules::{Command, Limits, Name, Reply};
+use firm_rules::{Command, Limits, Name, Reply, Rows};
 use firm_tenant::Tenant;
 use firm_text::{Line, OperatorLine, OperatorRefusal, OperatorReply, PLACES, Register, Roster};
 use std::alloc::{AllocError, Global};
@@ -20,6 +20,8 @@ use std::marker::Model;
 pub struct Tenants {
     register: Register,
     places: Vec<Option<Tenant>>,
+    // Whether the last answer is that of a round that was solved.
+    has_solved: bool,
 }
 
 impl Model for Tenants {
@@ -42,11 +44,12 @@ impl Tenants {
         Ok(Tenants {
             register: Register::of(roster),
             places: admit_all(alloc, roster)?,
+            has_solved: false,
         })
     }
 
-    /// Adds the answer to a line. An error comes where no memory was granted for its text, of which a part may have been
-    /// added.
+    /// Adds the answer to a line. An error comes where no memory was granted for its text, of which a part may have
+    /// been added.
     pub fn put_answer(
         &mut self,
         alloc: Global,
@@ -56,7 +59,22 @@ impl Tenants {
         ensures kept { StartsWith output.new.items output.old.items }
         ensures answered { OnOk result (IsAnswer self.old self.new line output.old.items output.new.items) }
     {
-        self.answer(alloc, line).put(output)
+        let answer = self.answer(alloc, line);
+        self.has_solved = answer.is_round();
+        answer.put(output)
+    }
+
+    /// Whether the last answer is that of a round that was solved.
+    pub fn has_solved(&self) -> bool {
+        self.has_solved
+    }
+
+    /// The machines, jobs and tasks of the tenant of this name, if it is there.
+    pub fn rows_of(&self, name: Name) -> Option<&Rows> {
+        match self.places.get(self.register.place_of(name)?) {
+            Some(Some(tenant)) => Some(tenant.rows()),
+            _ => None,
+        }
     }
 
     // The answer to a line.
@@ -67,31 +85,30 @@ impl Tenants {
             Line::Nothing => LineAnswer::Silent,
             Line::Long => LineAnswer::LineTooLong,
             Line::Nameless => LineAnswer::UnknownTenant,
-            Line::For(name, command) => match self.step(alloc, name, command) {
-                None => LineAnswer::UnknownTenant,
-                Some(reply) => LineAnswer::Replied(name, reply),
-            },
-            Line::Operator(asked) => LineAnswer::ToOperator(self.obey(alloc, asked)),
+            Line::For(name, command) => self.step(alloc, name, command),
+            Line::Operator(request) => LineAnswer::ToOperator(self.obey(alloc, request)),
         }
     }
 
-    // The reply of the tenant of this name to a command. None where it is not there.
-    fn step(&mut self, alloc: Global, name: Name, command: Command) -> Option<Reply>
-        ensures { MatchOption result (IsRight self.old self.new (For name command) UnknownTenant)
-            (λ reply. IsRight self.old self.new (For name command) (Replied name reply)) }
+    // The answer to a command for the tenant of this name.
+    fn step(&mut self, alloc: Global, name: Name, command: Command) -> LineAnswer
+        ensures { IsRight self.old self.new (For name command) result }
     {
-        let place = self.register.place_of(name)?;
+        let Some(place) = self.register.place_of(name) else {
+            return LineAnswer::UnknownTenant;
+        };
         let Some(tenant) = &mut self.places[place] else {
             unreachable!()
         };
-        Some(tenant.step(alloc, command))
+        LineAnswer::Replied(name, tenant.step(alloc, command))
     }
 
-    // Does what the operator asks for, where it can be done.
-    fn obey(&mut self, alloc: Global, asked: OperatorLine) -> OperatorReply
-        ensures { IsRight self.old self.new (Operator asked) (ToOperator result) }
+    // Does what the operator asks for, where it can be done. A tenant's line does not pay for its locals.
+    #[inline(never)]
+    fn obey(&mut self, alloc: Global, request: OperatorLine) -> OperatorReply
+        ensures { IsRight self.old self.new (Operator request) (ToOperator result) }
     {
-        match asked {
+        match request {
             OperatorLine::Admit(name, limits) => self.admit(alloc, name, limits),
             OperatorLine::Retire(name) => self.retire(name),
             OperatorLine::Faulty(refusal) => OperatorReply::Refused(refusal),

@@ -1,3 +1,4 @@
+pub mod Counted
 pub mod Steps
 mod Examples
 mod RoundExamples

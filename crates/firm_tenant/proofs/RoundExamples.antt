@@ -91,7 +91,8 @@ again = refl
 -- two tasks whose waits take turns on one slot; the third round is a tie
 turns : replies (tenant 8 30 100 0 0)
     (AddMachine (codes "m1") 1 ∷ AddJob (codes "light") 1 ∷ AddJob (codes "heavy") 3
-    ∷ AddTask (codes "light") (codes "x") [] ∷ AddTask (codes "heavy") (codes "y") [] ∷ Round ∷ Round ∷ Round ∷ Round ∷ [])
+    ∷ AddTask (codes "light") (codes "x") [] ∷ AddTask (codes "heavy") (codes "y") []
+    ∷ Round ∷ Round ∷ Round ∷ Round ∷ [])
     ≡ outcomes 1 (Plain ∷ Plain ∷ Plain ∷ Plain ∷ Plain
     ∷ Rounded (pos 1) (Start (codes "y") (codes "m1") ∷ []) ∷ Rounded (pos 2) []
     ∷ Rounded (pos 3) (Start (codes "x") (codes "m1") ∷ Preempt (codes "y") (codes "m1") ∷ [])

@@ -66,7 +66,8 @@ effect-reads book (AddJob name weight) =
 effect-reads book (AddTask job name preferred) =
     either (not (are_machines book.rows preferred)) _ _ refl
     (either (not (is_among (job_names book.rows) job)) _ _ refl
-    (either (is_among (task_names book.rows) name) _ _ refl (grown-reads book (with_task book.rows job name preferred))))
+    (either (is_among (task_names book.rows) name) _ _ refl
+    (grown-reads book (with_task book.rows job name preferred))))
 effect-reads book (Drain name) = either (not (is_among (machine_names book.rows) name)) _ (λ _. _) refl (unread _ refl)
 effect-reads book (CloseJob name) =
     either (not (is_among (job_names book.rows) name)) _ (λ _. _) refl

@@ -1,19 +1,32 @@
--- A tenant's book without its count of commands, and how many rows were asked for and added.
-use Rattle.std.specs.Prelude.{◌≡◌, ℕ, ℤ, List, pos}
+-- A tenant's book without its count of commands, how many rows were asked for and added, and the workspace of its
+-- rounds.
+use Rattle.std.specs.Prelude.{◌≡◌, ℕ, ℤ, ◌+◌, ◌*◌, ◌≤◌, List, [], length, pos}
+use Rattle.firm_paths.specs.Workspace.{Workspace, HasCounted}
+use Rattle.firm_rules.specs.ArenaUse.{arena_arcs}
 use Rattle.firm_rules.specs.Limits.{TenantLimits}
-use Rattle.firm_rules.specs.Book.{TenantRows, Book}
+use Rattle.firm_rules.specs.Book.{TenantRows, Book, opening_rows}
 use Rattle.firm_rules.specs.Placement.{placement_cost}
 use Rattle.firm_rules.specs.Round.{case_of, changes_made, rows_after}
 use Rattle.firm_rules.specs.Recent.{with_cost}
+use Rattle.firm_rules.specs.declared.commands.Command.{Command}
+use Rattle.firm_rules.specs.declared.commands.Command.TheVariants.{Round as RoundCommand}
 use Rattle.firm_rules.specs.declared.rounds.Choice.{Choice}
 use Rattle.firm_rules.specs.declared.replies.Outcome.{Outcome}
 use Rattle.firm_rules.specs.declared.replies.Outcome.TheVariants.{Round}
 
--- the rows, the costs of the last rounds, and how many rows were ever added
+-- the rows, the costs of the last rounds, how many rows were ever added, and what the workspace counts
 pub record Pool : Type 0 where
   pub rows : TenantRows
   pub costs : List ℤ
   pub asked : ℕ
+  pub workspace : Workspace
+
+-- the pool of a tenant with these limits that has nothing yet, and whose workspace has counted nothing
+pub record IsOpeningPool (limits : TenantLimits) (pool : Pool) : Type 0 where
+  pub rows : pool.rows ≡ opening_rows limits
+  pub costs : pool.costs ≡ []
+  pub asked : pool.asked ≡ 0
+  pub counts : (pool.workspace.begins ≡ 0) × (pool.workspace.searches ≡ 0) × (pool.workspace.looks ≡ 0)
 
 -- the book of a tenant with this pool that was given so many commands
 abbrev pub book_of : Pool → ℕ → Book
@@ -30,3 +43,16 @@ placed_in pool placement =
 -- room for a net of so many nodes and arcs is room for the net of a tenant with these limits
 abbrev pub IsMadeFor : ℕ × ℕ → TenantLimits → Type 0
 IsMadeFor room limits = room ≡ (limits.nodes, limits.arcs)
+
+-- a choice was begun once: what is counted since then are its searches, of which there are few, with at most two looks
+-- for each arc
+pub record HasBegunOnce (old new : Pool) : Type 0 where
+  pub begins : HasCounted old.workspace.begins new.workspace.begins 1
+  pub searches : new.workspace.searches ≤ length old.rows.tasks * (length old.rows.machines + 4)
+  pub looks : new.workspace.looks
+      ≤ length old.rows.tasks * (length old.rows.machines + 4) * (2 * arena_arcs old.rows)
+
+-- what a command counts: a round begins once, and no other command changes what is counted
+abbrev pub HasCountedFor : Command → Pool → Pool → Type 0
+HasCountedFor RoundCommand old new = HasBegunOnce old new
+HasCountedFor _ old new = new.workspace ≡ old.workspace

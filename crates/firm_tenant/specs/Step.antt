@@ -58,8 +58,8 @@ found book None = refused book NoSuchTask
 found book (Some task) = (whereabouts task, book)
 
 -- what a placement costs and changes, and the book after it, with the cost as the newest of 8
-abbrev pub placed : Book → List Choice → Outcome × Book
-placed book placement =
+abbrev pub round_effect : Book → List Choice → Outcome × Book
+round_effect book placement =
     let cost : ℤ = pos (placement_cost (case_of book.rows) placement) in (
       Round cost (changes_made book.rows placement),
       record book { rows = rows_after book.rows placement; costs = with_cost book.costs cost },
@@ -92,7 +92,7 @@ effect book (Find name) mark = found book (task_named book.rows name)
 effect book Show mark = (counts_of book.rows, book)
 effect book CostsCommand mark = (Costs book.costs, book)
 effect book RoundCommand mark =
-    if mark then refused book Memory else placed book (round_placement (case_of book.rows))
+    if mark then refused book Memory else round_effect book (round_placement (case_of book.rows))
 effect book (Faulty fault) mark = refused book (fault_refusal fault)
 
 -- the book with one more command given

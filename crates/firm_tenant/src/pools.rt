@@ -1,12 +1,11 @@
 //! The pool of a tenant: its graph and the costs of its rounds, and what each command makes of them.
-ghost use Rattle.std.specs.Prelude.{◌≡◌, ◌+◌, ◌^◌, ◌<◌, ◌≤◌, ℕ, true, IfOk, MatchResult, [], length};
+ghost use Rattle.std.specs.Prelude.{◌≡◌, ◌+◌, ◌^◌, ◌<◌, ◌≤◌, ℕ, true, IfOk, MatchResult, length};
 ghost use Rattle.firm_paths.specs.NetArcs.{limits_of};
-ghost use Rattle.firm_rules.specs.Book.{opening_rows};
 ghost use Rattle.firm_rules.specs.Placement.{is_legal};
 ghost use Rattle.firm_rules.specs.Round.{case_of, round_placement};
 ghost use Rattle.firm_tenant.specs.Step.{effect, counts_of, is_memory_outcome};
 ghost use Rattle.firm_tenant.specs.Parts.{outcome_of, plain_or};
-ghost use Rattle.firm_tenant.specs.Pools.{book_of, placed_in};
+ghost use Rattle.firm_tenant.specs.Pools.{book_of, IsOpeningPool, placed_in, HasBegunOnce, HasCountedFor};
 
 use circular_buffer::HeapCircularBuffer;
 use firm_canon::first_best;
@@ -37,7 +36,12 @@ impl Model for Pool {
 
     ghost Value = { PoolRows };
 
-    ghost view = { λ p. record { rows = p.graph.rows; costs = p.costs.items; asked = p.graph.asked } };
+    ghost view = { λ p. record {
+      rows = p.graph.rows;
+      costs = p.costs.items;
+      asked = p.graph.asked;
+      workspace = p.scratch;
+    } };
 
     ghost invariant = { λ p. (p.costs.capacity ≡ 8) × IsMadeFor p.prices.limits p.graph.rows.limits
         × IsMadeFor p.scratch.limits p.graph.rows.limits };
@@ -47,7 +51,7 @@ impl Pool {
     /// The pool of a tenant that has nothing yet, with all the memory of its net. The error comes only where memory is
     /// refused.
     pub(crate) fn open(alloc: Global, limits: Limits) -> Result<Pool, AllocError>
-        ensures { IfOk result (λ pool. pool ≡ record { rows = opening_rows limits; costs = []; asked = 0 }) }
+        ensures { IfOk result (IsOpeningPool limits) }
     {
         let costs = HeapCircularBuffer::with_capacity(alloc, MOST_COSTS)?;
         let graph = Graph::open(alloc, limits)?;
@@ -69,7 +73,8 @@ impl Pool {
 
     /// The workspace of the rounds.
     pub(crate) fn scratch(&self) -> &Scratch
-        ensures { result.now.limits ≡ (self.now.rows.limits.nodes, self.now.rows.limits.arcs) }
+        ensures counts { result.now ≡ self.now.workspace }
+        ensures limits { result.now.limits ≡ (self.now.rows.limits.nodes, self.now.rows.limits.arcs) }
     {
         &self.scratch
     }
@@ -80,6 +85,7 @@ impl Pool {
         ensures effect { (given : ℕ) → (result, book_of self.new given)
             ≡ effect (book_of self.old given) command (is_memory_outcome result) }
         ensures asked { self.new.asked ≤ self.old.asked + 1 }
+        ensures counts { HasCountedFor command self.old self.new }
     {
         match self.obey(alloc, command) {
             Ok(outcome) => outcome,
@@ -92,6 +98,7 @@ impl Pool {
         ensures effect { (given : ℕ) → (outcome_of result, book_of self.new given)
             ≡ effect (book_of self.old given) command (is_memory_outcome (outcome_of result)) }
         ensures asked { self.new.asked ≤ self.old.asked + 1 }
+        ensures counts { HasCountedFor command self.old self.new }
     {
         match command {
             Command::AddMachine(name, slots) => self.add_machine(alloc, name, slots),
@@ -113,6 +120,7 @@ impl Pool {
         ensures effect { (given : ℕ) → (outcome_of result, book_of self.new given)
             ≡ effect (book_of self.old given) (Command.AddMachine name slots) (is_memory_outcome (outcome_of result)) }
         ensures asked { self.new.asked ≤ self.old.asked + 1 }
+        ensures counts { self.new.workspace ≡ self.old.workspace }
     {
         if self.graph.rows().has_machine(name) {
             return Err(Refusal::MachineExists);
@@ -125,6 +133,7 @@ impl Pool {
         ensures effect { (given : ℕ) → (outcome_of result, book_of self.new given)
             ≡ effect (book_of self.old given) (Command.AddJob name weight) (is_memory_outcome (outcome_of result)) }
         ensures asked { self.new.asked ≤ self.old.asked + 1 }
+        ensures counts { self.new.workspace ≡ self.old.workspace }
     {
         if self.graph.rows().has_job(name) {
             return Err(Refusal::JobExists);
@@ -138,6 +147,7 @@ impl Pool {
             ≡ effect (book_of self.old given) (Command.AddTask job name preferred)
             (is_memory_outcome (outcome_of result)) }
         ensures asked { self.new.asked ≤ self.old.asked + 1 }
+        ensures counts { self.new.workspace ≡ self.old.workspace }
     {
         if !self.graph.rows().has_machines(preferred.as_slice()) {
             return Err(Refusal::NoSuchMachine);
@@ -155,6 +165,7 @@ impl Pool {
         ensures effect { (given : ℕ) → (outcome_of result, book_of self.new given)
             ≡ effect (book_of self.old given) (Command.Drain name) (is_memory_outcome (outcome_of result)) }
         ensures asked { self.new.asked ≡ self.old.asked }
+        ensures counts { self.new.workspace ≡ self.old.workspace }
     {
         if !self.graph.rows().has_machine(name) {
             return Err(Refusal::NoSuchMachine);
@@ -166,6 +177,7 @@ impl Pool {
         ensures effect { (given : ℕ) → (outcome_of result, book_of self.new given)
             ≡ effect (book_of self.old given) (Command.CloseJob name) (is_memory_outcome (outcome_of result)) }
         ensures asked { self.new.asked ≡ self.old.asked }
+        ensures counts { self.new.workspace ≡ self.old.workspace }
     {
         if !self.graph.rows().has_job(name) {
             return Err(Refusal::NoSuchJob);
@@ -181,6 +193,7 @@ impl Pool {
         ensures effect { (given : ℕ) → (outcome_of result, book_of self.new given)
             ≡ effect (book_of self.old given) (Command.Done name) (is_memory_outcome (outcome_of result)) }
         ensures asked { self.new.asked ≡ self.old.asked }
+        ensures counts { self.new.workspace ≡ self.old.workspace }
     {
         if !self.graph.rows().has_task(name) {
             return Err(Refusal::NoSuchTask);
@@ -203,19 +216,24 @@ impl Pool {
         }
     }
 
-    // Places the tasks anew: the first of the least placements becomes the tenant's own.
+    // Places the tasks anew: the first of the least placements becomes the tenant's own. Other commands do not pay for
+    // its locals.
+    #[inline(never)]
     fn round(&mut self, alloc: Global) -> Result<Outcome, Refusal>
         ensures effect { (given : ℕ) → (outcome_of result, book_of self.new given)
             ≡ effect (book_of self.old given) Command.Round (is_memory_outcome (outcome_of result)) }
         ensures asked { self.new.asked ≡ self.old.asked }
+        ensures counts { HasBegunOnce self.old self.new }
     {
         let placement = self.choose(alloc)?;
         Ok(self.place(alloc, &placement)?)
     }
 
-    // The placement of the round. The net carries its flow afterwards, and the rows are as they were.
+    // The placement of the round. The net carries its flow afterwards, the workspace counts what was searched for, and
+    // all else is as it was.
     fn choose(&mut self, alloc: Global) -> Result<Vec<Choice>, AllocError>
-        ensures same { self.new ≡ self.old }
+        ensures same { self.new ≡ record self.old { workspace = self.new.workspace } }
+        ensures counts { HasBegunOnce self.old self.new }
         ensures round { IfOk result (λ placement. placement.items ≡ round_placement (case_of self.old.rows)) }
         ensures legal { IfOk result (λ placement. is_legal (case_of self.old.rows) placement.items ≡ true) }
     {
@@ -272,7 +290,8 @@ impl Pool {
 
 // The workspace of the rounds of a net.
 fn workspace(alloc: Global, net: &Net) -> Result<(Prices, Scratch), AllocError>
-    ensures { IfOk result (λ made. (made.0.limits ≡ limits_of net.now) × (made.1.limits ≡ limits_of net.now)) }
+    ensures limits { IfOk result (λ made. (made.0.limits ≡ limits_of net.now) × (made.1.limits ≡ limits_of net.now)) }
+    ensures counts { IfOk result (λ made. (made.1.begins ≡ 0) × (made.1.searches ≡ 0) × (made.1.looks ≡ 0)) }
 {
     let prices = Prices::new(alloc, net)?;
     Ok((prices, Scratch::new(alloc, net)?))

@@ -13,7 +13,7 @@ use Rattle.firm_text.specs.Lines.{words}
 use Rattle.firm_text.specs.OperatorLines.{admit_line, is_comma, line_or_fault, operator_line_of}
 use Rattle.firm_text.specs.OperatorLines.{operator_word, retire_line, row_refusal}
 use Rattle.firm_text.specs.OperatorRefusals.{operator_code}
-use Rattle.firm_text.specs.Rosters.{Admitted, tenant_told}
+use Rattle.firm_text.specs.Rosters.{RosterRow, tenant_told}
 use Rattle.firm_text.specs.declared.faults.RosterFault.{RosterFault}
 use Rattle.firm_text.specs.declared.faults.RosterFault.TheVariants as fault
 use Rattle.firm_text.specs.declared.inputs.Line.{Line}
@@ -44,7 +44,7 @@ formal_admit : (rest : List (List ℕ)) → IsFormal (Operator (line_or_fault (a
 formal_admit [] = omega arith
 formal_admit (row ∷ []) = told (tenant_told (slice_split is_comma row))
   where
-    told : (tenant : Result Admitted RosterFault)
+    told : (tenant : Result RosterRow RosterFault)
         → IsFormal (Operator (line_or_fault
         (result_map_both (λ t. t) row_refusal tenant >>= (λ t. Ok (Admit t.0 t.1)))))
     told (Ok tenant) = tt

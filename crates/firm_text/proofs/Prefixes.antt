@@ -8,5 +8,7 @@ use Rattle.std.proofs.KnownBytes.{Appends-trans}
 
 -- the next m bytes are written behind the first n
 pub Appends-more : (a b c : Option (List ℕ)) (n m : ℕ) (bytes : List ℕ)
-    → Appends a b (take n bytes) → Appends b c (take m (take (length bytes - n) (drop n bytes))) → Appends a c (take (n + m) bytes)
-Appends-more a b c n m bytes p q = subst (Appends a c) (sym (take-add n m bytes)) (Appends-trans a b c _ _ p (rw take_rest at q))
+    → Appends a b (take n bytes) → Appends b c (take m (take (length bytes - n) (drop n bytes)))
+    → Appends a c (take (n + m) bytes)
+Appends-more a b c n m bytes p q = subst (Appends a c) (sym (take-add n m bytes))
+    (Appends-trans a b c _ _ p (rw take_rest at q))

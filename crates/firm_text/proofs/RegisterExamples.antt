@@ -5,13 +5,13 @@ use Rattle.firm_rules.specs.Limits.{TenantLimits}
 use Rattle.firm_text.specs.Registers.{admissions_at, first_places, most_admissions, occupied, place_for, place_in}
 use Rattle.firm_text.specs.Registers.{vacant, with_tenant, without_tenant}
 use Rattle.firm_text.specs.declared.operator.OperatorRefusal.TheVariants.{TenantExists, Full}
-use Rattle.firm_text.specs.declared.registers.Place.{Place}
+use Rattle.firm_text.specs.declared.registers.Entry.{Entry}
 
 abbrev limits : TenantLimits
 limits = record { nodes = 2; arcs = 0; life = 1; spread = 0; churn = 0; remote = 0 }
 
 -- a service that begins with the tenants a and b
-abbrev places : List Place
+abbrev places : List Entry
 places = first_places ((codes "a", limits) ∷ (codes "b", limits) ∷ [])
 
 sixty_four : length places ≡ 64

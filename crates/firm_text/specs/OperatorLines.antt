@@ -5,7 +5,7 @@ use Rattle.std.specs.Option.{ok_or}
 use Rattle.std.specs.Result.{result_map_both}
 use Rattle.firm_rules.specs.Names.{name_of}
 use Rattle.firm_text.specs.Commands.{◌>>=◌}
-use Rattle.firm_text.specs.Rosters.{Admitted, tenant_told}
+use Rattle.firm_text.specs.Rosters.{RosterRow, tenant_told}
 use Rattle.firm_text.specs.declared.faults.RosterFault.{RosterFault}
 use Rattle.firm_text.specs.declared.faults.RosterFault.TheVariants.{BadName as RowName, BadNumber as RowNumber}
 use Rattle.firm_text.specs.declared.operator.OperatorLine.{OperatorLine}
@@ -29,7 +29,7 @@ row_refusal RowNumber = BadNumber
 row_refusal _ = BadRow
 
 -- the tenant that a row tells, whose fields stand between commas, or what is wrong with it
-abbrev pub row_told : List ℕ → Result Admitted OperatorRefusal
+abbrev pub row_told : List ℕ → Result RosterRow OperatorRefusal
 row_told row = result_map_both (λ tenant. tenant) row_refusal (tenant_told (slice_split is_comma row))
 
 -- `admit ROW`

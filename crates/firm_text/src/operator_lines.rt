@@ -2,7 +2,8 @@
 
 ghost use Rattle.std.specs.Prelude.{◌≡◌};
 ghost use Rattle.firm_text.specs.Lines.{words};
-ghost use Rattle.firm_text.specs.OperatorLines.{admit_line, operator_line_of, operator_verb, retire_line, row_refusal, row_told};
+ghost use Rattle.firm_text.specs.OperatorLines.{admit_line, operator_line_of, operator_verb, retire_line, row_refusal};
+ghost use Rattle.firm_text.specs.OperatorLines.{row_told};
 
 use crate::admission::told_tenant;
 use crate::commands::is_word;
@@ -12,7 +13,8 @@ use crate::rows::row_fields;
 use crate::words::{next_word, only_word};
 use firm_rules::{Limits, Name};
 
-/// What the words after the operator's `+` ask for.
+/// What the words after the operator's `+` ask for. A tenant's line does not pay for its locals.
+#[inline(never)]
 pub fn operator_line(line: &[u8]) -> OperatorLine
     ensures { result ≡ operator_line_of (words line.now) }
 {

@@ -1,9 +1,10 @@
 //! Which tenant has which place while tenants are admitted and retired.
 ghost use Rattle.std.specs.Prelude.{◌≡◌, ◌<◌, ℕ, List, IfOk, IfSome, OnErr, position};
 ghost use Rattle.std.specs.Option.{ok_or};
-ghost use Rattle.firm_text.specs.Registers.{AreSound, IsAdmission, first_places, is_free, is_named, most_places};
+ghost use Rattle.firm_text.specs.Registers.{AreSound, IsAdmission, first_places, is_free, is_named};
+ghost use Rattle.firm_text.specs.Rosters.{most_places};
 ghost use Rattle.firm_text.specs.Registers.{place_for, place_in, with_tenant, without_tenant};
-ghost use Rattle.firm_text.specs.declared.registers.Place.{Place};
+ghost use Rattle.firm_text.specs.declared.registers.Entry.{Entry};
 ghost use Rattle.firm_text.specs.declared.operator.OperatorRefusal.TheVariants.{NoSuchTenant};
 
 use crate::operator::OperatorRefusal;
@@ -17,9 +18,9 @@ pub const PLACES: usize = 64;
 /// A place is given at most this often, a roster's row included.
 pub const MOST_ADMISSIONS: u32 = 32_768;
 
-/// A place, the tenant that has it, and how often it was given.
+/// The entry of a place: the tenant that has it, and how often it was given.
 #[derive(Clone, Copy, Debug, PartialEq, Eq)]
-pub struct Place {
+pub struct Entry {
     tenant: Option<Name>,
     admissions: u32,
 }
@@ -27,14 +28,14 @@ pub struct Place {
 /// The 64 places of a service: which tenant has which, and how often each was given. None of its calls takes memory.
 #[derive(Drop)]
 pub struct Register {
-    places: [Place; PLACES],
+    places: [Entry; PLACES],
 }
 
 impl Model for Register {
     ghost use Rattle.std.specs.Prelude.{List};
-    ghost use Rattle.firm_text.specs.declared.registers.Place.{Place};
+    ghost use Rattle.firm_text.specs.declared.registers.Entry.{Entry};
 
-    ghost Value = { List Place };
+    ghost Value = { List Entry };
 
     ghost use Rattle.firm_text.specs.Registers.{AreSound};
 
@@ -48,10 +49,10 @@ impl Register {
     pub fn of(roster: &Roster) -> Register
         ensures { result ≡ first_places roster.now }
     {
-        let mut places = [Place::EMPTY; PLACES];
+        let mut places = [Entry::EMPTY; PLACES];
         for at in 0..roster.len() {
             let (name, _limits) = roster.get(at).unwrap();
-            places[at] = Place {
+            places[at] = Entry {
                 tenant: Some(name),
                 admissions: 1,
             };
@@ -81,7 +82,7 @@ impl Register {
             return Err(OperatorRefusal::TenantExists);
         }
         let at = self.free_place().ok_or(OperatorRefusal::Full)?;
-        self.places[at] = Place {
+        self.places[at] = Entry {
             tenant: Some(name),
             admissions: self.places[at].admissions + 1,
         };
@@ -104,11 +105,11 @@ impl Register {
 
     /// Takes back the admission to this place, its count too. It asks that this admission was the last change.
     pub fn undo(&mut self, place: usize)
-        requires { (before : List Place) × (name : List ℕ) × IsAdmission before name place self.old }
-        ensures { (before : List Place) (name : List ℕ) → IsAdmission before name place self.old → self.new ≡ before }
+        requires { (before : List Entry) × (name : List ℕ) × IsAdmission before name place self.old }
+        ensures { (before : List Entry) (name : List ℕ) → IsAdmission before name place self.old → self.new ≡ before }
     {
         let places = &mut self.places;
-        places[place] = Place {
+        places[place] = Entry {
             tenant: None,
             admissions: places[place].admissions - 1,
         };
@@ -121,8 +122,8 @@ impl Register {
     }
 }
 
-impl Place {
-    const EMPTY: Place = Place {
+impl Entry {
+    const EMPTY: Entry = Entry {
         tenant: None,
         admissions: 0,
     };

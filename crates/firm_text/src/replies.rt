@@ -5,7 +5,8 @@ ghost use Rattle.std.specs.List.{flat_map};
 ghost use Rattle.std.specs.Io.{StartsWith};
 ghost use Rattle.std.specs.Fmt.{decimal, signed_decimal};
 ghost use Rattle.firm_text.specs.OperatorReplies.{operator_reply_words, text_of_operator_reply};
-ghost use Rattle.firm_text.specs.Replies.{text_of_reply, outcome_words, change_words, rows_words, use_words, labelled, spaced};
+ghost use Rattle.firm_text.specs.Replies.{text_of_reply, outcome_words, change_words, rows_words, use_words, labelled};
+ghost use Rattle.firm_text.specs.Replies.{spaced};
 
 use crate::operator::OperatorReply;
 use firm_rules::{Change, Name, Outcome, Reply};
@@ -32,7 +33,8 @@ pub fn put_reply(text: &mut Vec<u8>, tenant: Name, reply: &Reply) -> Result<(), 
     put_outcome(text, &reply.outcome)
 }
 
-/// Adds the line of a reply to the operator, without its line feed. Where memory runs out, some bytes may have been added.
+/// Adds the line of a reply to the operator, without its line feed. Where memory runs out, some bytes may have been
+/// added.
 #[tactic(auto, using(crate::proofs::Puts::kept_trans))]
 pub fn put_operator_reply(text: &mut Vec<u8>, reply: OperatorReply) -> Result<(), AllocError>
     ensures kept { StartsWith text.new.items text.old.items }
@@ -102,7 +104,8 @@ fn put_outcome(text: &mut Vec<u8>, outcome: &Outcome) -> Result<(), AllocError>
 #[tactic(auto, using(crate::proofs::Puts::kept_trans))]
 fn put_count(text: &mut Vec<u8>, label: &[u8], count: u32) -> Result<(), AllocError>
     ensures kept { StartsWith text.new.items text.old.items }
-    ensures added { OnOk result (text.new.items ≡ text.old.items ++ flat_map spaced (codes "ok" ∷ labelled label.now count)) }
+    ensures added { OnOk result (text.new.items
+        ≡ text.old.items ++ flat_map spaced (codes "ok" ∷ labelled label.now count)) }
 {
     put(text, b"ok")?;
     put_labelled(text, label, u64::from(count))
@@ -124,7 +127,8 @@ fn put_costs(text: &mut Vec<u8>, costs: &[i64]) -> Result<(), AllocError>
 #[tactic(auto, using(crate::proofs::Puts::kept_trans))]
 fn put_changes(text: &mut Vec<u8>, changes: &[Change]) -> Result<(), AllocError>
     ensures kept { StartsWith text.new.items text.old.items }
-    ensures added { OnOk result (text.new.items ≡ text.old.items ++ flat_map spaced (flat_map change_words changes.now)) }
+    ensures added { OnOk result (text.new.items
+        ≡ text.old.items ++ flat_map spaced (flat_map change_words changes.now)) }
 {
     for change in changes {
         put_change(text, *change)?;
@@ -198,7 +202,8 @@ fn put_three(
     third: &[u8],
 ) -> Result<(), AllocError>
     ensures kept { StartsWith text.new.items text.old.items }
-    ensures added { OnOk result (text.new.items ≡ text.old.items ++ flat_map spaced (first.now ∷ second.now ∷ third.now ∷ [])) }
+    ensures added { OnOk result (text.new.items
+        ≡ text.old.items ++ flat_map spaced (first.now ∷ second.now ∷ third.now ∷ [])) }
 {
     put(text, first)?;
     put(text, second)?;
@@ -215,8 +220,21 @@ fn put(text: &mut Vec<u8>, word: &[u8]) -> Result<(), AllocError>
     text.extend_from_slice(word)
 }
 
+// Most numbers of a reply have one digit, which needs no buffer.
 #[tactic(auto, using(crate::proofs::Puts::kept_trans))]
 fn put_number(text: &mut Vec<u8>, number: u64) -> Result<(), AllocError>
+    ensures kept { StartsWith text.new.items text.old.items }
+    ensures added { OnOk result (text.new.items ≡ text.old.items ++ flat_map spaced (decimal number ∷ [])) }
+{
+    if number < 10 {
+        return put(text, &[b'0' + number as u8]);
+    }
+    put_digits(text, number)
+}
+
+#[inline(never)]
+#[tactic(auto, using(crate::proofs::Puts::kept_trans))]
+fn put_digits(text: &mut Vec<u8>, number: u64) -> Result<(), AllocError>
     ensures kept { StartsWith text.new.items text.old.items }
     ensures added { OnOk result (text.new.items ≡ text.old.items ++ flat_map spaced (decimal number ∷ [])) }
 {

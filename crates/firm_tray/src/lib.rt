@@ -1,4 +1,5 @@
-//! A tray: one side hands a tenant over once its round is solved, and the other waits for it. No lock stands round the tenant.
+//! A tray: one side hands a tenant over once its round is solved, and the other waits for it. No lock stands round the
+//! tenant.
 #![tactic(auto)]
 
 mod laws;

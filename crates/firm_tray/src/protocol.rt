@@ -1,5 +1,5 @@
-//! The steps of a tray. Its word is 0 while it is open, 1 once it was answered, and 2 once the answer was taken; its slot
-//! holds the answer. A seat is what one side knows of the tray.
+//! The steps of a tray. Its word is 0 while it is open, 1 once it was answered, and 2 once the answer was taken; its
+//! slot holds the answer. A seat is what one side knows of the tray.
 use atomic_table::{Play, Seat, Split, Table, TableRule};
 use firm_rules::Reply;
 use firm_tenant::Tenant;

@@ -10,8 +10,8 @@ use std::hint::spin_loop;
 use std::marker::Model;
 use std::sync::{Arc, Wait};
 
-// How often a wait looks in vain before it sleeps until the answer is there: for some ten microseconds, as long as a small round
-// takes. It does not yield, since on a busy machine one yield takes longer than all looks and the sleep.
+// How often a wait looks in vain before it sleeps until the answer is there: for some ten microseconds, as long as a
+// small round takes. It does not yield, since on a busy machine one yield takes longer than all looks and the sleep.
 const LOOKS_BEFORE_SLEEP: u32 = 1_024;
 
 /// What a tenant's round comes back on.
@@ -36,7 +36,8 @@ impl Model for AskSide {
 
     ghost view = { λ a. record { tray = a.seat.table_id; book = a.seat.me.0.book } };
 
-    ghost invariant = { λ a. IsSeated (arc_value a.board).shared.table_id (arc_value a.board).shared.key a.seat.table_id a.seat.me.0.book × (a.seat.me ≡ (sight Asked a.seat.me.0.book, [])) };
+    ghost invariant = { λ a. IsSeated (arc_value a.board).shared.table_id (arc_value a.board).shared.key a.seat.table_id
+        a.seat.me.0.book × (a.seat.me ≡ (sight Asked a.seat.me.0.book, [])) };
 }
 
 /// The side that answers. The slot is out with it.
@@ -58,7 +59,8 @@ impl Model for AnswerSide {
 
     ghost view = { λ a. record { tray = a.seat.table_id; book = a.seat.me.0.book } };
 
-    ghost invariant = { λ a. IsSeated (arc_value a.board).shared.table_id (arc_value a.board).shared.key a.seat.table_id a.seat.me.0.book × (a.seat.me ≡ (sight Open a.seat.me.0.book, (0, None) ∷ [])) };
+    ghost invariant = { λ a. IsSeated (arc_value a.board).shared.table_id (arc_value a.board).shared.key a.seat.table_id
+        a.seat.me.0.book × (a.seat.me ≡ (sight Open a.seat.me.0.book, (0, None) ∷ [])) };
 }
 
 /// What shows that a tray was answered.
@@ -91,7 +93,8 @@ pub enum Polled {
 }
 
 impl Tray {
-    /// A tray for the next round of the tenant, in its two sides. All its memory is taken here; the error comes for want of it alone.
+    /// A tray for the next round of the tenant, in its two sides. All its memory is taken here; the error comes for
+    /// want of it alone.
     pub fn open(alloc: Global, tenant: &Tenant) -> Result<(AskSide, AnswerSide), AllocError>
         ensures { IfOk result (λ sides. (sides.0 ≡ sides.1) × (sides.0.book ≡ tenant.now)) }
     {
@@ -109,8 +112,8 @@ impl Tray {
 }
 
 impl AnswerSide {
-    /// Hands the tenant over, and wakes the other side if it sleeps. It asks for the round of the tenant for which the tray was opened,
-    /// solved or refused for want of memory. It takes no memory.
+    /// Hands the tenant over, and wakes the other side if it sleeps. It asks for the round of the tenant for which the
+    /// tray was opened, solved or refused for want of memory. It takes no memory.
     pub fn answer(self, solved: Solved) -> Spent
         requires { IsSolved self.book solved }
         ensures { result ≡ self }
@@ -118,14 +121,16 @@ impl AnswerSide {
         let AnswerSide { board, mut seat } = self;
         board.shared.exchange(&mut seat, 0, Some(solved));
         board.shared.store::<Answers>(&mut seat, 0, 1);
-        // One wake is enough, since there is one asking side. The word outlives it: this side's share of the board ends later.
+        // One wake is enough, since there is one asking side. The word outlives it: this side's share of the board ends
+        // later.
         board.shared.wake_one(0);
         Spent { seat }
     }
 }
 
 impl AskSide {
-    /// The tenant with its round, if the answer is there; else the same side again. It takes no memory and waits for nobody.
+    /// The tenant with its round, if the answer is there; else the same side again. It takes no memory and waits for
+    /// nobody.
     pub fn poll(self) -> Polled
         ensures { IsPolled self result }
     {
@@ -137,7 +142,8 @@ impl AskSide {
         }
     }
 
-    /// The tenant with its round, once the answer is there. After some looks in vain it sleeps until then. It takes no memory.
+    /// The tenant with its round, once the answer is there. After some looks in vain it sleeps until then. It takes no
+    /// memory.
     pub fn wait<R: Wait>(self, rt: &R) -> Solved
         ensures { IsSolved self.book result }
     {
@@ -158,8 +164,9 @@ impl AskSide {
         unreachable!()
     }
 
-    // Sleeps while the word is 0. No wake-up is lost: the word is compared and the thread laid down in one step, and the answer
-    // stores 1 before it wakes. So either the answer came first, and there is no sleep, or the wake finds the sleeper.
+    // Sleeps while the word is 0. No wake-up is lost: the word is compared and the thread laid down in one step, and
+    // the answer stores 1 before it wakes. So either the answer came first, and there is no sleep, or the wake finds
+    // the sleeper.
     fn sleep<R: Wait>(&self, rt: &R) {
         self.board.shared.park(rt, 0, 0);
     }

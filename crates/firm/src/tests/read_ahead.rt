@@ -72,7 +72,8 @@ fn wait_until_ready<R: Wait, S: Source>(rt: &R, source: &S, waker: &Arc<EventCou
     }
 }
 
-/// What the source gives until it ends or fails, and the last answer. Before every so many reads it is waited for; 0 says never.
+/// What the source gives until it ends or fails, and the last answer. It is waited for before each `waited_each`th
+/// read; 0 says never.
 fn all_of<R: Wait, S: Source>(
     rt: &R,
     alloc: Global,

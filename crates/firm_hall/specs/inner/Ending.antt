@@ -1,6 +1,6 @@
 -- How a service ends, and the desks of a hall once it serves no more.
 use Rattle.std.specs.Prelude.{◌≡◌, ℕ, All, List, Result, Ok, Err}
-use Rattle.firm_text.specs.Rosters.{Admitted}
+use Rattle.firm_text.specs.Rosters.{RosterRow}
 use Rattle.firm_table.specs.Service.{Device, Stopped}
 use Rattle.firm_table.specs.declared.faults.ServeFault.{ServeFault}
 use Rattle.firm_rounds.specs.Passes.{QueueId}
@@ -23,6 +23,6 @@ pub record AreOf (id : QueueId) (desks : List DeskIs) (empty : List PlaceIs) : T
   pub places : All (λ place. place.queue ≡ id) empty
 
 -- it served to the end of the input, or stopped with a fault
-abbrev pub Ran : List Admitted → ℕ → Device → Device → Result Ended ServeFault → Type 0
+abbrev pub Ran : List RosterRow → ℕ → Device → Device → Result Ended ServeFault → Type 0
 Ran roster most reader writer (Ok ended) = ServedWith roster most reader writer ended.rounds
 Ran roster most reader writer (Err fault) = Stopped roster most reader writer fault

@@ -14,8 +14,8 @@ use Rattle.firm_hall.specs.Desks.{DeskIs, desk_is, place_is, IsStep}
 use Rattle.firm_hall.specs.declared.seats.Seat.{Seat}
 use Rattle.firm_hall.specs.declared.seats.Seat.TheVariants.{Home, Away, Empty, Gone}
 use Rattle.firm_table.specs.declared.answers.LineAnswer.TheVariants.{Replied}
-use Rattle.firm_hall.specs.declared.held.Slot.{Slot}
-use Rattle.firm_hall.specs.declared.held.Slot.TheVariants.{Known, Waiting}
+use Rattle.firm_hall.specs.declared.held.HeldAnswer.{HeldAnswer}
+use Rattle.firm_hall.specs.declared.held.HeldAnswer.TheVariants.{Known, Waiting}
 
 -- something stands there
 abbrev pub IsSeated : Seat → Type 0
@@ -102,19 +102,19 @@ pub record Went (before : DeskIs) (place : ℕ) (name : List ℕ) (command : Com
   pub known_is : known ≡ asked
 
 -- what a command made of a desk of the place, and the answer to its line
-abbrev pub IsTaken : DeskIs → ℕ → List ℕ → Command → Seat → Slot → Type 0
+abbrev pub IsTaken : DeskIs → ℕ → List ℕ → Command → Seat → HeldAnswer → Type 0
 IsTaken before place name command (Home after) (Known answer) =
     (reply : Reply) × (answer ≡ Replied name reply) × Answered before command after reply
 IsTaken before place name command (Away asked) (Waiting at tenant known) =
     Went before place name command asked at tenant known.value
 IsTaken before place name command (Home after) (Waiting at tenant known) = ⊥
 IsTaken before place name command (Away asked) (Known answer) = ⊥
-IsTaken before place name command (Empty after) slot = ⊥
-IsTaken before place name command Gone slot = ⊥
+IsTaken before place name command (Empty after) answer = ⊥
+IsTaken before place name command Gone answer = ⊥
 
 -- the same of the seat where the desk was home
-abbrev pub IsTakenAt : Seat → ℕ → List ℕ → Command → Seat → Slot → Type 0
-IsTakenAt (Home before) place name command after slot = IsTaken before place name command after slot
-IsTakenAt (Away asked) place name command after slot = ⊥
-IsTakenAt (Empty before) place name command after slot = ⊥
-IsTakenAt Gone place name command after slot = ⊥
+abbrev pub IsTakenAt : Seat → ℕ → List ℕ → Command → Seat → HeldAnswer → Type 0
+IsTakenAt (Home before) place name command after answer = IsTaken before place name command after answer
+IsTakenAt (Away asked) place name command after answer = ⊥
+IsTakenAt (Empty before) place name command after answer = ⊥
+IsTakenAt Gone place name command after answer = ⊥

@@ -6,13 +6,12 @@ use Rattle.firm_rules.specs.Book.{Book}
 use Rattle.firm_rules.specs.declared.commands.Command.TheVariants.{Round}
 use Rattle.firm_tenant.specs.Step.{step}
 use Rattle.firm_text.specs.Inputs.{input_lines}
-use Rattle.firm_text.specs.Registers.{most_places}
-use Rattle.firm_text.specs.Rosters.{Admitted}
+use Rattle.firm_text.specs.Rosters.{RosterRow, most_places}
 use Rattle.firm_text.specs.declared.inputs.Line.{Line}
 use Rattle.firm_text.specs.declared.inputs.Line.TheVariants.{Operator}
 use Rattle.firm_text.specs.declared.operator.OperatorLine.{OperatorLine}
 use Rattle.firm_text.specs.declared.operator.OperatorReply.{OperatorReply}
-use Rattle.firm_text.specs.declared.registers.Place.{Place as Registered}
+use Rattle.firm_text.specs.declared.registers.Entry.{Entry}
 use Rattle.firm_table.specs.Output.{answers_of}
 use Rattle.firm_table.specs.Service.{BeginsAnswers}
 use Rattle.firm_table.specs.inner.Line.{State, state_is, tenants_are}
@@ -25,21 +24,21 @@ use Rattle.firm_hall.specs.inner.Seats.{IsBack}
 use Rattle.firm_hall.specs.declared.seats.Seat.{Seat}
 use Rattle.firm_hall.specs.declared.seats.Seat.TheVariants.{Home, Away, Empty, Gone}
 use Rattle.firm_table.specs.declared.answers.LineAnswer.TheVariants.{ToOperator}
-use Rattle.firm_hall.specs.declared.held.Slot.{Slot}
-use Rattle.firm_hall.specs.declared.held.Slot.TheVariants.{Known, Waiting}
+use Rattle.firm_hall.specs.declared.held.HeldAnswer.{HeldAnswer}
+use Rattle.firm_hall.specs.declared.held.HeldAnswer.TheVariants.{Known, Waiting}
 
 -- a hall that serves: the queue of its desks, who has which place, what stands at each, the answers that are held, and
 -- the text that is still to be written before them
 pub record ServingIs : Type 0 where
   pub queue : QueueId
-  pub register : List Registered
+  pub register : List Entry
   pub seats : List Seat
-  pub slots : List Slot
+  pub answers : List HeldAnswer
   pub output : List ℕ
 
-abbrev pub serving_is : QueueId → List Registered → List Seat → HeldIs → ServingIs
+abbrev pub serving_is : QueueId → List Entry → List Seat → HeldIs → ServingIs
 serving_is queue register seats held =
-    record { queue = queue; register = register; seats = seats; slots = held.slots; output = held.output }
+    record { queue = queue; register = register; seats = seats; answers = held.answers; output = held.output }
 
 -- the book at a seat, once the rounds that are away are answered, each with the mark of its place
 abbrev pub book_at : (ℕ → Bool) → Seat → Option Book
@@ -49,9 +48,9 @@ book_at marks (Empty place) = None
 book_at marks Gone = None
 
 -- the state of the tenants, once those rounds are answered
-abbrev pub state_with : (ℕ → Bool) → List Admitted → List Registered → List Seat → List Slot → List ℕ → State
-state_with marks roster register seats slots output =
-    state_is roster (tenants_are register (map (book_at marks) seats)) (output ++ held_text marks slots)
+abbrev pub state_with : (ℕ → Bool) → List RosterRow → List Entry → List Seat → List HeldAnswer → List ℕ → State
+state_with marks roster register seats answers output =
+    state_is roster (tenants_are register (map (book_at marks) seats)) (output ++ held_text marks answers)
 
 -- how many rounds were asked at a seat, by whoever had its place
 abbrev pub asked_at : Seat → ℕ
@@ -68,46 +67,46 @@ seat_counts (Empty place) = (false, place.admissions)
 seat_counts Gone = (false, 0)
 
 -- the same as the register knows it
-abbrev pub place_counts : Registered → Bool × ℕ
+abbrev pub place_counts : Entry → Bool × ℕ
 place_counts place = (is_some place.tenant, place.admissions)
 
 -- the desk at home, of this hall and place, for which no answer waits; or its round is away, for which one waits; or
 -- nobody is there
-abbrev pub SeatIs : QueueId → ℕ → List Slot → Seat → Type 0
-SeatIs queue place slots (Home desk) = (desk.queue ≡ queue) × (desk.place ≡ place) × NoneWaits place slots
-SeatIs queue place slots (Away asked) = (asked.queue ≡ queue) × (asked.place ≡ place) × OneWaits place asked slots
-SeatIs queue place slots (Empty empty) = (empty.queue ≡ queue) × (empty.place ≡ place) × NoneWaits place slots
-SeatIs queue place slots Gone = ⊥
+abbrev pub SeatIs : QueueId → ℕ → List HeldAnswer → Seat → Type 0
+SeatIs queue place answers (Home desk) = (desk.queue ≡ queue) × (desk.place ≡ place) × NoneWaits place answers
+SeatIs queue place answers (Away asked) = (asked.queue ≡ queue) × (asked.place ≡ place) × OneWaits place asked answers
+SeatIs queue place answers (Empty empty) = (empty.queue ≡ queue) × (empty.place ≡ place) × NoneWaits place answers
+SeatIs queue place answers Gone = ⊥
 
 -- a seat for each place
-pub record AreSeats (queue : QueueId) (slots : List Slot) (seats : List Seat) : Type 0 where
+pub record AreSeats (queue : QueueId) (answers : List HeldAnswer) (seats : List Seat) : Type 0 where
   pub long : length seats ≡ most_places
   pub each : (place : ℕ) (default : Seat) → place < most_places
-      → SeatIs queue place slots (slice_index_or seats place default)
+      → SeatIs queue place answers (slice_index_or seats place default)
 
 -- the answers that wait do so for places that there are
-abbrev pub IsPlaced : Slot → Type 0
+abbrev pub IsPlaced : HeldAnswer → Type 0
 IsPlaced (Waiting place name asked) = place < most_places
 IsPlaced (Known answer) = Unit {0}
 
-abbrev pub ArePlaced : List Slot → Type 0
+abbrev pub ArePlaced : List HeldAnswer → Type 0
 ArePlaced [] = Unit {0}
-ArePlaced (slot ∷ rest) = IsPlaced slot × ArePlaced rest
+ArePlaced (answer ∷ rest) = IsPlaced answer × ArePlaced rest
 
 -- a tenant has the place of a seat where the register says so, and the two agree on how often the place was given
-abbrev pub Fits : List Registered → List Seat → Type 0
+abbrev pub Fits : List Entry → List Seat → Type 0
 Fits register seats = map seat_counts seats ≡ map place_counts register
 
 -- seats, register and held answers fit each other
 pub record Stands (serving : ServingIs) : Type 0 where
-  pub seats : AreSeats serving.queue serving.slots serving.seats
+  pub seats : AreSeats serving.queue serving.answers serving.seats
   pub fits : Fits serving.register serving.seats
-  pub placed : ArePlaced serving.slots
+  pub placed : ArePlaced serving.answers
 
 -- a service of this hall with room for one more answer
 pub record IsOpen (id : QueueId) (serving : ServingIs) : Type 0 where
   pub same_hall : serving.queue ≡ id
-  pub room : length serving.slots < most_held
+  pub room : length serving.answers < most_held
 
 -- nothing lies there yet, and there is room for each place
 abbrev pub IsReserved : {A : Type 0} → List A → ℕ → Type 0
@@ -119,48 +118,49 @@ pub record Tells (state : State) (asked : ℕ) (text : List ℕ) (written now : 
   pub told : Told state text written now
   pub counted : Counted asked told.lines (answers_of state.roster told.lines)
 
-abbrev pub TellsParts : List Admitted → List Registered → List Seat → List Slot → List ℕ → List ℕ → Option (List ℕ)
+abbrev pub TellsParts : List RosterRow → List Entry → List Seat → List HeldAnswer → List ℕ → List ℕ → Option (List ℕ)
     → Option (List ℕ) → Type 0
-TellsParts roster register seats slots output text written now =
+TellsParts roster register seats answers output text written now =
     (marks : ℕ → Bool)
-    → Tells (state_with marks roster register seats slots output) (weigh asked_at seats) text written now
+    → Tells (state_with marks roster register seats answers output) (weigh asked_at seats) text written now
 
 -- the same of a whole service
-abbrev pub TellsAll : List Admitted → ServingIs → List ℕ → Option (List ℕ) → Option (List ℕ) → Type 0
+abbrev pub TellsAll : List RosterRow → ServingIs → List ℕ → Option (List ℕ) → Option (List ℕ) → Type 0
 TellsAll roster serving text written now =
-    TellsParts roster serving.register serving.seats serving.slots serving.output text written now
+    TellsParts roster serving.register serving.seats serving.answers serving.output text written now
 
 -- the same hall, with no answer more held
 pub record Follows (old new : ServingIs) : Type 0 where
   pub same_hall : new.queue ≡ old.queue
-  pub fewer : length new.slots ≤ length old.slots
+  pub fewer : length new.answers ≤ length old.answers
 
 -- a change of the service with which as much is told as before
 abbrev pub Keeps : ServingIs → ServingIs → Type 0
-Keeps old new = (roster : List Admitted) (text : List ℕ) (written now : Option (List ℕ))
+Keeps old new = (roster : List RosterRow) (text : List ℕ) (written now : Option (List ℕ))
     → TellsAll roster old text written now → TellsAll roster new text written now
 
 -- the same, where the output grew from one text to another meanwhile
 abbrev pub Passes : ServingIs → ServingIs → Option (List ℕ) → Option (List ℕ) → Type 0
-Passes old new now later = (roster : List Admitted) (text : List ℕ) (written : Option (List ℕ))
+Passes old new now later = (roster : List RosterRow) (text : List ℕ) (written : Option (List ℕ))
     → TellsAll roster old text written now → TellsAll roster new text written later
 
 -- the answer to one more line
 abbrev pub Takes : ServingIs → ServingIs → Line → Type 0
-Takes old new line = (roster : List Admitted) (text after : List ℕ) (written now : Option (List ℕ))
+Takes old new line = (roster : List RosterRow) (text after : List ℕ) (written now : Option (List ℕ))
     → input_lines after ≡ input_lines text ++ line ∷ []
     → TellsAll roster old text written now → TellsAll roster new after written now
 
 -- an operator's line is done, and its answer is this reply, which is still to be held
 abbrev pub Obeys : ServingIs → ServingIs → OperatorLine → OperatorReply → Type 0
-Obeys old new asked reply = (roster : List Admitted) (text after : List ℕ) (written now : Option (List ℕ))
-    → input_lines after ≡ input_lines text ++ Operator asked ∷ []
+Obeys old new request reply = (roster : List RosterRow) (text after : List ℕ) (written now : Option (List ℕ))
+    → input_lines after ≡ input_lines text ++ Operator request ∷ []
     → TellsAll roster old text written now
-    → TellsParts roster new.register new.seats (new.slots ++ Known (ToOperator reply) ∷ []) new.output after written now
+    → TellsParts roster new.register new.seats
+    (new.answers ++ Known (ToOperator reply) ∷ []) new.output after written now
 
 -- the text that was written begins the output for the lines that were answered
 abbrev pub Begins : ServingIs → Option (List ℕ) → Option (List ℕ) → Type 0
-Begins old now later = (roster : List Admitted) (text : List ℕ) (written : Option (List ℕ))
+Begins old now later = (roster : List RosterRow) (text : List ℕ) (written : Option (List ℕ))
     → TellsAll roster old text written now → BeginsAnswers roster text written later
 
 -- no round is away from the place
@@ -174,9 +174,9 @@ AllBack seats = (place : ℕ) → IsBackAt place seats
 -- no known answer is left unwritten before the first that waits
 pub record IsWrittenOut (serving : ServingIs) : Type 0 where
   pub none : serving.output ≡ []
-  pub first : FirstWaits serving.slots
+  pub first : FirstWaits serving.answers
 
 -- no answer is left unwritten
 pub record IsFinished (serving : ServingIs) : Type 0 where
   pub none : serving.output ≡ []
-  pub answered : serving.slots ≡ []
+  pub answered : serving.answers ≡ []

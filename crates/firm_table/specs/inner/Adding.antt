@@ -8,7 +8,7 @@ use Rattle.firm_rules.specs.declared.replies.Reply.{Reply}
 use Rattle.firm_tenant.specs.Step.{step, is_memory}
 use Rattle.firm_text.specs.Inputs.{input_lines}
 use Rattle.firm_text.specs.Registers.{AreSound, place_for, place_in, with_tenant, without_tenant}
-use Rattle.firm_text.specs.Rosters.{Admitted as Row}
+use Rattle.firm_text.specs.Rosters.{RosterRow}
 use Rattle.firm_text.specs.declared.inputs.Line.{Line}
 use Rattle.firm_text.specs.declared.inputs.Line.TheVariants.{For, Operator}
 use Rattle.firm_text.specs.declared.operator.OperatorLine.TheVariants.{Admit, Retire}
@@ -25,7 +25,7 @@ use Rattle.firm_table.specs.inner.Progress.{Told}
 -- before the first line nothing is to be written
 abbrev pub NothingIsTold : Type 0
 NothingIsTold =
-    (roster : List Row) (written : Option (List ℕ))
+    (roster : List RosterRow) (written : Option (List ℕ))
     → (told : Told (state_is roster (opening_tenants roster) []) [] written written) × (told.lines ≡ [])
 
 -- one line more was answered: the line and its answer stand behind those before

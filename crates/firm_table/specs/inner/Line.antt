@@ -3,30 +3,30 @@ use Rattle.std.specs.Prelude.{◌≡◌, ℕ, ◌-◌, List, ◌++◌, Option, S
 use Rattle.std.specs.Option.{is_some}
 use Rattle.firm_rules.specs.Book.{Book, opening_book}
 use Rattle.firm_tenant.specs.Alone.{book_after}
-use Rattle.firm_text.specs.Registers.{first_places, most_places}
-use Rattle.firm_text.specs.Rosters.{Admitted}
+use Rattle.firm_text.specs.Registers.{first_places}
+use Rattle.firm_text.specs.Rosters.{RosterRow, most_places}
 use Rattle.firm_text.specs.declared.inputs.Line.{Line}
-use Rattle.firm_text.specs.declared.registers.Place.{Place as Registered}
+use Rattle.firm_text.specs.declared.registers.Entry.{Entry}
 use Rattle.firm_table.specs.Answers.{answer_of, tells_memory, text_of_answer}
 use Rattle.firm_table.specs.declared.answers.LineAnswer.{LineAnswer}
 use Rattle.firm_table.specs.Places.{Stay, Place, register_of, after_line}
 
 -- what a service keeps of its tenants: which one has which place, and by places the books of those that are there
 pub record Tenants : Type 0 where
-  pub register : List Registered
+  pub register : List Entry
   pub books : List (Option Book)
 
 -- the tenants of these parts
-abbrev pub tenants_are : List Registered → List (Option Book) → Tenants
+abbrev pub tenants_are : List Entry → List (Option Book) → Tenants
 tenants_are register books = record { register = register; books = books }
 
 -- the books before the first line: those of the roster's tenants, which have just opened
-abbrev pub opening_books : List Admitted → List (Option Book)
+abbrev pub opening_books : List RosterRow → List (Option Book)
 opening_books roster =
     map (λ tenant. Some (opening_book tenant.1)) roster ++ replicate (most_places - length roster) None
 
 -- the tenants before the first line
-abbrev pub opening_tenants : List Admitted → Tenants
+abbrev pub opening_tenants : List RosterRow → Tenants
 opening_tenants roster = tenants_are (first_places roster) (opening_books roster)
 
 -- the book of a stay
@@ -61,10 +61,10 @@ Fits tenants = map (λ place. is_some place.tenant) tenants.register ≡ map is_
 
 -- a service between two lines: the roster, its tenants, and what is still to be written
 pub record State : Type 0 where
-  pub roster : List Admitted
+  pub roster : List RosterRow
   pub tenants : Tenants
   pub pending : List ℕ
 
 -- the state of these parts
-abbrev pub state_is : List Admitted → Tenants → List ℕ → State
+abbrev pub state_is : List RosterRow → Tenants → List ℕ → State
 state_is roster tenants pending = record { roster = roster; tenants = tenants; pending = pending }

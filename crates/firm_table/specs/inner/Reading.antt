@@ -3,7 +3,7 @@ use Rattle.std.specs.Prelude.{◌≡◌, ℕ, List, ◌++◌, Option}
 use Rattle.std.specs.Io.{IsEmptyOrEndsWith}
 use Rattle.firm_text.specs.Cutters.{Cut, StandsFor}
 use Rattle.firm_text.specs.Inputs.{input_lines}
-use Rattle.firm_text.specs.Rosters.{Admitted}
+use Rattle.firm_text.specs.Rosters.{RosterRow}
 use Rattle.firm_table.specs.Service.{BeginsAnswers}
 use Rattle.firm_table.specs.Telling.{Telling}
 
@@ -22,7 +22,7 @@ pub record Heard (IsTold : Telling) (cut : Cut) (heard : List ℕ) (written now 
   pub told : IsTold text written now
 
 -- this was read: lines that have ended, and a rest; what was written is a prefix of the output for the lines
-pub record Halted (roster : List Admitted) (heard : List ℕ) (written now : Option (List ℕ)) : Type 0 where
+pub record Halted (roster : List RosterRow) (heard : List ℕ) (written now : Option (List ℕ)) : Type 0 where
   pub answered : List ℕ
   pub rest : List ℕ
   pub both : heard ≡ answered ++ rest

@@ -2,8 +2,7 @@
 use Rattle.std.specs.Prelude.{◌≡◌, ℕ, ◌+◌, ◌≤◌, ◌==◌, List, [], ◌∷◌, Option, Some, None, length, slice_get}
 use Rattle.std.specs.List.{filter}
 use Rattle.firm_rules.specs.declared.tickets.Ticket.{Ticket}
-use Rattle.firm_text.specs.Registers.{most_places}
-use Rattle.firm_text.specs.Rosters.{Admitted as Row}
+use Rattle.firm_text.specs.Rosters.{RosterRow, most_places}
 use Rattle.firm_table.specs.Interleaving.{Station, empty, home, queued, held, answered, Seat, TableState, opening_seat}
 use Rattle.firm_table.specs.Interleaving.{unused_seat}
 
@@ -12,7 +11,7 @@ abbrev pub table_of : ℕ → List Seat → List Ticket → TableState
 table_of workers seats queue = record { workers = workers; seats = seats; queue = queue }
 
 -- the seat of a place before the first event, where the roster may have a row for it
-abbrev pub first_seat : Option Row → Seat
+abbrev pub first_seat : Option RosterRow → Seat
 first_seat None = unused_seat
 first_seat (Some row) = opening_seat row
 

@@ -204,7 +204,8 @@ const LINES_WITH_ROUNDS: [&str; 5] = [
     "alpha round\n",
 ];
 
-/// How many bytes were written at each read, where each line comes by itself, and none before so many bytes were written.
+/// The number of bytes written at each read of an input that gives one line a read, each only once as many bytes as are
+/// due before it were written.
 fn written_by_reads<R: Threads + Wait + Sync>(
     rt: &R,
     alloc: Global,

@@ -1,6 +1,6 @@
 //! Admissions to which memory may be refused. With ample memory they find it; run with
-//! `rt try --test --fail-alloc N -- finds_no_memory`, where the Nth request is refused, one of them meets the refusal for
-//! some N.
+//! `rt try --test --fail-alloc N -- finds_no_memory`, where the Nth request is refused, one of them meets the refusal
+//! for some N.
 
 ghost use Rattle.std.specs.Prelude.{◌≡◌, false};
 

@@ -69,7 +69,8 @@ fn ask_all<R: Abort + Wait>(rt: &R, alloc: Global, hall: &Hall, desks: Vec<Desk>
     asked
 }
 
-/// The gate holds the rounds of the first places, which are not answered before it opens. The others come back meanwhile.
+/// The gate holds the rounds of the first places, which are not answered before it opens. The others come back
+/// meanwhile.
 fn expect_held<R: Abort + Wait>(rt: &R, alloc: Global, hall: &Hall, desks: Vec<Desk>, gate: &Holds)
     requires { All (λ d. d.queue ≡ hall.now.id) desks.items }
 {

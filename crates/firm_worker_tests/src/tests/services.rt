@@ -120,7 +120,7 @@ fn rounds_wait_for_room_in_the_queue(rt: HostRuntime) {
     assert!(rt; written.as_slice() == answers.as_bytes());
 }
 
-/// Holds the first tenant's round until so many of the second's have come and the input was read on. Where no input is
+/// Holds the first tenant's round until `others` of the second's have come and the input was read on. Where no input is
 /// there meanwhile, it brings it once the service waits for it.
 #[derive(Drop)]
 struct HoldsUntilRead {
@@ -229,7 +229,7 @@ fn reads_on<'a, R: Alloc<A = Global> + Abort + Threads + Wait + Sync>(
     gate.read_on.was_reached()
 }
 
-/// A round, six lines of others, so many more of one tenant, and a round of that one; and the answers.
+/// A round, six lines of others, `more` lines of one tenant, and a round of that one; and the answers.
 fn held_lines(rt: &impl Abort, alloc: Global, more: u64) -> (String, String) {
     let mut lines = String::new(alloc);
     let mut answers = String::new(alloc);
@@ -273,8 +273,8 @@ c 1 ok round cost 0
 + no 26 no-such-tenant
 ";
 
-/// So many more lines are held while the gate looks so often, once the last of all was taken; whether the input is read on
-/// meanwhile. With 1,015 there is room for one answer more, with 1,016 for none.
+/// Numbers of further lines that are held, of the gate's looks once the last line was taken, and whether the input is
+/// read on meanwhile. With 1,015 lines there is room for one answer more, with 1,016 for none.
 const HELD: [(u64, u32, bool); 2] = [(1_015, LOOKS, true), (1_016, 5_000, false)];
 
 #[test]

@@ -31,8 +31,8 @@ fn run_workers<R: Abort + Threads + Wait + Sync, G: Gate + Sync>(
     reports.expect(rt, "memory")
 }
 
-/// Does the work on this thread while a worker runs for each pass, and shuts the hall behind it. Gives the workers' reports
-/// and what the work gave.
+/// Does the work on this thread while a worker runs for each pass, and shuts the hall behind it. Gives the workers'
+/// reports and what the work gave.
 pub fn with_workers<R: Abort + Threads + Wait + Sync, G: Gate + Sync, T, F: FnOnce() -> T>(
     rt: &R,
     hall: &Hall,

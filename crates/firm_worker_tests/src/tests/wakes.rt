@@ -18,8 +18,8 @@ const THREE: &str = "a,2,0,20000,0,0\nb,2,0,20000,0,0\nc,2,0,20000,0,0";
 /// How often two rounds are put in one go.
 const TURNS: u64 = 1_000;
 
-/// Rests for so many turns, a few thousand at most, so that what follows meets others at ever other steps. It doesn't yield,
-/// which takes a busy machine milliseconds.
+/// Rests for some turns, a few thousand at most, so that the next step meets other threads at a different point each
+/// time. It doesn't yield, which takes a busy machine milliseconds.
 pub fn rest_awhile(turns: u64) {
     for _ in 0..turns % 150 * 20 {
         spin_loop();

@@ -1,7 +1,7 @@
 use Rattle.std.proofs.Common.{◌≡◌, ◌∙◌, IsSome, Some, set, inl, sym, ap, subst}
 use Rattle.firm_arena.specs.Arena.{with_value}
 use Rattle.firm_arena.specs.Laws.{some_of}
-use Rattle.firm_arena.specs.Slot.{value_in, with_held}
+use Rattle.firm_arena.specs.inner.Slot.{value_in, with_held}
 use Rattle.firm_arena.proofs.SlotLemmas.{copied_there, found_slot, same_slot, sound_map, seen, lent_seen, lent_sound}
 use Rattle.firm_arena.proofs.Arena.get_mut.Goals as goal
 

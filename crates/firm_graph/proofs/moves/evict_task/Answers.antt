@@ -13,7 +13,8 @@ returns-then-not-runs_on c = record {
       let h = forgotten-at g.rows c.args.rows.now c.args.name place rows_is c.requires.place in
       let off : is_on c.args.name (task_at g.rows place).machine ≡ false = h.machine_is c.args.name ∙ sym
       c.runs_on.ensures ∙ c.if-not-runs_on.true in
-      subst (λ (r : TenantRows). Mirrors (moved g r c.args.net.now)) (sym (throw-no g.rows c.args.name place h.below off))
+      subst (λ (r : TenantRows). Mirrors (moved g r c.args.net.now))
+      (sym (throw-no g.rows c.args.name place h.below off))
       mirrors;
 }
 

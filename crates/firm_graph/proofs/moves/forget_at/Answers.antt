@@ -1,4 +1,5 @@
-use Rattle.std.proofs.Common.{◌≡◌, ◌+◌, ◌<◌, ℕ, Bool, cond, ltb, is_some, Some, List, [], ◌∷◌, length, set, bytes_eq, arith, ap, ap₂, sym, ◌∙◌, subst}
+use Rattle.std.proofs.Common.{◌≡◌, ◌+◌, ◌<◌, ℕ, Bool, cond, ltb, is_some, Some, List, [], ◌∷◌, length, set, bytes_eq}
+use Rattle.std.proofs.Common.{arith, ap, ap₂, sym, ◌∙◌, subst}
 use Rattle.std.specs.List.{IsDistinct, position, remove}
 use Rattle.firm_net.specs.Net.{Net, row_at}
 use Rattle.firm_net.specs.Row.{Row}

@@ -15,7 +15,8 @@ forget_at-requires-clause-preferred c =
     ap (λ (p : TaskParts). length p.arcs.preferred)
     (c.index-tasks-place.is ∙ c.loop-place.invariant.left place own (omega arith))
     ∙ AllZip-at (λ (t : Task) (p : TaskParts). length p.arcs.preferred ≡ length t.preferred) c.args.rows.now.tasks
-    c.args.tasks.now place no_task own c.requires.preferred (omega (arith, c.loop-place-test.true, c.loop-place.auto.tasks))
+    c.args.tasks.now place no_task own c.requires.preferred
+    (omega (arith, c.loop-place-test.true, c.loop-place.auto.tasks))
 
 pub loop-place-preserved : goal.loop-place-preserved
 loop-place-preserved c = record {

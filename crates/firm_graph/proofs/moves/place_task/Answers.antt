@@ -1,4 +1,5 @@
-use Rattle.std.proofs.Common.{◌≡◌, ◌+◌, ◌≤◌, ℕ, Bool, cond, ltb, is_some, List, ◌∷◌, length, refl, ap, ap₂, sym, ◌∙◌, subst}
+use Rattle.std.proofs.Common.{◌≡◌, ◌+◌, ◌≤◌, ℕ, Bool, cond, ltb, is_some, List, ◌∷◌, length, refl, ap, ap₂, sym, ◌∙◌}
+use Rattle.std.proofs.Common.{subst}
 use Rattle.firm_net.specs.Net.{Net, added_of}
 use Rattle.firm_rules.specs.Limits.{TenantLimits}
 use Rattle.firm_rules.specs.declared.parts.Job.{Job}

@@ -4,6 +4,6 @@ use Rattle.firm_hall.proofs.held.fill.Given as goal
 
 abbrev pub invariant-loop-at : goal.invariant-loop-at
 invariant-loop-at l = record {
-  same : l.slots ≡ l.initial.slots;
-  none : NoneWaits l.place (take l.at l.slots.items);
+  same : l.answers ≡ l.initial.answers;
+  none : NoneWaits l.place (take l.at l.answers.items);
 }

@@ -1,5 +1,5 @@
 -- The arcs below the place are cleared.
-use Rattle.firm_net.specs.Links.{IsClearedTo}
+use Rattle.firm_net.specs.inner.Links.{IsClearedTo}
 use Rattle.firm_net.proofs.links.clear_rows.Given as goal
 
 abbrev pub invariant-loop-place : goal.invariant-loop-place

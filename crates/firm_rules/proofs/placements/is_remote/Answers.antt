@@ -10,7 +10,8 @@ pub returns-then-not-prefers_place : goal.returns-then-not-prefers_place
 returns-then-not-prefers_place g c =
     let task = c.args.task.now in
     elim c.if-len-gt0.branch [
-      | then-len-gt0 w ↦ (let some : 0 < length task.preferred = omega (arith, c.len.ensures.value, w.if-len-gt0.true) in
+      | then-len-gt0 w ↦ (let some : 0 < length task.preferred =
+          omega (arith, c.len.ensures.value, w.if-len-gt0.true) in
           sym (remote-by c.args.rows.now task c.args.place true false c.is_home.result
           (lt-ltb 0 (length task.preferred) some)
           (sym w.prefers_place.ensures
@@ -25,7 +26,8 @@ returns-else-not-prefers_place g c =
     let task = c.args.task.now in
     let runs : Bool = runs_at (machine_place c.args.rows.now task.machine) c.args.place in
     elim c.if-len-gt0.branch [
-      | then-len-gt0 w ↦ (let some : 0 < length task.preferred = omega (arith, c.len.ensures.value, w.if-len-gt0.true) in
+      | then-len-gt0 w ↦ (let some : 0 < length task.preferred =
+          omega (arith, c.len.ensures.value, w.if-len-gt0.true) in
           c.if-not-prefers_place.false
           ∙ sym (remote-by c.args.rows.now task c.args.place true true runs (lt-ltb 0 (length task.preferred) some)
           (sym w.prefers_place.ensures

@@ -11,20 +11,23 @@ returns-then-not-names_machine-clause-names g c =
 
 pub returns-then-not-names_machine-clause-tasks : goal.returns-then-not-names_machine-clause-tasks
 returns-then-not-names_machine-clause-tasks g c d =
-    let other = evicted-other c.args.name c.in-Some.task.now (sym c.names_machine.ensures ∙ c.if-not-names_machine.true) in
+    let other = evicted-other c.args.name c.in-Some.task.now
+    (sym c.names_machine.ensures ∙ c.if-not-names_machine.true) in
     (evicted-written c.args.name c.args.tasks.now.entries c.args.place c.in-Some.task.now c.in-Some.ensures.value
     c.in-Some.task.now (sym other.1) d).0
 
 pub returns-then-not-names_machine-clause-count : goal.returns-then-not-names_machine-clause-count
 returns-then-not-names_machine-clause-count g c d =
-    let other = evicted-other c.args.name c.in-Some.task.now (sym c.names_machine.ensures ∙ c.if-not-names_machine.true) in
+    let other = evicted-other c.args.name c.in-Some.task.now
+    (sym c.names_machine.ensures ∙ c.if-not-names_machine.true) in
     sym (ap one_if other.0)
     ∙ (evicted-written c.args.name c.args.tasks.now.entries c.args.place c.in-Some.task.now c.in-Some.ensures.value
     c.in-Some.task.now (sym other.1) d).1
 
 pub returns-then-not-names_machine-clause-preferences : goal.returns-then-not-names_machine-clause-preferences
 returns-then-not-names_machine-clause-preferences g c d =
-    let other = evicted-other c.args.name c.in-Some.task.now (sym c.names_machine.ensures ∙ c.if-not-names_machine.true) in
+    let other = evicted-other c.args.name c.in-Some.task.now
+    (sym c.names_machine.ensures ∙ c.if-not-names_machine.true) in
     c.len.ensures.value
     ∙ (evicted-written c.args.name c.args.tasks.now.entries c.args.place c.in-Some.task.now c.in-Some.ensures.value
     c.in-Some.task.now (sym other.1) d).2

@@ -1,7 +1,7 @@
 use Rattle.std.proofs.Common.{ℕ, None, ap, sym, ◌∙◌}
 use Rattle.indexmap.specs.IndexMap.{values}
 use Rattle.indexmap.proofs.CallerLemmas.{keys-with_value_at}
-use Rattle.firm_rules.specs.Tables.{settled}
+use Rattle.firm_rules.specs.inner.Tables.{settled}
 use Rattle.firm_rules.specs.declared.parts.Task.{Task}
 use Rattle.firm_rules.proofs.TaskWrites.{settled-written, settled-on}
 use Rattle.firm_rules.proofs.tables.settle_at.Goals as goal

@@ -1,6 +1,6 @@
 use Rattle.firm_table.proofs.Stays.{line_by_line, replies_are_alone, stays_are_isolated, stays_are_served_alone}
 use Rattle.firm_table.proofs.Lines.{stays_hold_their_lines, needs_no_marks}
-use Rattle.firm_table.proofs.Beginnings.{stays_begin_anew}
+use Rattle.firm_table.proofs.Beginnings.{admissions_are_isolated, stays_begin_anew}
 use Rattle.firm_table.proofs.SameRow.{tenants_are_isolated}
 use Rattle.firm_table.proofs.Unmarked.{may_go_unmarked}
 use Rattle.firm_table.proofs.Machine.{events_keep_alone, stays_are_counted}
@@ -28,6 +28,9 @@ returns-clause-anew c = stays_begin_anew
 
 pub returns-clause-tenants : goal.returns-clause-tenants
 returns-clause-tenants c = tenants_are_isolated
+
+pub returns-clause-admissions : goal.returns-clause-admissions
+returns-clause-admissions c = admissions_are_isolated
 
 pub returns-clause-no_marks : goal.returns-clause-no_marks
 returns-clause-no_marks c = needs_no_marks

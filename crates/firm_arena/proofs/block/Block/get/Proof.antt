@@ -30,7 +30,7 @@ use Rattle.std.specs.Prelude.{Some, None, IsSome}
 use Rattle.std_alloc.proofs.VecSteps.Shapes.{after}
 use Rattle.std_alloc.proofs.Words.{pointer_in, pointer_out}
 use Rattle.core.proofs.mem.Param.{El, R, args}
-use Rattle.firm_arena.specs.Ownership.{place_lends}
+use Rattle.firm_arena.specs.inner.Ownership.{place_lends}
 use Rattle.firm_arena.specs.contracts.block.Block.get as f
 use Rattle.firm_arena.proofs.Parts.{BlockOf, parts_lent}
 use Rattle.firm_arena.proofs.Rows.{at, place_seen, some_place, its_value, in_reach}

@@ -34,7 +34,7 @@ use Rattle.std.specs.Mem.{type_size}
 use Rattle.std.specs.Prelude.{Some, None, IsSome}
 use Rattle.std_alloc.proofs.VecSteps.Shapes.{after}
 use Rattle.core.proofs.mem.Param.{El, R, args, el_x}
-use Rattle.firm_arena.specs.Ownership.{place_owns, freeable}
+use Rattle.firm_arena.specs.inner.Ownership.{place_owns, freeable}
 use Rattle.firm_arena.specs.contracts.block.Block.get_mut as f
 use Rattle.firm_arena.proofs.Parts.{BlockOf, Row, places_own, fields_own, parts, joins}
 use Rattle.firm_arena.proofs.Rows.{at, others_own, place_out, place_in, some_place, its_value, in_reach}

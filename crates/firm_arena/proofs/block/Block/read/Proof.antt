@@ -31,7 +31,7 @@ use Rattle.std_alloc.proofs.RawLayout.{as_raw}
 use Rattle.std_alloc.proofs.VecSteps.Shapes.{after}
 use Rattle.core.proofs.mem.Facts.{says_two}
 use Rattle.core.proofs.mem.Param.{El, R, args, elτ}
-use Rattle.firm_arena.specs.Ownership.{place_owns}
+use Rattle.firm_arena.specs.inner.Ownership.{place_owns}
 use Rattle.firm_arena.specs.contracts.block.Block.read as f
 use Rattle.firm_arena.proofs.Parts.{BlockOf, places_own, parts, joins}
 use Rattle.firm_arena.proofs.Rows.{at, others_own, place_out, place_in, some_place, its_value, in_reach}

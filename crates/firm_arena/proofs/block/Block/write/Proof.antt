@@ -33,7 +33,7 @@ use Rattle.std.specs.Prelude.{Some, None}
 use Rattle.std_alloc.proofs.RawLayout.{as_written}
 use Rattle.std_alloc.proofs.VecSteps.Shapes.{after}
 use Rattle.core.proofs.mem.Param.{El, R, args, elτ, one, lawful}
-use Rattle.firm_arena.specs.Ownership.{place_owns}
+use Rattle.firm_arena.specs.inner.Ownership.{place_owns}
 use Rattle.firm_arena.specs.contracts.block.Block.write as f
 use Rattle.firm_arena.proofs.Parts.{BlockOf, places_own, parts, joins}
 use Rattle.firm_arena.proofs.Rows.{at, others_own, place_out, place_in, in_reach}

@@ -89,7 +89,8 @@ kept c =
     (slot_spans parts.node g.sink s 0 parts.slots) in
     said (machine_added g c.link_slots.new.net parts c.args.name c.args.slots) c.grow_machines.new.rows
     c.push_reserved.new.list.items g.jobs g.tasks c.in-Ok.ensures.ok
-    (c.push_reserved.ensures.items ∙ ap (λ (l : List MachineParts). l ++ parts ∷ []) c.grow_machines.ensures.parts) refl refl
+    (c.push_reserved.ensures.items ∙ ap (λ (l : List MachineParts). l ++ parts ∷ []) c.grow_machines.ensures.parts)
+    refl refl
     (machine-added g c.put_node-node.new.net c.link-through.new.net c.link_slots.new.net parts c.args.name c.args.slots
     c.self.invariant.graph.mirrors c.self.invariant.graph.sound
     c.put_node-node.ensures.edit (subst P count c.link-through.ensures.edit) (subst Q spread c.link_slots.ensures.edit)

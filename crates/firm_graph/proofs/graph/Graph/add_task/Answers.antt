@@ -1,4 +1,5 @@
-use Rattle.std.proofs.Common.{◌≡◌, ◌≢◌, ◌+◌, ℕ, cond, ltb, map, length, get_or, arith, ap, ap₂, sym, ◌∙◌, subst, List, ◌++◌, ◌∷◌, []}
+use Rattle.std.proofs.Common.{◌≡◌, ◌≢◌, ◌+◌, ℕ, cond, ltb, map, length, get_or, arith, ap, ap₂, sym, ◌∙◌, subst, List}
+use Rattle.std.proofs.Common.{◌++◌, ◌∷◌, []}
 use Rattle.std.proofs.Common.{refl}
 use Rattle.std.specs.List.{All}
 use Rattle.std.proofs.lemmas.List.{map-append}
@@ -22,7 +23,8 @@ pub put_node-node-requires-clause-room : goal.put_node-node-requires-clause-room
 put_node-node-requires-clause-room c =
     omega (
       arith,
-      (room-left (graph_of c.self.inside) c.args.self.now 1 (3 + c.len-count.result) c.self.view_is c.self.invariant.graph.mirrors
+      (room-left (graph_of c.self.inside) c.args.self.now 1 (3 + c.len-count.result) c.self.view_is
+          c.self.invariant.graph.mirrors
           c.in_ok-find_room.ensures.fits).0,
     )
 
@@ -39,7 +41,8 @@ pub link-wide-requires-clause-room : goal.link-wide-requires-clause-room
 link-wide-requires-clause-room c =
     omega (
       arith,
-      (room-left (graph_of c.self.inside) c.args.self.now 1 (3 + c.len-count.result) c.self.view_is c.self.invariant.graph.mirrors
+      (room-left (graph_of c.self.inside) c.args.self.now 1 (3 + c.len-count.result) c.self.view_is
+          c.self.invariant.graph.mirrors
           c.in_ok-find_room.ensures.fits).1,
       c.put_node-node.ensures.edit.counted_arcs,
       c.put_node-node.ensures.edit.arc_room,
@@ -60,7 +63,8 @@ pub link-stay-requires-clause-room : goal.link-stay-requires-clause-room
 link-stay-requires-clause-room c =
     omega (
       arith,
-      (room-left (graph_of c.self.inside) c.args.self.now 1 (3 + c.len-count.result) c.self.view_is c.self.invariant.graph.mirrors
+      (room-left (graph_of c.self.inside) c.args.self.now 1 (3 + c.len-count.result) c.self.view_is
+          c.self.invariant.graph.mirrors
           c.in_ok-find_room.ensures.fits).1,
       c.put_node-node.ensures.edit.counted_arcs,
       c.put_node-node.ensures.edit.arc_room,
@@ -85,7 +89,8 @@ pub link-wait-requires-clause-room : goal.link-wait-requires-clause-room
 link-wait-requires-clause-room c =
     omega (
       arith,
-      (room-left (graph_of c.self.inside) c.args.self.now 1 (3 + c.len-count.result) c.self.view_is c.self.invariant.graph.mirrors
+      (room-left (graph_of c.self.inside) c.args.self.now 1 (3 + c.len-count.result) c.self.view_is
+          c.self.invariant.graph.mirrors
           c.in_ok-find_room.ensures.fits).1,
       c.put_node-node.ensures.edit.counted_arcs,
       c.put_node-node.ensures.edit.arc_room,

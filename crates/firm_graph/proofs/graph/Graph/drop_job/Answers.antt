@@ -1,4 +1,5 @@
-use Rattle.std.proofs.Common.{◌≡◌, ◌<◌, ℕ, false, Some, List, [], ◌∷◌, length, get_or, bytes_eq, arith, refl, subst, sym}
+use Rattle.std.proofs.Common.{◌≡◌, ◌<◌, ℕ, false, Some, List, [], ◌∷◌, length, get_or, bytes_eq, arith, refl, subst}
+use Rattle.std.proofs.Common.{sym}
 use Rattle.std.specs.List.{All, position}
 use Rattle.firm_net.specs.Row.{Row}
 use Rattle.firm_net.specs.Net.{Net, row_at}
@@ -41,7 +42,8 @@ emptied g seen after place name parts view is here named empty at edit =
       free = job-free g g.net place name parts is below at (sym named) off after held;
     }
 
-unlinked : (c : goal.After-drop_node-arg-2-1) → Emptied (graph_of c.self.inside) c.unlink.new.net c.in-Some.place c.args.name
+unlinked : (c : goal.After-drop_node-arg-2-1)
+    → Emptied (graph_of c.self.inside) c.unlink.new.net c.in-Some.place c.args.name
     c.remove-parts.result
 unlinked c =
     emptied (graph_of c.self.inside) c.args.self.now c.unlink.new.net c.in-Some.place c.args.name c.remove-parts.result

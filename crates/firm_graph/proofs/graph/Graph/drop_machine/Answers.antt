@@ -1,4 +1,5 @@
-use Rattle.std.proofs.Common.{◌≡◌, ◌≤◌, ◌<◌, ℕ, Some, length, map, get_or, bytes_eq, arith, refl, ap, subst, sym, ◌∙◌, List, []}
+use Rattle.std.proofs.Common.{◌≡◌, ◌≤◌, ◌<◌, ℕ, Some, length, map, get_or, bytes_eq, arith, refl, ap, subst, sym, ◌∙◌}
+use Rattle.std.proofs.Common.{List, []}
 use Rattle.std.proofs.Common.{◌∷◌, ◌++◌}
 use Rattle.std.specs.List.{position}
 use Rattle.std.specs.Vec.{with_items}

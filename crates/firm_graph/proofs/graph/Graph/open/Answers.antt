@@ -21,7 +21,8 @@ kept : (c : goal.After-new-7)
 kept c =
     let empty : c.in_ok-net.net ≡ empty_net c.args.limits.nodes c.args.limits.arcs =
     c.in_ok-net.ensures.empty ∙ ap₂ (λ (n a : ℕ). empty_net n a) c.nodes.ensures.value c.arcs.ensures.value in
-    said (opened_graph c.put_node-sink.new.net c.put_node-hub.result c.put_node-sink.result c.args.limits) c.new-2.result
+    said (opened_graph c.put_node-sink.new.net c.put_node-hub.result c.put_node-sink.result c.args.limits)
+    c.new-2.result
     c.new-3.result.items c.new-4.result.items c.new-5.result.items
     c.new-2.ensures.rows c.new-3.ensures.items c.new-4.ensures.items c.new-5.ensures.items
     (opened c.in_ok-net.net c.put_node-hub.new.net c.put_node-sink.new.net c.put_node-hub.result c.put_node-sink.result

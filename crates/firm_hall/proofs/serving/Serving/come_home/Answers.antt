@@ -6,7 +6,7 @@ use Rattle.firm_hall.proofs.serving.Serving.come_home.Goals as goal
 pub fill-requires : goal.fill-requires
 fill-requires g c =
     let s = c.self.inside in
-    one_waits s.hall.value.id c.args.place s.held.slots s.seats.items c.index_mut.result.now _ c.self.invariant.seats
+    one_waits s.hall.value.id c.args.place s.held.answers s.seats.items c.index_mut.result.now _ c.self.invariant.seats
     c.requires c.index_mut.ensures.value
     (subst IsAway
     (same_seat s.seats.items c.args.place c.index_mut.result.now c.index.result.now _ _

@@ -14,7 +14,7 @@ loop-seat-init g c =
     rw (← c.self.view_is)
     (record {
       seats = subst (All (IsOf s.hall.value.id)) (sym items)
-          (all_of s.hall.value.id s.held.slots s.seats.items c.self.invariant.seats);
+          (all_of s.hall.value.id s.held.answers s.seats.items c.self.invariant.seats);
       desks = record {
         each = rw c.requires.room.0 (λ k d low. absurd (omega arith));
         places = rw c.requires.empty_room.0 (λ k d low. absurd (omega arith));

@@ -1,6 +1,6 @@
 use Rattle.std.proofs.Common.{◌≡◌, ◌≤◌, ◌+◌, ◌*◌, ◌^◌, All, vec_len, vec_capacity}
 use Rattle.std.specs.Vec.Iter.{into_iter_items, into_iter_len}
-use Rattle.firm_text.specs.Registers.{most_places}
+use Rattle.firm_text.specs.Rosters.{most_places}
 use Rattle.firm_rounds.specs.Rounds.{weigh}
 use Rattle.firm_hall.specs.inner.Ending.{IsOf, AreOf}
 use Rattle.firm_hall.specs.inner.Serving.{asked_at}

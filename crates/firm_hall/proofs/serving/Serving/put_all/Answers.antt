@@ -20,5 +20,5 @@ put_first-requires c =
     let s = c.self.inside in
     let back : AllBack s.seats.items = rw (← c.self.view_is) at c.loop-self.invariant.back in
     rw (← c.self.view_is)
-    (all_known s.hall.value.id s.held.slots s.seats.items c.self.invariant.seats c.self.invariant.placed back
+    (all_known s.hall.value.id s.held.answers s.seats.items c.self.invariant.seats c.self.invariant.placed back
     (search rules))

@@ -1,6 +1,6 @@
 use Rattle.std.proofs.Common.{List, ap, arith, length}
 use Rattle.std.proofs.lemmas.Result.{on_ok_weaker}
-use Rattle.firm_hall.specs.declared.held.Slot.{Slot}
+use Rattle.firm_hall.specs.declared.held.HeldAnswer.{HeldAnswer}
 use Rattle.firm_hall.specs.inner.Held.{FirstIsKnown}
 use Rattle.firm_hall.proofs.Giving.{popped_keeps, popped_stands}
 use Rattle.firm_hall.proofs.serving.Serving.put_first.Goals as goal
@@ -9,7 +9,7 @@ pub invariant_of-self : goal.invariant_of-self
 invariant_of-self c =
     let s = c.self.inside in
     let first = c.put_first.ensures.first in
-    let known : FirstIsKnown s.held.slots = rw (← c.self.view_is) at c.requires in
+    let known : FirstIsKnown s.held.answers = rw (← c.self.view_is) at c.requires in
     popped_stands s.hall.value.id s.register s.seats.items s.held c.put_first.new.self first.0 c.self.invariant
     first.1 known
 
@@ -24,5 +24,5 @@ returns-clause-keeps c =
 
 pub returns-clause-fewer : goal.returns-clause-fewer
 returns-clause-fewer c =
-    let shorter = ap (λ (slots : List Slot). length slots) c.put_first.ensures.first.1 in
+    let shorter = ap (λ (answers : List HeldAnswer). length answers) c.put_first.ensures.first.1 in
     rw (← c.self.view_is) (omega (arith, shorter))

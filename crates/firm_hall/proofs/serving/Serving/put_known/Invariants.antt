@@ -6,4 +6,4 @@ abbrev pub invariant-loop-self : goal.invariant-loop-self
 invariant-loop-self l = record { follows : Follows l.initial.self l.self; keeps : Keeps l.initial.self l.self }
 
 abbrev pub decreases-loop-self : goal.decreases-loop-self
-decreases-loop-self l = length l.self.slots
+decreases-loop-self l = length l.self.answers

@@ -6,9 +6,9 @@ use Rattle.firm_hall.proofs.serving.Serving.write_out.Goals as goal
 
 pub invariant_of-self : goal.invariant_of-self
 invariant_of-self g c = record {
-  seats = rw c.write.ensures.slots c.self.invariant.seats;
+  seats = rw c.write.ensures.answers c.self.invariant.seats;
   fits = c.self.invariant.fits;
-  placed = rw c.write.ensures.slots c.self.invariant.placed;
+  placed = rw c.write.ensures.answers c.self.invariant.placed;
 }
 
 pub returns-in_default-clause-begins : goal.returns-in_default-clause-begins
@@ -24,24 +24,28 @@ returns-clause-told g c =
     on_ok_weaker c.write.result
     (λ passes. λ roster text written told. passes roster text written
     (rw (← c.self.view_is) at (c.in-Ok.ensures.keeps roster text written _ told)))
-    (wrote c.write.result s.hall.value.id s.register s.seats.items s.held c.write.new.self _ _ e.ok e.empty e.slots
+    (wrote c.write.result s.hall.value.id s.register s.seats.items s.held c.write.new.self _ _ e.ok e.empty e.answers
     e.err).passes
 
 pub returns-clause-begins : goal.returns-clause-begins
 returns-clause-begins g c roster text written told =
     let s = c.self.inside in
     let e = c.write.ensures in
-    (wrote c.write.result s.hall.value.id s.register s.seats.items s.held c.write.new.self _ _ e.ok e.empty e.slots
+    (wrote c.write.result s.hall.value.id s.register s.seats.items s.held c.write.new.self _ _ e.ok e.empty e.answers
     e.err).begins roster text written
     (rw (← c.self.view_is) at (c.in-Ok.ensures.keeps roster text written _ told))
 
 pub returns-clause-follows : goal.returns-clause-follows
 returns-clause-follows g c =
     follows_then {between = c.put_known.new.self} c.put_known.ensures.follows
-    (rw (← c.self.view_is) (record { same_hall = refl; fewer = rw c.write.ensures.slots (omega arith) }))
+    (rw (← c.self.view_is) (record { same_hall = refl; fewer = rw c.write.ensures.answers (omega arith) }))
 
 pub returns-clause-written_out : goal.returns-clause-written_out
 returns-clause-written_out g c =
     on_ok_weaker c.write.result
-    (λ none. record { none = none; first = rw c.write.ensures.slots (rw (← c.self.view_is) at c.in-Ok.ensures.first) })
+    (λ none. record {
+      none = none;
+      first = rw c.write.ensures.answers
+          (rw (← c.self.view_is) at c.in-Ok.ensures.first);
+    })
     c.write.ensures.empty

@@ -4,7 +4,7 @@ use Rattle.std.specs.Prelude.{IsTrue}
 use Rattle.std.proofs.lemmas.Bool.{false≢true, cases_lt}
 use Rattle.firm_arena.specs.Arena.{Arena, find, len_of, capacity_of, changed_at, changed_all}
 use Rattle.firm_net.specs.Net.{with_arc, IsNet, IsNode, lists_at}
-use Rattle.firm_net.specs.Links.{list_of, with_arc_list, list_from, nodes_shown, cleared_link, Shows}
+use Rattle.firm_net.specs.inner.Links.{list_of, with_arc_list, list_from, nodes_shown, cleared_link, Shows}
 use Rattle.firm_net.specs.declared.row.NodeId.{NodeId}
 use Rattle.firm_net.specs.declared.links.Link.{Link}
 use Rattle.firm_net.specs.declared.links.Node.{Node}

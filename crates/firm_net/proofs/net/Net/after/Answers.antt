@@ -1,7 +1,7 @@
 -- The arc that the links name behind one is the next of its list.
 use Rattle.std.proofs.Common.{◌≡◌, sym, ap, ◌∙◌, subst, Option, None}
 use Rattle.firm_net.specs.Net.{Net, IsNet, next_on}
-use Rattle.firm_net.specs.Links.{arc_at}
+use Rattle.firm_net.specs.inner.Links.{arc_at}
 use Rattle.firm_net.specs.declared.links.Neighbours.{Neighbours}
 use Rattle.firm_net.specs.declared.row.ArcId.{ArcId}
 use Rattle.firm_net.proofs.Cursors.{next-is, next-none, follows}

@@ -1,6 +1,6 @@
 -- The first arc that the links name is the first of the list.
 use Rattle.std.proofs.Common.{sym, ap, ◌∙◌}
-use Rattle.firm_net.specs.Links.{arc_at}
+use Rattle.firm_net.specs.inner.Links.{arc_at}
 use Rattle.firm_net.specs.declared.links.ArcList.{ArcList}
 use Rattle.firm_net.proofs.Cursors.{first-is, first-none}
 use Rattle.firm_net.proofs.net.Net.first.Goals as goal

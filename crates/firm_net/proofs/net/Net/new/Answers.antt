@@ -2,7 +2,7 @@
 use Rattle.std.proofs.Common.{◌≡◌, ℕ, ◌≤◌, sym, ap, subst₂, arith}
 use Rattle.firm_arena.specs.Arena.{Arena, vacant}
 use Rattle.firm_net.specs.Net.{empty_net}
-use Rattle.firm_net.specs.Links.{cleared_link}
+use Rattle.firm_net.specs.inner.Links.{cleared_link}
 use Rattle.firm_net.specs.declared.links.Link.{Link}
 use Rattle.firm_net.specs.declared.links.Node.{Node}
 use Rattle.firm_net.proofs.Rewrites.{moved-new, changed_all-vacant}

@@ -3,7 +3,7 @@ use Rattle.std.proofs.Common.{◌≡◌, ◌≤◌, List, length, sym, ap, ◌�
 use Rattle.firm_arena.specs.Arena.{capacity_of}
 use Rattle.firm_net.specs.Row.{Row}
 use Rattle.firm_net.specs.Net.{Net, IsNet, rows_of, arcs_on}
-use Rattle.firm_net.specs.Links.{walk_rows}
+use Rattle.firm_net.specs.inner.Links.{walk_rows}
 use Rattle.firm_net.specs.declared.row.ArcId.{ArcId}
 use Rattle.firm_net.specs.declared.links.ArcList.{ArcList}
 use Rattle.firm_net.proofs.Cursors.{walk-is, walk-none, walk-short}

@@ -1,6 +1,6 @@
 use Rattle.std.proofs.Common.{◌≤◌, length, subst, arith}
 use Rattle.std.specs.Prelude.{List}
-use Rattle.firm_text.specs.Registers.{most_places}
+use Rattle.firm_text.specs.Rosters.{most_places}
 use Rattle.firm_table.specs.Interleaving.{Seat}
 use Rattle.firm_table.proofs.Moves.{sound_opening}
 use Rattle.firm_table.proofs.table.Table.open.Goals as goal

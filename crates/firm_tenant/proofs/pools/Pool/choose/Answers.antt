@@ -3,6 +3,8 @@ use Rattle.firm_rules.specs.declared.rounds.Choice.{Choice}
 use Rattle.firm_rules.specs.Placement.{Case, is_legal}
 use Rattle.firm_rules.specs.Round.{case_of, round_placement}
 use Rattle.std.proofs.lemmas.Result.{IfOk-weaker}
+use Rattle.firm_tenant.specs.Pools.{Pool, HasBegunOnce}
+use Rattle.firm_tenant.proofs.Counted.{begun_once}
 use Rattle.firm_tenant.proofs.pools.Pool.choose.Goals as goal
 
 pub returns-clause-legal : goal.returns-clause-legal
@@ -14,3 +16,20 @@ returns-clause-legal c =
     IfOk-weaker c.first_best.result (λ placement. placement.items ≡ round_placement case)
     (λ placement. is_legal case placement.items ≡ true)
     (λ placement e. subst (λ (p : List Choice). is_legal case p ≡ true) (sym e) right) round
+
+pub returns-clause-counts : goal.returns-clause-counts
+returns-clause-counts c =
+    let inside : Pool = record {
+      rows = c.self.inside.graph.rows;
+      costs = c.self.inside.costs.items;
+      asked = c.self.inside.graph.asked;
+      workspace = c.self.inside.scratch;
+    } in
+    let after : Pool = record {
+      rows = c.first_best.new.graph.rows;
+      costs = c.self.inside.costs.items;
+      asked = c.first_best.new.graph.asked;
+      workspace = c.first_best.new.scratch;
+    } in
+    subst (λ (old : Pool). HasBegunOnce old after) c.self.view_is
+    (begun_once inside after _ c.first_best.ensures.searched (search rules) (search rules) (search rules))

@@ -1,5 +1,6 @@
 use Rattle.std.proofs.Common.{◌≡◌, ◌++◌, ◌∷◌, [], ℕ, ℤ, pos, List, refl, rules, to_z, of_z, w64, ap, ◌∙◌}
 use Rattle.circular_buffer.specs.Buffer.{Buffer, keep_last}
+use Rattle.firm_paths.specs.Workspace.{Workspace}
 use Rattle.firm_rules.specs.Placement.{placement_cost}
 use Rattle.firm_rules.specs.Recent.{with_cost}
 use Rattle.firm_rules.specs.Round.{case_of, changes_made, rows_after}
@@ -13,12 +14,14 @@ use Rattle.firm_tenant.proofs.pools.Pool.place.Goals as goal
 
 -- what a placement comes to, from its parts
 placed-by : (pool : Pool) (placement : List Choice) (cost : ℤ) (changes : List Change) (rows : TenantRows)
-    (costs : List ℤ) (asked : ℕ)
+    (costs : List ℤ) (asked : ℕ) (workspace : Workspace)
     → cost ≡ pos (placement_cost (case_of pool.rows) placement) → changes ≡ changes_made pool.rows placement
     → rows ≡ rows_after pool.rows placement → costs ≡ with_cost pool.costs cost → asked ≡ pool.asked
-    → (let after : Outcome × Pool = (Round cost changes, record { rows = rows; costs = costs; asked = asked }) in after)
+    → workspace ≡ pool.workspace
+    → (let after : Outcome × Pool =
+    (Round cost changes, record { rows = rows; costs = costs; asked = asked; workspace = workspace }) in after)
     ≡ placed_in pool placement
-placed-by pool placement cost changes rows costs asked c h r k a = rw (k, c, h, r, a) refl
+placed-by pool placement cost changes rows costs asked workspace c h r k a w = rw (k, c, h, r, a, w) refl
 
 pub returns : goal.returns
 returns c =
@@ -31,10 +34,11 @@ returns c =
     same ∙ c.cost_of-cost.ensures
     ∙ ap (λ (r : TenantRows). pos (placement_cost (case_of r) placement)) (c.rows.ensures.value ∙ rows) in
     placed-by pool placement kept c.in_ok-changes.changes c.settle.new.self.rows
-    c.push_back.new.self.items c.settle.new.self.asked cost
+    c.push_back.new.self.items c.settle.new.self.asked c.self.inside.scratch cost
     (c.in_ok-changes.ensures ∙ ap (λ (r : TenantRows). changes_made r placement) (c.rows-2.ensures.value ∙ rows))
     (c.settle.ensures.rows ∙ ap (λ (r : TenantRows). rows_after r placement) rows)
     (ap (λ (b : Buffer ℤ). b.items) c.push_back.ensures.items
     ∙ ap (λ (n : ℕ). keep_last n (c.self.inside.costs.items ++ kept ∷ [])) c.self.invariant.0
     ∙ ap (λ (p : Pool). keep_last 8 (p.costs ++ kept ∷ [])) c.self.view_is)
     (c.settle.ensures.asked ∙ ap (λ (p : Pool). p.asked) c.self.view_is)
+    (ap (λ (p : Pool). p.workspace) c.self.view_is)

@@ -1,9 +1,9 @@
 use Rattle.std.proofs.Common.{◌≡◌, ◌∙◌, ap, sym, subst, arith, length, get_or, ℕ, List}
 use Rattle.std.specs.Prelude.{set}
 use Rattle.std.proofs.lemmas.Option.{get_or_from_slice_get}
-use Rattle.firm_text.specs.Rosters.{Admitted}
+use Rattle.firm_text.specs.Rosters.{RosterRow}
 use Rattle.firm_text.specs.Registers.{AreSound, occupied}
-use Rattle.firm_text.specs.declared.registers.Place.{Place}
+use Rattle.firm_text.specs.declared.registers.Entry.{Entry}
 use Rattle.firm_text.proofs.Places.{all_placed, next_place, places_to, sound_first}
 use Rattle.firm_text.proofs.registers.Register.of.Goals as goal
 
@@ -14,8 +14,8 @@ loop-at-preserved c =
     let tenant = c.unwrap-name.result in
     let is : get_or tenants at tenant ≡ tenant =
     get_or_from_slice_get tenants at tenant tenant (sym c.get.ensures ∙ c.unwrap-name.ensures) in
-    ap (λ (places : List Place). set places at (occupied tenant.0 1)) c.loop-at.invariant
-    ∙ ap (λ (t : Admitted). set (places_to at tenants) at (occupied t.0 1)) (sym is)
+    ap (λ (places : List Entry). set places at (occupied tenant.0 1)) c.loop-at.invariant
+    ∙ ap (λ (t : RosterRow). set (places_to at tenants) at (occupied t.0 1)) (sym is)
     ∙ next_place tenants at tenant (omega arith) (omega arith)
 
 pub returns : goal.returns

@@ -1,0 +1,79 @@
+"""What measurements keep: a record a line, as JSON, in out/bench. bench/pictures.py draws them."""
+
+from __future__ import annotations
+
+import json
+from dataclasses import asdict, dataclass
+from pathlib import Path
+from typing import Any, Iterable, TextIO, TypeVar
+
+from harness.checks import CannotRun
+from harness.program import ROOT
+
+FOLDER = ROOT / "out" / "bench"
+ROUNDS = "rounds.jsonl"
+RATES = "workers.jsonl"
+
+
+@dataclass
+class RoundRecord:
+    """A measured round; times are in seconds, None where there is no other program or no LEMON."""
+
+    kind: str
+    size: str
+    round: int  # from 0, the cold one
+    tasks: int
+    arcs: int
+    cost: int
+    searches: int
+    looks: int
+    firm: float
+    beside: float | None
+    simplex: float | None = None
+    scaling: float | None = None
+
+    @property
+    def ratio(self) -> float | None:
+        """The round's time as a part of that of LEMON's faster solver."""
+        solvers = [seconds for seconds in (self.simplex, self.scaling) if seconds is not None]
+        return self.firm / min(solvers) if solvers else None
+
+    def times(self) -> dict[str, float | None]:
+        return {"firm": self.firm, "beside": self.beside, "simplex": self.simplex, "scaling": self.scaling}
+
+
+@dataclass
+class RateRecord:
+    """Rounds a second of a program with a number of workers, none where it serves on one thread."""
+
+    program: str
+    workers: int | None
+    tenants: int
+    tasks: int
+    machines: int
+    rate: float
+    processor: float  # seconds a round
+
+
+Record = TypeVar("Record", RoundRecord, RateRecord)
+
+
+def begin(name: str) -> TextIO:
+    """The file of this name, empty."""
+    FOLDER.mkdir(parents=True, exist_ok=True)
+    return open(FOLDER / name, "w")
+
+
+def keep(file: TextIO, records: Iterable[RoundRecord | RateRecord]) -> None:
+    file.writelines(json.dumps(asdict(record)) + "\n" for record in records)
+    file.flush()
+
+
+def read(name: str, record: type[Record], folder: Path = FOLDER) -> list[Record]:
+    """The records of the last run."""
+    path = folder / name
+    lines = path.read_text().splitlines() if path.exists() else []
+    if not lines:
+        raise CannotRun(f"no run is kept in {path}")
+    fields: list[dict[str, Any]] = [json.loads(line) for line in lines]
+    return [record(**each) for each in fields]

@@ -1,0 +1,26 @@
+-- What the program has read and which replies it has written, whatever it wrote of reasons.
+use Rattle.std.specs.Prelude.{◌≡◌, ℕ, ◌^◌, List, Ok}
+use Rattle.firm_text.specs.Rosters.{RosterRow, roster_of}
+use Rattle.firm_table.specs.Service.{Device, Served, Stopped}
+use Rattle.firm_table.specs.declared.faults.ServeFault.{ServeFault}
+
+-- a text was a roster, and the replies are its tenants' to all of the input, byte for byte as `firm` writes them
+pub record ServesFile (reader replies : Device) : Type 0 where
+  pub text : List ℕ
+  pub roster : List RosterRow
+  pub judged : roster_of text ≡ Ok roster
+  pub served : Served roster (2 ^ 32) reader replies
+
+-- a text was a roster, and the service of its tenants stopped
+pub record StopsService (reader replies : Device) : Type 0 where
+  pub text : List ℕ
+  pub roster : List RosterRow
+  pub judged : roster_of text ≡ Ok roster
+  pub cause : ServeFault
+  pub stopped : Stopped roster (2 ^ 32) reader replies cause
+
+-- how it stops: before it read a line, within the service, or behind it, where the reasons could not be written
+pub data StopsFile (reader replies : Device) : Type 0 where
+  ReadsNothing : reader.after ≡ reader.before → replies.after ≡ replies.before → StopsFile reader replies
+  Stops : StopsService reader replies → StopsFile reader replies
+  LosesReasons : ServesFile reader replies → StopsFile reader replies

@@ -1,0 +1,96 @@
+//! Tasks that wait for the same reason.
+
+use crate::choices::{Market, Neighbours, Other};
+use firm_rules::Choice;
+use std::alloc::AllocError;
+
+/// Where more tasks than these wait for the same reason, one line tells of all of them.
+const MOST_TOLD: u64 = 20;
+
+/// Tasks that go on waiting: those for which each machine costs more, or those for which one costs as much.
+#[derive(Clone, Copy)]
+pub(crate) struct Crowd {
+    /// The number of the first task.
+    pub(crate) first: usize,
+    pub(crate) tasks: u64,
+    /// What it costs to let one of them wait, at least and at most.
+    pub(crate) least: u64,
+    pub(crate) most: u64,
+    /// How much more a machine costs one of them at least.
+    pub(crate) more: u64,
+}
+
+/// Both crowds of a round.
+#[derive(Clone, Copy)]
+pub(crate) struct Crowds {
+    dearer: Crowd,
+    alike: Crowd,
+}
+
+impl Crowd {
+    const NOBODY: Crowd = Crowd {
+        first: 0,
+        tasks: 0,
+        least: u64::MAX,
+        most: 0,
+        more: u64::MAX,
+    };
+
+    /// Whether one line tells of all of them.
+    pub(crate) fn is_large(&self) -> bool {
+        MOST_TOLD < self.tasks
+    }
+
+    // The crowd with one task more.
+    fn with(&self, task: usize, wait: u64, more: u64) -> Crowd {
+        Crowd {
+            first: if self.tasks == 0 { task } else { self.first },
+            tasks: self.tasks.saturating_add(1),
+            least: self.least.min(wait),
+            most: self.most.max(wait),
+            more: self.more.min(more),
+        }
+    }
+}
+
+impl Crowds {
+    /// The crowds of a round.
+    pub(crate) fn of(
+        market: &Market<'_>,
+        neighbours: &mut Neighbours,
+    ) -> Result<Crowds, AllocError> {
+        let mut crowds = Crowds {
+            dearer: Crowd::NOBODY,
+            alike: Crowd::NOBODY,
+        };
+        for task in 0..market.case.task_count() {
+            if is_waiting(market, task) {
+                let best = neighbours.best_other(market, task)?;
+                let wait = market.case.cost_of_choice(task, Choice::Wait);
+                crowds.join(task, wait, best);
+            }
+        }
+        Ok(crowds)
+    }
+
+    /// The crowd of the tasks with such a best other choice.
+    pub(crate) fn of_best(&self, best: Option<Other>) -> Crowd {
+        match best {
+            Some(Other { choice: _, more: 0 }) => self.alike,
+            _ => self.dearer,
+        }
+    }
+
+    fn join(&mut self, task: usize, wait: u64, best: Option<Other>) {
+        match best {
+            Some(Other { choice: _, more: 0 }) => self.alike = self.alike.with(task, wait, 0),
+            Some(Other { choice: _, more }) => self.dearer = self.dearer.with(task, wait, more),
+            None => self.dearer = self.dearer.with(task, wait, 0),
+        }
+    }
+}
+
+/// Whether the task waited before the round and goes on waiting.
+pub(crate) fn is_waiting(market: &Market<'_>, task: usize) -> bool {
+    market.choice_of(task) == Choice::Wait && market.case.home(task) == Choice::Wait
+}

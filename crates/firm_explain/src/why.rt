@@ -1,0 +1,169 @@
+//! All choices of one task, with rents of its own.
+
+use crate::choices::{Market, ranks_before};
+use crate::reasons::{put_more, put_rents, put_sum};
+use crate::rents::{Rents, Shown, excess, rents_for, shows_least};
+use crate::text::{put_choice, put_labelled, put_other, put_task_name};
+use firm_rules::{Choice, Name, Rows};
+use std::alloc::{AllocError, Global};
+
+/// Another choice of the task, in the order of the line: by what it costs more; of those that cost as much first those
+/// that rank after the task's own choice; then by place, and waiting last.
+#[derive(Clone, Copy, Debug, PartialEq, Eq, PartialOrd, Ord)]
+struct Rival {
+    more: u64,
+    ranks_before: bool,
+    place: u32,
+}
+
+impl Rival {
+    // Whether it is told with the other one.
+    fn is_like(&self, other: Rival) -> bool {
+        self.more == other.more && self.ranks_before == other.ranks_before
+    }
+}
+
+/// Adds what each other choice of the task of this name costs more, by the rents under which each costs the most that
+/// it can; nothing where there is no such task.
+pub(crate) fn put_why(
+    text: &mut Vec<u8>,
+    market: &Market<'_>,
+    name: Name,
+    cost: u64,
+) -> Result<(), AllocError> {
+    let Some(number) = market.rows.task_place(name) else {
+        return Ok(());
+    };
+    let rents = rents_for(*text.allocator(), market.case, market.placement, number)?;
+    put_own(text, market, number, &rents)?;
+    put_shown(
+        text,
+        market.rows,
+        number,
+        shows_least(market.case, &rents, cost),
+    )
+}
+
+// What the task's own rents say.
+fn put_own(
+    text: &mut Vec<u8>,
+    market: &Market<'_>,
+    number: usize,
+    rents: &Rents,
+) -> Result<(), AllocError> {
+    text.extend_from_slice(b"# ")?;
+    put_task_name(text, market.rows, number)?;
+    text.extend_from_slice(b"'s")?;
+    put_rents(text, market.rows, rents)?;
+    put_rivals(text, market, number, rents)
+}
+
+// The line that closes the proof by the task's own rents.
+fn put_shown(
+    text: &mut Vec<u8>,
+    rows: &Rows,
+    number: usize,
+    shown: Shown,
+) -> Result<(), AllocError> {
+    text.extend_from_slice(if shown.least {
+        b"# least by "
+    } else {
+        b"# NOT SHOWN to be least by "
+    })?;
+    put_task_name(text, rows, number)?;
+    put_labelled(text, b"'s rents: cost ", shown.cost)?;
+    put_sum(text, shown)?;
+    text.extend_from_slice(b"\n")
+}
+
+// The task's choice, and behind it all others.
+fn put_rivals(
+    text: &mut Vec<u8>,
+    market: &Market<'_>,
+    number: usize,
+    rents: &Rents,
+) -> Result<(), AllocError> {
+    let (choice, home) = (market.choice_of(number), market.case.home(number));
+    text.extend_from_slice(b"# ")?;
+    put_task_name(text, market.rows, number)?;
+    put_choice(text, market.rows, choice, home)?;
+    put_labelled(text, b": ", market.case.cost_of_choice(number, choice))?;
+    if let Choice::On(_) = choice {
+        put_labelled(text, b" + rent ", rents.of_choice(choice))?;
+    }
+    let mut before = None;
+    for rival in rivals_of(*text.allocator(), market, number, rents)?.iter() {
+        put_end_of(text, before, Some(*rival))?;
+        put_other(text, market.rows, choice_of(*rival), home)?;
+        before = Some(*rival);
+    }
+    put_end_of(text, before, None)?;
+    text.extend_from_slice(b"\n")
+}
+
+// All other choices of the task, those that cost least more first.
+fn rivals_of(
+    alloc: Global,
+    market: &Market<'_>,
+    number: usize,
+    rents: &Rents,
+) -> Result<Vec<Rival>, AllocError> {
+    let (choice, home) = (market.choice_of(number), market.case.home(number));
+    let machines = market.case.machine_count();
+    let mut rivals = Vec::with_capacity(alloc, machines.saturating_add(1))?;
+    for place in 0..=machines {
+        let other = choice_at(place, machines);
+        if other != choice {
+            let more = excess(market.case, rents, number, choice, other);
+            rivals.push(Rival {
+                more,
+                ranks_before: more == 0 && ranks_before(other, choice, home),
+                place: place_of(other),
+            })?;
+        }
+    }
+    rivals.sort()?;
+    Ok(rivals)
+}
+
+// The choice at a place, where waiting stands past the last machine.
+fn choice_at(place: usize, machines: usize) -> Choice {
+    match u32::try_from(place) {
+        Ok(at) if place < machines => Choice::On(at),
+        _ => Choice::Wait,
+    }
+}
+
+fn place_of(choice: Choice) -> u32 {
+    match choice {
+        Choice::On(place) => place,
+        Choice::Wait => u32::MAX,
+    }
+}
+
+fn choice_of(rival: Rival) -> Choice {
+    match rival.place {
+        u32::MAX => Choice::Wait,
+        place => Choice::On(place),
+    }
+}
+
+// What stands between two choices: how much more the one before costs, unless the next costs as much.
+fn put_end_of(
+    text: &mut Vec<u8>,
+    before: Option<Rival>,
+    next: Option<Rival>,
+) -> Result<(), AllocError> {
+    if let (Some(last), Some(rival)) = (before, next) {
+        if rival.is_like(last) {
+            return text.extend_from_slice(b", ");
+        }
+    }
+    if let Some(last) = before {
+        put_more(text, last.more, !last.ranks_before)?;
+    }
+    if next.is_some() {
+        text.extend_from_slice(b"; ")?;
+    }
+    Ok(())
+}

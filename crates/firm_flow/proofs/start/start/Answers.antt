@@ -1,0 +1,45 @@
+use Rattle.std.proofs.Common.{◌∙◌, List, [], arith, ap, sym, subst}
+use Rattle.firm_net.specs.Net.{Net, without_flow}
+use Rattle.firm_net.specs.Laws.{cleared_twice}
+use Rattle.firm_paths.specs.PriceTable.{price_of}
+use Rattle.firm_flow.specs.declared.start.Proposed.{Proposed}
+use Rattle.firm_flow.specs.NetFlow.{SameButFlow, places, sources_of}
+use Rattle.firm_flow.specs.inner.Push.{IsSent}
+use Rattle.firm_flow.specs.inner.Start.{IsPlaced}
+use Rattle.firm_flow.proofs.Placed.{sources_length, placed_none}
+use Rattle.firm_flow.proofs.Solved.{few_sources, sent_none, still_distinct}
+use Rattle.firm_flow.proofs.start.start.Goals as goal
+
+pub accept-requires-clause-few : goal.accept-requires-clause-few
+accept-requires-clause-few c =
+    let cleared : SameButFlow c.args.net.now c.clear_flow.new.self =
+    ap without_flow c.clear_flow.ensures.clears ∙ cleared_twice c.args.net.now in
+    omega (
+      arith,
+      few_sources c.clear_flow.new.self (sources_of c.args.sources.now) c.args.sink c.clear_flow.ensures.net
+          (still_distinct c.args.net.now c.clear_flow.new.self (sources_of c.args.sources.now) c.args.sink cleared
+          c.requires.nodes),
+      sources_length c.args.sources.now,
+    )
+
+pub accept-requires-clause-clear : goal.accept-requires-clause-clear
+accept-requires-clause-clear c =
+    subst (λ (n : Net). IsPlaced n [] c.args.sink.id.place 0) (sym c.clear_flow.ensures.clears)
+    (placed_none c.args.net.now c.args.sink.id.place)
+
+pub returns-in-Some-clause-same : goal.returns-in-Some-clause-same
+returns-in-Some-clause-same c =
+    c.accept.ensures.same ∙ (ap without_flow c.clear_flow.ensures.clears ∙ cleared_twice c.args.net.now)
+
+pub returns-clause-same : goal.returns-clause-same
+returns-clause-same c =
+    ap without_flow c.clear_flow-2.ensures.clears ∙ (cleared_twice c.accept.new.net
+    ∙ (c.accept.ensures.same ∙ (ap without_flow c.clear_flow.ensures.clears ∙ cleared_twice c.args.net.now)))
+
+pub returns-clause-sent : goal.returns-clause-sent
+returns-clause-sent c =
+    subst (λ (z : List Proposed). IsSent c.clear_flow-2.new.self (price_of c.clear.new.self) (places (sources_of z))
+    c.args.sink.id.place 0) (sym c.forget_routes.ensures.none)
+    (subst (λ (n : Net). IsSent n (price_of c.clear.new.self) [] c.args.sink.id.place 0)
+    (sym c.clear_flow-2.ensures.clears)
+    (sent_none c.accept.new.net (price_of c.clear.new.self) c.args.sink.id.place c.clear.ensures.zero))

@@ -1,0 +1,6 @@
+pub mod Payments
+pub mod Names
+pub mod Cheapest
+pub mod Rows
+pub mod Bounding
+pub mod OtherSlots

@@ -1,0 +1,5 @@
+use Rattle.firm_rents.proofs.Payments.{that_show_suit}
+use Rattle.firm_rents.proofs.laws.rents_that_show_suit.Goals as goal
+
+pub returns : goal.returns
+returns c = that_show_suit

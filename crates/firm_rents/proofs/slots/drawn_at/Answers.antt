@@ -1,0 +1,19 @@
+use Rattle.std.proofs.Common.{◌<◌, length, arith}
+use Rattle.firm_rents.proofs.OtherSlots.{drawn_more}
+use Rattle.firm_rents.proofs.slots.drawn_at.Goals as goal
+
+pub loop-task-preserved : goal.loop-task-preserved
+loop-task-preserved c =
+    let l : c.loop-task.task < length c.args.case.now.tasks =
+    omega (arith, c.loop-task-test.true, c.task_count-task-end.ensures.count) in
+    let more = drawn_more c.args.case.now c.args.rents.now c.args.rent c.args.case.now.tasks c.loop-task.task l in (
+      omega (
+        arith,
+        more,
+        c.loop-task.invariant.0,
+        c.least_paid.ensures.paid,
+        c.cost_on_last.ensures.cost,
+        c.saturating_sub-drawn.ensures,
+      ),
+      omega (arith, c.loop-task.invariant.1, c.least_paid.ensures.most, c.saturating_sub-drawn.ensures),
+    )

@@ -1,0 +1,18 @@
+use Rattle.std.proofs.Common.{◌≡◌, ◌+◌, arith}
+use Rattle.std.specs.Prelude.{slice_index}
+use Rattle.firm_rents.specs.Rents.{gain}
+use Rattle.firm_rents.proofs.OtherSlots.{slots_of_one}
+use Rattle.firm_rents.proofs.slots.saved_by_slot.Goals as goal
+
+pub returns : goal.returns
+returns c = record {
+  saved = λ placement show other legal.
+      (let case = c.args.case.now in
+      let rents = c.args.rents.now in
+      let slots = slice_index case.slots c.args.place in
+      let one = slots_of_one case rents placement c.other_slots_cost.ensures show c.args.place (slots + 1)
+      c.requires.place other legal in
+      let more : c.gain_of.result ≡ gain case.spread (slice_index rents c.args.place) (slots + 1) = cc in
+      let now : c.gain_of-2.result ≡ gain case.spread (slice_index rents c.args.place) slots = cc in
+      omega (arith, one, more, now));
+}

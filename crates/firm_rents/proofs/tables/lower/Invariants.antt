@@ -1,0 +1,13 @@
+use Rattle.std.proofs.Common.{◌≡◌, ◌<◌, ◌≤◌, ℕ, List, length}
+use Rattle.firm_rents.specs.Rents.{Suit}
+use Rattle.firm_rents.specs.inner.Bounds.{IsBelow, IsWithin}
+use Rattle.firm_rents.proofs.tables.lower.Given as goal
+
+abbrev pub invariant-loop-task : goal.invariant-loop-task
+invariant-loop-task l = record {
+  one_each : length l.rents ≡ length l.case.slots;
+  lowest : 0 < length l.case.slots → l.lowest < length l.case.slots;
+  falls : IsBelow l.rents l.fn.rents;
+  within : (bounds : List ℕ) (less more : ℕ) → Suit l.case bounds l.placement → less ≤ more
+      → IsWithin bounds l.fn.rents less more → IsWithin bounds l.rents less more;
+}

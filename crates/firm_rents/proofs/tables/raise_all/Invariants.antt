@@ -1,0 +1,12 @@
+use Rattle.std.proofs.Common.{◌≡◌, ◌≤◌, ℕ, List, length}
+use Rattle.std.specs.Prelude.{slice_index}
+use Rattle.firm_rents.specs.Rents.{Suit}
+use Rattle.firm_rents.specs.inner.Bounds.{IsBelow}
+use Rattle.firm_rents.proofs.tables.raise_all.Given as goal
+
+abbrev pub invariant-loop : goal.invariant-loop
+invariant-loop l = record {
+  one_each : length l.rents ≡ length l.case.slots;
+  small : (j : ℕ) → slice_index l.rents j ≤ 1099511627776;
+  below : (bounds : List ℕ) → Suit l.case bounds l.placement → IsBelow l.fn.rents bounds → IsBelow l.rents bounds;
+}

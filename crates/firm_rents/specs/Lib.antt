@@ -1,0 +1,4 @@
+pub mod inner
+pub mod Rents
+pub mod Placed
+pub mod OtherSlots

@@ -1,0 +1,34 @@
+-- What other slots would save or cost, as rents tell it.
+use Rattle.std.specs.Prelude.{◌≡◌, ℕ, ◌+◌, ◌-◌, ◌≤◌, List, [], ◌∷◌, ◌++◌, length}
+use Rattle.firm_rules.specs.declared.rounds.Choice.{Choice}
+use Rattle.firm_rules.specs.declared.rounds.Choice.TheVariants.{On}
+use Rattle.firm_rules.specs.Placement.{Demand, Case, IsLegal, task_cost, placement_cost}
+use Rattle.firm_rents.specs.Rents.{least_paid, gain, gains, Show}
+
+-- the case with these slots
+abbrev pub with_slots : Case → List ℕ → Case
+with_slots case slots = record case { slots = slots }
+
+-- the same tasks with other slots of the same machines: what a placement costs less than one that the rents show is no
+-- more than the gains grow
+abbrev pub OtherSlotsCost : Type 0
+OtherSlotsCost = (case : Case) (rents : List ℕ) (placement : List Choice) → Show case rents placement
+    → (slots : List ℕ) → length slots ≡ length case.slots
+    → (other : List Choice) → IsLegal (with_slots case slots) other
+    → placement_cost case placement + gains case rents
+    ≤ placement_cost (with_slots case slots) other + gains (with_slots case slots) rents
+
+-- what the tasks would pay less, together, on a machine that is added last at this rent, each that would pay less there
+abbrev pub drawn : Case → List ℕ → ℕ → List Demand → ℕ
+drawn case rents rent [] = 0
+drawn case rents rent (task ∷ tasks) =
+    (least_paid case rents task - (task_cost case task (On (length case.slots)) + rent)) + drawn case rents rent tasks
+
+-- a machine more, of so many slots: it saves no more than what tasks would pay less there at any one rent, and its gain
+-- at that rent
+abbrev pub OneMoreMachineSaves : Type 0
+OneMoreMachineSaves = (case : Case) (rents : List ℕ) (placement : List Choice) → Show case rents placement
+    → length rents ≡ length case.slots → (slots rent : ℕ)
+    → (other : List Choice) → IsLegal (with_slots case (case.slots ++ slots ∷ [])) other
+    → placement_cost case placement ≤ placement_cost (with_slots case (case.slots ++ slots ∷ [])) other
+    + (drawn case rents rent case.tasks + gain case.spread rent slots)

@@ -1,0 +1,54 @@
+-- The machine with the lowest number, apart from two.
+use Rattle.std.specs.Prelude.{◌≡◌, ℕ, ◌+◌, ◌<◌, ◌≤◌, Bool, true, false, not, ◌&&◌, ◌^◌, nat_lt, List, ◌++◌, length}
+use Rattle.std.specs.Prelude.{slice_index}
+use Rattle.std.specs.Prelude.{if◌then◌else◌, is_some}
+use Rattle.std.specs.Option.{option_to_list}
+use Rattle.firm_rules.specs.declared.rounds.Choice.{Choice}
+use Rattle.firm_rules.specs.declared.rounds.Choice.TheVariants.{On, Wait}
+use Rattle.firm_rules.specs.Placement.{Demand, Case, goes_to}
+use Rattle.firm_rents.specs.Rents.{paid}
+use Rattle.firm_rents.specs.declared.rents.Rents.TheInside.{Inside}
+
+-- the machine is neither of these
+pub record IsNeither (a b : Choice) (j : ℕ) : Type 0 where
+  pub first : goes_to j a ≡ false
+  pub second : goes_to j b ≡ false
+
+-- the choice is neither of these machines
+abbrev pub is_neither : Choice → Choice → Choice → Bool
+is_neither a b (On k) = not (goes_to k a) && not (goes_to k b)
+is_neither a b Wait = true
+
+-- of the first n machines but these two this one has the lowest number, or there is none
+abbrev pub IsLowest : (ℕ → ℕ) → ℕ → Choice → Choice → Choice → Type 0
+IsLowest number n a b (On k) =
+    (k < n) × IsNeither a b k × ((j : ℕ) → j < n → IsNeither a b j → number k ≤ number j)
+IsLowest number n a b Wait = (j : ℕ) → j < n → IsNeither a b j → ⊥
+
+-- rents, with the three lowest of them
+pub record RentsFit (rents : Inside) : Type 0 where
+  pub small : (j : ℕ) → slice_index rents.table.items j ≤ 2 ^ 40
+  pub few : length rents.table.items ≤ 4096
+  pub first : IsLowest (slice_index rents.table.items) (length rents.table.items) Wait Wait rents.first
+  pub second : IsLowest (slice_index rents.table.items) (length rents.table.items) rents.first Wait rents.second
+  pub third : IsLowest (slice_index rents.table.items) (length rents.table.items) rents.first rents.second rents.third
+
+-- what a machine that is neither its own nor preferred costs the task
+abbrev pub wide_cost : Case → Demand → ℕ
+wide_cost case task =
+    (if is_some task.home then case.churn else 0) + (if nat_lt 0 (length task.preferred) then case.remote else 0)
+
+-- the machines that may cost the task less: its own, and those that it prefers
+abbrev pub near : Demand → List ℕ
+near task = option_to_list task.home ++ task.preferred
+
+-- how far the search for the cheapest machine but two has come, by this many of the near ones: the choice costs no more
+-- than any machine at the wide cost, and than each of those near ones
+abbrev pub IsCheapestSoFar : Case → List ℕ → Demand → Choice → Choice → ℕ → Choice → Type 0
+IsCheapestSoFar case rents task a b n (On k) =
+    (k < length case.slots) × IsNeither a b k
+    × ((j : ℕ) → j < length case.slots → IsNeither a b j
+    → paid case rents task (On k) ≤ wide_cost case task + slice_index rents j)
+    × ((i : ℕ) → i < n → IsNeither a b (slice_index (near task) i)
+    → paid case rents task (On k) ≤ paid case rents task (On (slice_index (near task) i)))
+IsCheapestSoFar case rents task a b n Wait = (j : ℕ) → j < length case.slots → IsNeither a b j → ⊥

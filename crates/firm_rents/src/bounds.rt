@@ -1,0 +1,120 @@
+//! What rents prove of the cost of a tenant's placements. None of these calls takes memory.
+ghost use Rattle.std.specs.Prelude.{ℕ, ◌≡◌, ◌+◌, ◌*◌, ◌^◌, ◌≤◌, ◌↔◌, true, length, slice_index, List, IsTrue};
+ghost use Rattle.firm_rules.specs.declared.rounds.Choice.{Choice};
+ghost use Rattle.firm_rules.specs.Placement.{IsLegal, is_legal, placement_cost, load_cost, load, total, tasks_cost};
+ghost use Rattle.firm_rents.specs.Rents.{all_least, gain, gains, Show};
+
+use crate::cases::Case;
+use crate::choices::least_paid;
+use crate::laws::rents_show_least;
+use crate::rents::Rents;
+use firm_rules::{Choice, cost_of_load, legality_is_judged, loads_of};
+
+/// What rents show of a placement.
+#[derive(Clone, Copy, Debug, PartialEq, Eq)]
+pub struct Shown {
+    /// Whether they show it to be least: its cost and the gains are what the tasks pay at least.
+    pub least: bool,
+    pub cost: u64,
+    /// What the tasks pay at least, together.
+    pub paid: u64,
+    /// The gains of the machines, together.
+    pub gains: u64,
+}
+
+/// What the rents show of a legal placement. Where they show it to be least, no legal placement costs less.
+pub fn shows_least(case: &Case, rents: &Rents, placement: &[Choice]) -> Shown
+    requires legal { is_legal case.now placement.now ≡ true }
+    requires one_each { length rents.now ≡ length case.now.slots }
+    ensures cost { result.cost ≡ placement_cost case.now placement.now }
+    ensures paid { result.paid ≡ all_least case.now rents.now case.now.tasks }
+    ensures gains { result.gains ≡ gains case.now rents.now }
+    ensures shown { IsTrue result.least ↔ Show case.now rents.now placement.now }
+    ensures least { IsTrue result.least → (other : List Choice) → IsLegal case.now other
+        → placement_cost case.now placement.now ≤ placement_cost case.now other }
+{
+    rents_show_least();
+    let cost = load_costs(case, placement) + task_costs(case, placement);
+    let paid = paid_of_all(case, rents);
+    let gains = gains_of(case, rents);
+    Shown {
+        least: cost + gains == paid,
+        cost,
+        paid,
+        gains,
+    }
+}
+
+// What the tasks pay at least, each for the choice that is cheapest for it with rent.
+fn paid_of_all(case: &Case, rents: &Rents) -> u64
+    requires one_each { length rents.now ≡ length case.now.slots }
+    ensures paid { result ≡ all_least case.now rents.now case.now.tasks }
+    ensures most { result ≤ 2 ^ 34 }
+{
+    let mut paid = 0;
+    for task in 0..case.task_count() {
+        paid += least_paid(case, rents, task);
+    }
+    paid
+}
+
+// The gains of all machines.
+fn gains_of(case: &Case, rents: &Rents) -> u64
+    requires one_each { length rents.now ≡ length case.now.slots }
+    ensures gains { result ≡ gains case.now rents.now }
+    ensures most { result ≤ 2 ^ 59 }
+{
+    let spread = case.spread();
+    let mut gains = 0;
+    for place in 0..case.machine_count() {
+        gains += gain_of(spread, rents.as_slice()[place], case.slots(place));
+    }
+    gains
+}
+
+/// The most that any number of tasks, up to the slots, brings at a rent beyond what they cost as a load.
+pub(crate) fn gain_of(spread: u64, rent: u64, slots: u64) -> u64
+    requires spread { spread ≤ 1000 }
+    requires rent { rent ≤ 2 ^ 40 }
+    requires slots { slots ≤ 65 }
+    ensures gain { result ≡ gain spread rent slots }
+    ensures most { result ≤ 2 ^ 47 }
+{
+    let mut most = 0;
+    for before in 0..slots {
+        let tasks = before + 1;
+        let load = spread * (tasks * before / 2);
+        most = most.max((tasks * rent).saturating_sub(load));
+    }
+    most
+}
+
+// What the loads of all machines cost.
+fn load_costs(case: &Case, placement: &[Choice]) -> u64
+    requires { length placement.now ≡ length case.now.tasks }
+    ensures cost { result ≡ total (λ j. load_cost case.now.spread (load placement.now j)) (length case.now.slots) }
+    ensures most { result ≤ 2 ^ 45 }
+{
+    // No more tasks are counted than a tenant may have.
+    prove!(case.task_count() <= 4_096);
+    let spread = case.spread();
+    let loads = loads_of(placement);
+    let mut cost = 0;
+    for place in 0..case.machine_count() {
+        cost += cost_of_load(spread, u64::from(loads[place]));
+    }
+    cost
+}
+
+// What their choices cost all tasks.
+fn task_costs(case: &Case, placement: &[Choice]) -> u64
+    requires { length placement.now ≡ length case.now.tasks }
+    ensures cost { result ≡ tasks_cost case.now case.now.tasks placement.now }
+    ensures most { result ≤ 2 ^ 34 }
+{
+    let mut cost = 0;
+    for task in 0..case.task_count() {
+        cost += case.cost_of_choice(task, placement[task]);
+    }
+    cost
+}

@@ -1,0 +1,61 @@
+//! What a task pays, and what another choice costs it more.
+ghost use Rattle.std.specs.Prelude.{◌≡◌, ◌-◌, ◌^◌, ◌<◌, ◌≤◌, length};
+ghost use Rattle.firm_rules.specs.Placement.{IsPlace};
+ghost use Rattle.firm_rents.specs.Rents.{task_at, paid, least_paid};
+ghost use Rattle.firm_rents.specs.inner.Lowest.{IsLowest};
+ghost use Rattle.firm_rules.specs.declared.rounds.Choice.TheVariants.{On};
+
+use crate::cases::{Case, is_on};
+use crate::rents::Rents;
+use firm_rules::Choice;
+
+/// What a choice costs the task of this number with its rent.
+pub fn paid(case: &Case, rents: &Rents, task: usize, choice: Choice) -> u64
+    requires task { task < length case.now.tasks }
+    ensures paid { result ≡ paid case.now rents.now (task_at case.now task) choice }
+    ensures most { result ≤ 2 ^ 41 }
+{
+    case.cost_of_choice(task, choice) + rents.of_choice(choice)
+}
+
+/// How much more the task of this number pays for the other choice than for the chosen one; 0 where that is less.
+pub fn excess(case: &Case, rents: &Rents, task: usize, chosen: Choice, other: Choice) -> u64
+    requires task { task < length case.now.tasks }
+    ensures { result ≡ paid case.now rents.now (task_at case.now task) other
+        - paid case.now rents.now (task_at case.now task) chosen }
+{
+    paid(case, rents, task, other).saturating_sub(paid(case, rents, task, chosen))
+}
+
+/// Of the machines but these two one that costs the task of this number least with its rent; to wait where there is no
+/// other machine. It looks at the task's own machine, those that it prefers, and one with the lowest rent.
+pub fn cheapest_other(case: &Case, rents: &Rents, task: usize, one: Choice, other: Choice) -> Choice
+    requires task { task < length case.now.tasks }
+    requires one_each { length rents.now ≡ length case.now.slots }
+    ensures { IsLowest (λ j. paid case.now rents.now (task_at case.now task) (On j)) (length case.now.slots)
+        one other result }
+{
+    let mut best = rents.lowest_but(one, other);
+    for place in case.near(task).as_slice() {
+        let machine = Choice::On(*place);
+        if !is_on(one, *place)
+            && !is_on(other, *place)
+            && paid(case, rents, task, machine) < paid(case, rents, task, best)
+        {
+            best = machine;
+        }
+    }
+    best
+}
+
+/// What the task of this number pays at least: to wait, or for a machine with its rent.
+pub fn least_paid(case: &Case, rents: &Rents, task: usize) -> u64
+    requires task { task < length case.now.tasks }
+    requires one_each { length rents.now ≡ length case.now.slots }
+    ensures paid { result ≡ least_paid case.now rents.now (task_at case.now task) }
+    ensures most { result ≤ 2 ^ 22 }
+{
+    let wait = case.cost_of_choice(task, Choice::Wait);
+    let machine = cheapest_other(case, rents, task, Choice::Wait, Choice::Wait);
+    wait.min(paid(case, rents, task, machine))
+}

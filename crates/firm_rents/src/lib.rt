@@ -1,0 +1,23 @@
+//! Rents: a number for each machine of a tenant, and what they prove of the cost of its placements.
+#![tactic(auto)]
+
+mod bounds;
+mod cases;
+mod choices;
+mod laws;
+mod placed;
+mod rents;
+mod slots;
+mod tables;
+
+pub use bounds::{Shown, shows_least};
+pub use cases::Case;
+pub use choices::{cheapest_other, excess, least_paid, paid};
+pub use laws::{
+    each_choice_costs_its_excess, one_more_machine_saves, other_slots_cost, rents_bound,
+    rents_show_least, rents_that_show_suit,
+};
+pub use placed::placement_of;
+pub use rents::Rents;
+pub use slots::{Saving, lost_by_slot, saved_by_machine, saved_by_slot};
+pub use tables::{high_rents, low_rents, rents_for};

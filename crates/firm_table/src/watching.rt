@@ -1,0 +1,144 @@
+//! The service on one thread, whose rounds somebody is shown.
+
+ghost use Rattle.std.specs.Prelude.{◌≡◌, ◌≤◌, ◌^◌, ℕ, List, Option, [], false, OnOk, OnErr, IfErr};
+ghost use Rattle.firm_table.specs.Service.{Answers, BeginsAnswers, Served, Stopped, UpToDate, device};
+ghost use Rattle.firm_table.specs.declared.faults.ServeFault.TheVariants.{Read};
+ghost use Rattle.firm_table.specs.inner.Faults.{IsWritingFault};
+ghost use Rattle.firm_table.specs.inner.Progress.{Told, state_of};
+
+use crate::clerk::Clerk;
+use crate::faults::ServeFault;
+use crate::reading::{MOST_INPUT, serve_lines};
+use crate::serving::Service;
+use firm_rules::{Command, Name, Rows};
+use firm_text::{Line, Roster, Sink, Source};
+use std::alloc::{AllocError, Global};
+
+/// Who is shown the rounds of a service: the tenant's rows before each, and those behind it.
+pub trait Watcher {
+    /// The tenant of this name is asked for a round, and these are its rows.
+    fn before_round(&mut self, name: Name, rows: &Rows);
+
+    /// The round was solved, and these are the rows behind it. All answers up to its reply were written. The error
+    /// comes where memory was refused.
+    fn after_round(&mut self, name: Name, rows: &Rows) -> Result<(), AllocError>;
+}
+
+/// Answers the lines of an input of at most 2^32 bytes as `serve_one` does, whatever the watcher does, and shows it
+/// each round. What it writes itself into another sink, of the same device maybe, comes behind the reply to its round.
+///
+/// What is read, what is written to the writer and how it ends are those of `serve_one`; `Memory` also comes where the
+/// watcher found none.
+pub fn serve_watched<R: Source, W: Sink, V: Watcher>(
+    alloc: Global,
+    reader: &mut R,
+    writer: &mut W,
+    watcher: &mut V,
+    roster: &Roster,
+) -> Result<(), ServeFault>
+    requires reader { R.read_failed reader.old ≡ false }
+    requires writer { W.write_failed writer.old ≡ false }
+    ensures served { OnOk result (Served roster.now (2 ^ 32)
+        (device (R.left reader.old) (R.left reader.new) (R.read_failed reader.new))
+        (device (W.written writer.old) (W.written writer.new) (W.write_failed writer.new))) }
+    ensures stopped { IfErr result (Stopped roster.now (2 ^ 32)
+        (device (R.left reader.old) (R.left reader.new) (R.read_failed reader.new))
+        (device (W.written writer.old) (W.written writer.new) (W.write_failed writer.new))) }
+    ensures in_full { IfErr result (λ fault. fault ≡ Read → UpToDate (Answers roster.now)
+        (device (R.left reader.old) (R.left reader.new) (R.read_failed reader.new))
+        (device (W.written writer.old) (W.written writer.new) (W.write_failed writer.new))) }
+{
+    let Ok(service) = Service::open(alloc, roster) else {
+        return Err(ServeFault::Memory);
+    };
+    let mut watched = Watched { service, watcher };
+    serve_lines(reader, writer, &mut watched, MOST_INPUT)
+}
+
+// The service, and who is shown its rounds.
+#[derive(Drop)]
+pub(crate) struct Watched<'a, 'v, V: Watcher> {
+    service: Service<'a>,
+    watcher: &'v mut V,
+}
+
+impl<V: Watcher> Watched<'_, '_, V> {
+    // Shows the rows before a round of the tenant of this name, if it is there.
+    fn show_before(&mut self, name: Name)
+        ensures { self.new.service ≡ self.old.service }
+    {
+        if let Some(rows) = self.service.rows_of(name) {
+            self.watcher.before_round(name, rows);
+        }
+    }
+
+    // Shows the rows behind a round, once all answers are written.
+    fn show_after<W: Sink>(&mut self, writer: &mut W, name: Name) -> Result<(), ServeFault>
+        requires { W.write_failed writer.old ≡ false }
+        ensures told { OnOk result ((text : List ℕ) (written : Option (List ℕ))
+            → Told (state_of self.old.service) text written (W.written writer.old)
+            → Told (state_of self.new.service) text written (W.written writer.new)) }
+        ensures begins { OnErr result ((text : List ℕ) (written : Option (List ℕ))
+            → Told (state_of self.old.service) text written (W.written writer.old)
+            → BeginsAnswers self.old.service.roster.now text written (W.written writer.new)) }
+        ensures cause { IfErr result (λ fault. IsWritingFault fault (W.write_failed writer.new)) }
+        ensures well { OnOk result (W.write_failed writer.new ≡ false) }
+        ensures roster { self.new.service.roster.now ≡ self.old.service.roster.now }
+    {
+        self.service.finish(writer)?;
+        let Some(rows) = self.service.rows_of(name) else {
+            return Ok(());
+        };
+        match self.watcher.after_round(name, rows) {
+            Ok(()) => Ok(()),
+            Err(_) => Err(ServeFault::Memory),
+        }
+    }
+}
+
+// The clerk that answers as the service does, and shows each round on its way.
+impl<V: Watcher> Clerk for Watched<'_, '_, V> {
+    ghost kept = { λ _. tt };
+
+    ghost roster = { λ watched. watched.service.roster.now };
+
+    ghost is_open = { λ _. Unit {0} };
+
+    ghost told = { λ watched. Told (state_of watched.service) };
+
+    ghost is_written_out = { λ watched. watched.service.output.items ≡ [] };
+
+    ghost is_finished = { λ watched. watched.service.output.items ≡ [] };
+
+    fn answer<W: Sink>(&mut self, writer: &mut W, line: Line) -> Result<(), ServeFault> {
+        let Some(name) = round_of(&line) else {
+            return self.service.answer(writer, line);
+        };
+        self.show_before(name);
+        self.service.answer(writer, line)?;
+        if self.service.has_solved() {
+            self.show_after(writer, name)?;
+        }
+        Ok(())
+    }
+
+    fn write_out<S: Source, W: Sink>(
+        &mut self,
+        reader: &S,
+        writer: &mut W,
+    ) -> Result<(), ServeFault> {
+        self.service.write_out(reader, writer)
+    }
+
+    fn finish<W: Sink>(&mut self, writer: &mut W) -> Result<(), ServeFault> {
+        self.service.finish(writer)
+    }
+}
+
+// The name of the tenant that the line asks for a round.
+fn round_of(line: &Line) -> Option<Name> {
+    match line {
+        Line::For(name, Command::Round) => Some(*name),
+        _ => None,
+    }
+}
