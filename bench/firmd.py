@@ -35,6 +35,8 @@ ROWS = [
     *[f"t task j{n % 2} t{n}" for n in range(5)],
 ]
 MIXED = ["t machine m1 2", "t show", "t where t1", "t task j1 t1", "t where t3", "t job j1 5"]
+# Tasks come and go.
+TASKS = ["t task j0 x%d", "t task j1 y%d", "t done x%d", "t done y%d"]
 # A day: tasks come, run and go, with a round for each five.
 DAY = ["t task j0 x%d", "t task j1 y%d", "t round", "t done x%d", "t done y%d"]
 CLIENTS = 50
@@ -224,7 +226,7 @@ def measure_median(setup: Setup, line: bytes, count: int) -> Pair:
 
 
 def measure_replay(setup: Setup, text: bytes) -> Pair:
-    """Lines a second of a replay, by what firmd says; of firm alone from file to file, its start among it for both."""
+    """Lines a second of a replay: of firmd until it serves, of firm alone from file to file; both with their start."""
     count = text.count(b"\n")
     with tempfile.TemporaryDirectory(dir=setup.folder) as name:
         state, path, journal = Path(name) / "state", Path(name) / "socket", Path(name) / "journal.txt"
@@ -242,11 +244,12 @@ def measure_replay(setup: Setup, text: bytes) -> Pair:
                 return count / (time.perf_counter() - begun)
 
         def served() -> float:
+            begun = time.perf_counter()
             with setup.daemon(state, path) as ready:
-                words = ready.split()  # firmd: ready: N lines replayed in S s
-                if int(words[2].replace(",", "")) != count:
+                seconds = time.perf_counter() - begun
+                if f" {count:,} lines replayed " not in ready:
                     raise RuntimeError(ready)
-                return count / float(words[6])
+                return count / seconds
 
         return best(setup, alone, served, max)
 
@@ -262,8 +265,9 @@ def mixed(count: int) -> bytes:
     return text_of(MIXED) * (count // len(MIXED))
 
 
-def day(count: int) -> bytes:
-    lines = [line % number if "%" in line else line for number in range(count // len(DAY)) for line in DAY]
+def numbered(form: list[str], count: int) -> bytes:
+    """The rows, and then the form again and again, each time with the next number for its names."""
+    lines = [line % number if "%" in line else line for number in range(count // len(form)) for line in form]
     return text_of(ROWS + lines)
 
 
@@ -307,14 +311,20 @@ def main() -> int:
             "2",
         )
         print_row(
-            "replay, lines/s, without rounds",
+            "replay, lines/s, questions and refusals",
             measure_replay(setup, text_of(ROWS) + mixed(options.lines)),
             ",.0f",
             "half of firm's",
         )
         print_row(
+            "replay, lines/s, tasks that come and go",
+            measure_replay(setup, numbered(TASKS, options.lines)),
+            ",.0f",
+            "half of firm's",
+        )
+        print_row(
             "replay, lines/s, a round in five lines",
-            measure_replay(setup, day(options.lines)),
+            measure_replay(setup, numbered(DAY, options.lines)),
             ",.0f",
             "half of firm's",
         )

@@ -35,8 +35,16 @@ class RoundRecord:
     @property
     def ratio(self) -> float | None:
         """The round's time as a part of that of LEMON's faster solver."""
-        solvers = [seconds for seconds in (self.simplex, self.scaling) if seconds is not None]
-        return self.firm / min(solvers) if solvers else None
+        return self.part_of_lemon(self.firm)
+
+    @property
+    def beside_ratio(self) -> float | None:
+        """The same of the other program's time."""
+        return None if self.beside is None else self.part_of_lemon(self.beside)
+
+    def part_of_lemon(self, seconds: float) -> float | None:
+        solvers = [each for each in (self.simplex, self.scaling) if each is not None]
+        return seconds / min(solvers) if solvers else None
 
     def times(self) -> dict[str, float | None]:
         return {"firm": self.firm, "beside": self.beside, "simplex": self.simplex, "scaling": self.scaling}

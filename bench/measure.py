@@ -8,6 +8,7 @@ import sys
 import tempfile
 import time
 from pathlib import Path
+from statistics import median
 from typing import NamedTuple
 
 from harness.checks import CannotRun, compile_source, require
@@ -17,6 +18,7 @@ from harness.rows import hear, hear_round, network, open_rows
 
 HERE = Path(__file__).resolve().parent
 LONG = 45  # seconds after which a stream is not run again
+SHORT = 0.7  # seconds for which a round is run again at least
 ROUND = f"{TENANT} round"
 
 
@@ -78,23 +80,23 @@ class Served:
 def run_repeatedly(program: str, stream: Stream, repeats: int) -> Measured:
     """Runs a stream part by part.
 
-    A round's time is that of a run to the round's end, less that of a run to the line before it, each the least of
-    some, of fewer where they take long.
+    A round's time is that of a run to the round's end, less that of the run to the line before it, made right before:
+    the middle of some such pairs; of more where they are short, of fewer where they take long.
     """
     served, begun, measured = Served(program, stream.roster), time.monotonic(), Measured([], [])
     lines: list[str] = []
     for part in stream.parts:
         lines += part
-        before: list[float] = []
-        behind: list[float] = []
-        for turn in range(repeats):
-            if turn and time.monotonic() - begun > LONG:
+        found: list[float] = []
+        started = time.monotonic()
+        while len(found) < repeats or time.monotonic() - started < SHORT:
+            _, before = served.run(lines)
+            replies, behind = served.run([*lines, ROUND])
+            found.append(behind - before)
+            if time.monotonic() - begun > LONG:
                 break
-            before.append(served.run(lines)[1])
-            replies, used = served.run([*lines, ROUND])
-            behind.append(used)
         lines.append(ROUND)
-        measured.seconds.append(min(behind) - min(before))
+        measured.seconds.append(median(found))
         measured.replies.append(replies[-len(part) - 1 :])
     return measured
 

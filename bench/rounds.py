@@ -4,7 +4,7 @@
 usage: bench/rounds.py [--program FILE] [--measure FILE] [--beside FILE] [--sizes 100x20,..] [--kinds fresh,..]
                        [--repeats N] [--seed S] [--all-rounds] [--kept]
 Prints tables in Markdown and keeps each round as a line of JSON in out/bench/rounds.jsonl. Times are processor times,
-the least of some runs. Every placement is checked to be legal and to cost what the reply says, and that cost against
+the middle of some runs. Every placement is checked to be legal and to cost what the reply says, and that cost against
 LEMON's optimum; the exit status is 1 where one is wrong. docs/PERFORMANCE.md says what the figures mean.
 """
 
@@ -108,6 +108,18 @@ def print_table(records: list[RoundRecord], sizes: list[str], all_rounds: bool) 
                 print(row(record, timed))
 
 
+def print_ratios(records: list[RoundRecord], sizes: list[str], of_each: Callable[[RoundRecord], float | None]) -> None:
+    """By size, a ratio of the cold round and the greatest of those that follow."""
+    print("| kind | " + " | ".join(f"{size}, cold | later" for size in sizes) + " |")
+    print("| --- |" + " ---: | ---: |" * len(sizes))
+    for kind in names_of(record.kind for record in records):
+        cells = []
+        for size in sizes:
+            ratios = [of_each(record) or 0 for record in records if (record.kind, record.size) == (kind, size)]
+            cells += [f"{ratios[0]:.2f}", f"{max(ratios[1:]):.2f}" if ratios[1:] else ""]
+        print(f"| {kind} | " + " | ".join(cells) + " |")
+
+
 def print_growth(records: list[RoundRecord], sizes: list[str], of_each: Callable[[RoundRecord], float]) -> None:
     """The cold round's figure for each arc, by size, and how it grows."""
     print("| kind | " + " | ".join(sizes) + " | last / first |\n| --- |" + " ---: |" * (len(sizes) + 1))
@@ -121,6 +133,12 @@ def print_growth(records: list[RoundRecord], sizes: list[str], of_each: Callable
 def print_tables(records: list[RoundRecord], all_rounds: bool) -> None:
     sizes = names_of(record.size for record in records)
     print_table(records, sizes, all_rounds)
+    if records[0].ratio is not None:
+        print("\nTimes of the program, as parts of those of LEMON's faster solver:\n")
+        print_ratios(records, sizes, lambda record: record.ratio)
+    if records[0].beside_ratio is not None:
+        print("\nThe same of the other program:\n")
+        print_ratios(records, sizes, lambda record: record.beside_ratio)
     print("\nMicroseconds of the cold round for each arc:\n")
     print_growth(records, sizes, lambda record: record.firm * 1e6)
     print("\nLooks of the cold round for each arc:\n")

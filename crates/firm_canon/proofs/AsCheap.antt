@@ -1,16 +1,14 @@
 -- Flows as cheap as the one that the net shows: those of placements, and what no attempt can do.
-use Rattle.std.proofs.Common.{◌≡◌, ◌≢◌, ℕ, ◌*◌, ◌≤◌, Bool, true, false, List, [], ◌∷◌, ◌++◌, get_or}
-use Rattle.std.proofs.Common.{Some, refl, sym, ap, subst, ◌∙◌, arith, inl, inr, ⊎_elim}
-use Rattle.std.specs.Prelude.{map, Contains}
-use Rattle.std.specs.List.{All, sum_by}
+use Rattle.std.proofs.Common.{◌≡◌, ℕ, ◌*◌, ◌≤◌, List, [], ◌∷◌, ◌++◌}
+use Rattle.std.proofs.Common.{Some, refl, sym, ap, subst, ◌∙◌, arith}
+use Rattle.std.specs.Prelude.{Contains}
+use Rattle.std.specs.List.{sum_by}
 use Rattle.std.proofs.lemmas.List.Elements.{All-contains}
 use Rattle.firm_net.specs.Row.{Row}
 use Rattle.firm_net.specs.Net.{row_at}
 use Rattle.firm_net.specs.declared.row.ArcId.{ArcId}
-use Rattle.firm_net.specs.Laws.{same_arc_or_not}
-use Rattle.firm_paths.specs.Network.{Arc, Tight, IsClosedBut}
+use Rattle.firm_paths.specs.Network.{Arc, Tight}
 use Rattle.firm_paths.specs.NetArcs.{arc_of}
-use Rattle.firm_paths.specs.Paths.{IsTightCut}
 use Rattle.firm_flow.specs.Flow.{IsWithinBounds, cost_of, carried}
 use Rattle.firm_flow.specs.Balance.{Balanced}
 use Rattle.firm_rules.specs.declared.rounds.Choice.{Choice}
@@ -22,13 +20,12 @@ use Rattle.firm_graph.specs.declared.network.Key.TheVariants.{Through, Wide, Sta
 use Rattle.firm_graph.specs.Network.{network, task_nodes, IsSound, IsKeyOf}
 use Rattle.firm_graph.specs.View.{View, lows, flows, spot_of, named}
 use Rattle.firm_canon.specs.inner.Placed.{placed}
-use Rattle.firm_canon.specs.inner.Turns.{IsBlocked}
 use Rattle.firm_canon.specs.inner.Choosing.{low_of, Keeps, best, IsAsCheap}
 use Rattle.firm_canon.proofs.Placed.{sum_network, cost_placed, balanced_placed}
 use Rattle.firm_canon.proofs.Parts.{OnParts, parts, whole, within_placed}
 use Rattle.firm_canon.proofs.First.{low-le, carried_sum}
 use Rattle.firm_canon.proofs.Take.{low_grows}
-use Rattle.firm_canon.proofs.Shown.{network_same, row_shown, closed_keyed, arc_at, by_key, key_at, flow_at, listed_at}
+use Rattle.firm_canon.proofs.Shown.{network_same, row_shown, arc_at, key_at, flow_at, listed_at}
 
 -- the network with the lower bounds of the prefix is the one that the net shows
 pub shown_is : (v : View) (price : ℕ → ℕ) (p : List Choice) → Keeps v price p
@@ -123,7 +120,10 @@ flow_before c p o most x flow =
         wides = λ i l. (omega (arith, low_grows c p o (Wide i), (at.wides i l).0), (at.wides i l).1);
         stays = λ i l. (omega (arith, low_grows c p o (Stay i), (at.stays i l).0), (at.stays i l).1);
         delays = λ i l. (omega (arith, low_grows c p o (Delay i), (at.delays i l).0), (at.delays i l).1);
-        prefers = λ i k l m. (omega (arith, low_grows c p o (Prefer i k), (at.prefers i k l m).0), (at.prefers i k l m).1);
+        prefers = λ i k l m. (
+          omega (arith, low_grows c p o (Prefer i k), (at.prefers i k l m).0),
+          (at.prefers i k l m).1,
+        );
       });
       balanced = λ w. omega (
         arith,
@@ -196,80 +196,3 @@ loose_same v price p g key keeps own loose flow =
     keeps.stands.valid keeps.stands.balanced other.within other.balanced other.cheap)
     (listed_at c low x key own) loose in
     ap g (sym (key_at c low x key)) ∙ (same ∙ flow_at c low x key)
-
--- a set that holds the head of the arc of the key and not its tail, and that no residual arc of reduced cost 0 leaves
--- but barred ones
-pub record IsKeyedCut (v : View) (price : ℕ → ℕ) (p : List Choice) (keys : List Key) (key : Key) : Type 0 where
-  pub inside : Node → Bool
-  pub holds_head : inside (arc_at v.case (low_of v.case p) (flows v) key).head ≡ true
-  pub lacks_tail : inside (arc_at v.case (low_of v.case p) (flows v) key).tail ≡ false
-  pub closed : IsClosedBut (network v.case (low_of v.case p) (flows v)) (λ n. price (spot_of v n)) (Contains keys)
-      inside
-
-pub keyed_cut : (v : View) (price : ℕ → ℕ) (p : List Choice) (keys : List Key) (key : Key) (row : Row)
-    → Keeps v price p → All (IsKeyOf v.case) keys
-    → named v (arc_at v.case (low_of v.case p) (flows v) key) ≡ arc_of (v.arc key) row
-    → (inside : ℕ → Bool) × IsTightCut v.net price (map v.arc keys) row.head.id.place row.tail.id.place inside
-    → IsKeyedCut v price p keys key
-keyed_cut v price p keys key row keeps all is cut =
-    let cost_at : Node → ℕ = λ (m : Node). price (spot_of v m) in
-    record {
-      inside = λ n. cut.0 (spot_of v n);
-      holds_head = ap cut.0 (ap (λ (b : Arc ℕ ArcId). b.head) is) ∙ cut.1.start;
-      lacks_tail = ap cut.0 (ap (λ (b : Arc ℕ ArcId). b.tail) is) ∙ cut.1.end;
-      closed = subst (λ (z : List (Arc Node Key)). IsClosedBut z cost_at (Contains keys) (λ n. cut.0 (spot_of v n)))
-          (shown_is v price p keeps) (closed_keyed v keeps.shows price keys cut.0 all cut.1.closed);
-    }
-
--- what no attempt can do, no flow as cheap does
-pub no_more_at : (v : View) (price : ℕ → ℕ) (p : List Choice) (g : Key → ℕ) (keys : List Key) (key : Key)
-    → Keeps v price p → All (IsKeyOf v.case) keys → IsKeyOf v.case key
-    → IsBlocked v.net price (v.arc key) (map v.arc keys)
-    → IsAsCheap v.case p (best v p) g
-    → ((k : Key) → Contains keys k → k ≢ key → g k ≡ flows v k)
-    → g key ≤ flows v key
-no_more_at v price p g keys key keeps all own blocked flow kept =
-    let c : Case = v.case in
-    let low : Key → ℕ = low_of c p in
-    let x : Key → ℕ = flows v in
-    let cost_at : Node → ℕ = λ (m : Node). price (spot_of v m) in
-    let a : Arc Node Key = arc_at c low x key in
-    let there : Contains (network c low x) a = listed_at c low x key own in
-    let row : IsRowOfKey v p key = row_of_key v price p key keeps own in
-    let is_key : a.key ≡ key = key_at c low x key in
-    let flow_is : a.flow ≡ x key = flow_at c low x key in
-    let other : IsOther v p g = as_other v p g flow in
-    ⊎_elim
-    (λ (full : row.row.cap ≤ row.row.flow).
-    omega (
-      arith,
-      full,
-      flow_is,
-      ap g is_key,
-      ap (λ (b : Arc ℕ ArcId). b.cap) row.is,
-      ap (λ (b : Arc ℕ ArcId). b.flow) row.is,
-      (All-contains (Between g) (network c low x) a other.within there).1,
-    ))
-    (λ rest. ⊎_elim
-    (λ (loose : Tight price (arc_of (v.arc key) row.row) → ⊥).
-    omega (arith, loose_same v price p g key keeps own (λ t. loose (subst (Tight price) row.is t)) flow))
-    (λ (cut : (inside : ℕ → Bool) × IsTightCut v.net price (map v.arc keys)
-    row.row.head.id.place row.row.tail.id.place inside).
-    let keyed : IsKeyedCut v price p keys key = keyed_cut v price p keys key row.row keeps all row.is cut in
-    let more : g a.key ≤ a.flow =
-    keeps.laws.no_more (network c low x) (task_nodes c) Sink cost_at keys keyed.inside a
-    (λ (b : Arc Node Key). g b.key)
-    keeps.stands.valid keeps.stands.balanced other.within other.balanced other.cheap there
-    (λ k d l b.
-    let o : Arc Node Key = get_or (network c low x) k d in
-    let o_is : o ≡ arc_at c low x o.key = by_key c low x k d l in
-    ⊎_elim
-    (λ (q : v.arc o.key ≡ v.arc key).
-    inr (o_is ∙ ap (arc_at c low x) (keeps.shows.arcs_apart o.key key (All-contains (IsKeyOf c) keys o.key all b)
-    own q)))
-    (λ (ne : v.arc o.key ≡ v.arc key → ⊥).
-    inl (kept o.key b (λ q. ne (ap v.arc q)) ∙ sym (ap (λ (z : Arc Node Key). z.flow) o_is ∙ flow_at c low x o.key)))
-    (same_arc_or_not (v.arc o.key) (v.arc key)))
-    keyed.closed keyed.holds_head keyed.lacks_tail in
-    omega (arith, more, flow_is, ap g is_key)) rest)
-    (blocked row.row row.there)

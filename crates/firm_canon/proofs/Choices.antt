@@ -1,10 +1,7 @@
 -- What attempts rule out, and what a choice rests on.
-use Rattle.std.proofs.Common.{◌≡◌, ℕ, zero, suc, ◌+◌, ◌<◌, ◌≤◌, Bool, true, false, cond, eqb, List, [], ◌∷◌, ◌++◌}
-use Rattle.std.proofs.Common.{length, get_or, Some, None, Option, refl, sym, ap, subst, ◌∙◌, arith}
+use Rattle.std.proofs.Common.{◌≡◌, ℕ, suc, ◌+◌, ◌<◌, ◌≤◌, Bool, true, false, cond, eqb, List, ◌++◌}
+use Rattle.std.proofs.Common.{length, Some, None, Option, refl, sym, ap, subst, arith}
 use Rattle.std.proofs.Common.{⊎_elim}
-use Rattle.std.specs.Prelude.{Contains, ◌==◌}
-use Rattle.std.specs.List.{list_any}
-use Rattle.firm_rules.specs.Placement.{total}
 use Rattle.std.proofs.lemmas.Bool.{cases_Bool, cases_eq, cond-true, cond-false, eqb-true, eq-eqb, ne_eqb}
 use Rattle.firm_paths.specs.Network.{Arc}
 use Rattle.firm_rules.specs.declared.rounds.Choice.{Choice}
@@ -12,28 +9,22 @@ use Rattle.firm_rules.specs.declared.rounds.Choice.TheVariants.{On, Wait}
 use Rattle.firm_rules.specs.Placement.{Case, Demand, rank, runs_at, prefers}
 use Rattle.firm_graph.specs.declared.network.Node.{Node}
 use Rattle.firm_graph.specs.declared.network.Key.{Key}
-use Rattle.firm_graph.specs.declared.network.Key.TheVariants.{Through, Wide, Stay, Delay, Prefer}
+use Rattle.firm_graph.specs.declared.network.Key.TheVariants.{Through, Slot, Exit, Wide, Stay, Delay, Prefer}
 use Rattle.firm_graph.specs.Network.{demand, stay_head}
 use Rattle.firm_rules.specs.Placement.{IsPlace}
 use Rattle.firm_graph.specs.Network.{runs}
 use Rattle.firm_canon.specs.inner.Placed.{wide, near, number, prefer, guests, placed, aside}
 use Rattle.firm_graph.specs.View.{View, Shows, IsSameCase, flows}
 use Rattle.firm_graph.specs.Network.{IsNodeOf}
-use Rattle.firm_canon.specs.inner.Choosing.{low_of, Keeps, Shut, Barred, best, IsChosen, HasRoom, next_number}
-use Rattle.firm_canon.specs.inner.Cuts.{IsMost}
+use Rattle.firm_canon.specs.inner.Choosing.{low_of, Keeps, Shut, Barred, best, IsChosen, IsRefused, HasRoom}
+use Rattle.firm_canon.specs.inner.Choosing.{next_number}
+use Rattle.firm_canon.specs.inner.Classes.{IsMost}
 use Rattle.firm_canon.proofs.Parts.{parts}
 use Rattle.firm_canon.proofs.Read.{task_sends}
-use Rattle.firm_canon.proofs.Choose.{bar_own, bar_others, bar_near, ranks_before_on}
+use Rattle.firm_canon.proofs.Choose.{bar_own, bar_near, ranks_before_on}
 use Rattle.firm_canon.proofs.Nears.{own_wide, own_near, own_stay, other_stay, wait_stay, wide_is, far_near, near_wide}
 use Rattle.firm_canon.proofs.Nears.{prefer_le_one}
 use Rattle.firm_canon.proofs.AsCheap.{flow_placed}
-
-pub only_key : (key k : Key) → Contains (key ∷ []) k → key ≡ k
-only_key key k c = at c.0 c.1 c.2
-  where
-    at : (i : ℕ) → i < 1 → get_or (key ∷ []) i k ≡ k → key ≡ k
-    at zero l e = e
-    at (suc i) l e = absurd (omega (arith, l))
 
 pub shut_own : (v : View) (price : ℕ → ℕ) (p : List Choice) → Keeps v price p → IsMost v p (Stay (length p))
     → flows v (Stay (length p)) ≡ 0
@@ -48,31 +39,14 @@ shut_own v price p keeps most none j own = record {
       ));
 }
 
-pub shut_others : (v : View) (price : ℕ → ℕ) (p : List Choice) → Keeps v price p → IsMost v p (Wide (length p))
-    → flows v (Wide (length p)) ≡ 0
-    → (j : ℕ) → runs_at (demand v.case (length p)).home j ≡ false → prefers (demand v.case (length p)) j ≡ false
-    → Shut v p j
-shut_others v price p keeps most none j other far = record {
-  barred = bar_others v.case p (best v p) j other far (λ r legal cheap.
-      omega (
-        arith,
-        none,
-        most (placed v.case (p ++ r)) (flow_placed v.case p r (best v p) keeps.shows.sound legal
-            cheap),
-      ));
-}
-
-pub shut_near : (v : View) (price : ℕ → ℕ) (p : List Choice) (j : ℕ) → Keeps v price p
+pub shut_near : (v : View) (price : ℕ → ℕ) (p : List Choice) (class : ℕ → ℕ) (j : ℕ) → Keeps v price p
     → runs_at (demand v.case (length p)).home j ≡ false → prefers (demand v.case (length p)) j ≡ true
-    → IsMost v p (Prefer (length p) (next_number v.case p j))
-    → flows v (Prefer (length p) (next_number v.case p j)) ≡ 0 → Shut v p j
-shut_near v price p j keeps other close most none = record {
+    → IsRefused v price p class j → Shut v p j
+shut_near v price p class j keeps other close out = record {
   barred = bar_near v.case p (best v p) j other close (λ r legal cheap.
       omega (
         arith,
-        none,
-        most (placed v.case (p ++ r)) (flow_placed v.case p r (best v p) keeps.shows.sound legal
-            cheap),
+        out.never (placed v.case (p ++ r)) (flow_placed v.case p r (best v p) keeps.shows.sound legal cheap),
       ));
 }
 
@@ -83,13 +57,32 @@ shut_same old new p j same e shut = record {
       (λ r legal cheap. shut.barred r legal (omega (arith, cheap, e)));
 }
 
-pub shut_is : (old new : View) (p : List Choice) (j : ℕ) → new ≡ old → Shut old p j → Shut new p j
-shut_is old new p j e shut = subst (λ (v : View). Shut v p j) (sym e) shut
-
 -- bounds and sums of the next task's arcs
 pub sends_one : (v : View) (price : ℕ → ℕ) (p : List Choice) (i : ℕ) → Keeps v price p → i < length v.case.tasks
     → flows v (Wide i) + flows v (Stay i) + flows v (Delay i) + aside v.case (flows v) i ≡ 1
 sends_one v price p i keeps l = task_sends v.case (low_of v.case p) (flows v) i l keeps.stands.balanced
+
+-- an arc of a task carries one unit at most
+abbrev pub IsOfTask : Case → Key → Type 0
+IsOfTask c (Through j) = ⊥
+IsOfTask c (Slot j k) = ⊥
+IsOfTask c (Exit k) = ⊥
+IsOfTask c (Wide i) = i < length c.tasks
+IsOfTask c (Stay i) = i < length c.tasks
+IsOfTask c (Delay i) = i < length c.tasks
+IsOfTask c (Prefer i k) = (i < length c.tasks) × (k < length (demand c i).preferred)
+
+pub unit_at_most : (v : View) (price : ℕ → ℕ) (p : List Choice) (key : Key) → Keeps v price p → IsOfTask v.case key
+    → flows v key ≤ 1
+unit_at_most v price p (Through j) keeps l = absurd l
+unit_at_most v price p (Slot j k) keeps l = absurd l
+unit_at_most v price p (Exit k) keeps l = absurd l
+unit_at_most v price p (Wide i) keeps l = omega (arith, sends_one v price p i keeps l)
+unit_at_most v price p (Stay i) keeps l = omega (arith, sends_one v price p i keeps l)
+unit_at_most v price p (Delay i) keeps l = omega (arith, sends_one v price p i keeps l)
+unit_at_most v price p (Prefer i k) keeps l =
+    ((parts (λ (a : Arc Node Key). (a.low ≤ a.flow) × (a.flow ≤ a.cap)) v.case (low_of v.case p) (flows v)
+    keeps.stands.within).prefers i k l.0 l.1).1
 
 pub no_stay_home : (v : View) (price : ℕ → ℕ) (p : List Choice) (i : ℕ) → Keeps v price p → i < length v.case.tasks
     → (demand v.case i).home ≡ None → flows v (Stay i) ≡ 0
@@ -110,13 +103,6 @@ home_in v i h shows l home = subst (λ (o : Option ℕ). IsNodeOf v.case (stay_h
 
 pub home_runs : (home : Option ℕ) (h : ℕ) → home ≡ Some h → runs_at home h ≡ true
 home_runs home h e = subst (λ (o : Option ℕ). runs_at o h ≡ true) (sym e) (eq-eqb h h refl)
-
--- a task without preferences
-pub plain_far : (t : Demand) → t.preferred ≡ [] → (j : ℕ) → prefers t j ≡ false
-plain_far t plain j = ap (list_any (λ k. k == j)) plain
-
-pub plain_aside : (c : Case) (x : Key → ℕ) (i : ℕ) → (demand c i).preferred ≡ [] → aside c x i ≡ 0
-plain_aside c x i plain = ap (λ (z : List ℕ). total (λ k. x (Prefer i k)) (length z)) plain
 
 -- what puts nothing on the arcs of preferences puts nothing on one of them
 none_to : (t : Demand) (k : ℕ) (o : Choice) → near t (Some o) ≡ 0 → prefer t k (Some o) ≡ 0
@@ -286,55 +272,3 @@ chosen_on v p o in_range other room own others =
           (⊎_elim (λ (t : runs_at home r.0 ≡ true). (own r.0 t).barred)
           (λ (f : (runs_at home r.0 ≡ false) × (r.0 < o)). (others r.0 f.1 f.0).barred) r.2);
     }
-
-pub next_at : (old new : View) (n : ℕ) → IsSameCase old new → n < length old.case.tasks → n < length new.case.tasks
-next_at old new n same l = subst (λ (c : Case). n < length c.tasks) (sym same.case) l
-
-pub plain_at : (old new : View) (n : ℕ) → IsSameCase old new → (demand old.case n).preferred ≡ []
-    → (demand new.case n).preferred ≡ []
-plain_at old new n same e = ap (λ (c : Case). (demand c n).preferred) same.case ∙ e
-
-pub home_at : (old new : View) (n : ℕ) (home : Option ℕ) → IsSameCase old new → home ≡ (demand old.case n).home
-    → home ≡ (demand new.case n).home
-home_at old new n home same e = e ∙ ap (λ (c : Case). (demand c n).home) (sym same.case)
-
-pub comes_by_hub : (v : View) (price : ℕ → ℕ) (p : List Choice) → Keeps v price p → length p < length v.case.tasks
-    → 1 ≤ flows v (Wide (length p)) → flows v (Wide (length p)) ≡ 1
-comes_by_hub v price p keeps l some = omega (arith, sends_one v price p (length p) keeps l, some)
-
--- the machine that was found
-pub found : (old mid new : View) (price : ℕ → ℕ) (p : List Choice) (home : Option ℕ) (o : ℕ) → IsSameCase old mid
-    → IsSameCase mid new
-    → best mid p ≡ best old p → best new p ≡ best mid p → Keeps new price p → length p < length old.case.tasks
-    → home ≡ (demand old.case (length p)).home → (demand old.case (length p)).preferred ≡ []
-    → flows new (Wide (length p)) ≡ 1 → ((j : ℕ) → runs_at (demand old.case (length p)).home j ≡ true → Shut old p j)
-    → (o < length mid.case.slots) × (runs_at home o ≡ false) × (guests mid.case p o < flows new (Through o))
-    × ((k : ℕ) → k < o → runs_at home k ≡ false → Shut mid p k)
-    → IsChosen new p (On o)
-found old mid new price p home o one two best_one best_two keeps l is_home plain wide own is =
-    let n : ℕ = length p in
-    let at_mid : home ≡ (demand mid.case n).home = home_at old mid n home one is_home in
-    let at_new : home ≡ (demand new.case n).home = home_at mid new n home two at_mid in
-    let other : (b : Bool) (j : ℕ) → runs_at (demand new.case n).home j ≡ b
-    → runs_at home j ≡ b = λ b j e. ap (λ (h : Option ℕ). runs_at h j) at_new ∙ e in
-    let other_here : runs_at (demand new.case n).home o ≡ false = ap (λ (h : Option ℕ). runs_at h o) (sym at_new) ∙ is.1 in
-    let far : prefers (demand new.case n) o ≡ false =
-    plain_far (demand new.case n)
-    (ap (λ (c : Case). (demand c n).preferred) (two.case ∙ one.case) ∙ plain) o in
-    chosen_on new p o (subst (λ (c : Case). o < length c.slots) (sym two.case) is.0) other_here
-    (room_far new price p o keeps other_here far wide
-    (subst (λ (c : Case). guests c p o < flows new (Through o)) (sym two.case) is.2))
-    (λ j e. shut_same mid new p j two best_two
-    (shut_same old mid p j one best_one (own j
-    (ap (λ (h : Option ℕ). runs_at h j) (sym is_home) ∙ other true j e))))
-    (λ j less e. shut_same mid new p j two best_two (is.3 j less (other false j e)))
-
-pub none_here : (old new : View) (p : List Choice) (home : Option ℕ) → new ≡ old
-    → home ≡ (demand old.case (length p)).home
-    → ((j : ℕ) → j < length old.case.slots → runs_at home j ≡ false → flows old (Through j) ≤ guests old.case p j)
-    → (j : ℕ) → j < length new.case.slots → runs_at (demand new.case (length p)).home j ≡ false
-    → flows new (Through j) ≤ guests new.case p j
-none_here old new p home e is none =
-    subst (λ (v : View). (j : ℕ) → j < length v.case.slots → runs_at (demand v.case (length p)).home j ≡ false
-    → flows v (Through j) ≤ guests v.case p j) (sym e)
-    (λ j l f. none j l (ap (λ (h : Option ℕ). runs_at h j) is ∙ f))

@@ -1,7 +1,7 @@
 -- Searches made one after another add up.
 use Rattle.std.proofs.Common.{◌≡◌, ℕ, ◌+◌, ◌-◌, ◌*◌, ◌^◌, ◌<◌, ◌≤◌, Bool, true, false, length, get_or, refl, arith}
-use Rattle.std.proofs.Common.{ap, subst, ◌∙◌, ⊎_elim}
-use Rattle.std.specs.Prelude.{count_by, nat_lt, ◌==◌, ◌||◌, List, [], ◌∷◌, cond, map, suc, sum_by}
+use Rattle.std.proofs.Common.{ap, sym, subst, ◌∙◌, ◌⊎◌, ⊎_elim}
+use Rattle.std.specs.Prelude.{nat_lt, ◌==◌, ◌||◌, List, [], ◌∷◌, cond, eqb, map, zero, suc, sum_by}
 use Rattle.std.specs.List.{list_any}
 use Rattle.std.proofs.lemmas.Bool.{cases_lt, cases_eq, cond-true, cond-false, lt-ltb, le-ltb, eq-eqb, ne_eqb}
 use Rattle.std.proofs.Math.Nat.{mul-add}
@@ -10,34 +10,38 @@ use Rattle.firm_rules.specs.Placement.{Case, Demand, total}
 use Rattle.firm_rules.specs.Round.{case_of, demand_of, place_of}
 use Rattle.firm_rules.specs.declared.parts.Task.{Task}
 use Rattle.firm_graph.specs.Network.{demand}
-use Rattle.firm_canon.proofs.Totals.{total_front}
+use Rattle.firm_canon.proofs.Totals.{total_front, total_zero, total-le}
 use Rattle.std.proofs.lemmas.List.{length-map}
 use Rattle.firm_rules.specs.Book.{TenantRows}
 use Rattle.firm_paths.specs.Workspace.{Workspace, HasSearched}
 use Rattle.firm_canon.specs.Counts.{HasSearchedUpTo}
-use Rattle.firm_canon.specs.inner.Cuts.{HasSought, cut_count, cuts_of, one_if}
-use Rattle.firm_canon.specs.declared.cuts.Cuts.{Cuts}
-use Rattle.firm_canon.specs.declared.cuts.MachineCuts.{MachineCuts}
-use Rattle.std.proofs.lemmas.List.Sums.{sum_by-le, sum_by-cons}
+use Rattle.firm_graph.specs.declared.network.Node.{Node}
+use Rattle.firm_graph.specs.declared.network.Node.TheVariants.{Sink, Hub, Machine}
+use Rattle.firm_graph.specs.View.{View, spot_of}
+use Rattle.firm_paths.specs.Classes.{AreTogether, class_of}
+use Rattle.firm_canon.specs.inner.Classes.{AreRefined, HasSought, IsCut, cut_count, cuts_at, parted, one_if}
+use Rattle.firm_canon.specs.inner.Ways.{below, preferred_before}
+use Rattle.std.proofs.lemmas.List.Sums.{sum_by-cons}
 use Rattle.firm_graph.specs.Graph.{Graph}
 
--- no search was made
-nothing_made : (s : Workspace) (arcs : ℕ) → HasSearched s s 0 arcs
-nothing_made s arcs = record {
-  limits = refl;
-  begins = refl;
+-- no search was made, whatever the classes are
+pub same_counts : (old new : Workspace) (arcs : ℕ) → new.limits ≡ old.limits → new.begins ≡ old.begins
+    → new.searches ≡ old.searches → new.looks ≡ old.looks → HasSearched old new 0 arcs
+same_counts old new arcs limits begins searches looks = record {
+  limits = limits;
+  begins = begins;
   searches = record {
-    exact = λ l. omega arith;
+    exact = λ l. omega (arith, searches);
     full = λ small past. omega (arith, small, past);
-    kept = omega arith;
-    no_more = omega arith;
+    kept = omega (arith, searches);
+    no_more = omega (arith, searches);
   };
-  looks_kept = omega arith;
-  looks = omega arith;
+  looks_kept = omega (arith, looks);
+  looks = omega (arith, looks);
 }
 
-pub none_made : (s : Workspace) (most arcs : ℕ) → HasSearchedUpTo s s most arcs
-none_made s most arcs = record { made = 0; few = omega arith; searched = nothing_made s arcs }
+nothing_made : (s : Workspace) (arcs : ℕ) → HasSearched s s 0 arcs
+nothing_made s arcs = same_counts s s arcs refl refl refl refl
 
 pub none_sought : (s : Workspace) (most found arcs known : ℕ) → HasSought s s most found arcs known known
 none_sought s most found arcs known = record {
@@ -97,16 +101,6 @@ sought_more old now new first then most some others found arcs before between af
   searched = made_both old now new one.made two.made arcs one.searched two.searched;
 }
 
--- searches that each find a way or a cut
-pub sought : (old new : Workspace) (most found arcs before after : ℕ) → HasSearchedUpTo old new most arcs
-    → most + before ≤ found + after → HasSought old new most found arcs before after
-sought old new most found arcs before after searched fits = record {
-  made = searched.made;
-  few = searched.few;
-  new_cuts = omega (arith, searched.few, fits);
-  searched = searched.searched;
-}
-
 pub sought_within : (old new : Workspace) (few most some found arcs before after : ℕ)
     → HasSought old new few some arcs before after → few ≤ most → some ≤ found
     → HasSought old new most found arcs before after
@@ -134,22 +128,138 @@ sought_of_all old new most found arcs before after searched = record {
   searched = searched.searched;
 }
 
--- there are two cuts for each machine, and one for the hub
-pub few_cuts : (cuts : Cuts) → cut_count cuts ≤ 2 * length cuts.machines.items + 1
-few_cuts cuts = omega (
-  arith,
-  one_at_most cuts.hub,
-  sum_by-le cuts_of 2 cuts.machines.items
-      (λ k d l.
-      let each : MachineCuts = get_or cuts.machines.items k d in
-      omega (arith, one_at_most each.from_hub, one_at_most each.from_sink)),
-)
-  where
-    one_at_most : (b : Bool) → one_if b ≤ 1
-    one_at_most true = omega arith
-    one_at_most false = omega arith
+-- nodes that have different classes
+pub parted_le : (v : View) (class : ℕ → ℕ) (a b : Node) → parted v class a b ≤ 1
+parted_le v class a b =
+    let sides : (e : Bool) → cond e 0 1 ≤ 1 =
+    λ e. elim e as (λ e. cond e 0 1 ≤ 1) [ true ↦ omega arith | false ↦ omega arith ] in
+    sides (eqb (class (spot_of v a)) (class (spot_of v b)))
 
--- searches in fewer than so many
+pub parted_none : (v : View) (class : ℕ → ℕ) (a b : Node) → class (spot_of v a) ≡ class (spot_of v b)
+    → parted v class a b ≡ 0
+parted_none v class a b e =
+    cond-true {A = ℕ} (eqb (class (spot_of v a)) (class (spot_of v b))) 0 1
+    (eq-eqb (class (spot_of v a)) (class (spot_of v b)) e)
+
+pub parted_one : (v : View) (class : ℕ → ℕ) (a b : Node) → (class (spot_of v a) ≡ class (spot_of v b) → ⊥)
+    → parted v class a b ≡ 1
+parted_one v class a b ne =
+    cond-false {A = ℕ} (eqb (class (spot_of v a)) (class (spot_of v b))) 0 1
+    (ne_eqb (class (spot_of v a)) (class (spot_of v b)) ne)
+
+parted_more : (v : View) (old new : ℕ → ℕ) (a b : Node) → ((x y : ℕ) → new x ≡ new y → old x ≡ old y)
+    → parted v old a b ≤ parted v new a b
+parted_more v old new a b refined =
+    ⊎_elim
+    (λ (e : new (spot_of v a) ≡ new (spot_of v b)).
+    omega (arith, parted_none v old a b (refined (spot_of v a) (spot_of v b) e)))
+    (λ (ne : new (spot_of v a) ≡ new (spot_of v b) → ⊥).
+    omega (arith, parted_le v old a b, parted_one v new a b ne))
+    (cases_eq (new (spot_of v a)) (new (spot_of v b)))
+
+-- there are two cuts for each machine, and one for the hub
+pub few_cuts : (v : View) (s : Workspace) → cut_count v s ≤ 2 * length v.case.slots + 1
+few_cuts v s =
+    omega (
+      arith,
+      parted_le v (class_of s) Hub Sink,
+      twice (length v.case.slots) (cuts_at v (class_of s))
+          (λ j. omega (
+            arith,
+            parted_le v (class_of s) (Machine j) Hub,
+            parted_le v (class_of s) (Machine j) Sink,
+          )),
+    )
+  where
+    twice : (n : ℕ) (f : ℕ → ℕ) → ((j : ℕ) → f j ≤ 2) → total f n ≤ 2 * n
+    twice zero f h = omega arith
+    twice (suc n) f h = omega (arith, twice n f h, h n)
+
+-- none where all nodes have one class
+pub no_cuts : (v : View) (s : Workspace) → ((a b : ℕ) → AreTogether s a b) → cut_count v s ≡ 0
+no_cuts v s together =
+    let none : (a b : Node) → parted v (class_of s) a b ≡ 0 =
+    λ a b. parted_none v (class_of s) a b (together (spot_of v a) (spot_of v b)) in
+    omega (
+      arith,
+      none Hub Sink,
+      total_zero (cuts_at v (class_of s)) (length v.case.slots)
+          (λ j l. omega (arith, none (Machine j) Hub, none (Machine j) Sink)),
+    )
+
+-- CUTS GROW where classes fall apart
+cuts_more : (v : View) (old new : Workspace) (j : ℕ) → AreRefined old new
+    → cuts_at v (class_of old) j ≤ cuts_at v (class_of new) j
+cuts_more v old new j refined =
+    omega (
+      arith,
+      parted_more v (class_of old) (class_of new) (Machine j) Hub refined,
+      parted_more v (class_of old) (class_of new) (Machine j) Sink refined,
+    )
+
+pub count_more : (v : View) (old new : Workspace) → AreRefined old new → cut_count v old ≤ cut_count v new
+count_more v old new refined =
+    omega (
+      arith,
+      parted_more v (class_of old) (class_of new) Hub Sink refined,
+      total-le (cuts_at v (class_of old)) (cuts_at v (class_of new)) (length v.case.slots)
+          (λ j l. cuts_more v old new j refined),
+    )
+
+total_more : (f g : ℕ → ℕ) (n j : ℕ) → ((i : ℕ) → f i ≤ g i) → j < n → f j + 1 ≤ g j → total f n + 1 ≤ total g n
+total_more f g zero j h l m = absurd (omega (arith, l))
+total_more f g (suc n) j h l m =
+    ⊎_elim
+    (λ (e : j ≡ n).
+    omega (arith, total-le f g n (λ i k. h i), subst (λ (z : ℕ). f z + 1 ≤ g z) e m))
+    (λ (ne : j ≡ n → ⊥). omega (arith, total_more f g n j h (omega (arith, l, ne)) m, h n))
+    (cases_eq j n)
+
+-- by one at least where the ends of a cut do
+pub count_new : (v : View) (old new : Workspace) (start end : ℕ) → AreRefined old new → IsCut v start end
+    → AreTogether old start end → (AreTogether new start end → ⊥) → cut_count v old + 1 ≤ cut_count v new
+count_new v old new start end refined cut before after =
+    let fell : (a b : Node) → start ≡ spot_of v a → end ≡ spot_of v b
+    → parted v (class_of old) a b + 1 ≤ parted v (class_of new) a b =
+    λ a b at_start at_end. omega (
+      arith,
+      parted_none v (class_of old) a b
+          (ap (class_of old) (sym at_start) ∙ (before ∙ ap (class_of old) at_end)),
+      parted_one v (class_of new) a b
+          (λ e. after (ap (class_of new) at_start ∙ (e ∙ ap (class_of new) (sym at_end)))),
+    ) in
+    ⊎_elim
+    (λ (hub : (start ≡ spot_of v Hub) × (end ≡ spot_of v Sink)).
+    omega (
+      arith,
+      fell Hub Sink hub.0 hub.1,
+      total-le (cuts_at v (class_of old)) (cuts_at v (class_of new)) (length v.case.slots)
+          (λ j l. cuts_more v old new j refined),
+    ))
+    (λ (of : (j : ℕ) × (j < length v.case.slots) × (start ≡ spot_of v (Machine j))
+    × ((end ≡ spot_of v Hub) ⊎ (end ≡ spot_of v Sink))).
+    omega (
+      arith,
+      parted_more v (class_of old) (class_of new) Hub Sink refined,
+      total_more (cuts_at v (class_of old)) (cuts_at v (class_of new)) (length v.case.slots) of.0
+          (λ i. cuts_more v old new i refined) of.1
+          (⊎_elim
+          (λ (e : end ≡ spot_of v Hub).
+          omega (
+            arith,
+            fell (Machine of.0) Hub of.2 e,
+            parted_more v (class_of old) (class_of new) (Machine of.0) Sink refined,
+          ))
+          (λ (e : end ≡ spot_of v Sink).
+          omega (
+            arith,
+            fell (Machine of.0) Sink of.2 e,
+            parted_more v (class_of old) (class_of new) (Machine of.0) Hub refined,
+          )) of.3),
+    ))
+    cut
+
+-- searches within a larger number
 pub at_most : (old new : Workspace) (few most arcs : ℕ) → HasSearchedUpTo old new few arcs → few ≤ most
     → HasSearchedUpTo old new most arcs
 at_most old new few most arcs searched fits = record {
@@ -174,10 +284,6 @@ pub sought_since : (one two : Graph) → two.rows ≡ one.rows → (old now new 
 sought_since one two same old now new first then most some others found before between after left right =
     sought_more old now new first then most some others found (arena_arcs one.rows) before between after left
     (subst (λ (rows : TenantRows). HasSought now new then others (arena_arcs rows) between after) same right)
-
--- how many of the places are below this one
-abbrev pub below : List ℕ → ℕ → ℕ
-below places n = count_by (λ place. nat_lt place n) places
 
 pub below_more : (places : List ℕ) (n : ℕ)
     → below places n + one_if (list_any (λ place. place == n) places) ≤ below places (n + 1)
@@ -218,6 +324,19 @@ below_more (x ∷ xs) n =
     (cases_lt x n))
     (cases_eq x n)
 
+-- there are no fewer below a later one
+pub below_on : (places : List ℕ) (m n : ℕ) → m ≤ n → below places m ≤ below places n
+below_on places m zero l =
+    let none : m ≡ 0 = omega (arith, l) in
+    omega (arith, ap (below places) none)
+below_on places m (suc n) l =
+    ⊎_elim
+    (λ (e : m ≡ suc n). omega (arith, ap (below places) e))
+    (λ (ne : m ≡ suc n → ⊥).
+    let step : below places (n + 1) ≡ below places (suc n) = ap (below places) (omega arith) in
+    omega (arith, below_on places m n (omega (arith, l, ne)), below_more places n, step))
+    (cases_eq m (suc n))
+
 pub below_all : (places : List ℕ) (n : ℕ) → below places n ≤ length places
 below_all [] n = omega arith
 below_all (x ∷ xs) n =
@@ -240,10 +359,6 @@ listed_total {A} {B} f g d (x ∷ xs) = omega (
   listed_total f g d xs,
   sum_by-cons (λ (y : A). g (f y)) x xs,
 )
-
--- how many preferences the tasks before this one have
-abbrev pub preferred_before : Case → ℕ → ℕ
-preferred_before c n = total (λ i. length (demand c i).preferred) n
 
 pub preferred_next : (c : Case) (n : ℕ)
     → preferred_before c (n + 1) ≡ preferred_before c n + length (demand c n).preferred

@@ -1,6 +1,6 @@
 -- Sets that no residual arc of reduced cost 0 leaves: what crosses them is the same in all flows as cheap.
-use Rattle.std.proofs.Common.{◌≡◌, ℕ, ◌+◌, ◌*◌, ◌≤◌, Bool, true, false, cond, List, [], ◌∷◌, ◌++◌}
-use Rattle.std.proofs.Common.{length, get_or, arith, refl, sym, ap, subst, ◌∙◌, ◌⊎◌, ⊎_elim}
+use Rattle.std.proofs.Common.{◌≡◌, ℕ, ◌+◌, ◌*◌, ◌≤◌, Bool, true, false, cond, List, [], ◌∷◌}
+use Rattle.std.proofs.Common.{get_or, arith, refl, ⊎_elim}
 use Rattle.std.specs.List.{All, sum_by}
 use Rattle.std.proofs.lemmas.Bool.{cases_eq}
 use Rattle.std.proofs.lemmas.List.Sums.{sum_by-cons}
@@ -13,15 +13,11 @@ use Rattle.firm_graph.specs.declared.network.Node.TheVariants.{Sink}
 use Rattle.firm_graph.specs.declared.network.Key.{Key}
 use Rattle.firm_graph.specs.declared.network.Key.TheVariants.{Through, Slot, Exit, Wide, Stay, Delay, Prefer}
 use Rattle.firm_graph.specs.Network.{network, task_nodes, arc}
-use Rattle.firm_graph.specs.View.{View, IsSameCase, flows, spot_of}
-use Rattle.firm_net.specs.declared.row.NodeId.{NodeId}
+use Rattle.firm_graph.specs.View.{View, flows, spot_of}
 use Rattle.firm_canon.specs.inner.Choosing.{low_of, Keeps, best, IsAsCheap}
-use Rattle.firm_canon.specs.inner.Cuts.{StaysAtNoCost, IsSealed, AreCuts, is_known, cut_start, cut_end}
-use Rattle.firm_canon.specs.declared.cuts.Cut.{Cut}
-use Rattle.firm_canon.specs.declared.cuts.Cuts.{Cuts}
+use Rattle.firm_canon.specs.inner.Classes.{StaysAtNoCost}
 use Rattle.firm_canon.proofs.Parts.{OnParts, parts, whole}
-use Rattle.firm_canon.proofs.Take.{low_grows}
-use Rattle.firm_canon.proofs.AsCheap.{IsOther, as_other, flow_before}
+use Rattle.firm_canon.proofs.AsCheap.{IsOther, as_other}
 
 -- equal sums of terms that are no larger have equal terms
 terms_tight : {A : Type 0} (f g : A → ℕ) (xs : List A) → All (λ a. f a ≤ g a) xs → sum_by g xs ≤ sum_by f xs
@@ -118,6 +114,23 @@ crossing v price p y inside keeps flow closed =
     let a : Arc Node Key = get_or arcs k d in
     unweighed (inside a.tail) (inside a.head) a.flow (y a.key) (equal k d l)
 
+-- what holds of each arc with one flow, of arcs with others
+pub network_on : (P Q : Arc Node Key → Type 0) (c : Case) (low x more y : Key → ℕ)
+    → ((key : Key) (tail head : Node) (cap cost : ℕ) → P (arc low x key tail head cap cost)
+    → Q (arc more y key tail head cap cost))
+    → All P (network c low x) → All Q (network c more y)
+network_on P Q c low x more y lift h =
+    let old : OnParts P c low x = parts P c low x h in
+    whole Q c more y (record {
+      through = λ j l. lift (Through j) _ _ _ _ (old.through j l);
+      slot = λ j k l r. lift (Slot j k) _ _ _ _ (old.slot j k l r);
+      exit = λ k l. lift (Exit k) _ _ _ _ (old.exit k l);
+      wides = λ i l. lift (Wide i) _ _ _ _ (old.wides i l);
+      stays = λ i l. lift (Stay i) _ _ _ _ (old.stays i l);
+      delays = λ i l. lift (Delay i) _ _ _ _ (old.delays i l);
+      prefers = λ i k l m. lift (Prefer i k) _ _ _ _ (old.prefers i k l m);
+    })
+
 -- the same set is closed for the other flow
 pub closed_too : (c : Case) (low x y : Key → ℕ) (price : Node → ℕ) (inside : Node → Bool)
     → All (StaysAtNoCost price inside) (network c low x) → All (Agrees inside y) (network c low x)
@@ -140,107 +153,4 @@ closed_too c low x y price inside closed agrees =
       stays = λ i l. carry (Stay i) _ _ _ _ (old.stays i l) (same.stays i l);
       delays = λ i l. carry (Delay i) _ _ _ _ (old.delays i l) (same.delays i l);
       prefers = λ i k l m. carry (Prefer i k) _ _ _ _ (old.prefers i k l m) (same.prefers i k l m);
-    })
-
--- and where more is held
-closed_above : (c : Case) (low more x : Key → ℕ) (price : Node → ℕ) (inside : Node → Bool)
-    → ((k : Key) → low k ≤ more k) → All (StaysAtNoCost price inside) (network c low x)
-    → All (StaysAtNoCost price inside) (network c more x)
-closed_above c low more x price inside above closed =
-    let old : OnParts (StaysAtNoCost price inside) c low x = parts (StaysAtNoCost price inside) c low x closed in
-    let lift : (key : Key) (tail head : Node) (cap cost : ℕ)
-    → StaysAtNoCost price inside (arc low x key tail head cap cost)
-    → StaysAtNoCost price inside (arc more x key tail head cap cost) =
-    λ key tail head cap cost stays tight. (
-      (stays tight).0,
-      λ h t. omega (arith, (stays tight).1 h t, above key),
-    ) in
-    whole (StaysAtNoCost price inside) c more x (record {
-      through = λ j l. lift (Through j) _ _ _ _ (old.through j l);
-      slot = λ j k l r. lift (Slot j k) _ _ _ _ (old.slot j k l r);
-      exit = λ k l. lift (Exit k) _ _ _ _ (old.exit k l);
-      wides = λ i l. lift (Wide i) _ _ _ _ (old.wides i l);
-      stays = λ i l. lift (Stay i) _ _ _ _ (old.stays i l);
-      delays = λ i l. lift (Delay i) _ _ _ _ (old.delays i l);
-      prefers = λ i k l m. lift (Prefer i k) _ _ _ _ (old.prefers i k l m);
-    })
-
--- A SET that is closed for the flow that the net shows seals its nodes off
-pub seals : (v : View) (price : ℕ → ℕ) (p : List Choice) (start end : Node) (inside : Node → Bool)
-    → Keeps v price p → inside start ≡ true → inside end ≡ false
-    → All (StaysAtNoCost (λ n. price (spot_of v n)) inside) (network v.case (low_of v.case p) (flows v))
-    → IsSealed v price p start end
-seals v price p start end inside keeps holds lacks closed = record {
-  inside = inside;
-  holds_start = holds;
-  lacks_end = lacks;
-  closed = λ x flow. closed_too v.case (low_of v.case p) (flows v) x (λ (n : Node). price (spot_of v n)) inside closed
-      (crossing v price p x inside keeps flow closed);
-}
-
--- sealed nodes stay so, whatever is chosen next
-sealed_on : (old new : View) (price : ℕ → ℕ) (p : List Choice) (o : Choice) (start end : Node) → IsSameCase old new
-    → best new (p ++ o ∷ []) ≡ best old p → IsSealed old price p start end → IsSealed new price (p ++ o ∷ []) start end
-sealed_on old new price p o start end same e is = record {
-  inside = is.inside;
-  holds_start = is.holds_start;
-  lacks_end = is.lacks_end;
-  closed = λ x flow.
-      let q : List Choice = p ++ o ∷ [] in
-      let most : ℕ = best old p in
-      let there : IsAsCheap old.case q most x =
-      subst (λ (n : ℕ). IsAsCheap old.case q n x) e (subst (λ (c : Case). IsAsCheap c q (best new q) x) same.case flow)
-      in
-      subst (λ (c : Case). All (StaysAtNoCost (λ n. price (spot_of new n)) is.inside) (network c (low_of c q) x))
-      (sym same.case)
-      (subst (λ (node : Node → NodeId). All (StaysAtNoCost (λ n. price (node n).id.place) is.inside)
-      (network old.case (low_of old.case q) x)) (sym same.node)
-      (closed_above old.case (low_of old.case p) (low_of old.case q) x (λ (n : Node). price (spot_of old n)) is.inside
-      (low_grows old.case p o) (is.closed x (flow_before old.case p o most x there))));
-}
-
--- the same in another view of the case
-sealed_at : (old new : View) (price : ℕ → ℕ) (p : List Choice) (start end : Node) → IsSameCase old new
-    → best new p ≡ best old p → IsSealed old price p start end → IsSealed new price p start end
-sealed_at old new price p start end same e is = record {
-  inside = is.inside;
-  holds_start = is.holds_start;
-  lacks_end = is.lacks_end;
-  closed = λ x flow.
-      subst (λ (c : Case). All (StaysAtNoCost (λ n. price (spot_of new n)) is.inside) (network c (low_of c p) x))
-      (sym same.case)
-      (subst (λ (node : Node → NodeId). All (StaysAtNoCost (λ n. price (node n).id.place) is.inside)
-      (network old.case (low_of old.case p) x)) (sym same.node)
-      (is.closed x (subst (λ (n : ℕ). IsAsCheap old.case p n x) e
-      (subst (λ (c : Case). IsAsCheap c p (best new p) x) same.case flow))));
-}
-
--- CUTS ARE CUTS STILL in another view of the case
-pub cuts_at : (old new : View) (price : ℕ → ℕ) (p : List Choice) (cuts : Cuts) → IsSameCase old new
-    → best new p ≡ best old p → AreCuts old price p cuts → AreCuts new price p cuts
-cuts_at old new price p cuts same e are = record {
-  count = are.count ∙ sym (ap (λ (c : Case). length c.slots) same.case);
-  sealed = λ cut known. sealed_at old new price p (cut_start cut) (cut_end cut) same e (are.sealed cut known);
-}
-
--- and when a choice is held
-pub cuts_on : (old new : View) (price : ℕ → ℕ) (p : List Choice) (o : Choice) (cuts : Cuts) → IsSameCase old new
-    → best new (p ++ o ∷ []) ≡ best old p → AreCuts old price p cuts → AreCuts new price (p ++ o ∷ []) cuts
-cuts_on old new price p o cuts same e are = record {
-  count = are.count ∙ sym (ap (λ (c : Case). length c.slots) same.case);
-  sealed = λ cut known. sealed_on old new price p o (cut_start cut) (cut_end cut) same e (are.sealed cut known);
-}
-
--- after an attempt that made at most one more known, which it found
-pub cuts_after : (old new : View) (price : ℕ → ℕ) (p : List Choice) (before after : Cuts) (cut : Cut) (Found : Type 0)
-    → IsSameCase old new → best new p ≡ best old p → AreCuts old price p before
-    → length after.machines.items ≡ length before.machines.items
-    → ((other : Cut) → is_known after other ≡ true → (is_known before other ≡ true) ⊎ ((other ≡ cut) × Found))
-    → (Found → IsSealed old price p (cut_start cut) (cut_end cut)) → AreCuts new price p after
-cuts_after old new price p before after cut Found same e are size known found =
-    cuts_at old new price p after same e (record {
-      count = size ∙ are.count;
-      sealed = λ other k. ⊎_elim (λ (was : is_known before other ≡ true). are.sealed other was)
-          (λ (is : (other ≡ cut) × Found).
-          subst (λ (z : Cut). IsSealed old price p (cut_start z) (cut_end z)) (sym is.0) (found is.1)) (known other k);
     })

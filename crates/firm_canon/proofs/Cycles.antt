@@ -1,6 +1,6 @@
 -- What pushes along a path keep.
 use Rattle.std.proofs.Common.{◌≡◌, ◌≢◌, ℕ, zero, suc, ◌+◌, ◌<◌, Bool, true, false, List, [], ◌∷◌, ◌++◌, length, get_or}
-use Rattle.std.proofs.Common.{take, Option, Some, None, refl, sym, ap, subst, ◌∙◌, arith, ⊎_elim}
+use Rattle.std.proofs.Common.{take, Option, Some, None, refl, sym, ap, subst, ◌∙◌, ◌≤◌, arith, ◌⊎◌, inl, inr, ⊎_elim}
 use Rattle.std.specs.Prelude.{map, Contains}
 use Rattle.std.specs.List.{All}
 use Rattle.std.proofs.lemmas.Bool.{cases_Bool}
@@ -12,8 +12,8 @@ use Rattle.firm_net.specs.declared.row.ArcId.{ArcId}
 use Rattle.firm_net.specs.declared.row.Way.{Way}
 use Rattle.firm_net.specs.declared.row.Way.TheVariants.{Forward, Backward}
 use Rattle.firm_paths.specs.Laws.{ChangedRowIsFound}
-use Rattle.firm_paths.specs.NetArcs.{arcs_of, residual_of}
-use Rattle.firm_paths.specs.Network.{enters}
+use Rattle.firm_paths.specs.NetArcs.{arc_of, arcs_of, arc_or, is_forward, residual_of}
+use Rattle.firm_paths.specs.Network.{Arc, Residual, IsPath, IsResidual, leaves, enters}
 use Rattle.firm_paths.specs.declared.search.Step.{Step}
 use Rattle.firm_flow.specs.Balance.{OnTheWay}
 use Rattle.firm_flow.specs.Laws.{SetsOut, StepsOn, ComesRound}
@@ -98,57 +98,99 @@ off_more old now new steps k d l was others b off =
         let rest : All P xs × All P ys = All-halves P xs ys (All-tail P x (xs ++ ys) h) in
         (All-cons P x xs (All-head P x (xs ++ ys) h) rest.0, rest.1)
 
-only_one : (arc b : ArcId) → Contains (arc ∷ []) b → arc ≡ b
-only_one arc b c = at c.0 c.1 c.2
-  where
-    at : (k : ℕ) → k < 1 → get_or (arc ∷ []) k b ≡ b → arc ≡ b
-    at zero l e = e
-    at (suc k) l e = absurd (omega (arith, l))
+-- a path enters nowhere where it began and leaves nowhere where it ends, so it ends elsewhere
+ends_off : (arcs : List (Arc ℕ ArcId)) (z from to : ℕ) (r : Residual ℕ ArcId) (rest : List (Residual ℕ ArcId))
+    → IsPath arcs from to (r ∷ rest) → All (λ later. enters later ≡ z → ⊥) (r ∷ rest) → to ≡ z → ⊥
+ends_off arcs z from to r [] path off e = All-head (λ later. enters later ≡ z → ⊥) r [] off (path.3 ∙ e)
+ends_off arcs z from to r (s ∷ rest) path off e =
+    ends_off arcs z (enters r) to s rest path.3 (All-tail (λ later. enters later ≡ z → ⊥) r (s ∷ rest) off) e
 
-avoids_one : (barred : List ArcId) (arc : ArcId) (steps : List Step) → Contains barred arc → Avoids barred steps
-    → Avoids (arc ∷ []) steps
-avoids_one barred arc [] there h = All-nil (λ (s : Step). Contains (arc ∷ []) s.arc → ⊥)
-avoids_one barred arc (s ∷ steps) there h =
-    All-cons (λ (s : Step). Contains (arc ∷ []) s.arc → ⊥) s steps
-    (λ c. All-head (λ (s : Step). Contains barred s.arc → ⊥) s steps h
-    (subst (Contains barred) (only_one arc s.arc c) there))
-    (avoids_one barred arc steps there (All-tail (λ (s : Step). Contains barred s.arc → ⊥) s steps h))
+-- a step of a path: of the residual network, not back to where the path began, and not on from where it ends
+record IsOnPath (arcs : List (Arc ℕ ArcId)) (from to : ℕ) (r : Residual ℕ ArcId) : Type 0 where
+  pub residual : IsResidual arcs r
+  pub forth : enters r ≡ from → ⊥
+  pub short : leaves r ≡ to → ⊥
 
-off_barred : (barred : List ArcId) (b : ArcId) (steps : List Step) → Contains barred b → Avoids barred steps
-    → All (λ step. step.arc ≢ b) steps
-off_barred barred b [] there h = All-nil (λ (s : Step). s.arc ≢ b)
-off_barred barred b (s ∷ steps) there h =
+on_path : (arcs : List (Arc ℕ ArcId)) (origin from to : ℕ) (rs : List (Residual ℕ ArcId)) → IsPath arcs from to rs
+    → All (λ later. enters later ≡ origin → ⊥) rs → All (IsOnPath arcs origin to) rs
+on_path arcs origin from to [] path off = All-nil (IsOnPath arcs origin to)
+on_path arcs origin from to (r ∷ rest) path off =
+    All-cons (IsOnPath arcs origin to) r rest (record {
+      residual = path.0;
+      forth = All-head (λ later. enters later ≡ origin → ⊥) r rest off;
+      short = λ e. ends_off arcs from from to r rest path path.2 (sym e ∙ path.1);
+    })
+    (on_path arcs origin (enters r) to rest path.3 (All-tail (λ later. enters later ≡ origin → ⊥) r rest off))
+
+path_steps : (arcs : List (Arc ℕ ArcId)) (from to : ℕ) (rs : List (Residual ℕ ArcId)) → IsPath arcs from to rs
+    → All (IsOnPath arcs from to) rs
+path_steps arcs from to [] path = All-nil (IsOnPath arcs from to)
+path_steps arcs from to (r ∷ rest) path = on_path arcs from from to (r ∷ rest) path path.2
+
+-- no such step goes along an arc to where the path began that has no unit to spare, nor along a full one to its end
+no_step : (net : Net) (way : Way) (arc : Arc ℕ ArcId) (from to : ℕ)
+    → ((arc.head ≡ from) × (arc.flow ≤ arc.low)) ⊎ ((arc.head ≡ to) × (arc.cap ≤ arc.flow))
+    → IsOnPath (arcs_of net) from to (record { arc = arc; forward = is_forward way }) → ⊥
+no_step net Forward arc from to off on =
+    ⊎_elim (λ (own : (arc.head ≡ from) × (arc.flow ≤ arc.low)). on.forth own.0)
+    (λ (full : (arc.head ≡ to) × (arc.cap ≤ arc.flow)). omega (arith, on.residual.has_room refl, full.1)) off
+no_step net Backward arc from to off on =
+    ⊎_elim (λ (own : (arc.head ≡ from) × (arc.flow ≤ arc.low)). omega (arith, on.residual.may_fall refl, own.1))
+    (λ (full : (arc.head ≡ to) × (arc.cap ≤ arc.flow)). on.short full.0) off
+
+steps_off : (net : Net) (from to : ℕ) (b : ArcId) (row : Row) (steps : List Step) → row_at net b ≡ Some row
+    → ((row.head.id.place ≡ from) × (row.flow ≤ row.low)) ⊎ ((row.head.id.place ≡ to) × (row.cap ≤ row.flow))
+    → All (IsOnPath (arcs_of net) from to) (map (residual_of net) steps) → All (λ step. step.arc ≢ b) steps
+steps_off net from to b row [] there off on = All-nil (λ (s : Step). s.arc ≢ b)
+steps_off net from to b row (s ∷ steps) there off on =
+    let P : Residual ℕ ArcId → Type 0 = IsOnPath (arcs_of net) from to in
     All-cons (λ (s : Step). s.arc ≢ b) s steps
-    (λ e. All-head (λ (s : Step). Contains barred s.arc → ⊥) s steps h (subst (Contains barred) (sym e) there))
-    (off_barred barred b steps there (All-tail (λ (s : Step). Contains barred s.arc → ⊥) s steps h))
+    (λ e. no_step net s.way (arc_of b row) from to off
+    (subst (λ (a : Arc ℕ ArcId). P (record { arc = a; forward = is_forward s.way }))
+    (ap (λ (z : ArcId). arc_or z (row_at net z)) e ∙ ap (arc_or b) there)
+    (All-head P (residual_of net s) (map (residual_of net) steps) on)))
+    (steps_off net from to b row steps there off (All-tail P (residual_of net s) (map (residual_of net) steps) on))
+
+avoids : (arc : ArcId) (steps : List Step) → All (λ step. step.arc ≢ arc) steps → Avoids (arc ∷ []) steps
+avoids arc [] h = All-nil (λ (s : Step). Contains (arc ∷ []) s.arc → ⊥)
+avoids arc (s ∷ steps) h =
+    All-cons (λ (s : Step). Contains (arc ∷ []) s.arc → ⊥) s steps
+    (λ c. All-head (λ (s : Step). s.arc ≢ arc) s steps h (sym (only_one c.0 c.1 c.2)))
+    (avoids arc steps (All-tail (λ (s : Step). s.arc ≢ arc) s steps h))
+  where
+    only_one : {b : ArcId} (k : ℕ) → k < 1 → get_or (arc ∷ []) k b ≡ b → arc ≡ b
+    only_one {b} zero l e = e
+    only_one {b} (suc k) l e = absurd (omega (arith, l))
 
 -- a push along the arc and pushes along the way back are a turn
 pub turned : ChangedRowIsFound → SetsOut → ComesRound
-    → (old mid new : Net) (price : ℕ → ℕ) (arc : ArcId) (row : Row) (barred : List ArcId)
-    (steps : List Step) (pushed : Bool)
+    → (old mid new : Net) (price : ℕ → ℕ) (arc : ArcId) (row : Row) (steps : List Step) (pushed : Bool)
     → row_at old arc ≡ Some row → row.flow < row.cap → row.cost + price row.tail.id.place ≡ price row.head.id.place
-    → IsTightPath old price row.head.id.place row.tail.id.place steps → Avoids barred steps → Contains barred arc
+    → row.flow ≤ row.low
+    → IsTightPath old price row.head.id.place row.tail.id.place steps
     → ((pushed ≡ true → CanPush Forward (row_at old arc)) × (CanPush Forward (row_at old arc) → pushed ≡ true))
     → (pushed ≡ true → mid ≡ with_row old arc (with_unit Forward)) → (pushed ≡ false → mid ≡ old)
     → SameOtherRows old mid arc
     → SameLows mid new → SameOff mid new steps → CarriesOn mid steps new
-    → Turned old new price arc barred
-turned law sets_out comes_round old mid new price arc row barred steps pushed there room tight path avoids is_barred
-    allowed
-    pushes stays others lows off carries =
+    → Turned old new price arc
+turned law sets_out comes_round old mid new price arc row steps pushed there room tight idle path allowed pushes stays
+    others lows off carries =
     let can : pushed ≡ true = allowed.1 (subst (CanPush Forward) (sym there) room) in
     let is : mid ≡ with_row old arc (with_unit Forward) = pushes can in
+    let from : ℕ = row.head.id.place in
+    let to : ℕ = row.tail.id.place in
+    let on = path_steps (arcs_of old) from to (map (residual_of old) steps) path.path in
+    let own : All (λ (s : Step). s.arc ≢ arc) steps = steps_off old from to arc row steps there (inl (refl, idle)) on in
     record {
       lows = λ b. lows b ∙ push_lows law old mid arc Forward pushed allowed pushes stays others b;
-      more = ap flow_of_row (off arc (off_barred barred arc steps is_barred avoids))
-          ∙ pushed_flow law old mid arc row there is;
-      others = λ b there_b ne. off b (off_barred barred b steps there_b avoids) ∙ others b ne;
+      more = ap flow_of_row (off arc own) ∙ pushed_flow law old mid arc row there is;
+      others = λ b ne full.
+          let into = full row there in
+          off b (steps_off old from to b into.0 steps into.1 (inr (into.3, into.2)) on) ∙ others b ne;
       whole = λ sources sink whole.
           let start = sets_out old mid arc row price sources sink steps whole.valid whole.within whole.balanced there
-          room tight path (avoids_one barred arc steps is_barred avoids) is others in
-          let end = carries old price sources sink row.tail.id.place row.head.id.place row.tail.id.place
-          (cost_of (arcs_of old) carried) start in
-          let round = comes_round (arcs_of new) price sources sink row.tail.id.place row.tail.id.place
-          (cost_of (arcs_of old) carried) end in
+          room tight path (avoids arc steps own) is others in
+          let end = carries old price sources sink to from to (cost_of (arcs_of old) carried) start in
+          let round = comes_round (arcs_of new) price sources sink to to (cost_of (arcs_of old) carried) end in
           (record { valid = end.valid; within = end.within; balanced = round.0 }, round.1);
     }

@@ -18,11 +18,12 @@ use Rattle.firm_graph.specs.View.{View, Shows, IsSameCase, CanHold, lows, low_of
 use Rattle.firm_graph.specs.Network.{IsKeyOf}
 use Rattle.firm_canon.specs.inner.Choosing.{low_of, Keeps, IsChosen}
 use Rattle.firm_canon.proofs.First.{pick_past, wide_none, stay_none}
-use Rattle.firm_canon.proofs.Nears.{wide_is, near_is, own_wide, own_near, near_wide, far_near, own_stay, other_stay, wait_stay}
+use Rattle.firm_canon.proofs.Nears.{wide_is, near_is, own_wide, own_near, near_wide, far_near, own_stay, other_stay}
+use Rattle.firm_canon.proofs.Nears.{wait_stay, cond_zero}
 use Rattle.firm_canon.proofs.Nears.{number_in, prefer_none}
 use Rattle.firm_canon.proofs.Prefixes.{added, kept_one}
 
--- so much may be asked of an arc with so much flow
+-- an arc may be held to any bound within its flow
 pub can_hold : (low : ℕ) (o : Option Row) → 0 < low → low ≤ flow_of_row o → CanHold low o
 can_hold low None l h = absurd (omega (arith, l, h))
 can_hold low (Some row) l h = h
@@ -118,10 +119,6 @@ kept_holds v mid new price p o one two id_one id_two low keeps l chosen shows sa
     (same_arc_or_not (v.arc k) id_one))
     (same_arc_or_not (v.arc k) id_two))
 
-cond_none : (b : Bool) (x : ℕ) → x ≡ 0 → cond b x 0 ≡ 0
-cond_none true x e = e
-cond_none false x e = refl
-
 cond_other : (n i x : ℕ) → (n ≡ i → ⊥) → cond (eqb n i) x 0 ≡ 0
 cond_other n i x ne = cond-false {A = ℕ} (eqb n i) x 0 (ne_eqb n i ne)
 
@@ -131,7 +128,7 @@ cond_here n x = cond-true {A = ℕ} (eqb n n) x 0 (eq-eqb n n refl)
 -- a choice that puts nothing on the arcs of preferences
 none_near : (t : Demand) (n i k : ℕ) (o : Choice) → near t (Some o) ≡ 0 → cond (eqb n i) (prefer t k (Some o)) 0 ≡ 0
 none_near t n i k o e =
-    cond_none (eqb n i) (prefer t k (Some o)) (cond_none (eqb (number t (Some o)) k) (near t (Some o)) e)
+    cond_zero (eqb n i) (prefer t k (Some o)) (cond_zero (eqb (number t (Some o)) k) (near t (Some o)) e)
 
 -- the four kinds of choice
 pub held_wait : (v new : View) (price : ℕ → ℕ) (p : List Choice) (id : ArcId) → Keeps v price p
@@ -144,11 +141,11 @@ held_wait v new price p id keeps l chosen shows same is held =
     kept_hold v new price p Wait (Delay n) id keeps l chosen shows same l is held (ap waits (pick_past p))
     (cond_here n 1)
     (λ k. elim k as (λ k. (k ≡ Delay n → ⊥) → added v.case p Wait k ≡ 0) [
-      | Through j ↦ λ ne. cond_none (eqb 0 j) (wide t (Some Wait)) refl
+      | Through j ↦ λ ne. cond_zero (eqb 0 j) (wide t (Some Wait)) refl
       | Slot j i ↦ λ ne. refl
       | Exit i ↦ λ ne. refl
-      | Wide i ↦ λ ne. cond_none (eqb n i) (wide t (Some Wait)) refl
-      | Stay i ↦ λ ne. cond_none (eqb n i) (stay t.home (Some Wait)) (wait_stay t.home)
+      | Wide i ↦ λ ne. cond_zero (eqb n i) (wide t (Some Wait)) refl
+      | Stay i ↦ λ ne. cond_zero (eqb n i) (stay t.home (Some Wait)) (wait_stay t.home)
       | Delay i ↦ λ ne. cond_other n i 1 (λ e. ne (ap Delay (sym e)))
       | Prefer i k ↦ λ ne. none_near t n i k Wait refl
     ])
@@ -165,12 +162,12 @@ held_own v new price p o id keeps l chosen own shows same is held =
     (ap (stay t.home) (pick_past p) ∙ stay_none t.home)
     (cond_here n (stay t.home (Some (On o))) ∙ own_stay t.home o own)
     (λ k. elim k as (λ k. (k ≡ Stay n → ⊥) → added v.case p (On o) k ≡ 0) [
-      | Through j ↦ λ ne. cond_none (eqb o j) (wide t (Some (On o))) (own_wide t o own)
+      | Through j ↦ λ ne. cond_zero (eqb o j) (wide t (Some (On o))) (own_wide t o own)
       | Slot j i ↦ λ ne. refl
       | Exit i ↦ λ ne. refl
-      | Wide i ↦ λ ne. cond_none (eqb n i) (wide t (Some (On o))) (own_wide t o own)
+      | Wide i ↦ λ ne. cond_zero (eqb n i) (wide t (Some (On o))) (own_wide t o own)
       | Stay i ↦ λ ne. cond_other n i (stay t.home (Some (On o))) (λ e. ne (ap Stay (sym e)))
-      | Delay i ↦ λ ne. cond_none (eqb n i) 0 refl
+      | Delay i ↦ λ ne. cond_zero (eqb n i) 0 refl
       | Prefer i k ↦ λ ne. none_near t n i k (On o) (own_near t o own)
     ])
 
@@ -189,14 +186,14 @@ held_near v new price p o id keeps l chosen other close shows same is held =
     (ap (prefer t e) (pick_past p) ∙ prefer_none t e)
     (cond_here n (prefer t e (Some (On o))) ∙ (cond_here e (near t (Some (On o))) ∙ near_is t o other close))
     (λ k. elim k as (λ k. (k ≡ Prefer n e → ⊥) → added v.case p (On o) k ≡ 0) [
-      | Through j ↦ λ ne. cond_none (eqb o j) (wide t (Some (On o))) (near_wide t o close)
+      | Through j ↦ λ ne. cond_zero (eqb o j) (wide t (Some (On o))) (near_wide t o close)
       | Slot j i ↦ λ ne. refl
       | Exit i ↦ λ ne. refl
-      | Wide i ↦ λ ne. cond_none (eqb n i) (wide t (Some (On o))) (near_wide t o close)
-      | Stay i ↦ λ ne. cond_none (eqb n i) (stay t.home (Some (On o))) (other_stay t.home o other)
-      | Delay i ↦ λ ne. cond_none (eqb n i) 0 refl
+      | Wide i ↦ λ ne. cond_zero (eqb n i) (wide t (Some (On o))) (near_wide t o close)
+      | Stay i ↦ λ ne. cond_zero (eqb n i) (stay t.home (Some (On o))) (other_stay t.home o other)
+      | Delay i ↦ λ ne. cond_zero (eqb n i) 0 refl
       | Prefer i k ↦ λ ne. ⊎_elim
-          (λ (q : n ≡ i). cond_none (eqb n i) (prefer t k (Some (On o)))
+          (λ (q : n ≡ i). cond_zero (eqb n i) (prefer t k (Some (On o)))
           (cond_other e k (near t (Some (On o))) (λ r. ne (ap₂ Prefer (sym q) (sym r)))))
           (λ (q : n ≡ i → ⊥). cond_other n i (prefer t k (Some (On o))) q) (cases_eq n i)
     ])
@@ -219,8 +216,8 @@ held_other v mid new price p o id_one id_two low keeps l chosen other far shows 
       | Slot j i ↦ λ a b. refl
       | Exit i ↦ λ a b. refl
       | Wide i ↦ λ a b. cond_other n i (wide t (Some (On o))) (λ e. a (ap Wide (sym e)))
-      | Stay i ↦ λ a b. cond_none (eqb n i) (stay t.home (Some (On o))) (other_stay t.home o other)
-      | Delay i ↦ λ a b. cond_none (eqb n i) 0 refl
+      | Stay i ↦ λ a b. cond_zero (eqb n i) (stay t.home (Some (On o))) (other_stay t.home o other)
+      | Delay i ↦ λ a b. cond_zero (eqb n i) 0 refl
       | Prefer i k ↦ λ a b. none_near t n i k (On o) (far_near t o far)
     ])
 

@@ -16,10 +16,13 @@ pub mod Tries
 pub mod Choices
 pub mod Opens
 pub mod Passes
-pub mod Ways
+pub mod Finds
 pub mod Spent
 pub mod Prefixes
 pub mod Holdings
 pub mod Starts
 pub mod Crossings
 pub mod Sealed
+pub mod Ranks
+pub mod States
+pub mod Ends

@@ -1,6 +1,8 @@
 -- What one task puts on its arcs: one unit in all.
-use Rattle.std.proofs.Common.{◌≡◌, ℕ, suc, ◌+◌, ◌*◌, ◌<◌, ◌≤◌, ◌==◌, ◌||◌, Bool, true, false, not, cond, eqb, ltb, true≢false, List}
-use Rattle.std.proofs.Common.{[], ◌∷◌, ◌⊎◌, inl, inr, length, get_or, arith, refl, sym, ap, subst, ◌∙◌, ⊎_elim, Option, Some, None}
+use Rattle.std.proofs.Common.{◌≡◌, ℕ, suc, ◌+◌, ◌*◌, ◌<◌, ◌≤◌, ◌==◌, ◌||◌, Bool, true, false, not, cond, eqb, ltb}
+use Rattle.std.proofs.Common.{true≢false, List}
+use Rattle.std.proofs.Common.{[], ◌∷◌, ◌⊎◌, inl, inr, length, get_or, arith, refl, sym, ap, subst, ◌∙◌, ⊎_elim}
+use Rattle.std.proofs.Common.{Option, Some, None}
 use Rattle.std.specs.List.{list_any, position, position_or_len}
 use Rattle.std.proofs.lemmas.Bool.{cases_Bool, cond-true, cond-false, eqb-true, lt-ltb, le-ltb}
 use Rattle.std.proofs.Math.Nat.{mul-zero}
@@ -17,7 +19,8 @@ number_in [] j e = absurd cc
 number_in (x ∷ xs) j e =
     ⊎_elim
     (λ (t : eqb x j ≡ true).
-    let z : position_or_len (λ k. k == j) (x ∷ xs) ≡ 0 = ap (λ (b : Bool). cond (not b) (1 + position_or_len (λ k. k == j) xs) 0) t in
+    let z : position_or_len (λ k. k == j) (x ∷ xs) ≡ 0 =
+    ap (λ (b : Bool). cond (not b) (1 + position_or_len (λ k. k == j) xs) 0) t in
     (omega (arith, z), ap (λ n. get_or (x ∷ xs) n 0) z ∙ eqb-true x j t))
     (λ (f : eqb x j ≡ false).
     let z : position_or_len (λ k. k == j) (x ∷ xs) ≡ 1 + position_or_len (λ k. k == j) xs =
@@ -95,11 +98,13 @@ both_zero false = refl
 
 pub near_wide : (t : Demand) (j : ℕ) → prefers t j ≡ true → wide t (Some (On j)) ≡ 0
 near_wide t j close =
-    ap (λ (n : ℕ). cond (runs_at t.home j) 0 n) (cond-true {A = ℕ} (prefers t j) 0 1 close) ∙ both_zero (runs_at t.home j)
+    ap (λ (n : ℕ). cond (runs_at t.home j) 0 n) (cond-true {A = ℕ} (prefers t j) 0 1 close)
+    ∙ both_zero (runs_at t.home j)
 
 pub far_near : (t : Demand) (j : ℕ) → prefers t j ≡ false → near t (Some (On j)) ≡ 0
 far_near t j far =
-    ap (λ (n : ℕ). cond (runs_at t.home j) 0 n) (cond-false {A = ℕ} (prefers t j) 1 0 far) ∙ both_zero (runs_at t.home j)
+    ap (λ (n : ℕ). cond (runs_at t.home j) 0 n) (cond-false {A = ℕ} (prefers t j) 1 0 far)
+    ∙ both_zero (runs_at t.home j)
 
 pub own_stay : (home : Option ℕ) (j : ℕ) → runs_at home j ≡ true → stay home (Some (On j)) ≡ 1
 own_stay None j e = absurd cc
@@ -144,7 +149,7 @@ prefers_there t (On j) =
     (cases_Bool (prefers t j)))
     (cases_Bool (runs_at t.home j))
 
-cond_zero : (b : Bool) (x : ℕ) → x ≡ 0 → cond b x 0 ≡ 0
+pub cond_zero : (b : Bool) (x : ℕ) → x ≡ 0 → cond b x 0 ≡ 0
 cond_zero true x e = e
 cond_zero false x e = refl
 
@@ -159,7 +164,8 @@ prefer_weighed w t o =
     ⊎_elim
     (λ (z : one ≡ 0).
     total_zero (λ (k : ℕ). w (get_or t.preferred k 0) * prefer t k (Some o)) n
-    (λ k l. ap (λ x. w (get_or t.preferred k 0) * x) (cond_zero (eqb e k) one z) ∙ mul-zero (w (get_or t.preferred k 0)))
+    (λ k l. ap (λ x. w (get_or t.preferred k 0) * x) (cond_zero (eqb e k) one z)
+    ∙ mul-zero (w (get_or t.preferred k 0)))
     ∙ sym (ap (λ x. w (spot (Some o)) * x) z ∙ mul-zero (w (spot (Some o)))))
     (λ (there : (one ≡ 1) × (e < n) × (get_or t.preferred e 0 ≡ spot (Some o))).
     total_same (λ (k : ℕ). w (get_or t.preferred k 0) * prefer t k (Some o))

@@ -170,7 +170,8 @@ task_cost_is c t (On j) =
                 [ true ↦ omega (arith, here refl) | false ↦ omega (arith, here refl) ]
             | false ↦ omega (arith, here refl)
           ]
-      | false ↦ λ here there. elim close as (λ close. hub * cond close 0 1 + (delay + churn) * 0 + churn * cond close 1 0
+      | false ↦ λ here there. elim close as
+          (λ close. hub * cond close 0 1 + (delay + churn) * 0 + churn * cond close 1 0
           ≡ away + cond (has && not close && true) c.remote 0) [
             | true ↦ elim has as (λ has. hub * 0 + (delay + churn) * 0 + churn * 1
                 ≡ away + cond (has && false && true) c.remote 0)
@@ -184,7 +185,8 @@ task_cost_is c t (On j) =
             )
           ]
     ] here there in
-    sides (runs_at t.home j) (prefers t j) some (cond (leaves t.home (On j)) c.churn 0) (by_hub c t) t.delay (leaving c t)
+    sides (runs_at t.home j) (prefers t j) some (cond (leaves t.home (On j)) c.churn 0) (by_hub c t) t.delay
+    (leaving c t)
     (stays_there c t.home j) (runs_away c t.home j) refl
 
 -- the arcs of a task, as the network has them
@@ -224,7 +226,8 @@ sum_network F c low x =
     ≡ F (arc low x (Through j) Hub (Machine j) (slots_of c j) 0) + total (λ k. F (slot j k)) (slots_of c j) =
     λ j l. omega (
       arith,
-      sum_by-cons F (arc low x (Through j) Hub (Machine j) (slots_of c j) 0) (gather (λ k. slot j k ∷ []) (slots_of c j)),
+      sum_by-cons F (arc low x (Through j) Hub (Machine j) (slots_of c j) 0)
+          (gather (λ k. slot j k ∷ []) (slots_of c j)),
       sum_ones F (slot j) (slots_of c j),
     ) in
     let each : (i : ℕ) → i < length c.tasks → sum_by F (task_arcs c low x i)

@@ -20,7 +20,8 @@ use Rattle.firm_canon.specs.inner.Placed.{pick, wide, stay, waits, near, prefer,
 use Rattle.firm_canon.specs.inner.Placed.{prefer_at, guests, aside}
 use Rattle.firm_canon.proofs.Nears.{one_way, prefer_weighed}
 use Rattle.firm_canon.proofs.Placed.{load_is, sum_network, at_pick, at_place, wide_spot, stay_there, prefer_sum}
-use Rattle.firm_canon.proofs.Placed.{plain_regroup, leaving, by_hub, count_at, task_arcs_cost, tasks_cost_is, task_cost_is}
+use Rattle.firm_canon.proofs.Placed.{plain_regroup, leaving, by_hub, count_at, task_arcs_cost, tasks_cost_is}
+use Rattle.firm_canon.proofs.Placed.{task_cost_is}
 use Rattle.firm_canon.proofs.Parts.{parts}
 use Rattle.firm_flow.specs.Balance.{Balanced}
 
@@ -316,7 +317,8 @@ read c p low x e places held within balanced =
     λ j i r. total_same (λ (k : ℕ). machine_mark j (Machine (preferred_at c i k)) * x (Prefer i k))
     (λ (k : ℕ). machine_mark j (Machine (preferred_at c i k)) * prefer_at c p i k) (count_at c i)
     (λ k s. ap (λ z. machine_mark j (Machine (preferred_at c i k)) * z) (is_prefer i k r s))
-    ∙ (at_pick p i (λ o. total (λ k. machine_mark j (Machine (preferred_at c i k)) * prefer (demand c i) k o) (count_at c i)
+    ∙ (at_pick p i
+    (λ o. total (λ k. machine_mark j (Machine (preferred_at c i k)) * prefer (demand c i) k o) (count_at c i)
     ≡ machine_mark j (Machine (spot o)) * near (demand c i) o)
     (omega (arith, r, e)) (prefer_weighed (λ (z : ℕ). machine_mark j (Machine z)) (demand c i))
     ∙ (cond_times (eqb j (spot (pick p i))) (near_at c p i)

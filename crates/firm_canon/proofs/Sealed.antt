@@ -1,51 +1,51 @@
--- Cuts: what a failed search seals off, and what a cut that is known rules out without a search.
-use Rattle.std.proofs.Common.{◌≡◌, ℕ, ◌+◌, ◌<◌, ◌≤◌, Bool, true, false, cond, eqb, List, [], ◌∷◌, length, get_or}
-use Rattle.std.proofs.Common.{Some, Option, arith, refl, sym, ap, subst, ◌∙◌, ◌⊎◌, ⊎_elim}
-use Rattle.std.specs.Prelude.{Contains}
+-- Attempts for the hub, the own machine and the others: what they ask for, and what is known where they are refused.
+use Rattle.std.proofs.Common.{◌≡◌, ℕ, ◌+◌, ◌<◌, ◌≤◌, Bool, true, false, cond, eqb, List, length}
+use Rattle.std.proofs.Common.{Some, None, Option, arith, refl, sym, ap, subst, ◌∙◌, ◌⊎◌, inl, inr, ⊎_elim}
 use Rattle.std.specs.List.{All}
-use Rattle.std.proofs.lemmas.Bool.{cases_Bool, both_ways, eq-eqb, cond-true}
+use Rattle.std.proofs.lemmas.Bool.{cases_Bool, eq-eqb, cond-true}
+use Rattle.firm_net.specs.Row.{Row}
+use Rattle.firm_net.specs.Net.{Net, row_at}
 use Rattle.firm_net.specs.declared.row.ArcId.{ArcId}
+use Rattle.firm_net.specs.declared.row.NodeId.{NodeId}
 use Rattle.firm_rules.specs.declared.rounds.Choice.{Choice}
 use Rattle.firm_rules.specs.Placement.{Case, total}
-use Rattle.firm_paths.specs.Network.{Arc, Tight, StaysInside, IsClosedBut}
+use Rattle.firm_paths.specs.Network.{Arc, Tight}
+use Rattle.firm_paths.specs.NetArcs.{arc_of, arcs_of}
+use Rattle.firm_paths.specs.Workspace.{Workspace}
+use Rattle.firm_paths.specs.Classes.{LeadsUp, class_of}
 use Rattle.firm_graph.specs.declared.network.Node.{Node}
 use Rattle.firm_graph.specs.declared.network.Node.TheVariants.{Sink, Hub, Machine, Owner, Task}
 use Rattle.firm_graph.specs.declared.network.Key.{Key}
 use Rattle.firm_graph.specs.declared.network.Key.TheVariants.{Through, Exit, Wide, Stay, Delay}
 use Rattle.firm_graph.specs.Network.{network, demand, stay_head, IsKeyOf}
-use Rattle.firm_graph.specs.View.{View, flows, spot_of}
+use Rattle.firm_graph.specs.View.{View, flows, low_of_row, flow_of_row, named, spot_of}
 use Rattle.firm_canon.specs.inner.Placed.{wide, stay, waits, guests, aside}
-use Rattle.firm_canon.specs.inner.Turns.{IsTightAt, IsLooseAt, IsCutOff, IsBlocked}
-use Rattle.firm_canon.specs.inner.Choosing.{low_of, Keeps, best, IsAsCheap, IsSpentBeside}
-use Rattle.firm_canon.specs.inner.Cuts.{StaysAtNoCost, IsSealed, IsMost, IsOwnWay, AreCuts, is_known, cut_start}
-use Rattle.firm_canon.specs.inner.Cuts.{cut_end, IsCutAmong}
-use Rattle.firm_canon.specs.declared.cuts.Cut.{Cut}
-use Rattle.firm_canon.specs.declared.cuts.Cut.TheVariants.{HubFromSink, MachineFromHub, MachineFromSink}
-use Rattle.firm_canon.specs.declared.cuts.Cuts.{Cuts}
+use Rattle.firm_canon.specs.inner.Turns.{IsTightAt, IsLooseAt, IsBlocked, IsFullInto, IsIdle}
+use Rattle.firm_canon.specs.inner.Choosing.{low_of, Keeps, best, IsAsCheap, IsSpent}
+use Rattle.firm_canon.specs.inner.Classes.{StaysAtNoCost, IsSealed, IsSealedAt, IsMost, IsOwnWay, AreLasting, LeadsTo}
+use Rattle.firm_canon.specs.inner.Classes.{IsCut}
 use Rattle.firm_canon.proofs.Totals.{term-le-total}
 use Rattle.firm_canon.proofs.Parts.{OnParts, parts, cond_le, total_le_count}
 use Rattle.firm_canon.proofs.Read.{task_sends, owner_passes}
-use Rattle.firm_canon.proofs.First.{pick_past, wide_none, stay_none}
-use Rattle.firm_canon.proofs.Shown.{arc_at, by_key}
-use Rattle.firm_canon.proofs.AsCheap.{own_flow, IsRowOfKey, row_of_key, IsKeyedCut, keyed_cut, loose_same}
-use Rattle.firm_canon.proofs.AsCheap.{no_more_at}
-use Rattle.firm_canon.proofs.Crossings.{Agrees, crossing, seals}
-use Rattle.firm_canon.proofs.Tries.{one_key, two_keys}
-use Rattle.firm_canon.proofs.Choices.{only_key, sends_one, home_in}
-use Rattle.firm_canon.proofs.Spent.{of_two, spent_tried}
+use Rattle.firm_canon.proofs.First.{pick_past, wide_none}
+use Rattle.firm_canon.proofs.Shown.{arc_at}
+use Rattle.firm_canon.proofs.AsCheap.{own_flow, IsRowOfKey, row_of_key, loose_same}
+use Rattle.firm_canon.proofs.Crossings.{Agrees, crossing}
+use Rattle.firm_canon.proofs.Ranks.{keyed_up, blocked_most}
+use Rattle.firm_canon.proofs.Choices.{sends_one, home_in}
+use Rattle.firm_canon.proofs.Spent.{most_spent}
 
--- barred arcs out of which nothing leads at any cost need not be barred
-unbarred : (c : Case) (low x : Key → ℕ) (price : Node → ℕ) (keys : List Key) (inside : Node → Bool)
-    → IsClosedBut (network c low x) price (Contains keys) inside
-    → ((k : Key) → Contains keys k → StaysInside inside (arc_at c low x k))
-    → All (StaysAtNoCost price inside) (network c low x)
-unbarred c low x price keys inside closed stays k d l =
-    let a : Arc Node Key = get_or (network c low x) k d in
-    ⊎_elim
-    (λ (b : Contains keys a.key). λ (tight : Tight price a).
-    subst (StaysInside inside) (sym (by_key c low x k d l)) (stays a.key b))
-    (λ (s : Tight price a → StaysInside inside a). s)
-    (closed k d l)
+-- the row, if there is one
+abbrev pub row_or : Option Row → Row → Row
+row_or None other = other
+row_or (Some row) other = row
+
+-- arcs with no unit to spare
+pub idle_none : (net : Net) (arc : ArcId) → flow_of_row (row_at net arc) ≡ 0 → IsIdle net arc
+idle_none net arc none row there = omega (arith, none, ap flow_of_row there)
+
+pub idle_few : (net : Net) (arc : ArcId) → flow_of_row (row_at net arc) ≤ low_of_row (row_at net arc) → IsIdle net arc
+idle_few net arc few row there = omega (arith, few, ap flow_of_row there, ap low_of_row there)
 
 module _ (v : View) (price : ℕ → ℕ) (p : List Choice) (keeps : Keeps v price p)
     (next : length p < length v.case.tasks) where
@@ -71,9 +71,6 @@ module _ (v : View) (price : ℕ → ℕ) (p : List Choice) (keeps : Keeps v pri
   -- nothing holds the next task yet
   free_wide : low (Wide n) ≡ 0
   free_wide = ap (wide (demand v.case n)) (pick_past p) ∙ wide_none (demand v.case n)
-
-  free_stay : low (Stay n) ≡ 0
-  free_stay = ap (stay (demand v.case n).home) (pick_past p) ∙ stay_none (demand v.case n).home
 
   free_delay : low (Delay n) ≡ 0
   free_delay = ap waits (pick_past p)
@@ -119,149 +116,147 @@ module _ (v : View) (price : ℕ → ℕ) (p : List Choice) (keeps : Keeps v pri
       let row : IsRowOfKey v p key = row_of_key v price p key keeps own in
       subst (Tight price) (sym row.is) (tight row.row row.there)
 
-  -- one of the arcs by which the unit of the next task may leave it, and its cost
-  module _ (inside : Node → Bool) (closed : All (StaysAtNoCost cost_at inside) arcs) where
-    at_parts : OnParts (StaysAtNoCost cost_at inside) v.case low (flows v)
-    at_parts = parts (StaysAtNoCost cost_at inside) v.case low (flows v) closed
-
-    -- a set without the task has not the hub, if the task's unit came there at no loss
-    lacks_hub : inside (Task n) ≡ false → flows v (Wide n) ≡ 1 → IsTightAt v.net price (v.arc (Wide n))
-        → inside Hub ≡ false
-    unfolding arc_at
-    lacks_hub out one tight =
-        ⊎_elim
-        (λ (in_set : inside Hub ≡ true).
-        absurd (omega (
-          arith,
-          (at_parts.wides n next (tight_at (Wide n) next tight)).1 in_set out,
-          one,
-          free_wide,
-        )))
-        (λ (f : inside Hub ≡ false). f) (cases_Bool (inside Hub))
-
-    -- nor the sink, if the task waits at no loss
-    lacks_sink : inside (Task n) ≡ false → flows v (Delay n) ≡ 1 → IsTightAt v.net price (v.arc (Delay n))
-        → inside Sink ≡ false
-    unfolding arc_at
-    lacks_sink out one tight =
-        let owner : inside (Owner job) ≡ false =
-        ⊎_elim
-        (λ (in_set : inside (Owner job) ≡ true).
-        absurd (omega (
-          arith,
-          (at_parts.delays n next (tight_at (Delay n) next tight)).1 in_set out,
-          one,
-          free_delay,
-        )))
-        (λ (f : inside (Owner job) ≡ false). f) (cases_Bool (inside (Owner job))) in
-        ⊎_elim
-        (λ (in_set : inside Sink ≡ true).
-        absurd (omega (
-          arith,
-          (at_parts.exit job (keeps.shows.sound.jobs_in n next) (exit_tight one)).1 in_set owner,
-          (exit_in_between one).0,
-        )))
-        (λ (f : inside Sink ≡ false). f) (cases_Bool (inside Sink))
-
-    -- a set without the sink has no job with a task that waits
-    lacks_owner : inside Sink ≡ false → flows v (Delay n) ≡ 1 → inside (Owner job) ≡ false
-    lacks_owner out one =
-        ⊎_elim
-        (λ (in_set : inside (Owner job) ≡ true).
-        absurd (omega (
-          arith,
-          (at_parts.exit job (keeps.shows.sound.jobs_in n next) (exit_tight one)).0 in_set out,
-          (exit_in_between one).1,
-        )))
-        (λ (f : inside (Owner job) ≡ false). f) (cases_Bool (inside (Owner job)))
-
-  -- a search from the hub that failed
-  pub hub_sealed : flows v (Wide n) ≡ 0 → flows v (Delay n) ≡ 1 → IsTightAt v.net price (v.arc (Delay n))
-      → IsCutOff v.net price (v.arc (Wide n)) (v.arc (Wide n) ∷ []) → IsSealed v price p Hub Sink
+  -- WAYS that lead to the next task at no cost, whatever the ranks: from where its unit goes
+  from_hub : 1 ≤ flows v (Wide n) → IsTightAt v.net price (v.arc (Wide n))
+      → LeadsTo (arcs_of v.net) price (spot_of v Hub) (spot_of v (Task n))
   unfolding arc_at
-  hub_sealed none one tight cut =
-      let row : IsRowOfKey v p (Wide n) = row_of_key v price p (Wide n) keeps next in
-      let found : IsKeyedCut v price p (Wide n ∷ []) (Wide n) =
-      keyed_cut v price p (Wide n ∷ []) (Wide n) row.row keeps (one_key v.case (Wide n) next) row.is
-      (cut row.row row.there) in
-      let closed : All (StaysAtNoCost cost_at found.inside) arcs =
-      unbarred v.case low (flows v) cost_at (Wide n ∷ []) found.inside found.closed
-      (λ k b. subst (λ (z : Key). StaysInside found.inside (arc_at v.case low (flows v) z)) (only_key (Wide n) k b)
-      (λ t h. absurd (both_ways (found.inside (Task n)) found.lacks_tail t), λ h t. omega (arith, none))) in
-      seals v price p Hub Sink found.inside keeps found.holds_head
-      (lacks_sink found.inside closed found.lacks_tail one tight) closed
+  from_hub one tight rank up =
+      let at = parts (LeadsUp cost_at (λ (m : Node). rank (spot_of v m))) v.case low (flows v)
+      (keyed_up v price p keeps rank up) in
+      (at.wides n next (tight_at (Wide n) next tight)).1 (omega (arith, one, free_wide))
 
-  -- a search from the own machine that failed
-  own_closed : flows v (Stay n) ≡ 0 → (found : IsKeyedCut v price p (Stay n ∷ []) (Stay n))
-      → All (StaysAtNoCost cost_at found.inside) arcs
+  from_sink : flows v (Delay n) ≡ 1 → IsTightAt v.net price (v.arc (Delay n))
+      → LeadsTo (arcs_of v.net) price (spot_of v Sink) (spot_of v (Task n))
   unfolding arc_at
-  own_closed none found =
-      unbarred v.case low (flows v) cost_at (Stay n ∷ []) found.inside found.closed
-      (λ k b. subst (λ (z : Key). StaysInside found.inside (arc_at v.case low (flows v) z)) (only_key (Stay n) k b)
-      (λ t h. absurd (both_ways (found.inside (Task n)) found.lacks_tail t), λ h t. omega (arith, none)))
+  from_sink one tight rank up =
+      let at = parts (LeadsUp cost_at (λ (m : Node). rank (spot_of v m))) v.case low (flows v)
+      (keyed_up v price p keeps rank up) in
+      omega (
+        arith,
+        (at.exit job (keeps.shows.sound.jobs_in n next) (exit_tight one)).1 (exit_in_between one).0,
+        (at.delays n next (tight_at (Delay n) next tight)).1 (omega (arith, one, free_delay)),
+      )
 
-  -- a search from another machine that failed
-  pub machine_sealed : (j : ℕ) → j < length v.case.slots → flows v (Wide n) ≡ 1
-      → flows v (Through j) ≤ guests v.case p j
-      → IsCutOff v.net price (v.arc (Through j)) (v.arc (Through j) ∷ v.arc (Wide n) ∷ [])
-      → IsSealed v price p (Machine j) Hub
+  -- the row that is found under a key
+  pub named_is : (key : Key) (arc : ArcId) (row : Row) → IsKeyOf v.case key → arc ≡ v.arc key
+      → row_at v.net arc ≡ Some row → named v (arc_at v.case low (flows v) key) ≡ arc_of (v.arc key) row
+  named_is key arc row own is there =
+      let found : IsRowOfKey v p key = row_of_key v price p key keeps own in
+      found.is
+      ∙ ap (λ (o : Option Row). arc_of (v.arc key) (row_or o row))
+      (sym found.there ∙ (ap (row_at v.net) (sym is) ∙ there))
+
+  -- AN ATTEMPT FOR THE HUB
+  pub hub_leads : (wide wait : ArcId) (row : Row) → wide ≡ v.arc (Wide n) → wait ≡ v.arc (Delay n)
+      → flows v (Delay n) ≡ 1 → IsTightAt v.net price wait → row_at v.net wide ≡ Some row
+      → LeadsTo (arcs_of v.net) price (spot_of v Sink) row.tail.id.place
   unfolding arc_at
-  machine_sealed j l one few cut =
-      let keys : List Key = Through j ∷ Wide n ∷ [] in
-      let row : IsRowOfKey v p (Through j) = row_of_key v price p (Through j) keeps l in
-      let found : IsKeyedCut v price p keys (Through j) =
-      keyed_cut v price p keys (Through j) row.row keeps (two_keys v.case (Through j) (Wide n) l next) row.is
-      (cut row.row row.there) in
-      let closed : All (StaysAtNoCost cost_at found.inside) arcs =
-      unbarred v.case low (flows v) cost_at keys found.inside found.closed
-      (λ k b. ⊎_elim
-      (λ (e : Through j ≡ k). subst (λ (z : Key). StaysInside found.inside (arc_at v.case low (flows v) z)) e
-      (λ t h. absurd (both_ways (found.inside Hub) found.lacks_tail t), λ h t. omega (arith, few)))
-      (λ (e : Wide n ≡ k). subst (λ (z : Key). StaysInside found.inside (arc_at v.case low (flows v) z)) e
-      (λ t h. omega (arith, one), λ h t. absurd (both_ways (found.inside Hub) found.lacks_tail h)))
-      (of_two (Through j) (Wide n) k b)) in
-      seals v price p (Machine j) Hub found.inside keeps found.holds_head found.lacks_tail closed
+  hub_leads wide wait row is is_wait one tight there rank up =
+      omega (
+        arith,
+        from_sink one (subst (IsTightAt v.net price) is_wait tight) rank up,
+        ap (λ (b : Arc ℕ ArcId). rank b.tail) (named_is (Wide n) wide row next is there),
+      )
 
-  -- the cut that keeps a task from its own machine is one of those that can be known
-  pub own_among : (own : ℕ) (unit : ArcId) (cut : Cut) → (demand v.case n).home ≡ Some own
-      → IsOwnWay v n own unit cut → (cuts : Cuts) → AreCuts v price p cuts
-      → IsCutAmong (length cuts.machines.items) cut
-  own_among own unit cut home way cuts are =
-      let below : own < length cuts.machines.items = omega (arith, are.count, home_in v n own keeps.shows next home) in
+  pub hub_cut : (wide : ArcId) (row : Row) → wide ≡ v.arc (Wide n) → row_at v.net wide ≡ Some row
+      → IsCut v row.head.id.place (spot_of v Sink)
+  unfolding arc_at
+  hub_cut wide row is there =
+      inl (sym (ap (λ (b : Arc ℕ ArcId). b.head) (named_is (Wide n) wide row next is there)), refl)
+
+  -- FOR THE OWN MACHINE
+  pub own_leads : (unit stay : ArcId) (goal : NodeId) (row : Row) → IsElsewhere → flows v (Stay n) ≡ 0
+      → stay ≡ v.arc (Stay n) → IsOwnWay v n unit goal → IsTightAt v.net price unit → row_at v.net stay ≡ Some row
+      → LeadsTo (arcs_of v.net) price goal.id.place row.tail.id.place
+  unfolding arc_at
+  own_leads unit stay goal row elsewhere none is way tight there rank up =
+      let tail = ap (λ (b : Arc ℕ ArcId). rank b.tail) (named_is (Stay n) stay row next is there) in
       ⊎_elim
-      (λ (by_hub : (1 ≤ flows v (Wide n)) × (unit ≡ v.arc (Wide n)) × (cut ≡ MachineFromHub own)).
-      subst (IsCutAmong (length cuts.machines.items)) (sym by_hub.2) below)
-      (λ (waits_now : (flows v (Wide n) ≡ 0) × (unit ≡ v.arc (Delay n)) × (cut ≡ MachineFromSink own)).
-      subst (IsCutAmong (length cuts.machines.items)) (sym waits_now.2) below)
+      (λ (by_hub : (1 ≤ flows v (Wide n)) × (unit ≡ v.arc (Wide n)) × (goal ≡ v.node Hub)).
+      omega (
+        arith,
+        from_hub by_hub.0 (subst (IsTightAt v.net price) by_hub.1 tight) rank up,
+        tail,
+        ap (λ (z : NodeId). rank z.id.place) by_hub.2,
+      ))
+      (λ (waits_now : (flows v (Wide n) ≡ 0) × (unit ≡ v.arc (Delay n)) × (goal ≡ v.node Sink)).
+      omega (
+        arith,
+        from_sink (omega (arith, sends_one v price p n keeps next, waits_now.0, none, elsewhere))
+            (subst (IsTightAt v.net price) waits_now.1 tight) rank up,
+        tail,
+        ap (λ (z : NodeId). rank z.id.place) waits_now.2,
+      ))
       way
 
-  -- the nodes of the cut that a search for the own machine finds
-  pub own_sealed : (own : ℕ) (unit stay : ArcId) (cut : Cut) → (demand v.case n).home ≡ Some own
-      → IsElsewhere → flows v (Stay n) ≡ 0 → stay ≡ v.arc (Stay n) → IsOwnWay v n own unit cut → IsTightAt v.net price unit
-      → IsCutOff v.net price stay (stay ∷ []) → IsSealed v price p (cut_start cut) (cut_end cut)
+  -- the stay arc leads to the own machine
+  pub stay_leads : (own : ℕ) (stay : ArcId) (row : Row) → (demand v.case n).home ≡ Some own → stay ≡ v.arc (Stay n)
+      → row_at v.net stay ≡ Some row → row.head.id.place ≡ spot_of v (Machine own)
   unfolding arc_at
-  own_sealed own unit stay cut home elsewhere none is way tight cut_off =
-      let sends : flows v (Wide n) + flows v (Stay n) + flows v (Delay n) + aside v.case (flows v) n ≡ 1 =
-      sends_one v price p n keeps next in
-      let row : IsRowOfKey v p (Stay n) = row_of_key v price p (Stay n) keeps next in
-      let found : IsKeyedCut v price p (Stay n ∷ []) (Stay n) =
-      keyed_cut v price p (Stay n ∷ []) (Stay n) row.row keeps (one_key v.case (Stay n) next) row.is
-      (subst (λ (z : ArcId). IsCutOff v.net price z (z ∷ [])) is cut_off row.row row.there) in
-      let closed : All (StaysAtNoCost cost_at found.inside) arcs = own_closed none found in
-      let holds : found.inside (Machine own) ≡ true =
-      ap (λ (o : Option ℕ). found.inside (stay_head o)) (sym home) ∙ found.holds_head in
-      ⊎_elim
-      (λ (by_hub : (1 ≤ flows v (Wide n)) × (unit ≡ v.arc (Wide n)) × (cut ≡ MachineFromHub own)).
-      subst (λ (z : Cut). IsSealed v price p (cut_start z) (cut_end z)) (sym by_hub.2)
-      (seals v price p (Machine own) Hub found.inside keeps holds
-      (lacks_hub found.inside closed found.lacks_tail (omega (arith, sends, by_hub.0))
-      (subst (IsTightAt v.net price) by_hub.1 tight)) closed))
-      (λ (waits_now : (flows v (Wide n) ≡ 0) × (unit ≡ v.arc (Delay n)) × (cut ≡ MachineFromSink own)).
-      subst (λ (z : Cut). IsSealed v price p (cut_start z) (cut_end z)) (sym waits_now.2)
-      (seals v price p (Machine own) Sink found.inside keeps holds
-      (lacks_sink found.inside closed found.lacks_tail (omega (arith, sends, waits_now.0, none, elsewhere))
-      (subst (IsTightAt v.net price) waits_now.1 tight)) closed))
-      way
+  stay_leads own stay row home is there =
+      sym (ap (λ (b : Arc ℕ ArcId). b.head) (named_is (Stay n) stay row next is there))
+      ∙ ap (λ (o : Option ℕ). spot_of v (stay_head o)) home
+
+  -- and away from the task
+  pub stay_leaves : (stay : ArcId) (row : Row) → stay ≡ v.arc (Stay n) → row_at v.net stay ≡ Some row
+      → row.tail.id.place ≡ spot_of v (Task n)
+  unfolding arc_at
+  stay_leaves stay row is there = sym (ap (λ (b : Arc ℕ ArcId). b.tail) (named_is (Stay n) stay row next is there))
+
+  -- the next task's arc to the hub, from end to end
+  pub wide_ends : (wide : ArcId) (row : Row) → wide ≡ v.arc (Wide n) → row_at v.net wide ≡ Some row
+      → (row.head.id.place ≡ spot_of v Hub) × (row.tail.id.place ≡ spot_of v (Task n))
+  unfolding arc_at
+  wide_ends wide row is there =
+      let named = named_is (Wide n) wide row next is there in
+      (sym (ap (λ (b : Arc ℕ ArcId). b.head) named), sym (ap (λ (b : Arc ℕ ArcId). b.tail) named))
+
+  pub own_cut : (own : ℕ) (unit stay : ArcId) (goal : NodeId) (row : Row) → (demand v.case n).home ≡ Some own
+      → stay ≡ v.arc (Stay n) → IsOwnWay v n unit goal → row_at v.net stay ≡ Some row
+      → IsCut v row.head.id.place goal.id.place
+  own_cut own unit stay goal row home is way there =
+      inr (
+        own,
+        home_in v n own keeps.shows next home,
+        stay_leads own stay row home is there,
+        ⊎_elim
+            (λ (by_hub : (1 ≤ flows v (Wide n)) × (unit ≡ v.arc (Wide n)) × (goal ≡ v.node Hub)).
+            inl (ap (λ (z : NodeId). z.id.place) by_hub.2))
+            (λ (waits_now : (flows v (Wide n) ≡ 0) × (unit ≡ v.arc (Delay n)) × (goal ≡ v.node Sink)).
+            inr (ap (λ (z : NodeId). z.id.place) waits_now.2))
+            way,
+      )
+
+  -- FOR ANOTHER MACHINE
+  pub machine_leads : (j : ℕ) (arc : ArcId) (row : Row) → j < length v.case.slots → arc ≡ v.arc (Through j)
+      → row_at v.net arc ≡ Some row → LeadsTo (arcs_of v.net) price (spot_of v Hub) row.tail.id.place
+  unfolding arc_at
+  machine_leads j arc row l is there rank up =
+      omega (arith, ap (λ (b : Arc ℕ ArcId). rank b.tail) (named_is (Through j) arc row l is there))
+
+  pub machine_cut : (j : ℕ) (arc : ArcId) (row : Row) → j < length v.case.slots → arc ≡ v.arc (Through j)
+      → row_at v.net arc ≡ Some row → IsCut v row.head.id.place (spot_of v Hub)
+  unfolding arc_at
+  machine_cut j arc row l is there =
+      inr (j, l, sym (ap (λ (b : Arc ℕ ArcId). b.head) (named_is (Through j) arc row l is there)), inl refl)
+
+  -- the next task's arc to the hub is full and leads to where the arcs to the machines begin
+  pub wide_full : (j : ℕ) (arc : ArcId) → j < length v.case.slots → arc ≡ v.arc (Through j)
+      → flows v (Wide n) ≡ 1 → IsFullInto v.net arc (v.arc (Wide n))
+  unfolding arc_at
+  wide_full j arc l is one row there =
+      let wide : IsRowOfKey v p (Wide n) = row_of_key v price p (Wide n) keeps next in (
+        wide.row,
+        wide.there,
+        omega (
+          arith,
+          one,
+          ap (λ (b : Arc ℕ ArcId). b.cap) wide.is,
+          ap (λ (b : Arc ℕ ArcId). b.flow) wide.is,
+        ),
+        sym (ap (λ (b : Arc ℕ ArcId). b.head) wide.is)
+            ∙ ap (λ (b : Arc ℕ ArcId). b.tail) (named_is (Through j) arc row l is there),
+      )
 
   module _ (y : Key → ℕ) (flow : IsAsCheap v.case p (best v p) y) where
     sends : y (Wide n) + y (Stay n) + y (Delay n) + aside v.case y n ≡ 1
@@ -271,6 +266,21 @@ module _ (v : View) (price : ℕ → ℕ) (p : List Choice) (keeps : Keeps v pri
     same_at start end is =
         parts (Agrees is.inside y) v.case low (flows v)
         (crossing v price p y is.inside keeps flow (is.closed (flows v) (own_flow v price p keeps)))
+
+    -- a set without the sink has no job with a task that waits
+    lacks_owner : (inside : Node → Bool) → All (StaysAtNoCost cost_at inside) arcs → inside Sink ≡ false
+        → flows v (Delay n) ≡ 1 → inside (Owner job) ≡ false
+    lacks_owner inside closed out one =
+        let at_parts : OnParts (StaysAtNoCost cost_at inside) v.case low (flows v) =
+        parts (StaysAtNoCost cost_at inside) v.case low (flows v) closed in
+        ⊎_elim
+        (λ (in_set : inside (Owner job) ≡ true).
+        absurd (omega (
+          arith,
+          (at_parts.exit job (keeps.shows.sound.jobs_in n next) (exit_tight one)).0 in_set out,
+          (exit_in_between one).1,
+        )))
+        (λ (f : inside (Owner job) ≡ false). f) (cases_Bool (inside (Owner job)))
 
     -- where the sink is cut off from a node of the set, a task of the set that waits does so in each flow as cheap
     waits_too : (start : Node) (is : IsSealed v price p start Sink) → flows v (Delay n) ≡ 1
@@ -305,13 +315,13 @@ module _ (v : View) (price : ℕ → ℕ) (p : List Choice) (keeps : Keeps v pri
       omega (arith, ((same_at y flow Hub Sink is).wides n next).1 is.holds_start f))
       (cases_Bool (is.inside (Task n)))
 
-  own_known : (own : ℕ) (unit : ArcId) (cut : Cut) → (demand v.case n).home ≡ Some own → IsElsewhere
-      → flows v (Stay n) ≡ 0 → IsOwnWay v n own unit cut → IsSealed v price p (cut_start cut) (cut_end cut) → IsMost v p (Stay n)
-  own_known own unit cut home elsewhere none way sealed y flow =
+  own_known : (own : ℕ) (unit : ArcId) (goal : NodeId) → (demand v.case n).home ≡ Some own → IsElsewhere
+      → flows v (Stay n) ≡ 0 → IsOwnWay v n unit goal
+      → ((end : Node) → spot_of v end ≡ goal.id.place → IsSealed v price p (Machine own) end) → IsMost v p (Stay n)
+  own_known own unit goal home elsewhere none way sealed y flow =
       ⊎_elim
-      (λ (by_hub : (1 ≤ flows v (Wide n)) × (unit ≡ v.arc (Wide n)) × (cut ≡ MachineFromHub own)).
-      let is : IsSealed v price p (Machine own) Hub =
-      subst (λ (z : Cut). IsSealed v price p (cut_start z) (cut_end z)) by_hub.2 sealed in
+      (λ (by_hub : (1 ≤ flows v (Wide n)) × (unit ≡ v.arc (Wide n)) × (goal ≡ v.node Hub)).
+      let is : IsSealed v price p (Machine own) Hub = sealed Hub (sym (ap (λ (z : NodeId). z.id.place) by_hub.2)) in
       omega (
         arith,
         own_most y flow own Hub is home none
@@ -322,9 +332,9 @@ module _ (v : View) (price : ℕ → ℕ) (p : List Choice) (keeps : Keeps v pri
               ((same_at y flow (Machine own) Hub is).wides n next).0 t is.lacks_end,
             )),
       ))
-      (λ (waits_now : (flows v (Wide n) ≡ 0) × (unit ≡ v.arc (Delay n)) × (cut ≡ MachineFromSink own)).
+      (λ (waits_now : (flows v (Wide n) ≡ 0) × (unit ≡ v.arc (Delay n)) × (goal ≡ v.node Sink)).
       let is : IsSealed v price p (Machine own) Sink =
-      subst (λ (z : Cut). IsSealed v price p (cut_start z) (cut_end z)) waits_now.2 sealed in
+      sealed Sink (sym (ap (λ (z : NodeId). z.id.place) waits_now.2)) in
       omega (
         arith,
         own_most y flow own Sink is home none
@@ -338,18 +348,18 @@ module _ (v : View) (price : ℕ → ℕ) (p : List Choice) (keeps : Keeps v pri
       way
 
   -- and where the unit goes elsewhere at a gain
-  pub own_loose : (own : ℕ) (unit : ArcId) (cut : Cut) → IsElsewhere → flows v (Stay n) ≡ 0
-      → IsOwnWay v n own unit cut → IsLooseAt v.net price unit → IsMost v p (Stay n)
-  own_loose own unit cut elsewhere none way loose y flow =
+  pub own_loose : (unit : ArcId) (goal : NodeId) → IsElsewhere → flows v (Stay n) ≡ 0
+      → IsOwnWay v n unit goal → IsLooseAt v.net price unit → IsMost v p (Stay n)
+  own_loose unit goal elsewhere none way loose y flow =
       ⊎_elim
-      (λ (by_hub : (1 ≤ flows v (Wide n)) × (unit ≡ v.arc (Wide n)) × (cut ≡ MachineFromHub own)).
+      (λ (by_hub : (1 ≤ flows v (Wide n)) × (unit ≡ v.arc (Wide n)) × (goal ≡ v.node Hub)).
       omega (
         arith,
         sends y flow,
         by_hub.0,
         loose_unit y flow (Wide n) next (subst (IsLooseAt v.net price) by_hub.1 loose),
       ))
-      (λ (waits_now : (flows v (Wide n) ≡ 0) × (unit ≡ v.arc (Delay n)) × (cut ≡ MachineFromSink own)).
+      (λ (waits_now : (flows v (Wide n) ≡ 0) × (unit ≡ v.arc (Delay n)) × (goal ≡ v.node Sink)).
       omega (
         arith,
         sends y flow,
@@ -371,47 +381,61 @@ module _ (v : View) (price : ℕ → ℕ) (p : List Choice) (keeps : Keeps v pri
         loose_unit y flow (Delay n) next (subst (IsLooseAt v.net price) is loose),
       )
 
-  -- what was not opened for want of a way carries no more
-  pub blocked_most : (key : Key) (arc : ArcId) → IsKeyOf v.case key → arc ≡ v.arc key
-      → IsBlocked v.net price arc (arc ∷ []) → IsMost v p key
-  blocked_most key arc own is blocked y flow =
-      no_more_at v price p y (key ∷ []) key keeps (one_key v.case key own) own
-      (subst (λ (z : ArcId). IsBlocked v.net price z (z ∷ [])) is blocked) flow
-      (λ k b ne. absurd (ne (sym (only_key key k b))))
-
   -- AN ATTEMPT THAT WAS REFUSED, for a cut or for want of a way
-  pub hub_lost : (arc : ArcId) → arc ≡ v.arc (Wide n) → flows v (Wide n) ≡ 0 → flows v (Delay n) ≡ 1 → (cuts : Cuts)
-      → AreCuts v price p cuts
-      → (is_known cuts HubFromSink ≡ true) ⊎ IsBlocked v.net price arc (arc ∷ []) → IsMost v p (Wide n)
-  hub_lost arc is none one cuts are lost =
-      ⊎_elim (λ (known : is_known cuts HubFromSink ≡ true). hub_known none one (are.sealed HubFromSink known))
-      (λ (blocked : IsBlocked v.net price arc (arc ∷ [])). blocked_most (Wide n) arc next is blocked) lost
-
-  pub own_lost : (own : ℕ) (unit arc : ArcId) (cut : Cut) → arc ≡ v.arc (Stay n) → (demand v.case n).home ≡ Some own
-      → IsElsewhere → flows v (Stay n) ≡ 0 → IsOwnWay v n own unit cut → (cuts : Cuts) → AreCuts v price p cuts
-      → (is_known cuts cut ≡ true) ⊎ IsBlocked v.net price arc (arc ∷ []) → IsMost v p (Stay n)
-  own_lost own unit arc cut is home elsewhere none way cuts are lost =
-      ⊎_elim (λ (known : is_known cuts cut ≡ true). own_known own unit cut home elsewhere none way
-      (are.sealed cut known))
-      (λ (blocked : IsBlocked v.net price arc (arc ∷ [])). blocked_most (Stay n) arc next is blocked) lost
-
-  pub machine_lost : (j : ℕ) (arc wide : ArcId) → j < length v.case.slots → arc ≡ v.arc (Through j)
-      → wide ≡ v.arc (Wide n) → flows v (Wide n) ≡ 1 → flows v (Through j) ≤ guests v.case p j → (cuts : Cuts)
-      → AreCuts v price p cuts
-      → (is_known cuts (MachineFromHub j) ≡ true) ⊎ IsBlocked v.net price arc (arc ∷ wide ∷ [])
-      → IsSpentBeside v.case p (best v p) j
-  machine_lost j arc wide l is is_wide one few cuts are lost =
+  pub hub_lost : (scratch : Workspace) → AreLasting v price p (class_of scratch) → (arc : ArcId) → arc ≡ v.arc (Wide n)
+      → flows v (Wide n) ≡ 0 → flows v (Delay n) ≡ 1
+      → IsBlocked v.net price scratch arc
+      ⊎ ((row : Row) → row_at v.net arc ≡ Some row → IsSealedAt v price p row.head.id.place (spot_of v Sink))
+      → IsMost v p (Wide n)
+  unfolding arc_at
+  hub_lost scratch l arc is none one lost =
       ⊎_elim
-      (λ (known : is_known cuts (MachineFromHub j) ≡ true).
-      let sealed : IsSealed v price p (Machine j) Hub = are.sealed (MachineFromHub j) known in
-      record {
-        no_more = λ y flow held. omega (
-          arith,
-          few,
-          ((same_at y flow (Machine j) Hub sealed).through j l).1 sealed.holds_start sealed.lacks_end,
-        );
-      })
-      (λ (blocked : IsBlocked v.net price arc (arc ∷ wide ∷ [])).
-      spent_tried v price p j keeps next l
-      (subst (λ (z : ArcId). IsBlocked v.net price z (z ∷ v.arc (Wide n) ∷ [])) is
-      (subst (λ (z : ArcId). IsBlocked v.net price arc (arc ∷ z ∷ [])) is_wide blocked)) one few) lost
+      (λ (blocked : IsBlocked v.net price scratch arc).
+      blocked_most v price p keeps scratch l (Wide n) arc next is blocked)
+      (λ (sealed : (row : Row) → row_at v.net arc ≡ Some row
+      → IsSealedAt v price p row.head.id.place (spot_of v Sink)).
+      let row : IsRowOfKey v p (Wide n) = row_of_key v price p (Wide n) keeps next in
+      hub_known none one (sealed row.row (ap (row_at v.net) is ∙ row.there) Hub Sink
+      (ap (λ (b : Arc ℕ ArcId). b.head) row.is) refl))
+      lost
+
+  pub own_lost : (scratch : Workspace) → AreLasting v price p (class_of scratch) → (own : ℕ) (unit arc : ArcId)
+      (goal : NodeId) → arc ≡ v.arc (Stay n) → (demand v.case n).home ≡ Some own → IsElsewhere
+      → flows v (Stay n) ≡ 0 → IsOwnWay v n unit goal
+      → IsBlocked v.net price scratch arc
+      ⊎ ((row : Row) → row_at v.net arc ≡ Some row → IsSealedAt v price p row.head.id.place goal.id.place)
+      → IsMost v p (Stay n)
+  own_lost scratch l own unit arc goal is home elsewhere none way lost =
+      ⊎_elim
+      (λ (blocked : IsBlocked v.net price scratch arc).
+      blocked_most v price p keeps scratch l (Stay n) arc next is blocked)
+      (λ (sealed : (row : Row) → row_at v.net arc ≡ Some row
+      → IsSealedAt v price p row.head.id.place goal.id.place).
+      let row : IsRowOfKey v p (Stay n) = row_of_key v price p (Stay n) keeps next in
+      let there : row_at v.net arc ≡ Some row.row = ap (row_at v.net) is ∙ row.there in
+      own_known own unit goal home elsewhere none way
+      (λ end e. sealed row.row there (Machine own) end (sym (stay_leads own arc row.row home is there)) e))
+      lost
+
+  pub machine_lost : (scratch : Workspace) → AreLasting v price p (class_of scratch) → (j : ℕ) (arc : ArcId)
+      → j < length v.case.slots → arc ≡ v.arc (Through j) → flows v (Through j) ≤ guests v.case p j
+      → IsBlocked v.net price scratch arc
+      ⊎ ((row : Row) → row_at v.net arc ≡ Some row → IsSealedAt v price p row.head.id.place (spot_of v Hub))
+      → IsSpent v.case p (best v p) j
+  unfolding arc_at
+  machine_lost scratch l j arc in_range is few lost =
+      ⊎_elim
+      (λ (blocked : IsBlocked v.net price scratch arc).
+      most_spent v p j (blocked_most v price p keeps scratch l (Through j) arc in_range is blocked) few)
+      (λ (sealed : (row : Row) → row_at v.net arc ≡ Some row
+      → IsSealedAt v price p row.head.id.place (spot_of v Hub)).
+      let row : IsRowOfKey v p (Through j) = row_of_key v price p (Through j) keeps in_range in
+      let is_sealed : IsSealed v price p (Machine j) Hub =
+      sealed row.row (ap (row_at v.net) is ∙ row.there) (Machine j) Hub (ap (λ (b : Arc ℕ ArcId). b.head) row.is)
+      refl in
+      most_spent v p j
+      (λ y flow. omega (
+        arith,
+        ((same_at y flow (Machine j) Hub is_sealed).through j in_range).1 is_sealed.holds_start is_sealed.lacks_end,
+      )) few)
+      lost

@@ -1,8 +1,9 @@
 -- What is known of a net that shows a network is known of the network, and back.
-use Rattle.std.proofs.Common.{◌≡◌, ℕ, zero, suc, ◌*◌, ◌<◌, ◌≤◌, Bool, List, [], ◌∷◌, ◌++◌, length, get_or}
-use Rattle.std.proofs.Common.{Some, refl, sym, ap, ap₂, ◌∙◌, arith, inl, inr, ◌⊎◌, ⊎_elim}
+use Rattle.std.proofs.Common.{◌≡◌, ℕ, zero, suc, ◌*◌, ◌<◌, ◌≤◌, List, [], ◌∷◌, ◌++◌, length, get_or}
+use Rattle.std.proofs.Common.{Some, refl, sym, ap, ap₂, ◌∙◌, arith}
 use Rattle.std.specs.Prelude.{map, Contains}
 use Rattle.std.specs.List.{All, sum_by}
+use Rattle.std.proofs.lemmas.List.{length-map}
 use Rattle.std.proofs.lemmas.List.Sums.{sum_by-cons}
 use Rattle.std.proofs.lemmas.List.Sorted.{sum_by-IsPermutation, All-permutation, IsPermutation-sym, length_permutation}
 use Rattle.std.proofs.lemmas.List.Elements.{All-head, All-tail, All-nil, All-cons, All-map, All-contains}
@@ -10,7 +11,7 @@ use Rattle.std.proofs.lemmas.List.Elements.{All-contains_itself}
 use Rattle.firm_net.specs.Row.{Row}
 use Rattle.firm_net.specs.Net.{row_at, arc_count}
 use Rattle.firm_net.specs.declared.row.ArcId.{ArcId}
-use Rattle.firm_paths.specs.Network.{Arc, AreValid, IsValidAt, Tight, StaysInside, IsClosedBut}
+use Rattle.firm_paths.specs.Network.{Arc, AreValid, IsValidAt}
 use Rattle.firm_paths.specs.NetArcs.{arc_of, arcs_of}
 use Rattle.firm_paths.specs.Laws.{EachArcHasItsRow, AsManyAsCounted}
 use Rattle.firm_rules.specs.ArenaUse.{arena_arcs}
@@ -47,10 +48,6 @@ sum_map {A} {B} f F (x ∷ xs) = omega (
   sum_by-cons (λ (y : A). F (f y)) x xs,
   sum_map f F xs,
 )
-
-length_map : {A B : Type 0} (f : A → B) (xs : List A) → length (map f xs) ≡ length xs
-length_map f [] = refl
-length_map f (x ∷ xs) = omega (arith, length_map f xs)
 
 sums_at : {A : Type 0} (f g : A → ℕ) (xs : List A) → All (λ x. f x ≡ g x) xs → sum_by f xs ≡ sum_by g xs
 sums_at {A} f g [] h = refl
@@ -128,7 +125,7 @@ module _ (v : View) (shows : Shows v) where
   pub to_keyed : (P : Arc ℕ ArcId → Type 0) → All P (arcs_of v.net) → All (λ a. P (named v a)) arcs
   to_keyed P h = All-unmap (named v) P arcs (All-permutation P (arcs_of v.net) (map (named v) arcs) shows.arcs h)
 
-  to_net : (P : Arc ℕ ArcId → Type 0) → All (λ a. P (named v a)) arcs → All P (arcs_of v.net)
+  pub to_net : (P : Arc ℕ ArcId → Type 0) → All (λ a. P (named v a)) arcs → All P (arcs_of v.net)
   to_net P h = All-permutation P (map (named v) arcs) (arcs_of v.net)
       (IsPermutation-sym (arcs_of v.net) (map (named v) arcs) shows.arcs) (All-map P (named v) arcs h)
 
@@ -173,7 +170,7 @@ module _ (v : View) (shows : Shows v) where
           tails,
           from,
           ap (λ n. w n * length (map (spot_of v) (task_nodes v.case))) (shows.role_is Sink tt),
-          ap (λ z. w Sink * z) (length_map (spot_of v) (task_nodes v.case)),
+          ap (λ z. w Sink * z) (length-map (task_nodes v.case) (spot_of v)),
         ),
   )
 
@@ -190,7 +187,7 @@ module _ (v : View) (shows : Shows v) where
           sums_shown (λ (a : Arc ℕ ArcId). w a.head * a.flow),
           sums_shown (λ (a : Arc ℕ ArcId). w a.tail * a.flow),
           sum_map (spot_of v) w (task_nodes v.case),
-          ap (λ z. w (spot_of v Sink) * z) (length_map (spot_of v) (task_nodes v.case)),
+          ap (λ z. w (spot_of v Sink) * z) (length-map (task_nodes v.case) (spot_of v)),
         );
   }
 
@@ -208,31 +205,6 @@ module _ (v : View) (shows : Shows v) where
       let found = law v.net (named v a) listed in
       record { row = found.0; there = found.1; is = found.2 }
 
-  barred_key : (keys : List Key) (key : Key) → All (IsKeyOf v.case) keys → IsKeyOf v.case key
-      → Contains (map v.arc keys) (v.arc key) → Contains keys key
-  barred_key [] key all own c = absurd (omega (arith, c.1))
-  barred_key (k ∷ keys) key all own c = at (λ b. barred_key keys key (All-tail (IsKeyOf v.case) k keys all) own b)
-      c.0 c.1 c.2
-    where
-      at : (Contains (map v.arc keys) (v.arc key) → Contains keys key) → (i : ℕ) → i < length (map v.arc (k ∷ keys))
-          → get_or (map v.arc (k ∷ keys)) i (v.arc key) ≡ v.arc key → Contains (k ∷ keys) key
-      at further zero l e = (0, omega arith, shows.arcs_apart k key (All-head (IsKeyOf v.case) k keys all) own e)
-      at further (suc i) l e =
-          let rest = further (i, omega (arith, l), e) in
-          (suc rest.0, omega (arith, rest.1), rest.2)
-
-  pub closed_keyed : (price : ℕ → ℕ) (keys : List Key) (inside : ℕ → Bool) → All (IsKeyOf v.case) keys
-      → IsClosedBut (arcs_of v.net) price (Contains (map v.arc keys)) inside
-      → IsClosedBut arcs (λ n. price (spot_of v n)) (Contains keys) (λ n. inside (spot_of v n))
-  closed_keyed price keys inside all closed k d l =
-      let ends = proper v.case (lows v) (flows v) shows.sound shows.homes shows.preferred in
-      let a : Arc Node Key = get_or arcs k d in
-      ⊎_elim
-      (λ (b : Contains (map v.arc keys) (v.arc a.key)). inl (barred_key keys a.key all (ends k d l).key b))
-      (λ (s : Tight price (named v a) → StaysInside inside (named v a)). inr s)
-      (to_keyed (λ (b : Arc ℕ ArcId). Contains (map v.arc keys) b.key ⊎ (Tight price b → StaysInside inside b))
-      closed k d l)
-
 -- the net has as many arcs as the rows take of the arena
 pub arcs_counted : AsManyAsCounted → NetworksAreCounted → (g : Graph) → Shows (view_of g)
     → arc_count g.net ≡ arena_arcs g.rows
@@ -241,7 +213,7 @@ arcs_counted listed counted g shows =
     let arcs : List (Arc Node Key) = network v.case (lows v) (flows v) in
     sym (listed g.net)
     ∙ (sym (length_permutation (arcs_of g.net) (map (named v) arcs) shows.arcs)
-    ∙ (length_map (named v) arcs ∙ (counted g.rows).arcs (lows v) (flows v)))
+    ∙ (length-map arcs (named v) ∙ (counted g.rows).arcs (lows v) (flows v)))
 
 -- the arc of a key
 unfoldable pub arc_at : (c : Case) (low x : Key → ℕ) → Key → Arc Node Key
@@ -252,18 +224,6 @@ arc_at c low x (Wide i) = wide_arc c low x i
 arc_at c low x (Stay i) = stay_arc c low x i
 arc_at c low x (Delay i) = delay_arc c low x i
 arc_at c low x (Prefer i k) = prefer_arc c low x i k
-
-pub by_key : (c : Case) (low x : Key → ℕ) → All (λ a. a ≡ arc_at c low x a.key) (network c low x)
-unfolding arc_at
-by_key c low x = whole (λ (a : Arc Node Key). a ≡ arc_at c low x a.key) c low x (record {
-  through = λ j l. refl;
-  slot = λ j k l r. refl;
-  exit = λ k l. refl;
-  wides = λ i l. refl;
-  stays = λ i l. refl;
-  delays = λ i l. refl;
-  prefers = λ i k l m. refl;
-})
 
 pub key_at : (c : Case) (low x : Key → ℕ) (k : Key) → (arc_at c low x k).key ≡ k
 unfolding arc_at

@@ -1,12 +1,7 @@
--- What an attempt to send one unit more along an arc leaves, won or lost.
-use Rattle.std.proofs.Common.{◌≡◌, ℕ, zero, suc, ◌<◌, Bool, true, false, List, [], ◌∷◌, length, get_or}
-use Rattle.std.proofs.Common.{Some, Option, refl, sym, ap, subst, ◌∙◌, arith, ⊎_elim}
-use Rattle.std.specs.Prelude.{map, Contains}
-use Rattle.std.specs.List.{All}
-use Rattle.std.proofs.lemmas.Bool.{cases_Bool, both_ways}
-use Rattle.std.proofs.lemmas.List.Elements.{All-nil, All-cons, All-contains}
+-- What a turn keeps.
+use Rattle.std.proofs.Common.{◌≡◌, ℕ, List, Some, Option, refl, sym, ap, subst, ◌∙◌, arith}
+use Rattle.std.specs.Prelude.{map, IsSome}
 use Rattle.firm_net.specs.Row.{Row}
-use Rattle.std.specs.Prelude.{IsSome}
 use Rattle.firm_net.specs.Net.{Net, IsArc, row_at}
 use Rattle.firm_net.specs.declared.row.NodeId.{NodeId}
 use Rattle.firm_net.specs.declared.row.ArcId.{ArcId}
@@ -19,24 +14,13 @@ use Rattle.firm_rules.specs.Placement.{Case}
 use Rattle.firm_graph.specs.declared.network.Node.{Node}
 use Rattle.firm_graph.specs.declared.network.Node.TheVariants.{Sink}
 use Rattle.firm_graph.specs.declared.network.Key.{Key}
-use Rattle.firm_graph.specs.Network.{network, task_nodes}
-use Rattle.firm_graph.specs.View.{View, Shows, IsSameCase, lows, flows, spot_of, flow_of_row}
-use Rattle.firm_graph.specs.Network.{IsKeyOf}
-use Rattle.firm_graph.specs.View.{low_of_row}
+use Rattle.firm_graph.specs.Network.{network, task_nodes, IsKeyOf}
+use Rattle.firm_graph.specs.View.{View, Shows, IsSameCase, lows, flows, spot_of, low_of_row, flow_of_row}
 use Rattle.firm_canon.specs.inner.Turns.{IsWhole, Turned}
-use Rattle.firm_canon.specs.inner.Choosing.{low_of, Keeps, Tried, best}
+use Rattle.firm_canon.specs.inner.Choosing.{low_of, Keeps, best}
 use Rattle.firm_canon.proofs.AsCheap.{shown_is}
 use Rattle.firm_canon.proofs.Shown.{network_same, cost_shown, whole_keyed, whole_net, row_shown, arc_at}
 use Rattle.firm_canon.proofs.Shown.{key_at, listed_at}
-
-contains_map : {A B : Type 0} (f : A → B) (xs : List A) (x : A) → Contains xs x → Contains (map f xs) (f x)
-contains_map {A} {B} f [] x c = absurd (omega (arith, c.1))
-contains_map {A} {B} f (y ∷ xs) x c = at (λ d. contains_map f xs x d) c.0 c.1 c.2
-  where
-    at : (Contains xs x → Contains (map f xs) (f x)) → (k : ℕ) → k < length (y ∷ xs) → get_or (y ∷ xs) k x ≡ x
-        → Contains (map f (y ∷ xs)) (f x)
-    at further zero l e = (0, omega arith, ap f e)
-    at further (suc k) l e = let rest = further (k, omega (arith, l), e) in (suc rest.0, omega (arith, rest.1), rest.2)
 
 pub view_is : (old new : View) → IsSameCase old new → new ≡ record old { net = new.net }
 view_is old new same =
@@ -90,38 +74,14 @@ keeps_on v net price p keeps shows low whole same =
       costs,
     )
 
-pub tried : (old new : View) (price : ℕ → ℕ) (p : List Choice) (keys : List Key) (key : Key) (result : Bool)
-    → Keeps old price p → All (IsKeyOf old.case) keys → IsKeyOf old.case key → Shows new → IsSameCase old new
-    → (result ≡ true → Turned old.net new.net price (old.arc key) (map old.arc keys))
-    → (result ≡ false → new ≡ old)
-    → Tried old new price p keys key result
-tried old new price p keys key result keeps all own shows same won stays =
-    ⊎_elim
-    (λ (t : result ≡ true).
-    let turn = won t in
+-- A TURN keeps what the loop keeps
+pub turned_keeps : (old new : View) (price : ℕ → ℕ) (p : List Choice) (arc : ArcId) → Keeps old price p → Shows new
+    → IsSameCase old new → Turned old.net new.net price arc → Keeps new price p × (best new p ≡ best old p)
+turned_keeps old new price p arc keeps shows same turn =
     let is : new ≡ record old { net = new.net } = view_is old new same in
-    let there : View = record old { net = new.net } in
     let whole = turn.whole (map (spot_of old) (task_nodes old.case)) (spot_of old Sink) (net_of old price p keeps) in
-    let on = keeps_on old new.net price p keeps (subst Shows is shows) (λ k o. turn.lows (old.arc k)) whole.0 whole.1 in
-    let made : Tried old there price p keys key result = record {
-      keeps = on.0;
-      same_best = on.1;
-      won = λ e. turn.more;
-      kept = λ k b ne. ap flow_of_row (turn.others (old.arc k) (contains_map old.arc keys k b)
-          (λ e. ne (keeps.shows.arcs_apart k key (All-contains (IsKeyOf old.case) keys k all b) own e)));
-      unchanged = λ f. absurd (both_ways result f t);
-    } in
-    subst (λ (v : View). Tried old v price p keys key result) (sym is) made)
-    (λ (f : result ≡ false).
-    let made : Tried old old price p keys key result = record {
-      keeps = keeps;
-      same_best = refl;
-      won = λ t. absurd (both_ways result f t);
-      kept = λ k b ne. refl;
-      unchanged = λ g. refl;
-    } in
-    subst (λ (v : View). Tried old v price p keys key result) (sym (stays f)) made)
-    (cases_Bool result)
+    subst (λ (v : View). Keeps v price p × (best v p ≡ best old p)) (sym is)
+    (keeps_on old new.net price p keeps (subst Shows is shows) (λ k o. turn.lows (old.arc k)) whole.0 whole.1)
 
 -- the arc of a key of the case is there
 pub there_at : (v : View) (price : ℕ → ℕ) (p : List Choice) (key : Key) (id : ArcId) → Keeps v price p
@@ -132,36 +92,6 @@ there_at v price p key id keeps own is =
     let at : row_at v.net id ≡ Some row.row =
     ap (row_at v.net) (is ∙ sym (ap v.arc (key_at v.case (lows v) (flows v) key))) ∙ row.there in
     subst (λ (o : Option Row). IsSome o) (sym at) refl
-
-pub tried_at : (old new : View) (price : ℕ → ℕ) (p : List Choice) (keys : List Key) (key : Key) (id : ArcId)
-    (ids : List ArcId)
-    (result : Bool)
-    → id ≡ old.arc key → ids ≡ map old.arc keys
-    → Keeps old price p → All (IsKeyOf old.case) keys → IsKeyOf old.case key → Shows new → IsSameCase old new
-    → (result ≡ true → Turned old.net new.net price id ids)
-    → (result ≡ false → new ≡ old)
-    → Tried old new price p keys key result
-tried_at old new price p keys key id ids result is are keeps all own shows case won stays =
-    tried old new price p keys key result keeps all own shows case
-    (λ t. subst (λ (z : List ArcId). Turned old.net new.net price (old.arc key) z) are
-    (subst (λ (z : ArcId). Turned old.net new.net price z ids) is (won t)))
-    stays
-
-pub one_key : (c : Case) (key : Key) → IsKeyOf c key → All (IsKeyOf c) (key ∷ [])
-one_key c key own = All-cons (IsKeyOf c) key [] own (All-nil (IsKeyOf c))
-
--- the same, of an arc that alone is barred from the way back
-pub tried_alone : (old new : View) (price : ℕ → ℕ) (p : List Choice) (key : Key) (id : ArcId) (result : Bool)
-    → id ≡ old.arc key → Keeps old price p → IsKeyOf old.case key → Shows new → IsSameCase old new
-    → (result ≡ true → Turned old.net new.net price id (id ∷ []))
-    → (result ≡ false → new ≡ old)
-    → Tried old new price p (key ∷ []) key result
-tried_alone old new price p key id result is keeps own =
-    tried_at old new price p (key ∷ []) key id (id ∷ []) result is (ap (λ (a : ArcId). a ∷ []) is) keeps
-    (one_key old.case key own) own
-
-pub two_keys : (c : Case) (key other : Key) → IsKeyOf c key → IsKeyOf c other → All (IsKeyOf c) (key ∷ other ∷ [])
-two_keys c key other own its = All-cons (IsKeyOf c) key (other ∷ []) own (one_key c other its)
 
 -- what was read of the net is the flow, or the lower bound, of the key
 pub flow_is : (v : View) (net : Net) (id : ArcId) (key : Key) (n : ℕ) → net ≡ v.net → id ≡ v.arc key

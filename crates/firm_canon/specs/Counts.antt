@@ -2,7 +2,7 @@
 use Rattle.std.specs.Prelude.{ℕ, ◌≤◌}
 use Rattle.firm_paths.specs.Workspace.{Workspace, HasSearched}
 
--- at most so many searches were made in a net of so many arcs, each with at most two looks for each arc
+-- at most `most` searches were made in a net of `arcs` arcs, each with at most two looks for each arc
 pub record HasSearchedUpTo (old new : Workspace) (most arcs : ℕ) : Type 0 where
   pub made : ℕ
   pub few : made ≤ most

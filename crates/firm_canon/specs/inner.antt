@@ -3,5 +3,6 @@ pub mod Placed
 pub mod Laws
 pub mod Choosing
 pub mod Turns
-pub mod Cuts
+pub mod Classes
 pub mod Ways
+pub mod State

@@ -1,6 +1,7 @@
 //! The first of the least placements.
 ghost use Rattle.std.specs.Prelude.{◌≡◌, ◌+◌, ◌*◌, ◌<◌, ◌≤◌, ◌∷◌, ◌++◌, [], ℕ, length, IfOk, OnErr, vec_len};
 ghost use Rattle.std.specs.Prelude.{vec_capacity};
+ghost use Rattle.firm_paths.specs.Classes.{AreTogether};
 ghost use Rattle.firm_paths.specs.NetArcs.{limits_of};
 ghost use Rattle.firm_paths.specs.PriceTable.{price_of};
 ghost use Rattle.firm_rules.specs.ArenaUse.{arena_arcs, preference_count};
@@ -9,13 +10,14 @@ ghost use Rattle.firm_canon.specs.Counts.{HasSearchedUpTo};
 ghost use Rattle.firm_graph.specs.Ids.{view_of};
 ghost use Rattle.firm_graph.specs.Network.{demand};
 ghost use Rattle.firm_canon.specs.inner.Graphs.{IsSameGraph};
-ghost use Rattle.firm_canon.specs.inner.Choosing.{Keeps, IsSpent, best};
-ghost use Rattle.firm_canon.specs.inner.Cuts.{AreCuts, HasSought, cut_count};
+ghost use Rattle.firm_canon.specs.inner.Choosing.{Keeps};
+ghost use Rattle.firm_canon.specs.inner.Classes.{HasSought, cut_count};
+ghost use Rattle.firm_canon.specs.inner.State.{IsReady, prefix, view};
+ghost use Rattle.firm_canon.specs.inner.Ways.{preferred_before};
 
-use crate::choice::choose;
-use crate::cuts::Cuts;
+use crate::choosing::Choosing;
 use crate::holds::hold_choice;
-use crate::reads::{arcs_are_counted, machine_count, task_count};
+use crate::reads::{arcs_are_counted, task_count, wishes_of};
 use firm_flow::{balanced_flows, conserved_where_balanced};
 use firm_graph::{Graph, Key, Node};
 use firm_paths::{Prices, Scratch, arcs_are_rows};
@@ -34,7 +36,7 @@ fn push_reserved(list: &mut Vec<Choice>, value: Choice)
     };
 }
 
-/// A least flow with nothing held.
+/// A least flow with nothing held, and all nodes in one class.
 fn start(graph: &mut Graph, prices: &mut Prices, scratch: &mut Scratch)
     requires made_for { (prices.old.limits ≡ limits_of graph.old.net) × (scratch.old.limits ≡ limits_of graph.old.net) }
     ensures same { IsSameGraph graph.old graph.new }
@@ -42,6 +44,7 @@ fn start(graph: &mut Graph, prices: &mut Prices, scratch: &mut Scratch)
     ensures searched { HasSearchedUpTo scratch.old scratch.new (length graph.old.rows.tasks)
         (arena_arcs graph.old.rows) }
     ensures keeps { Keeps (view_of graph.new) (price_of prices.new) [] }
+    ensures together { (a b : ℕ) → AreTogether scratch.new a b }
 {
     arcs_are_rows();
     balanced_flows::<Node, Key>();
@@ -49,46 +52,63 @@ fn start(graph: &mut Graph, prices: &mut Prices, scratch: &mut Scratch)
     graph.prepare();
     arcs_are_counted(graph);
     graph.least(prices, scratch);
+    scratch.join_nodes();
 }
 
-/// Chooses for the next task, and holds it to the choice. The machines before `from` are spent, and stay so.
-fn choose_next(
-    graph: &mut Graph,
-    prices: &Prices,
-    scratch: &mut Scratch,
-    cuts: &mut Cuts,
-    chosen: &mut Vec<Choice>,
-    from: &mut u32,
-)
-    requires keeps { Keeps (view_of graph.old) (price_of prices.now) chosen.old.items }
-    requires next { length chosen.old.items < length (view_of graph.old).case.tasks }
-    requires room { vec_len chosen.old < vec_capacity chosen.old }
-    requires from { from.old ≤ length (view_of graph.old).case.slots }
-    requires spent { (j : ℕ) → j < from.old → IsSpent (view_of graph.old).case chosen.old.items
-        (best (view_of graph.old) chosen.old.items) j }
-    requires made_for { (prices.now.limits ≡ limits_of graph.old.net) × (scratch.old.limits ≡ limits_of graph.old.net) }
-    requires cuts { AreCuts (view_of graph.old) (price_of prices.now) chosen.old.items cuts.old }
-    ensures same { IsSameGraph graph.old graph.new }
-    ensures searched { HasSought scratch.old scratch.new (length graph.old.rows.machines + 3)
-        (2 + length (demand (view_of graph.old).case (length chosen.old.items)).preferred)
-        (arena_arcs graph.old.rows) (cut_count cuts.old) (cut_count cuts.new) }
-    ensures cuts { AreCuts (view_of graph.new) (price_of prices.now) chosen.new.items cuts.new }
-    ensures keeps { Keeps (view_of graph.new) (price_of prices.now) chosen.new.items }
-    ensures capacity { vec_capacity chosen.old ≤ vec_capacity chosen.new }
-    ensures len { vec_len chosen.new ≡ vec_len chosen.old + 1 }
-    ensures more { length chosen.new.items ≡ length chosen.old.items + 1 }
-    ensures from { from.new ≤ length (view_of graph.new).case.slots }
-    ensures spent { (j : ℕ) → j < from.new → IsSpent (view_of graph.new).case chosen.new.items
-        (best (view_of graph.new) chosen.new.items) j }
-{
-    let choice = choose(graph, prices, scratch, cuts, chosen, from);
-    hold_choice(graph, prices, chosen, choice);
-    push_reserved(chosen, choice);
+impl Choosing<'_> {
+    /// Chooses for the next task, and holds it to the choice.
+    fn choose_next(&mut self)
+        requires ready { IsReady self.old }
+        requires next { length (prefix self.old) < length (view self.old).case.tasks }
+        requires room { vec_len self.old.chosen.now < vec_capacity self.old.chosen.now }
+        ensures same { IsSameGraph self.old.graph.now self.new.graph.now }
+        ensures graph { self.new.graph.ghost_name ≡ self.old.graph.ghost_name }
+        ensures scratch { self.new.scratch.ghost_name ≡ self.old.scratch.ghost_name }
+        ensures list { self.new.chosen.ghost_name ≡ self.old.chosen.ghost_name }
+        ensures prices { self.new.prices ≡ self.old.prices }
+        ensures sought { HasSought self.old.scratch.now self.new.scratch.now
+            (length self.old.graph.now.rows.machines + 3)
+            (2 + length (demand (view self.old).case (length (prefix self.old))).preferred)
+            (arena_arcs self.old.graph.now.rows)
+            (cut_count (view self.old) self.old.scratch.now) (cut_count (view self.new) self.new.scratch.now) }
+        ensures ready { IsReady self.new }
+        ensures capacity { vec_capacity self.old.chosen.now ≤ vec_capacity self.new.chosen.now }
+        ensures len { vec_len self.new.chosen.now ≡ vec_len self.old.chosen.now + 1 }
+        ensures more { length (prefix self.new) ≡ length (prefix self.old) + 1 }
+    {
+        let wishes = wishes_of(self.graph, self.chosen.len());
+        let choice = self.choose(&wishes);
+        hold_choice(self.graph, self.prices, self.chosen, &wishes, choice);
+        push_reserved(self.chosen, choice);
+    }
+
+    /// Chooses for all tasks, one after another.
+    fn choose_all(&mut self, tasks: usize)
+        requires ready { IsReady self.old }
+        requires tasks { tasks ≡ length (view self.old).case.tasks }
+        requires none { vec_len self.old.chosen.now ≡ 0 }
+        requires room { tasks ≤ vec_capacity self.old.chosen.now }
+        ensures same { IsSameGraph self.old.graph.now self.new.graph.now }
+        ensures graph { self.new.graph.ghost_name ≡ self.old.graph.ghost_name }
+        ensures scratch { self.new.scratch.ghost_name ≡ self.old.scratch.ghost_name }
+        ensures list { self.new.chosen.ghost_name ≡ self.old.chosen.ghost_name }
+        ensures sought { HasSought self.old.scratch.now self.new.scratch.now
+            (tasks * (length self.old.graph.now.rows.machines + 3))
+            (2 * tasks + preferred_before (view self.old).case tasks) (arena_arcs self.old.graph.now.rows)
+            (cut_count (view self.old) self.old.scratch.now) (cut_count (view self.new) self.new.scratch.now) }
+        ensures ready { IsReady self.new }
+        ensures all { length (prefix self.new) ≡ tasks }
+    {
+        for task in 0..tasks {
+            prove!(self.chosen.len() == task);
+            self.choose_next();
+        }
+    }
 }
 
-/// The placement of the round: legal, no legal one costs less, and no legal one that costs as much comes before it. Of
-/// the graph the flow and the lower bounds alone change. The error comes for want of memory alone, before the search,
-/// and leaves all as it was.
+/// The placement of the round: legal, no legal one costs less, and no legal one of equal cost comes before it. Only the
+/// graph's flow and lower bounds change. An error means that memory for the list was refused, before any search; all is
+/// as it was.
 pub fn first_best(
     alloc: Global,
     graph: &mut Graph,
@@ -110,12 +130,14 @@ pub fn first_best(
     the_round_is_the_first();
     let tasks = task_count(graph);
     let mut chosen = Vec::with_capacity(alloc, tasks)?;
-    let mut cuts = Cuts::new(alloc, machine_count(graph) as usize)?;
     start(graph, prices, scratch);
-    let mut from = 0;
-    for task in 0..tasks {
-        prove!(chosen.len() == task);
-        choose_next(graph, prices, scratch, &mut cuts, &mut chosen, &mut from);
-    }
+    let mut choosing = Choosing {
+        graph,
+        prices,
+        scratch,
+        chosen: &mut chosen,
+        spent: 0,
+    };
+    choosing.choose_all(tasks);
     Ok(chosen)
 }

@@ -11,17 +11,14 @@ ghost use Rattle.firm_canon.specs.inner.Graphs.{IsSameGraph};
 ghost use Rattle.firm_canon.specs.inner.Choosing.{Keeps, IsChosen, best};
 ghost use Rattle.firm_rules.specs.declared.rounds.Choice.TheVariants.{On};
 
-use crate::choice::is_home;
-use crate::preferences::preference_for;
-use crate::reads::{
-    home_of, low_on, prefer_arc, preferred_places, stay_arc, through_arc, wait_arc, wide_arc,
-};
+use crate::reads::{Wishes, low_on, prefer_arc, stay_arc, through_arc, wait_arc, wide_arc};
+use crate::ways::{is_home, preference_for};
 use firm_graph::Graph;
 use firm_net::ArcId;
 use firm_paths::Prices;
 use firm_rules::Choice;
 
-/// Asks for so much flow along an arc, which it has.
+/// Sets the lower bound of an arc, to no more than it carries.
 fn hold_at(graph: &mut Graph, arc: ArcId, low: u32)
     requires shows { Shows (view_of graph.old) }
     requires allowed { CanHold low (row_at graph.old.net arc) }
@@ -36,7 +33,7 @@ fn hold_at(graph: &mut Graph, arc: ArcId, low: u32)
     }
 }
 
-/// Holds the next task to a machine to which it comes by the hub.
+/// Holds the next task to a machine that it reaches by the hub.
 fn hold_by_hub(graph: &mut Graph, prices: &Prices, chosen: &[Choice], machine: u32)
     requires keeps { Keeps (view_of graph.old) (price_of prices.now) chosen.now }
     requires next { length chosen.now < length (view_of graph.old).case.tasks }
@@ -54,21 +51,28 @@ fn hold_by_hub(graph: &mut Graph, prices: &Prices, chosen: &[Choice], machine: u
 }
 
 /// Holds the next task to a machine.
-fn hold_machine(graph: &mut Graph, prices: &Prices, chosen: &[Choice], machine: u32)
+fn hold_machine(
+    graph: &mut Graph,
+    prices: &Prices,
+    chosen: &[Choice],
+    wishes: &Wishes,
+    machine: u32,
+)
     requires keeps { Keeps (view_of graph.old) (price_of prices.now) chosen.now }
     requires next { length chosen.now < length (view_of graph.old).case.tasks }
+    requires home { wishes.now.home ≡ (demand (view_of graph.old).case (length chosen.now)).home }
+    requires places { wishes.now.places.items ≡ (demand (view_of graph.old).case (length chosen.now)).preferred }
     requires chosen { IsChosen (view_of graph.old) chosen.now (On machine) }
     ensures same { IsSameGraph graph.old graph.new }
     ensures keeps { Keeps (view_of graph.new) (price_of prices.now) (chosen.now ++ On machine ∷ []) }
     ensures best { best (view_of graph.new) (chosen.now ++ On machine ∷ []) ≡ best (view_of graph.old) chosen.now }
 {
     let task = chosen.len();
-    if is_home(home_of(graph, task), machine) {
+    if is_home(wishes.home, machine) {
         hold_at(graph, stay_arc(graph, task), 1);
         return;
     }
-    let places = preferred_places(graph, task);
-    if let Some(number) = preference_for(&places, machine) {
+    if let Some(number) = preference_for(&wishes.places, machine) {
         hold_at(graph, prefer_arc(graph, task, number), 1);
         return;
     }
@@ -76,9 +80,17 @@ fn hold_machine(graph: &mut Graph, prices: &Prices, chosen: &[Choice], machine: 
 }
 
 /// Holds the next task to its choice.
-pub(crate) fn hold_choice(graph: &mut Graph, prices: &Prices, chosen: &[Choice], choice: Choice)
+pub(crate) fn hold_choice(
+    graph: &mut Graph,
+    prices: &Prices,
+    chosen: &[Choice],
+    wishes: &Wishes,
+    choice: Choice,
+)
     requires keeps { Keeps (view_of graph.old) (price_of prices.now) chosen.now }
     requires next { length chosen.now < length (view_of graph.old).case.tasks }
+    requires home { wishes.now.home ≡ (demand (view_of graph.old).case (length chosen.now)).home }
+    requires places { wishes.now.places.items ≡ (demand (view_of graph.old).case (length chosen.now)).preferred }
     requires chosen { IsChosen (view_of graph.old) chosen.now choice }
     ensures same { IsSameGraph graph.old graph.new }
     ensures keeps { Keeps (view_of graph.new) (price_of prices.now) (chosen.now ++ choice ∷ []) }
@@ -86,6 +98,6 @@ pub(crate) fn hold_choice(graph: &mut Graph, prices: &Prices, chosen: &[Choice],
 {
     match choice {
         Choice::Wait => hold_at(graph, wait_arc(graph, chosen.len()), 1),
-        Choice::On(machine) => hold_machine(graph, prices, chosen, machine),
+        Choice::On(machine) => hold_machine(graph, prices, chosen, wishes, machine),
     }
 }

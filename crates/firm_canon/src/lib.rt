@@ -4,10 +4,10 @@
 mod attempts;
 mod best;
 mod choice;
-mod cuts;
+mod choosing;
 mod holds;
-mod preferences;
 mod reads;
 mod turns;
+mod ways;
 
 pub use best::first_best;

@@ -1,10 +1,10 @@
 //! What is read of a graph, by the places of its case.
-ghost use Rattle.std.specs.Prelude.{◌≡◌, ◌<◌, ◌≤◌, true, length, map, All};
+ghost use Rattle.std.specs.Prelude.{◌≡◌, ◌<◌, ◌≤◌, true, length, map, nat_lt, All, IfSome};
 ghost use Rattle.firm_net.specs.Net.{IsArc, row_at, arc_count};
 ghost use Rattle.firm_rules.specs.ArenaUse.{arena_arcs};
 ghost use Rattle.firm_rules.specs.Book.{machine_names};
 ghost use Rattle.firm_rules.specs.Names.{is_among};
-ghost use Rattle.firm_rules.specs.Round.{place_of};
+ghost use Rattle.firm_rules.specs.Round.{machine_place, place_of};
 ghost use Rattle.firm_graph.specs.Network.{demand};
 ghost use Rattle.firm_graph.specs.View.{flow_of_row, low_of_row};
 ghost use Rattle.firm_graph.specs.Ids.{view_of};
@@ -14,12 +14,16 @@ use arrayvec::ArrayVec;
 use firm_graph::{Graph, networks_are_counted};
 use firm_net::{ArcId, Net};
 use firm_paths::arcs_are_rows;
-use firm_rules::{Name, Rows};
+use firm_rules::{MOST_PREFERENCES, Name, Rows};
 
-/// A task has no more preferences than that.
-pub(crate) const MOST_PREFERENCES: usize = 4;
+/// The places of a task's own machine and of those that it prefers, in the order of its row.
+#[derive(Drop)]
+pub(crate) struct Wishes {
+    pub(crate) home: Option<u32>,
+    pub(crate) places: ArrayVec<u32, MOST_PREFERENCES>,
+}
 
-/// The net has as many arcs as the rows take of the arena.
+/// The net's arcs are those that the rows take of the arena.
 pub(crate) fn arcs_are_counted(graph: &Graph)
     ensures { arc_count graph.now.net ≡ arena_arcs graph.now.rows }
 {
@@ -46,51 +50,54 @@ pub(crate) fn machine_count(graph: &Graph) -> u32
     rows.machine_count() as u32
 }
 
-/// The place of the machine that the task at a place runs on.
-pub(crate) fn home_of(graph: &Graph, task: usize) -> Option<u32>
-    requires { task < length (view_of graph.now).case.tasks }
-    ensures { result ≡ (demand (view_of graph.now).case task).home }
+/// The place of a known machine.
+fn place_named(rows: &Rows, name: Name) -> u32
+    requires there { is_among (machine_names rows.now) name ≡ true }
+    ensures { result ≡ place_of rows.now name }
 {
-    let rows = graph.rows();
     rows.limits();
-    let Some(row) = rows.task_at(task) else {
+    let Some(place) = rows.machine_place(name) else {
         unreachable!()
     };
-    let machine = row.machine?;
-    let Some(place) = rows.machine_place(machine) else {
-        unreachable!()
-    };
-    Some(place as u32)
+    place as u32
 }
 
-/// The places of the machines of these names, which are there.
+/// The place of a task's own machine, a known one, if it runs.
+fn home_of(rows: &Rows, machine: Option<Name>) -> Option<u32>
+    requires there { IfSome machine (λ name. is_among (machine_names rows.now) name ≡ true) }
+    ensures { result ≡ machine_place rows.now machine }
+{
+    Some(place_named(rows, machine?))
+}
+
+/// The places of known machines.
 fn places_of(rows: &Rows, names: &[Name]) -> ArrayVec<u32, MOST_PREFERENCES>
     requires few { length names.now ≤ 4 }
     requires there { All (λ name. is_among (machine_names rows.now) name ≡ true) names.now }
     ensures { result.items ≡ map (place_of rows.now) names.now }
 {
-    rows.limits();
     let mut places = ArrayVec::new();
     for name in names {
-        let Some(place) = rows.machine_place(*name) else {
-            unreachable!()
-        };
-        places.push(place as u32);
+        places.push(place_named(rows, *name));
     }
     places
 }
 
-/// The places of the machines that the task at a place prefers, in the order of its row.
-pub(crate) fn preferred_places(graph: &Graph, task: usize) -> ArrayVec<u32, MOST_PREFERENCES>
+/// The machines of the task at a place.
+pub(crate) fn wishes_of(graph: &Graph, task: usize) -> Wishes
     requires { task < length (view_of graph.now).case.tasks }
-    ensures { result.items ≡ (demand (view_of graph.now).case task).preferred }
+    ensures home { result.home ≡ (demand (view_of graph.now).case task).home }
+    ensures places { result.places.items ≡ (demand (view_of graph.now).case task).preferred }
 {
     let rows = graph.rows();
     rows.limits();
     let Some(row) = rows.task_at(task) else {
         unreachable!()
     };
-    places_of(rows, row.preferred.as_slice())
+    Wishes {
+        home: home_of(rows, row.machine),
+        places: places_of(rows, row.preferred.as_slice()),
+    }
 }
 
 /// The arc from the task at a place to the hub.
@@ -143,6 +150,17 @@ pub(crate) fn flow_on(net: &Net, arc: ArcId) -> u32
         unreachable!()
     };
     row.flow()
+}
+
+/// Whether an arc carries more than its lower bound.
+pub(crate) fn has_surplus_on(net: &Net, arc: ArcId) -> bool
+    requires { IsArc net.now arc }
+    ensures { result ≡ nat_lt (low_of_row (row_at net.now arc)) (flow_of_row (row_at net.now arc)) }
+{
+    let Some(row) = net.arc(arc) else {
+        unreachable!()
+    };
+    row.low() < row.flow()
 }
 
 /// The lower bound of an arc.

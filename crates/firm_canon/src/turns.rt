@@ -1,23 +1,21 @@
 //! Units sent round cycles that cost nothing.
-ghost use Rattle.std.specs.Prelude.{◌≡◌, ◌≢◌, ◌+◌, ◌↔◌, true, false, Contains, Some, List};
+ghost use Rattle.std.specs.Prelude.{◌≡◌, ◌+◌, ◌↔◌, true, false, Some};
 ghost use Rattle.firm_net.specs.Row.{Row};
 ghost use Rattle.firm_net.specs.Net.{IsNode, IsNet, IsArc, row_at};
-ghost use Rattle.firm_net.specs.declared.row.ArcId.{ArcId as ArcName};
 ghost use Rattle.firm_paths.specs.NetArcs.{limits_of};
 ghost use Rattle.firm_paths.specs.PriceTable.{price_of};
-ghost use Rattle.firm_rules.specs.ArenaUse.{arena_arcs};
-ghost use Rattle.firm_canon.specs.Counts.{HasSearchedUpTo};
+ghost use Rattle.firm_paths.specs.Workspace.{Workspace};
+ghost use Rattle.firm_paths.specs.Classes.{HasSearchedWithin};
 ghost use Rattle.firm_graph.specs.View.{Shows};
 ghost use Rattle.firm_graph.specs.Ids.{view_of};
 ghost use Rattle.firm_canon.specs.inner.Graphs.{IsSameGraph};
-ghost use Rattle.firm_canon.specs.inner.Turns.{SameLows, SameOff, CarriesOn, Turned, IsBlocked, IsCutOff, IsOpen};
+ghost use Rattle.firm_canon.specs.inner.Turns.{SameLows, SameOff, CarriesOn, Turned, IsBlocked, IsOpen, IsIdle};
 ghost use Rattle.firm_canon.specs.inner.Turns.{IsTightAt, IsLooseAt};
 
-use crate::reads::arcs_are_counted;
 use firm_flow::round_a_cycle;
 use firm_graph::Graph;
 use firm_net::{ArcId, ArcRow, Net, Way};
-use firm_paths::{Prices, Scratch, Step, arcs_are_rows, tight_path};
+use firm_paths::{Prices, Scratch, Step, arcs_are_rows, tight_within};
 
 /// Pushes one unit along each step.
 pub(crate) fn push_along(graph: &mut Graph, steps: &[Step])
@@ -67,8 +65,8 @@ pub(crate) fn is_open(graph: &Graph, prices: &Prices, arc: ArcId) -> bool
     requires made_for { prices.now.limits ≡ limits_of graph.now.net }
     requires there { IsArc graph.now.net arc }
     ensures open { result ≡ true → IsOpen graph.now.net (price_of prices.now) arc }
-    ensures blocked { result ≡ false → (barred : List ArcName)
-        → IsBlocked graph.now.net (price_of prices.now) arc barred }
+    ensures blocked { result ≡ false → (scratch : Workspace)
+        → IsBlocked graph.now.net (price_of prices.now) scratch arc }
 {
     let Some(row) = graph.net().arc(arc) else {
         unreachable!()
@@ -79,35 +77,29 @@ pub(crate) fn is_open(graph: &Graph, prices: &Prices, arc: ArcId) -> bool
     is_tight(graph.net(), prices, row)
 }
 
-/// Sends one unit more along an open arc, and back from its head to its tail by a way of reduced cost 0 that no barred
-/// arc is on. False, and nothing changes, where there is none.
-pub(crate) fn turn(
-    graph: &mut Graph,
-    prices: &Prices,
-    scratch: &mut Scratch,
-    arc: ArcId,
-    barred: &[ArcId],
-) -> bool
+/// Sends one unit more along an open arc at its lower bound, and back from its head to its tail by a path of reduced
+/// cost 0 inside their class. False, and the graph is unchanged, if there is none: the ends have different classes from
+/// then on.
+pub(crate) fn turn(graph: &mut Graph, prices: &Prices, scratch: &mut Scratch, arc: ArcId) -> bool
     requires shows { Shows (view_of graph.old) }
     requires made_for { (prices.now.limits ≡ limits_of graph.old.net) × (scratch.old.limits ≡ limits_of graph.old.net) }
-    requires barred { Contains barred.now arc }
     requires there { IsArc graph.old.net arc }
     requires open { IsOpen graph.old.net (price_of prices.now) arc }
+    requires idle { IsIdle graph.old.net arc }
     ensures shows { Shows (view_of graph.new) }
     ensures same { IsSameGraph graph.old graph.new }
-    ensures searched { HasSearchedUpTo scratch.old scratch.new 1 (arena_arcs graph.old.rows) }
-    ensures won { result ≡ true → Turned graph.old.net graph.new.net (price_of prices.now) arc barred.now }
-    ensures lost { result ≡ false → IsCutOff graph.old.net (price_of prices.now) arc barred.now }
+    ensures searched { (row : Row) → row_at graph.old.net arc ≡ Some row
+        → HasSearchedWithin graph.old.net (price_of prices.now) row.head.id.place row.tail.id.place result
+        scratch.old scratch.new }
+    ensures won { result ≡ true → Turned graph.old.net graph.new.net (price_of prices.now) arc }
     ensures unchanged { result ≡ false → graph.new ≡ graph.old }
 {
     arcs_are_rows();
-    arcs_are_counted(graph);
     round_a_cycle();
     let Some(row) = graph.net().arc(arc) else {
         unreachable!()
     };
-    let Some(steps) = tight_path(scratch, graph.net(), prices, row.head(), row.tail(), barred)
-    else {
+    let Some(steps) = tight_within(scratch, graph.net(), prices, row.head(), row.tail()) else {
         return false;
     };
     graph.push(arc, Way::Forward);

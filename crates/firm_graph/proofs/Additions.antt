@@ -6,12 +6,12 @@ use Rattle.std.proofs.lemmas.List.Elements.{All-head, All-tail}
 use Rattle.std.specs.List.{All, sum_by, position, position_or_len, slice_get}
 use Rattle.std.specs.Prelude.{slice_index_or}
 use Rattle.std.proofs.lemmas.List.{map-append, length-replicate, get_or-map}
-use Rattle.std.proofs.lemmas.List.Sums.{sum_by_push, sum_by-cons}
+use Rattle.std.proofs.lemmas.List.Sums.{sum_by_push, sum_by-append, sum_by-cons}
 use Rattle.indexmap.proofs.SetLemmas.{AllZip-push}
 use Rattle.firm_arena.specs.Arena.{capacity_of, entries_from}
 use Rattle.firm_arena.specs.declared.Id.{Id}
 use Rattle.firm_rules.specs.Limits.{TenantLimits}
-use Rattle.firm_graph.proofs.NetEdits.{edit-then, nodes-sum, spans-sum, node_weight, span_weight}
+use Rattle.firm_graph.proofs.NetEdits.{edit-then, edit-same, nodes-sum, spans-sum, node_weight, span_weight}
 use Rattle.firm_graph.proofs.Said.{grown}
 use Rattle.firm_net.specs.Net.{Net, IsNode, added_of, node_count, arc_count, empty_net}
 use Rattle.firm_graph.proofs.Found.{job-there}
@@ -154,17 +154,17 @@ pub task-added : (g : Graph) (n1 n2 n3 n4 n5 : Net) (parts : TaskParts) (job nam
     (preferred : List (List ℕ)) (owner : NodeId) (far weight : ℕ)
     → Mirrors g
     → IsEdit g.net n1 [] (parts.node ∷ []) [] []
-    → IsEdit n1 n2 [] [] [] (record { arc = parts.arcs.wide; tail = parts.node; head = g.hub; cap = 1; cost = far }
+    → IsEdit n1 n2 [] [] [] (preferred_spans parts.node 0 (nodes_under g preferred) parts.arcs.preferred)
+    → IsEdit n2 n3 [] [] [] (record { arc = parts.arcs.wait; tail = parts.node; head = owner; cap = 1; cost = weight }
     ∷ [])
-    → IsEdit n2 n3 [] [] [] (record { arc = parts.arcs.stay; tail = parts.node; head = g.hub; cap = 0; cost = 0 } ∷ [])
-    → IsEdit n3 n4 [] [] [] (record { arc = parts.arcs.wait; tail = parts.node; head = owner; cap = 1; cost = weight }
+    → IsEdit n3 n4 [] [] [] (record { arc = parts.arcs.stay; tail = parts.node; head = g.hub; cap = 0; cost = 0 } ∷ [])
+    → IsEdit n4 n5 [] [] [] (record { arc = parts.arcs.wide; tail = parts.node; head = g.hub; cap = 1; cost = far }
     ∷ [])
-    → IsEdit n4 n5 [] [] [] (preferred_spans parts.node 0 (nodes_under g preferred) parts.arcs.preferred)
     → owner ≡ node_under (job_names g.rows) (job_nodes g) g.hub job → weight ≡ weight_under g.rows.jobs job
     → far ≡ away g.rows.limits.remote preferred → length parts.arcs.preferred ≡ length preferred
     → length preferred ≤ 4
     → g.asked < 2 ^ 40 → Mirrors (task_added g n5 parts job name preferred)
-task-added g n1 n2 n3 n4 n5 parts job name preferred owner far weight is node wide stay wait near owner_is weight_is
+task-added g n1 n2 n3 n4 n5 parts job name preferred owner far weight is node near wait stay wide owner_is weight_is
     far_is paired few room =
     let new : Graph = task_added g n5 parts job name preferred in
     let task : Task = new_task job name preferred in
@@ -193,13 +193,34 @@ task-added g n1 n2 n3 n4 n5 parts job name preferred owner far weight is node wi
     { arc = parts.arcs.wide; tail = parts.node; head = g.hub; cap = 1; cost = c } in s) way in
     let e3 : s3 ≡ t3 = ap₂ (λ (n : NodeId) (c : ℕ). let s : Span = record
     { arc = parts.arcs.wait; tail = parts.node; head = n; cap = 1; cost = c } in s) owner_is cost in
-    let to_wide = edit-then g.net n1 n2 (parts.node ∷ []) [] (s1 ∷ []) node wide in
-    let to_stay = edit-then g.net n2 n3 (parts.node ∷ []) (s1 ∷ []) (s2 ∷ []) to_wide stay in
-    let to_wait = edit-then g.net n3 n4 (parts.node ∷ []) (s1 ∷ s2 ∷ []) (s3 ∷ []) to_stay wait in
-    let to_near = edit-then g.net n4 n5 (parts.node ∷ []) (s1 ∷ s2 ∷ s3 ∷ []) ss to_wait near in
+    let to_near = edit-then g.net n1 n2 (parts.node ∷ []) [] ss node near in
+    let to_wait = edit-then g.net n2 n3 (parts.node ∷ []) ss (s3 ∷ []) to_near wait in
+    let to_stay = edit-then g.net n3 n4 (parts.node ∷ []) (ss ++ s3 ∷ []) (s2 ∷ []) to_wait stay in
+    let linked : List Span = (ss ++ s3 ∷ []) ++ s2 ∷ [] in
+    let to_wide = edit-then g.net n4 n5 (parts.node ∷ []) linked (s1 ∷ []) to_stay wide in
+    let in_order : IsEdit g.net n5 [] (parts.node ∷ []) [] (s1 ∷ s2 ∷ s3 ∷ ss) =
+    edit-same g.net n5 (parts.node ∷ []) (linked ++ s1 ∷ []) (s1 ∷ s2 ∷ s3 ∷ ss) to_wide
+    (λ w. omega (
+      arith,
+      sum_by-append w linked (s1 ∷ []),
+      sum_by-append w (ss ++ s3 ∷ []) (s2 ∷ []),
+      sum_by-append w ss (s3 ∷ []),
+      sum-one w s1,
+      sum-one w s2,
+      sum-one w s3,
+      sum_by-cons w s1 (s2 ∷ s3 ∷ ss),
+      sum_by-cons w s2 (s3 ∷ ss),
+      sum_by-cons w s3 ss,
+    ))
+    (omega (
+      arith,
+      length-append linked (s1 ∷ []),
+      length-append (ss ++ s3 ∷ []) (s2 ∷ []),
+      length-append ss (s3 ∷ []),
+    )) in
     let E : Span → Span → Type 0 = λ (a b : Span). IsEdit g.net n5 [] (parts.node ∷ []) [] (a ∷ s2 ∷ b ∷ ss) in
     let whole : IsEdit g.net n5 [] (parts.node ∷ []) [] (t1 ∷ s2 ∷ t3 ∷ ss) =
-    subst (λ (s : Span). E t1 s) e3 (subst (λ (s : Span). E s s3) e1 to_near) in
+    subst (λ (s : Span). E t1 s) e3 (subst (λ (s : Span). E s s3) e1 in_order) in
     let heads : length (nodes_under g preferred) ≡ length preferred =
     length-map (node_under (machine_names g.rows) (machine_nodes g) g.hub) preferred in
     let counted : length ss ≡ length (nodes_under g preferred) = preferred-count parts.node 0 (nodes_under g preferred)

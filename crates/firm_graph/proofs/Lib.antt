@@ -8,6 +8,7 @@ pub mod Lookups
 pub mod Additions
 pub mod Drops
 pub mod Places
+pub mod Stays
 pub mod Near
 pub mod Reflows
 pub mod Bridge

@@ -23,6 +23,13 @@ spans-counted node cost [] arcs = omega arith
 spans-counted node cost (head ∷ heads) [] = omega arith
 spans-counted node cost (head ∷ heads) (arc ∷ arcs) = omega (arith, spans-counted node cost heads arcs)
 
+-- and at most as many as heads
+pub spans-few : (node : NodeId) (cost : ℕ) (heads : List NodeId) (arcs : List ArcId)
+    → length (preferred_spans node cost heads arcs) ≤ length heads
+spans-few node cost [] arcs = omega arith
+spans-few node cost (head ∷ heads) [] = omega arith
+spans-few node cost (head ∷ heads) (arc ∷ arcs) = omega (arith, spans-few node cost heads arcs)
+
 -- one arc more
 pub near-push : (node : NodeId) (cost : ℕ) (heads : List NodeId) (arcs : List ArcId) (head : NodeId) (arc : ArcId)
     → length heads ≡ length arcs

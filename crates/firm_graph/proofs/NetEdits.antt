@@ -52,6 +52,21 @@ edit-then a b c ns ss ts before more =
       net = more.net;
     }
 
+-- the same arcs in another order
+pub edit-same : (a b : Net) (ns : List NodeId) (ss ts : List Span) → IsEdit a b [] ns [] ss
+    → ((w : Span → ℕ) → sum_by w ss ≡ sum_by w ts) → length ss ≡ length ts → IsEdit a b [] ns [] ts
+edit-same a b ns ss ts edit same long =
+    record {
+      nodes = edit.nodes;
+      spans = λ w. omega (arith, edit.spans w, same w);
+      counted_nodes = edit.counted_nodes;
+      counted_arcs = omega (arith, edit.counted_arcs, long);
+      node_room = edit.node_room;
+      arc_room = edit.arc_room;
+      added = omega (arith, edit.added, long);
+      net = edit.net;
+    }
+
 pub slots-push : (node sink : NodeId) (spread k : ℕ) (slots : List ArcId) (arc : ArcId)
     → slot_spans node sink spread k (slots ++ arc ∷ []) ≡ slot_spans node sink spread k slots ++ record
     { arc = arc; tail = node; head = sink; cap = 1; cost = (k + length slots) * spread } ∷ []

@@ -92,8 +92,8 @@ pub settle-next : (g : Graph) (rows : TenantRows) (machines : List MachineParts)
     → parts ≡ get_or g.tasks place parts → get_or choices place Wait ≡ choice
     → Stands rows (map (λ p. p.node) machines) hub (task_at rows place) choice stand
     → Mirrors (moved g (settled_first g.rows choices place) before)
-    → ((h : Graph) (home : Option (List ℕ)) → IsPlacing h before rows parts place stand home → Mirrors
-    (moved h (with_task_at h.rows place home stand.waited) after))
+    → ((h : Graph) (home : Option (List ℕ)) → IsPlacing h before rows parts place stand home
+    → task_at h.rows place ≡ task_at rows place → Mirrors (moved h (with_task_at h.rows place home stand.waited) after))
     → Mirrors (moved g (settled_first g.rows choices (place + 1)) after)
 settle-next g rows machines hub choices place choice parts stand before after rows_is machines_is hub_is here below at
     choice_is stands mirrors step =
@@ -120,7 +120,7 @@ settle-next g rows machines hub choices place choice parts stand before after ro
       limits = ap (λ (r : TenantRows). r.limits) rows_is;
       node = its.node;
       runs = its.runs;
-    }) in
+    }) read in
     subst (λ (r : TenantRows). Mirrors (moved g r after))
     (settle-step g.rows choices place choice home stand.waited there choice_is refl its.waited) made
 

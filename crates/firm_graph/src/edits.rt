@@ -1,6 +1,6 @@
 //! Edits of a net, each with what it takes away and brings.
 ghost use Rattle.std.specs.Prelude.{◌≡◌, ◌≢◌, ◌+◌, ◌^◌, ◌<◌, ◌≤◌, None, Some, [], ◌∷◌, ◌++◌, vec_len, vec_capacity};
-ghost use Rattle.std.specs.Prelude.{length, map, true, nat_lt, if◌then◌else◌, All, Contains};
+ghost use Rattle.std.specs.Prelude.{length, map, true, IsTrue, nat_lt, if◌then◌else◌, All, Contains};
 ghost use Rattle.firm_arena.specs.Arena.{capacity_of};
 ghost use Rattle.firm_net.specs.Row.{Row};
 ghost use Rattle.firm_net.specs.Net.{IsNet, IsNode, lists_at, row_at, out_list, in_list, added_of, node_count};
@@ -98,7 +98,21 @@ pub(crate) fn lead(net: &mut Net, arc: ArcId, head: NodeId)
     ensures added { added_of net.new ≤ added_of net.old }
     ensures net { IsNet net.new }
 {
+    if leads_to(net, arc, head) {
+        return;
+    }
     net.retarget(arc, head);
+}
+
+/// Whether an arc leads to a node.
+pub(crate) fn leads_to(net: &Net, arc: ArcId, head: NodeId) -> bool
+    ensures there { IsTrue result → (row : Row) → row_at net.now arc ≡ Some row → row.head ≡ head }
+    ensures net { IsNet net.now }
+{
+    let Some(row) = net.arc(arc) else {
+        return false;
+    };
+    row.head() == head
 }
 
 /// Adds a value to a list with room for it.
@@ -113,30 +127,34 @@ pub(crate) fn push_reserved<T: Drop>(list: &mut Vec<T>, value: T)
     };
 }
 
-/// Adds the arcs of a machine's slots, each dearer by the spread than the one before.
-pub(crate) fn link_slots(
-    net: &mut Net,
-    node: NodeId,
-    sink: NodeId,
-    spread: u32,
-    count: u32,
-    slots: &mut Vec<ArcId>,
-)
-    requires node { IsNode net.old node }
-    requires sink { IsNode net.old sink }
-    requires ends { node ≢ sink }
-    requires spread { spread ≤ 1000 }
-    requires count { count ≤ 64 }
+/// The arcs of a machine's slots: the machine's node, the sink, by how much each is dearer than the one before, and
+/// their number.
+#[derive(Clone, Copy, PartialEq, Eq, Debug)]
+pub(crate) struct SlotArcs {
+    pub(crate) node: NodeId,
+    pub(crate) sink: NodeId,
+    pub(crate) spread: u32,
+    pub(crate) count: u32,
+}
+
+/// Adds the arcs of a machine's slots.
+pub(crate) fn link_slots(net: &mut Net, ladder: SlotArcs, slots: &mut Vec<ArcId>)
+    requires node { IsNode net.old ladder.node }
+    requires sink { IsNode net.old ladder.sink }
+    requires ends { ladder.node ≢ ladder.sink }
+    requires spread { ladder.spread ≤ 1000 }
+    requires count { ladder.count ≤ 64 }
     requires empty { slots.old.items ≡ [] }
-    requires reserved { count ≤ vec_capacity slots.old }
-    requires room { arc_count net.old + count ≤ capacity_of net.old.arcs }
-    requires stamps { added_of net.old + count < 2 ^ 62 }
+    requires reserved { ladder.count ≤ vec_capacity slots.old }
+    requires room { arc_count net.old + ladder.count ≤ capacity_of net.old.arcs }
+    requires stamps { added_of net.old + ladder.count < 2 ^ 62 }
     requires net { IsNet net.old }
-    ensures edit { IsEdit net.old net.new [] [] [] (slot_spans node sink spread 0 slots.new.items) }
-    ensures count { length slots.new.items ≡ count }
+    ensures edit { IsEdit net.old net.new [] [] []
+        (slot_spans ladder.node ladder.sink ladder.spread 0 slots.new.items) }
+    ensures count { length slots.new.items ≡ ladder.count }
 {
-    for k in 0..count {
-        let arc = link(net, node, sink, 1, k * spread);
+    for k in 0..ladder.count {
+        let arc = link(net, ladder.node, ladder.sink, 1, k * ladder.spread);
         push_reserved(slots, arc);
     }
 }
@@ -172,6 +190,10 @@ pub(crate) fn link_preferred(
     ensures edit { (hub : NodeIdRow) → IsEdit net.old net.new [] [] [] (preferred_spans node 0
         (map (node_under (machine_names rows.now) (map (λ parts. parts.node) machines.now) hub) names.now) result) }
     ensures count { length result ≡ length names.now }
+    ensures nodes { (n : NodeIdRow) → IsNode net.old n → IsNode net.new n }
+    ensures arcs { arc_count net.new ≤ arc_count net.old + length names.now }
+    ensures arc_room { capacity_of net.new.arcs ≡ capacity_of net.old.arcs }
+    ensures added { added_of net.new ≤ added_of net.old + length names.now }
 {
     let mut arcs = PreferredArcs::new();
     for name in names {

@@ -24,14 +24,14 @@ ghost use Rattle.firm_graph.specs.declared.network.Node.TheVariants.{Sink, Hub};
 ghost use Rattle.firm_graph.specs.declared.network.Key.TheVariants.{Through, Wide, Stay, Delay, Prefer};
 
 use crate::edits::{
-    away_cost, drop_node, link, link_preferred, link_slots, push_reserved, put_node, unlink,
-    unlink_preferred, unlink_slots,
+    SlotArcs, away_cost, drop_node, link, link_preferred, link_slots, push_reserved, put_node,
+    unlink, unlink_preferred, unlink_slots,
 };
-use crate::growth::{grow_jobs, grow_machines, grow_tasks};
-use crate::moves::{evict_tasks, forget_machine, settle_tasks};
+use crate::growth::{NewTask, grow_jobs, grow_machines, grow_tasks};
+use crate::moves::{Heads, evict_tasks, forget_machine, settle_tasks};
 use crate::order::SearchOrder;
 use crate::parts::{GraphRefusal, JobParts, MachineIds, TaskArcs, TaskParts};
-use firm_flow::{in_any_order, solve};
+use firm_flow::in_any_order;
 use firm_net::{ArcId, Net, NodeId, Way};
 use firm_paths::{Prices, Scratch};
 use firm_rules::{Choice, Limits, Name, Preferred, Rows, Slots, Weight, legality_is_judged};
@@ -73,6 +73,7 @@ impl Graph {
         ensures graph { IfOk result (λ graph. IsGraph graph) }
     {
         let mut net = Net::new(alloc, limits.nodes() as u32, limits.arcs() as u32)?;
+        let order = SearchOrder::new(alloc, limits.nodes() as usize, limits.spread() as u32)?;
         let hub = put_node(&mut net);
         let sink = put_node(&mut net);
         Ok(Graph {
@@ -84,7 +85,7 @@ impl Graph {
             jobs: Vec::new(alloc),
             tasks: Vec::new(alloc),
             sources: Vec::new(alloc),
-            order: SearchOrder::new(alloc),
+            order,
             asked: 0,
         })
     }
@@ -168,24 +169,28 @@ impl Graph {
         let Some(row) = self.rows.job_at(place) else {
             unreachable!()
         };
+        let task = NewTask {
+            job,
+            name,
+            preferred,
+        };
         let Ok(()) = grow_tasks(
             &mut self.tasks,
             &mut self.sources,
             &mut self.order,
             &mut self.rows,
-            job,
-            name,
-            preferred,
+            task,
         ) else {
             return Err(GraphRefusal::Memory);
         };
         let owner = self.jobs[place].node;
         let node = put_node(&mut self.net);
-        let wide = link(&mut self.net, node, self.hub, 1, away_cost(limits, count));
-        let stay = link(&mut self.net, node, self.hub, 0, 0);
-        let wait = link(&mut self.net, node, owner, 1, row.weight.get());
+        // The arc that is linked last comes first in a walk: from most tasks the way on is by the hub.
         let names = preferred.as_slice();
         let preferred = link_preferred(&mut self.net, node, &self.rows, &self.machines, names);
+        let wait = link(&mut self.net, node, owner, 1, row.weight.get());
+        let stay = link(&mut self.net, node, self.hub, 0, 0);
+        let wide = link(&mut self.net, node, self.hub, 1, away_cost(limits, count));
         let arcs = TaskArcs {
             wide,
             stay,
@@ -224,8 +229,13 @@ impl Graph {
         };
         let node = put_node(&mut self.net);
         let through = link(&mut self.net, self.hub, node, count, 0);
-        let spread = limits.spread() as u32;
-        link_slots(&mut self.net, node, self.sink, spread, count, &mut arcs);
+        let ladder = SlotArcs {
+            node,
+            sink: self.sink,
+            spread: limits.spread() as u32,
+            count,
+        };
+        link_slots(&mut self.net, ladder, &mut arcs);
         push_reserved(
             &mut self.machines,
             MachineIds {
@@ -270,8 +280,10 @@ impl Graph {
         self.net.clear_flow();
     }
 
-    /// Makes the net carry a flow of least cost, one unit from each task to the sink, and gives its cost. Makes at most
-    /// one search for each task, the dearest to leave waiting first. Takes no memory.
+    /// Makes the net carry a flow of least cost, one unit from each task to the sink, and gives its cost. Begins with
+    /// the units whose ways are planned from the rows, where one look at each arc shows that nothing cheaper exists;
+    /// searches send the others, the dearest to leave waiting first. Makes at most one search for each task, the look
+    /// at each arc counted as one. Takes no memory.
     pub fn least(&mut self, prices: &mut Prices, scratch: &mut Scratch) -> i64
         requires made_for { (prices.old.limits ≡ limits_of self.old.net)
             × (scratch.old.limits ≡ limits_of self.old.net) }
@@ -293,8 +305,12 @@ impl Graph {
     {
         in_any_order();
         self.order.line_up(&self.net, &self.tasks);
-        let order = self.order.nodes();
-        let Ok(cost) = solve(&mut self.net, prices, scratch, order, self.sink) else {
+        self.order
+            .propose(&self.net, &self.machines, &self.tasks, prices);
+        let Ok(cost) = self
+            .order
+            .send_all(&mut self.net, prices, scratch, self.sink)
+        else {
             unreachable!()
         };
         cost
@@ -427,14 +443,11 @@ impl Graph {
         ensures graph { IsGraph self.new }
     {
         legality_is_judged();
-        settle_tasks(
-            &mut self.net,
-            &self.rows,
-            &self.machines,
-            &self.tasks,
-            self.hub,
-            choices,
-        );
+        let heads = Heads {
+            machines: &self.machines,
+            hub: self.hub,
+        };
+        settle_tasks(&mut self.net, &self.rows, &heads, &self.tasks, choices);
         self.rows.settle(choices);
     }
 

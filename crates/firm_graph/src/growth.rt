@@ -31,6 +31,14 @@ pub(crate) fn grow_jobs<A: Allocator>(
     rows.add_job(name, weight)
 }
 
+/// A task that is to be added: its job, its name, and the machines that it prefers.
+#[derive(Clone, Copy, PartialEq, Eq, Debug)]
+pub(crate) struct NewTask {
+    pub(crate) job: Name,
+    pub(crate) name: Name,
+    pub(crate) preferred: Preferred,
+}
+
 /// Adds the row of a task, with room for its parts, its node and its place in the order of searches. The error comes
 /// for lack of memory alone, and leaves all as it was.
 pub(crate) fn grow_tasks<A: Allocator>(
@@ -38,28 +46,26 @@ pub(crate) fn grow_tasks<A: Allocator>(
     sources: &mut Vec<NodeId, A>,
     order: &mut SearchOrder<A>,
     rows: &mut Rows<A>,
-    job: Name,
-    name: Name,
-    preferred: Preferred,
+    task: NewTask,
 ) -> Result<(), AllocError>
-    requires job_there { is_among (job_names rows.old) job ≡ true }
-    requires new_name { is_among (task_names rows.old) name ≡ false }
-    requires machines_there { All (λ machine. is_among (machine_names rows.old) machine ≡ true) preferred }
-    requires fits { FitsLimits (with_task rows.old job name preferred) }
+    requires job_there { is_among (job_names rows.old) task.job ≡ true }
+    requires new_name { is_among (task_names rows.old) task.name ≡ false }
+    requires machines_there { All (λ machine. is_among (machine_names rows.old) machine ≡ true) task.preferred }
+    requires fits { FitsLimits (with_task rows.old task.job task.name task.preferred) }
     ensures parts { parts.new.items ≡ parts.old.items }
     ensures sources { sources.new.items ≡ sources.old.items }
     ensures room { OnOk result (vec_len parts.new < vec_capacity parts.new) }
     ensures source_room { OnOk result (vec_len sources.new < vec_capacity sources.new) }
     ensures order_room { OnOk result (vec_len parts.new + 1 ≤ order.new.room) }
     ensures order_kept { order.old.room ≤ order.new.room }
-    ensures ok { OnOk result (rows.new ≡ with_task rows.old job name preferred) }
+    ensures ok { OnOk result (rows.new ≡ with_task rows.old task.job task.name task.preferred) }
     ensures err { OnErr result (rows.new ≡ rows.old) }
     ensures sound { OnOk result (AreSound rows.new) }
 {
     parts.reserve(1)?;
     sources.reserve(1)?;
     order.reserve(parts.len() + 1)?;
-    rows.add_task(job, name, preferred)
+    rows.add_task(task.job, task.name, task.preferred)
 }
 
 /// Adds the row of a machine, with room for its parts, and gives a list with room for its slots. The error comes for

@@ -9,7 +9,9 @@ mod moves;
 mod network;
 mod order;
 mod parts;
+mod plan;
 mod preferred;
+mod start;
 #[cfg(test)]
 mod tests;
 

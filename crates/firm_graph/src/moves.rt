@@ -9,7 +9,7 @@ ghost use Rattle.firm_graph.specs.Graph.{Graph as GraphRow, Mirrors, weight_unde
 ghost use Rattle.firm_graph.specs.Steps.{IsPlacing, IsFitting, Stands, moved, refitted, with_task_at, task_at};
 ghost use Rattle.firm_graph.specs.Steps.{with_forgetting_at, forgetting_rows, thrown_out_first};
 
-use crate::edits::{away_cost, lead, rate, rate_preferred, unlink};
+use crate::edits::{away_cost, lead, leads_to, rate, rate_preferred, unlink};
 use crate::parts::{MachineIds, Stand, TaskParts};
 use firm_net::{Net, NodeId};
 use firm_rules::{Choice, Name, Rows};
@@ -91,71 +91,105 @@ pub(crate) fn evict_tasks(net: &mut Net, rows: &Rows, tasks: &[TaskParts], hub: 
         → Mirrors (moved g (record rows.now { tasks = map (evicted name) rows.now.tasks }) net.new) }
 {
     for (place, parts) in tasks.iter().enumerate() {
-        evict_task(net, rows, *parts, place, hub, name);
+        evict_task(net, rows, *parts, place, Eviction { name, hub });
     }
 }
 
-// Gives the arcs of the task at a place those of one that waits if it runs on the machine of a name.
-fn evict_task(net: &mut Net, rows: &Rows, parts: TaskParts, place: usize, hub: NodeId, name: Name)
+// The machine that tasks have to leave, and where their stay arcs lead then.
+#[derive(Clone, Copy, PartialEq, Eq, Debug)]
+struct Eviction {
+    name: Name,
+    hub: NodeId,
+}
+
+// Gives the arcs of the task at a place those of one that waits if it runs on the machine that tasks have to leave.
+fn evict_task(net: &mut Net, rows: &Rows, parts: TaskParts, place: usize, from: Eviction)
     requires place { place < length rows.now.tasks }
-    ensures step { (g : GraphRow) → Mirrors (moved g (thrown_out_first g.rows name place) net.old)
-        → g.rows ≡ forgetting_rows rows.now name → g.hub ≡ hub
+    ensures step { (g : GraphRow) → Mirrors (moved g (thrown_out_first g.rows from.name place) net.old)
+        → g.rows ≡ forgetting_rows rows.now from.name → g.hub ≡ from.hub
         → place < length g.tasks → parts ≡ slice_index_or g.tasks place parts
-        → Mirrors (moved g (thrown_out_first g.rows name (place + 1)) net.new) }
+        → Mirrors (moved g (thrown_out_first g.rows from.name (place + 1)) net.new) }
 {
-    if !runs_on(rows, place, name) {
+    if !runs_on(rows, place, from.name) {
         return;
     }
     let stand = Stand {
-        node: hub,
+        node: from.hub,
         runs: false,
         waited: 0,
     };
     place_task(net, rows, parts, place, stand);
 }
 
+/// Where a task's stay arc may lead: to the node of its machine, or to the hub while it waits.
+#[derive(Clone, Copy)]
+pub(crate) struct Heads<'a> {
+    pub(crate) machines: &'a [MachineIds],
+    pub(crate) hub: NodeId,
+}
+
 /// Gives the arcs of all tasks those that go with the choices of a round.
 pub(crate) fn settle_tasks(
     net: &mut Net,
     rows: &Rows,
-    machines: &[MachineIds],
+    heads: &Heads<'_>,
     tasks: &[TaskParts],
-    hub: NodeId,
     choices: &[Choice],
 )
-    requires machines { length machines.now ≡ length rows.now.machines }
+    requires machines { length heads.now.machines.now ≡ length rows.now.machines }
     requires tasks { length tasks.now ≡ length rows.now.tasks }
     requires one_each { length choices.now ≡ length rows.now.tasks }
     requires places { All (IsPlace (length rows.now.machines)) choices.now }
-    ensures settled { (g : GraphRow) → Mirrors g → g.net ≡ net.old → g.rows ≡ rows.now → g.machines ≡ machines.now
-        → g.tasks ≡ tasks.now → g.hub ≡ hub
+    ensures settled { (g : GraphRow) → Mirrors g → g.net ≡ net.old → g.rows ≡ rows.now
+        → g.machines ≡ heads.now.machines.now → g.tasks ≡ tasks.now → g.hub ≡ heads.now.hub
         → Mirrors (moved g (rows_after g.rows choices.now) net.new) }
 {
     for (place, choice) in choices.iter().enumerate() {
-        let stand = stand_of(rows, machines, hub, place, *choice);
-        place_task(net, rows, tasks[place], place, stand);
+        let stand = stand_of(rows, heads, place, *choice);
+        settle_task(net, rows, &tasks[place], place, stand);
     }
 }
 
-// How the task at a place stands after a round that makes this choice for it.
-fn stand_of(
-    rows: &Rows,
-    machines: &[MachineIds],
-    hub: NodeId,
-    place: usize,
-    choice: Choice,
-) -> Stand
+// Gives the arcs of the task at a place the ends, capacities and costs of one that stands so after a round. Most tasks
+// stay on their machines, and keep all; for one that goes on waiting its wait alone costs more.
+fn settle_task(net: &mut Net, rows: &Rows, parts: &TaskParts, place: usize, stand: Stand)
     requires place { place < length rows.now.tasks }
-    requires machines { length machines.now ≡ length rows.now.machines }
+    requires waited { stand.waited ≤ 1000000 }
+    ensures settled { (g : GraphRow) (home : Option (List ℕ))
+        → IsPlacing g net.old rows.now parts.now place stand home
+        → task_at g.rows place ≡ task_at rows.now place
+        → Mirrors (moved g (with_task_at g.rows place home stand.waited) net.new) }
+{
+    let Some(task) = rows.task_at(place) else {
+        unreachable!()
+    };
+    let runs = task.machine.is_some();
+    let is_led = leads_to(net, parts.arcs.stay, stand.node);
+    if runs != stand.runs || !is_led {
+        place_task(net, rows, *parts, place, stand);
+        return;
+    }
+    if task.waited == stand.waited {
+        return;
+    }
+    let leaving = where_runs(stand.runs, rows.limits().churn() as u32);
+    let weight = weight_of(rows, place);
+    rate(net, parts.arcs.wait, 1, weight + stand.waited + leaving);
+}
+
+// How the task at a place stands after a round that makes this choice for it.
+fn stand_of(rows: &Rows, heads: &Heads<'_>, place: usize, choice: Choice) -> Stand
+    requires place { place < length rows.now.tasks }
+    requires machines { length heads.now.machines.now ≡ length rows.now.machines }
     requires there { IsPlace (length rows.now.machines) choice }
     ensures waited { result.waited ≤ 1000000 }
-    ensures stands { Stands rows.now (map (λ parts. parts.node) machines.now) hub (task_at rows.now place) choice
-        result }
+    ensures stands { Stands rows.now (map (λ parts. parts.node) heads.now.machines.now) heads.now.hub
+        (task_at rows.now place) choice result }
 {
     rows.limits();
     match choice {
         Choice::On(machine) => {
-            let parts = &machines[machine as usize];
+            let parts = &heads.machines[machine as usize];
             Stand {
                 node: parts.node,
                 runs: true,
@@ -163,7 +197,7 @@ fn stand_of(
             }
         }
         Choice::Wait => Stand {
-            node: hub,
+            node: heads.hub,
             runs: false,
             waited: waited_after(rows, place),
         },

@@ -3,9 +3,8 @@ ghost use Rattle.std.specs.Prelude.{◌≡◌, ◌<◌, ◌≤◌, ◌++◌, ◌
 ghost use Rattle.std.specs.List.{remove};
 
 use firm_net::ArcId;
+use firm_rules::MOST_PREFERENCES;
 use std::marker::Model;
-
-const MOST_PREFERENCES: usize = 4;
 
 /// The arcs of a task to the machines that it prefers, 4 at most, in the order of its row.
 #[derive(Clone, Copy, Debug, PartialEq, Eq)]

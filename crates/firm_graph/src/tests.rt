@@ -2,7 +2,7 @@
 ghost use Rattle.std.specs.Prelude.{◌+◌, ◌^◌, ◌<◌, ◌≤◌};
 ghost use Rattle.firm_rules.specs.ArenaUse.{arena_nodes, arena_arcs};
 
-use crate::growth::{grow_jobs, grow_machines, grow_tasks};
+use crate::growth::{NewTask, grow_jobs, grow_machines, grow_tasks};
 use crate::order::SearchOrder;
 use crate::parts::{JobParts, MachineIds, TaskParts};
 use firm_net::NodeId;
@@ -65,14 +65,14 @@ struct Lists<'a> {
 }
 
 impl<'a> Lists<'a> {
-    fn new(heap: &'a LocalHeap, limits: Limits) -> Lists<'a> {
+    fn new(rt: &impl Abort, heap: &'a LocalHeap, limits: Limits) -> Lists<'a> {
         Lists {
             rows: Rows::new(heap, limits),
             machines: Vec::new(heap),
             jobs: Vec::new(heap),
             tasks: Vec::new(heap),
             sources: Vec::new(heap),
-            order: SearchOrder::new(heap),
+            order: SearchOrder::new(heap, 4, 1).expect(rt, "memory"),
         }
     }
 
@@ -82,8 +82,9 @@ impl<'a> Lists<'a> {
             + room_in(self.jobs.capacity())
             + room_in(self.tasks.capacity())
             + room_in(self.sources.capacity())
-            + room_in(self.order.turns.capacity())
-            + room_in(self.order.nodes.capacity())
+            + room_in(self.order.start.plans.tasks.capacity())
+            + room_in(self.order.ranked.capacity())
+            + room_in(self.order.proposed.capacity())
     }
 
     fn add(&mut self, rt: &impl Abort, heap: &'a LocalHeap, adder: Adder) -> bool {
@@ -115,14 +116,17 @@ impl<'a> Lists<'a> {
         assert!(rt; self.rows.has_job(job));
         assert!(rt; !self.rows.has_task(name));
         has_room(rt, &self.rows, 1, 3);
+        let task = NewTask {
+            job,
+            name,
+            preferred: Preferred::new(),
+        };
         grow_tasks(
             &mut self.tasks,
             &mut self.sources,
             &mut self.order,
             &mut self.rows,
-            job,
-            name,
-            Preferred::new(),
+            task,
         )
         .is_ok()
     }
@@ -136,7 +140,7 @@ fn refused_at<'a>(
     adder: Adder,
     left: usize,
 ) -> Result<Option<usize>, AllocError> {
-    let mut lists = Lists::new(heap, limits(rt, 9, 80));
+    let mut lists = Lists::new(rt, heap, limits(rt, 9, 80));
     if adder == Adder::Task {
         assert!(rt; lists.add_job(rt));
     }
@@ -178,7 +182,7 @@ fn expect_each_refused(
 fn each_growth_of_a_row_may_be_refused(rt: HostRuntime) -> Result<(), Fail> {
     expect_each_refused(&rt, rt.alloc(), Adder::Machine, 0, 1)?;
     expect_each_refused(&rt, rt.alloc(), Adder::Job, 0, 1)?;
-    // The list of the task's job has room already.
-    expect_each_refused(&rt, rt.alloc(), Adder::Task, 1, 5)?;
+    // The list of the task's job has room already; five lists grow, and the rows last.
+    expect_each_refused(&rt, rt.alloc(), Adder::Task, 1, 6)?;
     Ok(())
 }

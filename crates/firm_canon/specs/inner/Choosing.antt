@@ -1,6 +1,6 @@
 -- What the choice of a round's placement keeps. No public clause cites this module.
-use Rattle.std.specs.Prelude.{◌≡◌, ◌≢◌, ℕ, ◌+◌, ◌<◌, ◌≤◌, Bool, true, false, List, ◌++◌, ◌∷◌, length, All, Contains}
-use Rattle.std.specs.Prelude.{Some, cond, eqb}
+use Rattle.std.specs.Prelude.{◌≡◌, ℕ, ◌+◌, ◌<◌, ◌≤◌, ◌⊎◌, Bool, true, false, List, ◌++◌, ◌∷◌, length, All, Some}
+use Rattle.std.specs.Prelude.{cond, eqb}
 use Rattle.firm_rules.specs.declared.rounds.Choice.{Choice}
 use Rattle.firm_rules.specs.declared.rounds.Choice.TheVariants.{On}
 use Rattle.firm_rules.specs.Placement.{Case, rank, runs_at, prefers}
@@ -8,17 +8,16 @@ use Rattle.firm_paths.specs.Network.{AreValid}
 use Rattle.firm_flow.specs.Flow.{IsWithinBounds, cost_of, carried}
 use Rattle.firm_flow.specs.Balance.{Balanced}
 use Rattle.firm_graph.specs.declared.network.Node.{Node}
-use Rattle.firm_graph.specs.declared.network.Node.TheVariants.{Sink}
+use Rattle.firm_graph.specs.declared.network.Node.TheVariants.{Sink, Machine, Task}
 use Rattle.firm_graph.specs.declared.network.Key.{Key}
 use Rattle.firm_graph.specs.declared.network.Key.TheVariants.{Through, Slot, Exit, Wide, Stay, Delay, Prefer}
-use Rattle.firm_graph.specs.Network.{network, task_nodes, demand}
+use Rattle.firm_graph.specs.Network.{network, task_nodes, demand, leaving}
 use Rattle.firm_rules.specs.Placement.{IsLegal, IsPlace, placement_cost as cost, comes_before as before}
 use Rattle.firm_graph.specs.View.{View, Shows, lows, flows, spot_of}
 use Rattle.firm_graph.specs.Network.{IsKeyOf}
 use Rattle.firm_canon.specs.inner.Laws.{FlowLaws}
 use Rattle.firm_canon.specs.inner.Placed.{pick, wide, stay, waits, prefer, spot, wide_at, stay_at, prefer_at}
 use Rattle.firm_canon.specs.inner.Placed.{number, guests, placed}
-use Rattle.firm_canon.specs.inner.Turns.{IsStopped}
 
 -- what the chosen prefix holds of the arcs
 abbrev pub low_of : Case → List Choice → Key → ℕ
@@ -61,15 +60,6 @@ pub record Keeps (v : View) (price : ℕ → ℕ) (p : List Choice) : Type 0 whe
   pub lows : (k : Key) → IsKeyOf v.case k → lows v k ≡ low_of v.case p k
   pub stands : Stands v.case p (flows v) (λ n. price (spot_of v n))
 
--- what an attempt to send one unit more along an arc leaves, with some arcs barred from the way back
-pub record Tried (old new : View) (price : ℕ → ℕ) (p : List Choice) (barred : List Key) (key : Key)
-    (result : Bool) : Type 0 where
-  pub keeps : Keeps new price p
-  pub same_best : best new p ≡ best old p
-  pub won : result ≡ true → flows new key ≡ flows old key + 1
-  pub kept : (k : Key) → Contains barred k → k ≢ key → flows new k ≡ flows old k
-  pub unchanged : result ≡ false → new ≡ old
-
 -- no least placement goes on by machine `j`
 pub record Shut (v : View) (p : List Choice) (j : ℕ) : Type 0 where
   pub barred : Barred v.case p (best v p) (On j)
@@ -97,11 +87,6 @@ pub record IsChosen (v : View) (p : List Choice) (o : Choice) : Type 0 where
 abbrev pub next_number : Case → List Choice → ℕ → ℕ
 next_number c p j = number (demand c (length p)) (Some (On j))
 
--- the arc of that preference is empty, and no attempt can fill it
-pub record IsRefused (v : View) (price : ℕ → ℕ) (p : List Choice) (j : ℕ) : Type 0 where
-  pub none : flows v (Prefer (length p) (next_number v.case p j)) ≡ 0
-  pub blocked : IsStopped v price (Prefer (length p) (next_number v.case p j))
-
 -- a flow that does what the prefix holds, from the tasks to the sink, at no more than this cost
 pub record IsAsCheap (c : Case) (p : List Choice) (most : ℕ) (x : Key → ℕ) : Type 0 where
   pub within : IsWithinBounds (network c (low_of c p) x) carried
@@ -116,9 +101,20 @@ pub record IsSpent (c : Case) (p : List Choice) (most j : ℕ) : Type 0 where
 pub record IsSpentBeside (c : Case) (p : List Choice) (most j : ℕ) : Type 0 where
   pub no_more : (x : Key → ℕ) → IsAsCheap c p most x → x (Wide (length p)) ≡ 1 → x (Through j) ≤ guests c p j
 
--- the next task can't come to machine `j`, unless it is its own: not as it prefers it, nor by the hub, if that was tried
-pub record IsPassed (v : View) (price : ℕ → ℕ) (p : List Choice) (tried : Bool) (j : ℕ) : Type 0 where
+-- the reduced cost of an arc of this cost from a task to a machine is not 0, or they have different classes
+abbrev pub IsShutOff : View → (ℕ → ℕ) → (ℕ → ℕ) → (i j cost : ℕ) → Type 0
+IsShutOff v price class i j cost =
+    (cost + price (spot_of v (Task i)) ≡ price (spot_of v (Machine j)) → ⊥)
+    ⊎ (class (spot_of v (Machine j)) ≡ class (spot_of v (Task i)) → ⊥)
+
+-- the next task can't come to machine `j` as it prefers it
+pub record IsRefused (v : View) (price : ℕ → ℕ) (p : List Choice) (class : ℕ → ℕ) (j : ℕ) : Type 0 where
+  pub never : (x : Key → ℕ) → IsAsCheap v.case p (best v p) x → x (Prefer (length p) (next_number v.case p j)) ≡ 0
+  pub shut : IsShutOff v price class (length p) j (leaving v.case (length p))
+
+-- unless machine `j` is its own, the next task can't reach it: not as it prefers it, nor by the hub, if that was tried
+pub record IsPassed (v : View) (price : ℕ → ℕ) (p : List Choice) (class : ℕ → ℕ) (tried : Bool) (j : ℕ) : Type 0 where
   pub near : runs_at (demand v.case (length p)).home j ≡ false → prefers (demand v.case (length p)) j ≡ true
-      → IsRefused v price p j
+      → IsRefused v price p class j
   pub far : runs_at (demand v.case (length p)).home j ≡ false → prefers (demand v.case (length p)) j ≡ false
       → tried ≡ true → IsSpentBeside v.case p (best v p) j

@@ -1,16 +1,16 @@
 -- A unit sent round a cycle of residual arcs of reduced cost 0. No public clause cites this module.
-use Rattle.std.specs.Prelude.{◌≡◌, ◌≢◌, ℕ, ◌+◌, ◌<◌, ◌≤◌, Bool, List, [], ◌∷◌, All, Contains, Some, map, ◌⊎◌}
+use Rattle.std.specs.Prelude.{◌≡◌, ◌≢◌, ℕ, ◌+◌, ◌<◌, ◌≤◌, List, [], All, Some, map, ◌⊎◌}
 use Rattle.firm_net.specs.Row.{Row}
 use Rattle.firm_net.specs.Net.{Net, row_at}
 use Rattle.firm_net.specs.declared.row.ArcId.{ArcId}
 use Rattle.firm_paths.specs.Network.{AreValid, Tight}
 use Rattle.firm_paths.specs.NetArcs.{arc_of, arcs_of, residual_of}
-use Rattle.firm_paths.specs.Paths.{IsTightCut}
+use Rattle.firm_paths.specs.Workspace.{Workspace}
+use Rattle.firm_paths.specs.Classes.{AreTogether}
 use Rattle.firm_paths.specs.declared.search.Step.{Step}
 use Rattle.firm_flow.specs.Flow.{IsWithinBounds, cost_of, carried}
 use Rattle.firm_flow.specs.Balance.{Balanced, OnTheWay}
-use Rattle.firm_graph.specs.declared.network.Key.{Key}
-use Rattle.firm_graph.specs.View.{View, low_of_row, flow_of_row}
+use Rattle.firm_graph.specs.View.{low_of_row, flow_of_row}
 
 -- a flow within its bounds that is conserved, under valid prices
 pub record IsWhole (net : Net) (price : ℕ → ℕ) (sources : List ℕ) (sink : ℕ) : Type 0 where
@@ -33,11 +33,21 @@ CarriesOn old steps new =
     → OnTheWay (arcs_of old) price sources sink origin at to before (map (residual_of found) steps)
     → OnTheWay (arcs_of new) price sources sink origin to to before []
 
--- one unit more flows along the arc, and no more is lost or paid
-pub record Turned (old new : Net) (price : ℕ → ℕ) (arc : ArcId) (barred : List ArcId) : Type 0 where
+-- the other arc is full, and leads to where the first one begins
+abbrev pub IsFullInto : Net → ArcId → ArcId → Type 0
+IsFullInto net arc other =
+    (row : Row) → row_at net arc ≡ Some row
+    → (into : Row) × (row_at net other ≡ Some into) × (into.cap ≤ into.flow) × (into.head.id.place ≡ row.tail.id.place)
+
+-- the arc has no more flow than it must have
+abbrev pub IsIdle : Net → ArcId → Type 0
+IsIdle net arc = (row : Row) → row_at net arc ≡ Some row → row.flow ≤ row.low
+
+-- one unit more flows along the arc, and no more is lost or paid; what leads to its tail and is full stays as it is
+pub record Turned (old new : Net) (price : ℕ → ℕ) (arc : ArcId) : Type 0 where
   pub lows : SameLows old new
   pub more : flow_of_row (row_at new arc) ≡ flow_of_row (row_at old arc) + 1
-  pub others : (b : ArcId) → Contains barred b → b ≢ arc → row_at new b ≡ row_at old b
+  pub others : (b : ArcId) → b ≢ arc → IsFullInto old arc b → row_at new b ≡ row_at old b
   pub whole : (sources : List ℕ) (sink : ℕ) → IsWhole old price sources sink
       → IsWhole new price sources sink × (cost_of (arcs_of new) carried ≡ cost_of (arcs_of old) carried)
 
@@ -54,19 +64,19 @@ abbrev pub IsOpen : Net → (ℕ → ℕ) → ArcId → Type 0
 IsOpen net price arc =
     (row : Row) → row_at net arc ≡ Some row → (row.flow < row.cap) × Tight price (arc_of arc row)
 
--- no way leads back from the arc's head to its tail
-abbrev pub IsCutOff : Net → (ℕ → ℕ) → ArcId → List ArcId → Type 0
-IsCutOff net price arc barred =
-    (row : Row) → row_at net arc ≡ Some row
-    → (inside : ℕ → Bool) × IsTightCut net price barred row.head.id.place row.tail.id.place inside
+-- the ends of the arc have one class
+abbrev pub IsJoined : Net → Workspace → ArcId → Type 0
+IsJoined net scratch arc =
+    (row : Row) → row_at net arc ≡ Some row → AreTogether scratch row.head.id.place row.tail.id.place
 
--- the arc has no room, or its reduced cost is not 0, or no way leads back from its head to its tail
-abbrev pub IsBlocked : Net → (ℕ → ℕ) → ArcId → List ArcId → Type 0
-IsBlocked net price arc barred =
+-- they have not
+abbrev pub IsParted : Net → Workspace → ArcId → Type 0
+IsParted net scratch arc =
+    (row : Row) → row_at net arc ≡ Some row → AreTogether scratch row.head.id.place row.tail.id.place → ⊥
+
+-- the arc has no room, or its reduced cost is not 0, or its ends have different classes
+abbrev pub IsBlocked : Net → (ℕ → ℕ) → Workspace → ArcId → Type 0
+IsBlocked net price scratch arc =
     (row : Row) → row_at net arc ≡ Some row
     → (row.cap ≤ row.flow) ⊎ ((Tight price (arc_of arc row) → ⊥)
-    ⊎ ((inside : ℕ → Bool) × IsTightCut net price barred row.head.id.place row.tail.id.place inside))
-
--- the same of the arc of a key, which alone is barred from the way back
-abbrev pub IsStopped : View → (ℕ → ℕ) → Key → Type 0
-IsStopped v price key = IsBlocked v.net price (v.arc key) (v.arc key ∷ [])
+    ⊎ (AreTogether scratch row.head.id.place row.tail.id.place → ⊥))

@@ -14,7 +14,7 @@ use std::alloc::Global;
 use std::process::Abort;
 
 /// Whether the sources and the sink are nodes of the net, and no two of them the same.
-fn are_distinct(net: &Net, sources: &[NodeId], sink: NodeId) -> bool
+pub fn are_distinct(net: &Net, sources: &[NodeId], sink: NodeId) -> bool
     ensures { IsTrue result → AreDistinctNodes net.now sources.now sink }
 {
     for i in 0..sources.len() {
@@ -62,7 +62,7 @@ fn solve_once(
 }
 
 /// What flows along each arc, each of which may carry nothing.
-fn read_flows(rt: &impl Abort, alloc: Global, world: &World) -> Vec<u32> {
+pub fn read_flows(rt: &impl Abort, alloc: Global, world: &World) -> Vec<u32> {
     let mut flows = Vec::new(alloc);
     for arc in &world.arcs {
         let row = world.net.arc(*arc).expect(rt, "the arc is there");

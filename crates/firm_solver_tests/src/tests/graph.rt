@@ -235,8 +235,7 @@ fn arcs_of(rt: &impl Abort, graph: &Graph, place: usize) -> TaskArcs {
     graph.task_arcs(place)
 }
 
-// The wide arc of the task at a place costs so much, its stay arc has this head and capacity, and its wait arc costs so
-// much.
+// Checks the costs of the wide and wait arcs of the task at a place, and the head and the capacity of its stay arc.
 fn expect_task(
     rt: &impl Abort,
     graph: &Graph,
@@ -254,7 +253,7 @@ fn expect_task(
     expect_row(rt, net, arcs.wait, row(rt, node, owner, 1, wait));
 }
 
-// The arcs of the task at a place to the machines that it prefers lead to those at these places and cost so much each.
+// Checks the machines and the cost of the arcs to those that the task at a place prefers.
 fn expect_preferred(rt: &impl Abort, graph: &Graph, place: usize, machines: &[usize], cost: u32) {
     let node = source(rt, graph, place);
     let preferred = arcs_of(rt, graph, place).preferred;

@@ -18,7 +18,7 @@ returns-then-is_home-clause-keeps c =
     held_own (view_of c.args.graph.now) (view_of c.hold_at.new.graph)
     (price_of c.args.prices.now) c.args.chosen.now c.args.machine c.stay_arc.result c.requires.keeps c.requires.next
     c.requires.chosen
-    (ap (λ h. runs_at h c.args.machine) (sym c.home_of.ensures) ∙ (sym c.is_home.ensures ∙ c.if-is_home.true))
+    (ap (λ h. runs_at h c.args.machine) (sym c.requires.home) ∙ (sym c.is_home.ensures ∙ c.if-is_home.true))
     h.shows h.same.case c.stay_arc.ensures
     (record { here = h.here; flows = h.flows; others = h.others })
 
@@ -30,12 +30,12 @@ returns-then-is_home-clause-best c =
 
 pub hold_by_hub-requires-clause-other : goal.hold_by_hub-requires-clause-other
 hold_by_hub-requires-clause-other c =
-    ap (λ h. runs_at h c.args.machine) (sym c.home_of.ensures) ∙ (sym c.is_home.ensures ∙ c.if-is_home.false)
+    ap (λ h. runs_at h c.args.machine) (sym c.requires.home) ∙ (sym c.is_home.ensures ∙ c.if-is_home.false)
 
 pub hold_by_hub-requires-clause-far : goal.hold_by_hub-requires-clause-far
 hold_by_hub-requires-clause-far c =
     preferred_missed (demand (view_of c.args.graph.now).case (length c.args.chosen.now)) c.deref.result.now
-    c.args.machine (c.deref.ensures.0 ∙ c.preferred_places-places.ensures)
+    c.args.machine (c.deref.ensures.0 ∙ c.requires.places)
     (sym c.preference_for.ensures ∙ c.in_default.is)
 
 pub hold_at-requires-in-Some-clause-allowed : goal.hold_at-requires-in-Some-clause-allowed
@@ -43,10 +43,10 @@ hold_at-requires-in-Some-clause-allowed c =
     let old : View = view_of c.args.graph.now in
     let p : List Choice = c.args.chosen.now in
     let it = preferred_found (demand old.case (length p)) c.deref.result.now c.args.machine c.in-Some.number
-    (c.deref.ensures.0 ∙ c.preferred_places-places.ensures) (sym c.preference_for.ensures ∙ c.in-Some.is) in
+    (c.deref.ensures.0 ∙ c.requires.places) (sym c.preference_for.ensures ∙ c.in-Some.is) in
     can_go old (price_of c.args.prices.now) p c.args.machine c.in-Some.number c.prefer_arc.result c.requires.keeps
     c.requires.chosen
-    (ap (λ h. runs_at h c.args.machine) (sym c.home_of.ensures) ∙ (sym c.is_home.ensures ∙ c.if-is_home.false))
+    (ap (λ h. runs_at h c.args.machine) (sym c.requires.home) ∙ (sym c.is_home.ensures ∙ c.if-is_home.false))
     it.0 it.1 c.prefer_arc.ensures
 
 pub returns-in-Some-clause-keeps : goal.returns-in-Some-clause-keeps
@@ -55,10 +55,10 @@ returns-in-Some-clause-keeps c =
     let old : View = view_of c.args.graph.now in
     let p : List Choice = c.args.chosen.now in
     let it = preferred_found (demand old.case (length p)) c.deref.result.now c.args.machine c.in-Some.number
-    (c.deref.ensures.0 ∙ c.preferred_places-places.ensures) (sym c.preference_for.ensures ∙ c.in-Some.is) in
+    (c.deref.ensures.0 ∙ c.requires.places) (sym c.preference_for.ensures ∙ c.in-Some.is) in
     held_near old (view_of c.hold_at-in-Some.new.graph) (price_of c.args.prices.now) p c.args.machine
     c.prefer_arc.result c.requires.keeps c.requires.next c.requires.chosen
-    (ap (λ h. runs_at h c.args.machine) (sym c.home_of.ensures) ∙ (sym c.is_home.ensures ∙ c.if-is_home.false))
+    (ap (λ h. runs_at h c.args.machine) (sym c.requires.home) ∙ (sym c.is_home.ensures ∙ c.if-is_home.false))
     it.0 h.shows h.same.case
     (c.prefer_arc.ensures ∙ ap (λ (k : ℕ). old.arc (Prefer (length p) k)) it.1)
     (record { here = h.here; flows = h.flows; others = h.others })

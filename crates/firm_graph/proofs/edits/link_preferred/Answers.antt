@@ -5,7 +5,8 @@ use Rattle.firm_net.specs.declared.row.ArcId.{ArcId}
 use Rattle.firm_rules.specs.Book.{machine_names}
 use Rattle.firm_graph.specs.Parts.{MachineParts}
 use Rattle.firm_graph.specs.Graph.{node_under, preferred_spans}
-use Rattle.firm_graph.proofs.Near.{link-step, take-whole, spans-counted}
+use Rattle.std.proofs.lemmas.List.{length-map}
+use Rattle.firm_graph.proofs.Near.{link-step, take-whole, spans-counted, spans-few}
 use Rattle.firm_graph.proofs.edits.link_preferred.Goals as goal
 
 pub link-arc-requires-clause-room : goal.link-arc-requires-clause-room
@@ -53,6 +54,7 @@ loop-name-preserved c = record {
     c.loop-name.invariant.so_far,
   );
   node = c.link-arc.ensures.nodes c.args.node c.loop-name.invariant.node;
+  nodes = λ n there. c.link-arc.ensures.nodes n (c.loop-name.invariant.nodes n there);
   heads = λ k d below.
       let was = c.loop-name.invariant.heads k d below in
       (c.link-arc.ensures.nodes _ was.0, was.1);
@@ -66,3 +68,34 @@ returns-clause-edit c =
     subst (λ (l : List (List ℕ)). IsEdit c.args.net.now c.loop-name.net [] [] []
     (preferred_spans c.args.node 0 (map under l) c.loop-name.arcs))
     (take-whole c.args.names.now c.loop-name.name-index c.loop-name-test.false) (c.loop-name.invariant.edit hub)
+
+pub returns-clause-arcs : goal.returns-clause-arcs
+returns-clause-arcs c =
+    let under : List ℕ → NodeId = node_under (machine_names c.args.rows.now)
+    (map (λ (p : MachineParts). p.node) c.args.machines.now) c.args.node in
+    let taken : List (List ℕ) = take c.loop-name.name-index c.args.names.now in
+    omega (
+      arith,
+      (c.loop-name.invariant.edit c.args.node).counted_arcs,
+      spans-few c.args.node 0 (map under taken) c.loop-name.arcs,
+      length-map taken under,
+      ap (λ (l : List (List ℕ)). length l)
+          (take-whole c.args.names.now c.loop-name.name-index c.loop-name-test.false),
+    )
+
+pub returns-clause-added : goal.returns-clause-added
+returns-clause-added c =
+    let under : List ℕ → NodeId = node_under (machine_names c.args.rows.now)
+    (map (λ (p : MachineParts). p.node) c.args.machines.now) c.args.node in
+    let taken : List (List ℕ) = take c.loop-name.name-index c.args.names.now in
+    omega (
+      arith,
+      (c.loop-name.invariant.edit c.args.node).added,
+      spans-few c.args.node 0 (map under taken) c.loop-name.arcs,
+      length-map taken under,
+      ap (λ (l : List (List ℕ)). length l)
+          (take-whole c.args.names.now c.loop-name.name-index c.loop-name-test.false),
+    )
+
+pub returns-clause-arc_room : goal.returns-clause-arc_room
+returns-clause-arc_room c = (c.loop-name.invariant.edit c.args.node).arc_room

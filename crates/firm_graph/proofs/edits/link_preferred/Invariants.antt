@@ -14,5 +14,6 @@ invariant-loop-name l = record {
       l.arcs);
   so_far : length l.arcs ≡ l.name-index;
   node : IsNode l.net l.node;
+  nodes : (n : NodeId) → IsNode l.initial.net n → IsNode l.net n;
   heads : All (λ head. IsNode l.net head × (l.node ≢ head)) (map (λ parts. parts.node) l.machines);
 }

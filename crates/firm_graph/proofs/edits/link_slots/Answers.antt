@@ -14,7 +14,7 @@ link-arc-requires-clause-room c =
       c.loop-k.invariant.edit.counted_arcs,
       c.loop-k.invariant.edit.arc_room,
       c.loop-k.invariant.so_far,
-      slots-count c.args.node c.args.sink c.args.spread 0 c.loop-k.slots.items,
+      slots-count c.args.ladder.node c.args.ladder.sink c.args.ladder.spread 0 c.loop-k.slots.items,
       c.loop-k-test.true,
     )
 
@@ -25,7 +25,7 @@ link-arc-requires-clause-stamps c =
       c.requires.stamps,
       c.loop-k.invariant.edit.added,
       c.loop-k.invariant.so_far,
-      slots-count c.args.node c.args.sink c.args.spread 0 c.loop-k.slots.items,
+      slots-count c.args.ladder.node c.args.ladder.sink c.args.ladder.spread 0 c.loop-k.slots.items,
       c.loop-k-test.true,
     )
 
@@ -33,21 +33,22 @@ pub loop-k-preserved : goal.loop-k-preserved
 loop-k-preserved c =
     let span : ℕ → Span = λ (k : ℕ). record {
       arc = c.link-arc.result;
-      tail = c.args.node;
-      head = c.args.sink;
+      tail = c.args.ladder.node;
+      head = c.args.ladder.sink;
       cap = 1;
-      cost = k * c.args.spread;
+      cost = k * c.args.ladder.spread;
     } in
-    let spans : slot_spans c.args.node c.args.sink c.args.spread 0 c.push_reserved.new.list.items
-    ≡ slot_spans c.args.node c.args.sink c.args.spread 0 c.loop-k.slots.items ++ span c.loop-k.k ∷ [] =
-    ap (λ (l : List ArcId). slot_spans c.args.node c.args.sink c.args.spread 0 l) c.push_reserved.ensures.items
-    ∙ slots-push c.args.node c.args.sink c.args.spread 0 c.loop-k.slots.items c.link-arc.result
-    ∙ ap (λ (k : ℕ). slot_spans c.args.node c.args.sink c.args.spread 0 c.loop-k.slots.items ++ span k ∷ [])
-    (let e : 0 + length c.loop-k.slots.items ≡ c.loop-k.k = omega (arith, c.loop-k.invariant.so_far) in e) in
+    let spans_on : List ArcId → List Span = slot_spans c.args.ladder.node c.args.ladder.sink c.args.ladder.spread 0 in
+    let was : List ArcId = c.loop-k.slots.items in
+    let spans : spans_on c.push_reserved.new.list.items ≡ spans_on was ++ span c.loop-k.k ∷ [] =
+    ap (λ (l : List ArcId). spans_on l) c.push_reserved.ensures.items
+    ∙ slots-push c.args.ladder.node c.args.ladder.sink c.args.ladder.spread 0 was c.link-arc.result
+    ∙ ap (λ (k : ℕ). spans_on was ++ span k ∷ [])
+    (let e : 0 + length was ≡ c.loop-k.k = omega (arith, c.loop-k.invariant.so_far) in e) in
     record {
       edit = subst (λ (l : List Span). IsEdit c.args.net.now c.link-arc.new.net [] [] [] l) (sym spans)
           (edit-then c.args.net.now c.loop-k.net c.link-arc.new.net []
-          (slot_spans c.args.node c.args.sink c.args.spread 0 c.loop-k.slots.items) (span c.loop-k.k ∷ [])
+          (spans_on was) (span c.loop-k.k ∷ [])
           c.loop-k.invariant.edit c.link-arc.ensures.edit);
       so_far = omega (
         arith,
@@ -58,6 +59,6 @@ loop-k-preserved c =
       );
       len = omega (arith, c.push_reserved.ensures.len, c.loop-k.invariant.len);
       reserved = omega (arith, c.push_reserved.ensures.capacity, c.loop-k.invariant.reserved);
-      node = c.link-arc.ensures.nodes c.args.node c.loop-k.invariant.node;
-      sink = c.link-arc.ensures.nodes c.args.sink c.loop-k.invariant.sink;
+      node = c.link-arc.ensures.nodes c.args.ladder.node c.loop-k.invariant.node;
+      sink = c.link-arc.ensures.nodes c.args.ladder.sink c.loop-k.invariant.sink;
     }

@@ -17,15 +17,16 @@ loop-place-preserved c = record {
       let listed : c.loop-place.place < length c.args.tasks.now = omega (arith, here, c.requires.tasks) in
       let below : c.loop-place.place < length g.tasks = omega
       (arith, listed, ap (λ (l : List TaskParts). length l) tasks_is) in
-      settle-next g c.args.rows.now c.args.machines.now c.args.hub c.args.choices.now c.loop-place.place _
-      c.index-tasks-place.result
-      c.stand_of-stand.result c.loop-place.net c.place_task.new.net
+      settle-next g c.args.rows.now c.args.heads.now.machines.now c.args.heads.now.hub c.args.choices.now
+      c.loop-place.place _ c.index-tasks-place.result
+      c.stand_of-stand.result c.loop-place.net c.settle_task.new.net
       rows_is machines_is hub_is here below
       (c.index-tasks-place.is ∙ ap (λ (l : List TaskParts). get_or l c.loop-place.place c.index-tasks-place.result)
       (sym tasks_is))
       (get_or_default c.args.choices.now c.loop-place.place Wait _ c.loop-place-test.true)
       c.stand_of-stand.ensures.stands
-      (c.loop-place.invariant.so_far g mirrors net_is rows_is machines_is tasks_is hub_is) c.place_task.ensures.placed;
+      (c.loop-place.invariant.so_far g mirrors net_is rows_is machines_is tasks_is hub_is)
+      c.settle_task.ensures.settled;
 }
 
 pub returns : goal.returns

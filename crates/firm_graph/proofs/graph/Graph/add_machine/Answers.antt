@@ -81,7 +81,7 @@ kept c =
           c.link_slots.new.slots.items;
     } in
     let count : c.get-count.result ≡ c.args.slots = c.get-count.ensures.value in
-    let spread : c.spread-spread.result ≡ g.rows.limits.spread = c.spread-spread.ensures.value ∙ ap
+    let spread : c.spread.result ≡ g.rows.limits.spread = c.spread.ensures.value ∙ ap
     (λ (l : TenantLimits). l.spread) c.limits-limits.ensures.limits in
     let P : ℕ → Type 0 = λ (cap : ℕ). IsEdit c.put_node-node.new.net c.link-through.new.net [] [] []
     (record { arc = parts.through; tail = g.hub; head = parts.node; cap = cap; cost = 0 } ∷ []) in

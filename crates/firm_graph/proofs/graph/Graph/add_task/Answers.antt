@@ -28,56 +28,39 @@ put_node-node-requires-clause-room c =
           c.in_ok-find_room.ensures.fits).0,
     )
 
-pub link-wide-requires-clause-head : goal.link-wide-requires-clause-head
-link-wide-requires-clause-head c =
-    c.put_node-node.ensures.nodes c.self.inside.hub (hub-there (graph_of c.self.inside) c.self.invariant.graph.mirrors)
+pub link_preferred-preferred-requires-clause-heads : goal.link_preferred-preferred-requires-clause-heads
+link_preferred-preferred-requires-clause-heads c =
+    let g : Graph = graph_of c.self.inside in
+    let P : List MachineParts → Type 0 = λ (ms : List MachineParts). All
+    (λ head. IsNode c.put_node-node.new.net head × (c.put_node-node.result ≢ head))
+    (map (λ (p : MachineParts). p.node) ms) in
+    subst P (sym c.deref.ensures.value)
+    (λ k d below.
+    let head : NodeId = get_or (machine_nodes g) k d in
+    let there : IsNode g.net head = machines-there g c.self.invariant.graph.mirrors k d below in (
+      c.put_node-node.ensures.nodes head there,
+      fresh-other c.self.inside.net c.put_node-node.result head c.put_node-node.ensures.fresh there,
+    ))
 
-pub link-wide-requires-clause-ends : goal.link-wide-requires-clause-ends
-link-wide-requires-clause-ends c =
-    fresh-other c.self.inside.net c.put_node-node.result c.self.inside.hub c.put_node-node.ensures.fresh
-    (hub-there (graph_of c.self.inside) c.self.invariant.graph.mirrors)
-
-pub link-wide-requires-clause-room : goal.link-wide-requires-clause-room
-link-wide-requires-clause-room c =
+pub link_preferred-preferred-requires-clause-room : goal.link_preferred-preferred-requires-clause-room
+link_preferred-preferred-requires-clause-room c =
     omega (
       arith,
       (room-left (graph_of c.self.inside) c.args.self.now 1 (3 + c.len-count.result) c.self.view_is
           c.self.invariant.graph.mirrors
           c.in_ok-find_room.ensures.fits).1,
+      c.len-count.ensures.value,
+      ap (λ (l : List (List ℕ)). length l) c.as_slice-names.ensures.names,
       c.put_node-node.ensures.edit.counted_arcs,
       c.put_node-node.ensures.edit.arc_room,
-    )
-
-pub link-stay-requires-clause-head : goal.link-stay-requires-clause-head
-link-stay-requires-clause-head c =
-    c.link-wide.ensures.nodes c.self.inside.hub
-    (c.put_node-node.ensures.nodes c.self.inside.hub
-    (hub-there (graph_of c.self.inside) c.self.invariant.graph.mirrors))
-
-pub link-stay-requires-clause-ends : goal.link-stay-requires-clause-ends
-link-stay-requires-clause-ends c =
-    fresh-other c.self.inside.net c.put_node-node.result c.self.inside.hub c.put_node-node.ensures.fresh
-    (hub-there (graph_of c.self.inside) c.self.invariant.graph.mirrors)
-
-pub link-stay-requires-clause-room : goal.link-stay-requires-clause-room
-link-stay-requires-clause-room c =
-    omega (
-      arith,
-      (room-left (graph_of c.self.inside) c.args.self.now 1 (3 + c.len-count.result) c.self.view_is
-          c.self.invariant.graph.mirrors
-          c.in_ok-find_room.ensures.fits).1,
-      c.put_node-node.ensures.edit.counted_arcs,
-      c.put_node-node.ensures.edit.arc_room,
-      c.link-wide.ensures.edit.counted_arcs,
-      c.link-wide.ensures.edit.arc_room,
     )
 
 pub link-wait-requires-clause-head : goal.link-wait-requires-clause-head
 link-wait-requires-clause-head c =
-    c.link-stay.ensures.nodes c.index.result.now.node
-    (c.link-wide.ensures.nodes c.index.result.now.node (c.put_node-node.ensures.nodes c.index.result.now.node
+    c.link_preferred-preferred.ensures.nodes c.index.result.now.node
+    (c.put_node-node.ensures.nodes c.index.result.now.node
     (job-read (graph_of c.self.inside) c.in-Some.place c.index.result.now c.self.invariant.graph.mirrors c.args.job
-    (sym c.in-Some.ensures.place) c.index.ensures)))
+    (sym c.in-Some.ensures.place) c.index.ensures))
 
 pub link-wait-requires-clause-ends : goal.link-wait-requires-clause-ends
 link-wait-requires-clause-ends c =
@@ -92,51 +75,79 @@ link-wait-requires-clause-room c =
       (room-left (graph_of c.self.inside) c.args.self.now 1 (3 + c.len-count.result) c.self.view_is
           c.self.invariant.graph.mirrors
           c.in_ok-find_room.ensures.fits).1,
-      c.put_node-node.ensures.edit.counted_arcs,
-      c.put_node-node.ensures.edit.arc_room,
-      c.link-wide.ensures.edit.counted_arcs,
-      c.link-wide.ensures.edit.arc_room,
-      c.link-stay.ensures.edit.counted_arcs,
-      c.link-stay.ensures.edit.arc_room,
-    )
-
-pub link_preferred-preferred-requires-clause-heads : goal.link_preferred-preferred-requires-clause-heads
-link_preferred-preferred-requires-clause-heads c =
-    let g : Graph = graph_of c.self.inside in
-    let P : List MachineParts → Type 0 = λ (ms : List MachineParts). All
-    (λ head. IsNode c.link-wait.new.net head × (c.put_node-node.result ≢ head)) (map (λ (p : MachineParts). p.node) ms)
-    in
-    subst P (sym c.deref.ensures.value)
-    (λ k d below.
-    let head : NodeId = get_or (machine_nodes g) k d in
-    let there : IsNode g.net head = machines-there g c.self.invariant.graph.mirrors k d below in (
-      c.link-wait.ensures.nodes head
-          (c.link-stay.ensures.nodes head (c.link-wide.ensures.nodes head (c.put_node-node.ensures.nodes head there))),
-      fresh-other c.self.inside.net c.put_node-node.result head c.put_node-node.ensures.fresh there,
-    ))
-
-pub link_preferred-preferred-requires-clause-room : goal.link_preferred-preferred-requires-clause-room
-link_preferred-preferred-requires-clause-room c =
-    omega (
-      arith,
-      (room-left (graph_of c.self.inside) c.args.self.now 1 (3 + c.len-count.result) c.self.view_is
-          c.self.invariant.graph.mirrors c.in_ok-find_room.ensures.fits).1,
       c.len-count.ensures.value,
       ap (λ (l : List (List ℕ)). length l) c.as_slice-names.ensures.names,
       c.put_node-node.ensures.edit.counted_arcs,
       c.put_node-node.ensures.edit.arc_room,
-      c.link-wide.ensures.edit.counted_arcs,
-      c.link-wide.ensures.edit.arc_room,
-      c.link-stay.ensures.edit.counted_arcs,
-      c.link-stay.ensures.edit.arc_room,
+      c.link_preferred-preferred.ensures.arcs,
+      c.link_preferred-preferred.ensures.arc_room,
+    )
+
+pub link-stay-requires-clause-head : goal.link-stay-requires-clause-head
+link-stay-requires-clause-head c =
+    c.link-wait.ensures.nodes c.self.inside.hub
+    (c.link_preferred-preferred.ensures.nodes c.self.inside.hub
+    (c.put_node-node.ensures.nodes c.self.inside.hub
+    (hub-there (graph_of c.self.inside) c.self.invariant.graph.mirrors)))
+
+pub link-stay-requires-clause-ends : goal.link-stay-requires-clause-ends
+link-stay-requires-clause-ends c =
+    fresh-other c.self.inside.net c.put_node-node.result c.self.inside.hub c.put_node-node.ensures.fresh
+    (hub-there (graph_of c.self.inside) c.self.invariant.graph.mirrors)
+
+pub link-stay-requires-clause-room : goal.link-stay-requires-clause-room
+link-stay-requires-clause-room c =
+    omega (
+      arith,
+      (room-left (graph_of c.self.inside) c.args.self.now 1 (3 + c.len-count.result) c.self.view_is
+          c.self.invariant.graph.mirrors
+          c.in_ok-find_room.ensures.fits).1,
+      c.len-count.ensures.value,
+      ap (λ (l : List (List ℕ)). length l) c.as_slice-names.ensures.names,
+      c.put_node-node.ensures.edit.counted_arcs,
+      c.put_node-node.ensures.edit.arc_room,
+      c.link_preferred-preferred.ensures.arcs,
+      c.link_preferred-preferred.ensures.arc_room,
       c.link-wait.ensures.edit.counted_arcs,
       c.link-wait.ensures.edit.arc_room,
+    )
+
+pub link-wide-requires-clause-head : goal.link-wide-requires-clause-head
+link-wide-requires-clause-head c =
+    c.link-stay.ensures.nodes c.self.inside.hub
+    (c.link-wait.ensures.nodes c.self.inside.hub
+    (c.link_preferred-preferred.ensures.nodes c.self.inside.hub
+    (c.put_node-node.ensures.nodes c.self.inside.hub
+    (hub-there (graph_of c.self.inside) c.self.invariant.graph.mirrors))))
+
+pub link-wide-requires-clause-ends : goal.link-wide-requires-clause-ends
+link-wide-requires-clause-ends c =
+    fresh-other c.self.inside.net c.put_node-node.result c.self.inside.hub c.put_node-node.ensures.fresh
+    (hub-there (graph_of c.self.inside) c.self.invariant.graph.mirrors)
+
+pub link-wide-requires-clause-room : goal.link-wide-requires-clause-room
+link-wide-requires-clause-room c =
+    omega (
+      arith,
+      (room-left (graph_of c.self.inside) c.args.self.now 1 (3 + c.len-count.result) c.self.view_is
+          c.self.invariant.graph.mirrors
+          c.in_ok-find_room.ensures.fits).1,
+      c.len-count.ensures.value,
+      ap (λ (l : List (List ℕ)). length l) c.as_slice-names.ensures.names,
+      c.put_node-node.ensures.edit.counted_arcs,
+      c.put_node-node.ensures.edit.arc_room,
+      c.link_preferred-preferred.ensures.arcs,
+      c.link_preferred-preferred.ensures.arc_room,
+      c.link-wait.ensures.edit.counted_arcs,
+      c.link-wait.ensures.edit.arc_room,
+      c.link-stay.ensures.edit.counted_arcs,
+      c.link-stay.ensures.edit.arc_room,
     )
 
 kept : (c : goal.After-self-1)
     → Mirrors (record {
       rows = c.grow_tasks.new.rows;
-      net = c.link_preferred-preferred.new.net;
+      net = c.link-wide.new.net;
       hub = c.self.inside.hub;
       sink =
           c.self.inside.sink;
@@ -156,7 +167,7 @@ kept c =
     } in
     let names : c.as_slice-names.result.now ≡ c.args.preferred = c.as_slice-names.ensures.names in
     let E : TenantRows → List MachineParts → List (List ℕ) → Type 0 =
-    λ (r : TenantRows) (ms : List MachineParts) (asked : List (List ℕ)). IsEdit c.link-wait.new.net
+    λ (r : TenantRows) (ms : List MachineParts) (asked : List (List ℕ)). IsEdit c.put_node-node.new.net
     c.link_preferred-preferred.new.net [] [] [] (preferred_spans parts.node 0
     (map (node_under (machine_names r) (map (λ (p : MachineParts). p.node) ms) g.hub) asked) ids) in
     let near : E g.rows g.machines c.args.preferred =
@@ -164,13 +175,13 @@ kept c =
     (subst (λ (ms : List MachineParts). E g.rows ms c.as_slice-names.result.now) c.deref.ensures.value
     (subst (λ (r : TenantRows). E r c.deref.result.now c.as_slice-names.result.now) c.in-Ok.ensures.ok
     (c.link_preferred-preferred.ensures.edit g.hub))) in
-    said (task_added g c.link_preferred-preferred.new.net parts c.args.job c.args.name c.args.preferred)
+    said (task_added g c.link-wide.new.net parts c.args.job c.args.name c.args.preferred)
     c.grow_tasks.new.rows g.machines g.jobs c.push_reserved-2.new.list.items c.in-Ok.ensures.ok refl refl
     (c.push_reserved-2.ensures.items ∙ ap (λ (l : List TaskParts). l ++ parts ∷ []) c.grow_tasks.ensures.parts)
-    (task-added g c.put_node-node.new.net c.link-wide.new.net c.link-stay.new.net c.link-wait.new.net
-    c.link_preferred-preferred.new.net parts c.args.job c.args.name c.args.preferred
+    (task-added g c.put_node-node.new.net c.link_preferred-preferred.new.net c.link-wait.new.net c.link-stay.new.net
+    c.link-wide.new.net parts c.args.job c.args.name c.args.preferred
     c.index.result.now.node c.away_cost.result c.get.result c.self.invariant.graph.mirrors
-    c.put_node-node.ensures.edit c.link-wide.ensures.edit c.link-stay.ensures.edit c.link-wait.ensures.edit near
+    c.put_node-node.ensures.edit near c.link-wait.ensures.edit c.link-stay.ensures.edit c.link-wide.ensures.edit
     (ap (λ (p : JobParts). p.node) c.index.ensures ∙ owner-read g c.args.job c.in-Some.place
     (sym c.in-Some.ensures.place) c.self.invariant.graph.mirrors.jobs c.index.result.now)
     (c.get.ensures.value ∙ weight-read g.rows c.args.job c.in-Some.place c.in-Some-job_at.row

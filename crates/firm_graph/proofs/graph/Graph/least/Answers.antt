@@ -9,6 +9,7 @@ use Rattle.firm_paths.specs.NetArcs.{arcs_of}
 use Rattle.firm_flow.specs.Flow.{carried}
 use Rattle.firm_flow.specs.NetFlow.{places}
 use Rattle.firm_graph.specs.Graph.{Graph, task_nodes}
+use Rattle.firm_graph.specs.Parts.{Lineup}
 use Rattle.firm_graph.specs.declared.parts.TaskParts.{TaskParts}
 use Rattle.firm_graph.specs.Inside.{graph_of}
 use Rattle.firm_graph.proofs.Cuts.{no-cut, distinct}
@@ -31,51 +32,60 @@ line_up-requires-clause-there c =
     subst (λ (l : List TaskParts). All (λ parts. IsArc g.net parts.arcs.wait) l) (sym c.deref.ensures.value)
     (waits-there g c.self.invariant.graph.mirrors)
 
-pub solve-requires-clause-nodes : goal.solve-requires-clause-nodes
-solve-requires-clause-nodes c =
-    let same = lined-up (graph_of c.self.inside) c.deref.result.now c.line_up.new.self.nodes c.nodes-order.result.now
-    c.deref.ensures.value c.nodes-order.ensures c.line_up.ensures.order in
-    distinct (graph_of c.self.inside) c.nodes-order.result.now c.self.invariant.graph.mirrors same
+pub send_all-requires-clause-nodes : goal.send_all-requires-clause-nodes
+send_all-requires-clause-nodes c =
+    let nodes : List NodeId = c.propose.new.self.nodes in
+    let same = lined-up (graph_of c.self.inside) c.deref.result.now c.line_up.new.self.nodes nodes
+    c.deref.ensures.value (ap (λ (l : Lineup). l.nodes) c.propose.ensures.same) c.line_up.ensures.order in
+    distinct (graph_of c.self.inside) nodes c.self.invariant.graph.mirrors same
 
 pub unreachable-requires : goal.unreachable-requires
 unreachable-requires c =
-    let same = lined-up (graph_of c.self.inside) c.deref.result.now c.line_up.new.self.nodes c.nodes-order.result.now
-    c.deref.ensures.value c.nodes-order.ensures c.line_up.ensures.order in
+    let nodes : List NodeId = c.propose.new.self.nodes in
+    let same = lined-up (graph_of c.self.inside) c.deref.result.now c.line_up.new.self.nodes nodes
+    c.deref.ensures.value (ap (λ (l : Lineup). l.nodes) c.propose.ensures.same) c.line_up.ensures.order in
     let cut = c.in_default.ensures.no_way in
-    no-cut (graph_of c.self.inside) c.nodes-order.result.now cut.0 c.self.invariant.graph.mirrors
+    no-cut (graph_of c.self.inside) nodes cut.0 c.self.invariant.graph.mirrors
     c.self.invariant.graph.sound same cut.1
 
 pub invariant_of-self : goal.invariant_of-self
 invariant_of-self c =
     record {
-      graph = reflowed_graph (graph_of c.self.inside) c.solve.new.net c.self.invariant.graph c.solve.ensures.net
-          c.solve.ensures.same;
+      graph = reflowed_graph (graph_of c.self.inside) c.send_all.new.net c.self.invariant.graph c.send_all.ensures.net
+          c.send_all.ensures.same;
       sources = c.self.invariant.sources;
-      room = omega (arith, c.self.invariant.room, c.line_up.ensures.room);
+      room = omega (
+        arith,
+        c.self.invariant.room,
+        c.line_up.ensures.room,
+        ap (λ (l : Lineup). l.room) c.propose.ensures.same,
+        ap (λ (l : Lineup). l.room) c.send_all.ensures.order,
+      );
     }
 
 pub returns-clause-graph : goal.returns-clause-graph
 returns-clause-graph c =
-    reflowed_graph (graph_of c.self.inside) c.solve.new.net c.self.invariant.graph c.solve.ensures.net
-    c.solve.ensures.same
+    reflowed_graph (graph_of c.self.inside) c.send_all.new.net c.self.invariant.graph c.send_all.ensures.net
+    c.send_all.ensures.same
 
 pub returns-clause-shows : goal.returns-clause-shows
 returns-clause-shows c =
-    graph-shows (record (graph_of c.self.inside) { net = c.solve.new.net })
-    (reflowed_graph (graph_of c.self.inside) c.solve.new.net c.self.invariant.graph c.solve.ensures.net
-    c.solve.ensures.same)
+    graph-shows (record (graph_of c.self.inside) { net = c.send_all.new.net })
+    (reflowed_graph (graph_of c.self.inside) c.send_all.new.net c.self.invariant.graph c.send_all.ensures.net
+    c.send_all.ensures.same)
 
 pub returns-clause-least : goal.returns-clause-least
 returns-clause-least c =
-    let same = lined-up (graph_of c.self.inside) c.deref.result.now c.line_up.new.self.nodes c.nodes-order.result.now
-    c.deref.ensures.value c.nodes-order.ensures c.line_up.ensures.order in
+    let nodes : List NodeId = c.propose.new.self.nodes in
+    let same = lined-up (graph_of c.self.inside) c.deref.result.now c.line_up.new.self.nodes nodes
+    c.deref.ensures.value (ap (λ (l : Lineup). l.nodes) c.propose.ensures.same) c.line_up.ensures.order in
     let g : Graph = graph_of c.self.inside in
-    let net : Net = c.solve.new.net in
+    let net : Net = c.send_all.new.net in
     let sink : ℕ = g.sink.id.place in
-    let ours : List ℕ = places c.nodes-order.result.now in
+    let ours : List ℕ = places nodes in
     let theirs : List ℕ = places (task_nodes g) in
     let there : IsPermutation theirs ours =
-    IsPermutation-map (λ (n : NodeId). n.id.place) (task_nodes g) c.nodes-order.result.now same in
+    IsPermutation-map (λ (n : NodeId). n.id.place) (task_nodes g) nodes same in
     let found : IsLeastFlow net ours sink = c.in-Ok.ensures.least in
     let least : IsLeastFlow net theirs sink = record {
       feasible = c.in_any_order.ensures (arcs_of net) ours theirs sink carried (IsPermutation-sym theirs ours there)
@@ -88,10 +98,11 @@ returns-clause-least c =
 
 pub returns-clause-counts : goal.returns-clause-counts
 returns-clause-counts c =
-    let same = lined-up (graph_of c.self.inside) c.deref.result.now c.line_up.new.self.nodes c.nodes-order.result.now
-    c.deref.ensures.value c.nodes-order.ensures c.line_up.ensures.order in
+    let nodes : List NodeId = c.propose.new.self.nodes in
+    let same = lined-up (graph_of c.self.inside) c.deref.result.now c.line_up.new.self.nodes nodes
+    c.deref.ensures.value (ap (λ (l : Lineup). l.nodes) c.propose.ensures.same) c.line_up.ensures.order in
     let g : Graph = graph_of c.self.inside in
-    let made = c.solve.ensures.counts in
+    let made = c.send_all.ensures.counts in
     let tasks : length (view_of c.args.self.now).case.tasks ≡ length (view_of g).case.tasks = ap
     (λ (h : Graph). length (view_of h).case.tasks) (sym c.self.view_is) in
     let net : arc_count g.net ≡ arc_count c.args.self.now.net = ap (λ (h : Graph). arc_count h.net) c.self.view_is in (
@@ -99,9 +110,9 @@ returns-clause-counts c =
       omega (
         arith,
         made.1,
-        length_permutation (task_nodes g) c.nodes-order.result.now same,
+        length_permutation (task_nodes g) nodes same,
         tasks,
         task-count g c.self.invariant.graph,
       ),
-      subst (λ (n : ℕ). HasSearched c.args.scratch.now c.solve.new.scratch made.0 n) net made.2,
+      subst (λ (n : ℕ). HasSearched c.args.scratch.now c.send_all.new.scratch made.0 n) net made.2,
     )
