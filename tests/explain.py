@@ -9,26 +9,34 @@ The long run takes some ten minutes. It needs a C compiler for refuse.c.
 from __future__ import annotations
 
 import argparse
+import errno
+import math
 import os
 import random
 import re
-import struct
 import subprocess
 import tempfile
 from collections import Counter
 from functools import partial
 from importlib.machinery import SourceFileLoader
 from importlib.util import module_from_spec, spec_from_loader
+from itertools import product
 from pathlib import Path
-from typing import Any, Iterator, NamedTuple
+from typing import Any, Iterator, Mapping, NamedTuple
 
+import faults
 from harness import kinds, program, service
 from harness.checks import CannotRun, Check, count_ends, passes, require, run_script
 from harness.small_streams import random_stream, with_noise
 
 EXPLAIN = program.built("firm_explain")
-MOST_TIMES = 3  # firm's processor time, on streams that take some
-SPARE_SECONDS = 0.1  # for starting, and for what a clock tick hides
+WORKED = program.ROOT / "crates" / "firm_explain"  # with the rounds that docs/EXPLAIN.md works by hand
+MOST_TIMES = 3  # firm's processor time
+TIMED_SECONDS = 1.0  # which firm takes, about, for a stream that is timed
+CLAIM = re.compile(r"(.*) (?:at least (\d+) more|as much(?:, ranks after)?)")
+CHANGES = ("waits:", "preempted", "starts", "moves", "stays")  # the words behind the name in a task's line
+
+Choice = str | None  # a machine; None is to wait
 
 
 class Options(NamedTuple):
@@ -80,13 +88,18 @@ class Written:
         self.folder.cleanup()
 
 
-def judge(stream: Stream, output: bytes) -> str:
-    """What the checker says of an output: how many rounds are shown, or what is not so."""
+def judge(stream: Stream, output: bytes, *words: str) -> str:
+    """What the checker says of an output: how many rounds are shown, or what is not so. The words are its options."""
     with Written(stream, output) as paths:
         try:
-            return str(CHECKER.main(*paths))
+            return str(CHECKER.main([*paths, *words]))
         except SystemExit as reason:
             return str(reason.code)
+
+
+def require_refused(stream: Stream, output: bytes, what: object, *words: str) -> None:
+    said = judge(stream, output, *words)
+    require(said.startswith("NOT SHOWN"), f"{what}: {said}")
 
 
 def run_timed(words: list[str], stream: Stream) -> Timed:
@@ -114,10 +127,15 @@ def explained(options: Options, stream: Stream, *words: str) -> bytes:
     """What firm_explain writes, once its replies are firm's and the checker has taken each round."""
     output = run_timed([options.explain, *words], stream).output
     require(without_comments(output) == run_timed([options.firm], stream).output, "other replies")
-    count = rounds_in(output)
-    said = judge(stream, output)
-    require(said == f"shown least: {count} of {count} rounds", said)
+    require_shown(stream, output, *words)
     return output
+
+
+def require_shown(stream: Stream, output: bytes, *words: str) -> None:
+    """Asks that the checker takes each round, and each word of its reasons."""
+    count = rounds_in(output)
+    said = judge(stream, output, "--claims", *words)
+    require(said == f"shown least: {count} of {count} rounds", said)
 
 
 def size_of(options: Options) -> tuple[int, int]:
@@ -137,13 +155,24 @@ def kind_is_shown(options: Options, kind: str) -> None:
         explained(options, stream, *words.split())
 
 
+def repeated(stream: Stream, times: int) -> Stream:
+    """A stream of one tenant, which is retired and admitted again before each further time."""
+    row = stream.roster.splitlines()[1]
+    again = b"+ retire %s\n+ admit %s\n" % (kinds.TENANT.encode(), row)
+    return stream._replace(text=again.join([stream.text] * times))
+
+
 def kind_is_quick(options: Options, kind: str) -> None:
-    """The processor time of a kind's stream is at most three times that of firm."""
-    stream = stream_of(kind, *size_of(options))
-    firm = min(run_timed([options.firm], stream).seconds for _ in range(3))
-    explain = min(run_timed([options.explain], stream).seconds for _ in range(3))
-    require(explain <= MOST_TIMES * firm + SPARE_SECONDS, f"{explain:.2f} s, and firm {firm:.2f} s")
-    print(f"{kind}: {explain:.2f} s, firm {firm:.2f} s", flush=True)
+    """The processor time of a stream, repeated until firm takes a second, is at most three times that of firm."""
+    once = stream_of(kind, *size_of(options))
+    seconds = min(run_timed([options.firm], once).seconds for _ in range(3))
+    stream = repeated(once, math.ceil(TIMED_SECONDS / seconds))
+    firm = min(run_timed([options.firm], stream).seconds for _ in range(2))
+    runs = [run_timed([options.explain], stream) for _ in range(2)]
+    explain = min(run.seconds for run in runs)
+    require(runs[0].output.count(b"\n# least: ") == rounds_in(runs[0].output), "rounds without reasons")
+    print(f"| {kind} | {firm:.2f} s | {explain:.2f} s | {explain / firm:.1f} |", flush=True)
+    require(explain <= MOST_TIMES * firm, f"{explain:.2f} s, and firm {firm:.2f} s")
 
 
 def has_roster(stream: Stream) -> bool:
@@ -184,7 +213,7 @@ def changed(draw: random.Random, output: bytes) -> bytes | None:
     spots = [
         found.span()
         for line in re.finditer(rb"^#.*$", output, re.MULTILINE)
-        for found in re.compile(rb"(?<![\w-])\d+(?![\w-])").finditer(output, *line.span())
+        for found in re.compile(rb"(?<![\w-])\d+(?![\w-])").finditer(output, line.start(), line.end())
     ]
     if not spots:
         return None
@@ -195,7 +224,7 @@ def changed(draw: random.Random, output: bytes) -> bytes | None:
 
 
 def changes_are_refused(options: Options, count: int) -> None:
-    """No output passes in which one number of a certificate is changed."""
+    """No output passes in which one number of a comment line is changed."""
     draw = random.Random(1)
     tried = seed = 0
     while tried < count:
@@ -208,64 +237,229 @@ def changes_are_refused(options: Options, count: int) -> None:
             continue
         words = ["--all"] if draw.random() < 0.5 else []
         words += ["--why", "a" if kind == "small" else "t3"] if draw.random() < 0.5 else []
+        words += ["--machine", str(draw.randint(1, 64))] if draw.random() < 0.5 else []
         output = explained(options, stream, *words)
         for _ in range(5):
             other = changed(draw, output)
             if other is not None:
                 tried += 1
-                if not judge(stream, other).startswith("NOT SHOWN"):
-                    places = [at for at, (a, b) in enumerate(zip(output.split(b"\n"), other.split(b"\n"))) if a != b]
-                    raise AssertionError(f"{kind}, seed {seed}, {words}: {other.splitlines()[places[0]]!r}")
+                places = [at for at, (a, b) in enumerate(zip(output.split(b"\n"), other.split(b"\n"))) if a != b]
+                what = f"{kind}, seed {seed}, {words}: {other.splitlines()[places[0]]!r}"
+                require_refused(stream, other, what, "--claims", *words)
 
 
-def least_cost(tenant: Any, task: str, choice: str | None) -> int:
-    """What the cheapest placement costs in which the task has the choice, of all placements."""
-    names, best = list(tenant.task), 1 << 60
-    load = dict.fromkeys(tenant.machine, 0)
+def worked_stream() -> Stream:
+    """The rounds that docs/EXPLAIN.md works by hand."""
+    return Stream((WORKED / "data" / "roster.csv").read_bytes(), (WORKED / "stdin").read_bytes())
+
+
+WRONG_WORDS = [
+    (b"# b1 preempted from m1:", b"# b1 waits:"),
+    (b"# b1 preempted from m1:", b"# b1 moves from m7 to m9:"),
+    (b"# b1 preempted from m1:", b"# b1 preempted from m2:"),
+    (b"# w2 starts on m1:", b"# w2 starts on m2:"),
+    (b"; m2 as much, ranks after", b"; m2 as much"),
+    (b"; m1 as much", b"; m1 as much, ranks after"),
+    (b"; to wait as much, ranks after", b"; to wait as much"),
+    (b"; to stay at least 3 more", b""),
+    (b"; to stay at least 3 more; m2 at least 8 more", b"; m2 at least 8 more; to stay at least 3 more"),
+    (b"; m2 at least 8 more", b""),
+    (b"; m1 at least 5 more", b"; m3 as much"),
+    (b"; m1 at least 5 more", b"; m2 at least 5 more"),
+    (b" of 2 slots ", b" of 3 slots "),
+    (b": for w2 w3", b": for w3 w2"),
+    (b": for w2 w3", b": for w2"),
+    (b"# w1's rents: ", b"# w2's rents: "),
+    (b"# w1 stays on m1", b"# w1 starts on m1"),
+    (b", but m3 5", b""),
+]
+WRONG_CROWDS = [
+    (b"# t0 and 24 others wait", b"# t1 and 24 others wait"),
+    (b"; each machine at least 2 more", b""),
+    (b"; each machine at least 2 more", b"; a machine as much"),
+    (b"; a machine as much", b"; each machine at least 1 more"),
+    (b" wait: 6 to 10 each", b" wait: 10 each"),
+]
+
+
+def wrong_outputs(output: bytes) -> Iterator[tuple[str, bytes]]:
+    """Each wrong output that differs from this one in comment lines, with what is wrong."""
+    lines = output.splitlines(keepends=True)
+    for place, line in enumerate(lines):
+        if line.startswith(b"#"):
+            yield f"without {line!r}", b"".join(lines[:place] + lines[place + 1 :])
+            yield f"twice {line!r}", b"".join(lines[:place] + [line] + lines[place:])
+            if lines[place + 1 : place + 2] and lines[place + 1].startswith(b"#") and lines[place + 1] != line:
+                yield f"later {line!r}", b"".join(lines[:place] + [lines[place + 1], line] + lines[place + 2 :])
+    yield "without its tasks", b"".join(line for line in lines if not has_change(line.decode()))
+    yield "without reasons", without_comments(output)
+
+
+def replaced(output: bytes, old: bytes, new: bytes) -> bytes:
+    """An output with the first of these words changed."""
+    require(old in output, f"there is no {old!r}")
+    return output.replace(old, new, 1)
+
+
+def has_change(line: str) -> bool:
+    """Whether a line is that of a task."""
+    return line.startswith("#") and line.split(" ")[2] in CHANGES
+
+
+def wrong_outputs_are_refused(options: Options) -> None:
+    """No output passes in which a line or a word of the reasons is missing, wrong, in another place or one too many."""
+    words = ["--why", "w1", "--machine", "2"]
+    stream = worked_stream()
+    output = explained(options, stream, *words)
+    for old, new in WRONG_WORDS:
+        require_refused(stream, replaced(output, old, new), (old, new), "--claims", *words)
+    for what, other in wrong_outputs(output):
+        require_refused(stream, other, what, "--claims", *words)
+
+
+def wrong_crowds_are_refused(options: Options) -> None:
+    """The same where many tasks wait for the same reason."""
+    stream = crowded_stream()
+    output = explained(options, stream)
+    for old, new in WRONG_CROWDS:
+        require_refused(stream, replaced(output, old, new), (old, new), "--claims")
+    for word in ("", "--all"):
+        for what, other in wrong_outputs(explained(options, stream, *word.split())):
+            require_refused(stream, other, what, "--claims", *word.split())
+
+
+def crowded_stream() -> Stream:
+    """A stream in which tasks of two jobs wait, in the first round for two reasons."""
+    roster = b"tenant,nodes,arcs,life,spread,churn,remote\nalpha,60,400,100,3,5,2\n"
+    rows = b"alpha machine m 1\nalpha machine n 1\nalpha job j 5\nalpha job k 9\n"
+    tasks = b"".join(b"alpha task j t%d\nalpha task k u%d m\n" % (number, number) for number in range(25))
+    return Stream(roster, rows + tasks + b"alpha round\n" * 2)
+
+
+def proofs_stand_alone(options: Options) -> None:
+    """Without --claims the checker looks at the rents and the sums alone, and takes no other number of theirs."""
+    stream = worked_stream()
+    output = explained(options, stream)
+    require(judge(stream, output) == "shown least: 3 of 3 rounds", judge(stream, output))
+    for line in re.finditer(rb"^# (low rents|high rents|least): .*$", output, re.MULTILINE):
+        for found in re.compile(rb"(?<![\w-])\d+").finditer(output, line.start(), line.end()):
+            for number in {int(found.group()) + 1, max(0, int(found.group()) - 1)} - {int(found.group())}:
+                other = output[: found.start()] + b"%d" % number + output[found.end() :]
+                require_refused(stream, other, f"{line.group()!r}: {found.group()!r} as {number}")
+    for old, new in [
+        (b"start w2 m1", b"start w2 m2"),
+        (b"cost 21 preempt", b"cost 20 preempt"),
+        (b" start b1 m3", b""),
+    ]:
+        require_refused(stream, replaced(output, old, new), (old, new))
+
+
+def least_cost(tenant: Any, slots: Mapping[str, int], fixed: Mapping[str, Choice]) -> int:
+    """What the cheapest placement costs with such slots in which the fixed tasks have these choices, of all of them."""
+    names, best = list(tenant.tasks), 1 << 60
+    load = dict.fromkeys(slots, 0)
 
     def place(number: int, cost: int) -> None:
         nonlocal best
         if cost >= best or number == len(names):
             best = min(best, cost)
             return
-        for other in [choice] if names[number] == task else [*tenant.machine, None]:
-            more = tenant.cost_of(tenant.task[names[number]], other)
-            if other is None:
+        name = names[number]
+        for choice in [fixed[name]] if name in fixed else [*slots, None]:
+            more = tenant.cost_of(name, choice)
+            if choice is None:
                 place(number + 1, cost + more)
-            elif load[other] < tenant.machine[other]:
-                load[other] += 1
-                place(number + 1, cost + more + tenant.spread * (load[other] - 1))
-                load[other] -= 1
+            elif load[choice] < slots[choice]:
+                load[choice] += 1
+                place(number + 1, cost + more + tenant.spread * (load[choice] - 1))
+                load[choice] -= 1
 
     place(0, 0)
     return best
 
 
-def claims_of(tenant: Any, comments: list[str], task: str) -> Iterator[tuple[str | None, int]]:
-    """The other choices of the task that --why names, and how much more each costs."""
-    behind = [place for place, line in enumerate(comments) if line.startswith(f"# {task}'s rents: ")]
-    for claim in comments[behind[0] + 1].split("; ")[1:] if behind else []:
-        others, more = CHECKER.fields(r"(.*) (?:at least (\d+) more|as much(?:, ranks after)?)", claim)
-        for other in others.split(", "):
-            yield {"to wait": None, "to stay": tenant.task[task].home}.get(other, other), int(more or 0)
+class Claim(NamedTuple):
+    """How much more another choice of a task costs by an output, and what shows that."""
+
+    task: str
+    choice: Choice
+    more: int
+    shown_by: str
+
+
+OWN_RENTS, ITS_WAIT, BOTH_TABLES = (
+    "choices by own rents",
+    "choices of tasks that wait",
+    "bounds",
+)  # the last not exactly
+
+
+def claims_of(found: Any) -> Iterator[Claim]:
+    """What a round says of other choices."""
+    has_own_rents = False
+    for line in found.comments:
+        if has_change(line):
+            task = line.split(" ")[1]
+            for others, more in (claim_in(text) for text in line.split("; ")[1:]):
+                for other in others:
+                    choice = {"to wait": None, "to stay": found.tenant.tasks[task].home}.get(other, other)
+                    shown_by = ITS_WAIT if None in (choice, found.to[task]) else BOTH_TABLES
+                    yield Claim(task, choice, more, OWN_RENTS if has_own_rents else shown_by)
+        has_own_rents = "'s rents: " in line
+
+
+def claim_in(text: str) -> tuple[list[str], int]:
+    """The choices of a claim, and how much more they cost."""
+    found = CLAIM.fullmatch(text)
+    if found is None:
+        raise AssertionError(f"no claim: {text}")
+    return found.group(1).split(", "), int(found.group(2) or 0)
+
+
+def claims_are_exact(found: Any) -> Iterator[str]:
+    """What is said of other choices, beside the cheapest of all placements with such a choice."""
+    for claim in claims_of(found):
+        cost = least_cost(found.tenant, found.tenant.slots, {claim.task: claim.choice})
+        wanted = cost - int(found.reply[5])
+        require(claim.more == wanted or claim.more < wanted and claim.shown_by == BOTH_TABLES, f"{claim}: {wanted}")
+        yield claim.shown_by
+
+
+def slots_are_exact(found: Any) -> Iterator[str]:
+    """What one slot more or less of each machine, and one more machine of one slot, save or cost by a round's rents."""
+    tenant, cost = found.tenant, int(found.reply[5])
+    low, high = (found.rents(line) for line in found.comments[1:3])
+    load = Counter(found.to.values())
+    for machine, slots in tenant.slots.items():
+        saved = cost - least_cost(tenant, {**tenant.slots, machine: slots + 1}, {})
+        require(saved == max(0, low[machine] - slots * tenant.spread), f"a slot more of {machine} saves {saved}")
+        yield "slots more"
+        if load[machine] == slots:
+            lost = least_cost(tenant, {**tenant.slots, machine: slots - 1}, {}) - cost
+            require(lost == high[machine] - (slots - 1) * tenant.spread, f"a slot less of {machine} costs {lost}")
+            yield "slots less"
+    saved = cost - least_cost(tenant, {**tenant.slots, "": 1}, {})
+    said = next(line for line in found.comments if line.startswith("# one more machine of 1 slots would save at most "))
+    require(int(said.split(" ")[11].removesuffix(":")) == saved, f"{said}: {saved}")
+    yield "new machines"
 
 
 def reasons_are_exact(options: Options, count: int) -> None:
-    """What --why says of each choice is what the cheapest of all placements with that choice costs more."""
-    seen = 0
-    for seed in range(1, count):
+    """The numbers that docs/EXPLAIN.md calls exact are what the cheapest of all placements says, in small books."""
+    seen = Counter[str]()
+    for seed in range(1, count + 1):
         stream = small_stream(seed)
         if not has_roster(stream):
             continue
-        output = explained(options, stream, "--why", "n1")
+        output = explained(options, stream, "--why", "n1", "--machine", "1", "--all")
         with Written(stream, output) as paths:
-            for tenant, placed, comments in CHECKER.rounds_of(*paths):
-                for choice, more in claims_of(tenant, comments, "n1"):
-                    wanted = least_cost(tenant, "n1", choice)
-                    found = int(placed.cost) + more
-                    require(found == wanted, f"seed {seed}: {tenant.task} n1 {choice}: {found}, and not {wanted}")
-                    seen += 1
-    require(seen > count, f"{seen} choices alone")
+            for found in CHECKER.rounds_of(*paths):
+                try:
+                    seen.update([*claims_are_exact(found), *slots_are_exact(found)])
+                except Exception as error:
+                    raise AssertionError(f"seed {seed}, {' '.join(found.reply[:2])}: {error}") from error
+    print(", ".join(f"{number} {name}" for name, number in sorted(seen.items())), flush=True)
+    require(all(seen[name] > count for name in (OWN_RENTS, ITS_WAIT, "slots more", "slots less", "new machines")), seen)
 
 
 def one_tenant(options: Options) -> None:
@@ -276,7 +470,10 @@ def one_tenant(options: Options) -> None:
     )
     both, one = explained(options, stream), run_timed([options.explain, "--tenant", "b"], stream).output
     require(without_comments(one) == without_comments(both), "other replies")
-    require(judge(stream, one) == "shown least: 1 of 2 rounds", judge(stream, one))
+    said = judge(stream, one, "--claims", "--tenant", "b")
+    require(said == "shown least: 1 of 2 rounds", said)
+    require_refused(stream, both, "reasons that are not asked for", "--claims", "--tenant", "b")
+    require_refused(stream, one, "reasons that are missing", "--claims")
 
 
 def is_of_constant_size(options: Options) -> None:
@@ -314,33 +511,73 @@ def statuses(options: Options) -> None:
         require((failed.returncode, failed.stderr) == (5, b"firm_explain: write\n"), failed)
 
 
-def refused_memory(options: Options) -> None:
-    """Each request for memory refused in turn: the run ends well, or with status 6 and the answers before it."""
+def faulty_stream() -> Stream:
+    """A stream of two rounds, short enough to fail each of its requests."""
     roster = b"tenant,nodes,arcs,life,spread,churn\na,20,90,100,1,2\n"
-    lines = "machine m 1; machine n 2; job j 5; task j x; task j y n; task j z; task j w; round; drain m; round"
-    text = "".join(f"a {line.strip()}\n" for line in lines.split(";")).encode()
-    words = [options.explain, "--why", "x", "--machine", "2"]
-    whole = run_timed(words, Stream(roster, text)).output
-    with tempfile.TemporaryDirectory(prefix="firm-") as folder, program.Roster(roster) as path:
-        counts, library = Path(folder) / "counts", program.build_refusing(folder)
-        program.run(words, path, text, {"LD_PRELOAD": library, "COUNTS": str(counts)})
-        requests: int = struct.unpack_from("L", counts.read_bytes())[0]
-        ends = Counter[int]()
+    lines = "machine m 1; machine n 2; job j 5; task j x; task j y n; task j z; task j w; round; drain m; round; show"
+    return Stream(roster, "".join(f"a {line.strip()}\n" for line in lines.split(";")).encode())
+
+
+def refused_memory(options: Options) -> None:
+    """Each request for memory refused in turn: the run ends with status 6 and the answers before it, or well.
+
+    Then each line is answered as by firm, to which memory is refused for the same lines, and each round has reasons.
+    """
+    stream, asked = faulty_stream(), ["--why", "x", "--machine", "2"]
+    whole = run_timed([options.explain, *asked], stream).output
+    with tempfile.TemporaryDirectory(prefix="firm-") as folder, program.Roster(stream.roster) as path:
+        runs = faults.Runs(faults.Options(options.explain, "", "", None, 0), folder)
+        words, ends = ["--roster", path, *asked], Counter[str]()
+        requests = runs.run_words(words, stream.text)[1].memory
         for number in range(1, requests + 1):
-            done = program.run(words, path, text, {"LD_PRELOAD": library, "REFUSE_MEMORY": str(number)})
-            ends[done.status] += 1
-            require(done.status in (0, 6), f"request {number}: {done}")
-            require(
-                done.status == 0 or (whole.startswith(done.output) and b"memory" in done.faults), f"{number}: {done}"
-            )
-    require(ends[6] > 10, ends)
+            done, _ = runs.run_words(words, stream.text, refuse_memory=number)
+            if done.status == 6:
+                require(whole.startswith(done.output) and done.faults == b"firm_explain: memory\n", f"{number}: {done}")
+            else:
+                require((done.status, done.faults) == (0, b""), f"request {number}: {done}")
+                marks = faults.marked_lines(stream.text, without_comments(done.output))
+                wanted = b"".join(line + b"\n" for line in service.serve(stream.roster, stream.text, marks))
+                require(without_comments(done.output) == wanted, f"request {number}: {done}")
+                require_shown(stream, done.output, *asked)
+            ends[
+                f"status {done.status}{', lines without memory' if done.status == 0 and done.output != whole else ''}"
+            ] += 1
+    print(f"{requests} requests: {dict(ends)}", flush=True)
+    require(ends["status 6"] > 10, ends)
+
+
+def ends_at(whole: bytes, size: int) -> bytes:
+    """What is written in all if the output fails once behind so many bytes, or in the line that they begin.
+
+    After a reply that can't be written there is nothing; after a reason there are replies without reasons.
+    """
+    start = whole.rfind(b"\n", 0, size) + 1
+    is_reason = whole[start : start + 1] == b"#"
+    return whole[:size] + (without_comments(whole[start:].partition(b"\n")[2]) if is_reason else b"")
+
+
+def failed_writes(options: Options, sizes: tuple[int, ...]) -> None:
+    """Each write failed in turn: status 5, and after the reasons that could not be written the replies alone."""
+    stream, asked = faulty_stream(), ["--why", "x", "--machine", "2"]
+    whole = run_timed([options.explain, *asked], stream).output
+    ends = {ends_at(whole, size) for size in range(len(whole))}
+    with tempfile.TemporaryDirectory(prefix="firm-") as folder, program.Roster(stream.roster) as path:
+        runs = faults.Runs(faults.Options(options.explain, "", "", None, 0), folder)
+        words = ["--roster", path, *asked]
+        for most, error in product(sizes, (errno.EIO, errno.ENOSPC, errno.EINTR, 0)):
+            writes = runs.run_words(words, stream.text, write_most=most)[1].writes
+            for number in range(1, writes + 1):
+                done, _ = runs.run_words(words, stream.text, fail_write=number, write_most=most, fail_with=error)
+                what = f"write {number} of {most} bytes: {done}"
+                require((done.status, done.faults) == (5, b"firm_explain: write\n"), what)
+                require(done.output in ends if most > 1 else done.output == ends_at(whole, number - 1), what)
 
 
 def in_pieces(options: Options, count: int) -> None:
     """Reads and writes of some bytes each change nothing."""
     with tempfile.TemporaryDirectory(prefix="firm-") as folder:
         library = program.build_refusing(folder)
-        for seed in range(1, count):
+        for seed in range(1, count + 1):
             stream = small_stream(seed)
             if has_roster(stream):
                 whole = run_timed([options.explain], stream).output
@@ -358,12 +595,16 @@ def checks(options: Options) -> dict[str, Check]:
         "one tenant": partial(one_tenant, options),
         "statuses": partial(statuses, options),
         "refused memory": partial(refused_memory, options),
+        "failed writes": partial(failed_writes, options, (7, 4096) if quick else (1, 7, 4096)),
         "in pieces": partial(in_pieces, options, 10 if quick else 100),
         "constant memory": partial(is_of_constant_size, options),
-        "every choice": partial(reasons_are_exact, options, 30 if quick else 300),
+        "exact numbers": partial(reasons_are_exact, options, 20 if quick else 300),
         "random streams": partial(small_streams, options, 1, 60 if quick else 3000, False),
         "hostile streams": partial(small_streams, options, 10_001, 40 if quick else 400, True),
         "a number changed": partial(changes_are_refused, options, 100 if quick else 1000),
+        "wrong reasons": partial(wrong_outputs_are_refused, options),
+        "wrong reasons of crowds": partial(wrong_crowds_are_refused, options),
+        "proofs alone": partial(proofs_stand_alone, options),
     }
     tasks, machines = size_of(options)
     for kind in kinds.KINDS:

@@ -3,23 +3,30 @@
 A block of `sh` or `python` is run in a folder where ./firm is the launcher, and crates/, examples/ and tests/ are
 those of the repository; a block of `firm` is the input of ./firm. So are the lines of a table whose first column is
 Line and whose last is Reply. The roster, roster.csv, is the block of `csv` right above, or else the page's first. A
+block of `console` has commands behind `$ `, each with what comes out below it, errors among it; times may differ. A
 block without what comes out is there to be read, and is not run.
 """
 
 from __future__ import annotations
 
 import itertools
+import os
 import re
+import select
+import shutil
+import signal
 import subprocess
 import sys
 import tempfile
+import time
 from pathlib import Path
-from typing import Iterator, NamedTuple
+from typing import IO, Any, Iterator, NamedTuple
 
 from harness.checks import Skipped, require
-from harness.program import ROOT
+from harness.program import ROOT, opened
 
 LIMIT_SECONDS = 300
+CONSOLE_SECONDS = 30  # for what a command of a console gives
 FENCE = "```"
 TABLE = re.compile(r"\| Line \|.*\| Reply[^|]*\|")
 FIRST_AND_LAST = re.compile(r"\| `([^`]+)` \|.*\| `([^`]+)`[^|]*\|")
@@ -141,6 +148,53 @@ def play(session: Session) -> None:
         )
     require(done.returncode == 0, f"status {done.returncode}: {done.stderr}")
     require(done.stdout == session.output, f"it gives\n{done.stdout}and not\n{session.output}")
+
+
+def consoles_of(page: Path) -> list[Block]:
+    """The blocks of a page that show a console."""
+    return [block for block in blocks_of(page.read_text()) if block.kind == "console"]
+
+
+def commands_of(console: Block) -> Iterator[Pair]:
+    """The commands of a console, which may go on behind `> `, each with what comes out."""
+    for text in re.split(r"^\$ ", console.text, flags=re.M)[1:]:
+        lines = text.splitlines(keepends=True)
+        count = 1 + len(list(itertools.takewhile(lambda line: line.startswith("> "), lines[1:])))
+        typed = "".join(line.removeprefix("> ") for line in lines[:count])
+        yield Pair(console._replace(text=typed), "".join(lines[count:]))
+
+
+def play_console(console: Block) -> None:
+    """Types each command once what the page shows of the one before has come."""
+    if "nc -" in console.text and shutil.which("nc") is None:
+        raise Skipped("it needs nc (apt-get install netcat-openbsd)")
+    with tempfile.TemporaryDirectory(prefix="firm-") as folder:
+        for name in ("firm", "crates", "examples", "service"):
+            (Path(folder) / name).symlink_to(ROOT / name)
+        pipes: dict[str, Any] = {"stdin": subprocess.PIPE, "stdout": subprocess.PIPE, "stderr": subprocess.STDOUT}
+        with subprocess.Popen(["bash", "-eu"], cwd=folder, start_new_session=True, bufsize=0, **pipes) as shell:
+            try:
+                for typed, output in commands_of(console):
+                    opened(shell.stdin).write(typed.text.encode())
+                    said = next_lines(opened(shell.stdout), output.count("\n"))
+                    require(without_times(said) == without_times(output), f"{typed.text}gives\n{said}")
+            finally:
+                os.killpg(shell.pid, signal.SIGKILL)
+
+
+def next_lines(pipe: IO[bytes], count: int) -> str:
+    """As many lines of a pipe, or fewer where no more come in time."""
+    said, ends = b"", time.monotonic() + CONSOLE_SECONDS
+    while said.count(b"\n") < count and select.select([pipe], [], [], max(0, ends - time.monotonic()))[0]:
+        more = os.read(pipe.fileno(), 65536)
+        if not more:
+            break
+        said += more
+    return said.decode()
+
+
+def without_times(text: str) -> str:
+    return re.sub(r"\b\d+:\d\d\b|\b\d+\.\d s\b", "TIME", text)
 
 
 def block_with(page: Path, words: str) -> Block:

@@ -1,11 +1,11 @@
 //! Tasks that wait for the same reason.
 
-use crate::choices::{Market, Neighbours, Other};
+use crate::choices::Other;
+use crate::market::Market;
 use firm_rules::Choice;
-use std::alloc::AllocError;
 
-/// Where more tasks than these wait for the same reason, one line tells of all of them.
-const MOST_TOLD: u64 = 20;
+/// Where more tasks than these wait for the same reason, they share one line.
+const MOST_LINES: u64 = 20;
 
 /// Tasks that go on waiting: those for which each machine costs more, or those for which one costs as much.
 #[derive(Clone, Copy)]
@@ -36,9 +36,9 @@ impl Crowd {
         more: u64::MAX,
     };
 
-    /// Whether one line tells of all of them.
+    /// Whether they share one line.
     pub(crate) fn is_large(&self) -> bool {
-        MOST_TOLD < self.tasks
+        MOST_LINES < self.tasks
     }
 
     // The crowd with one task more.
@@ -54,23 +54,19 @@ impl Crowd {
 }
 
 impl Crowds {
-    /// The crowds of a round.
-    pub(crate) fn of(
-        market: &Market<'_>,
-        neighbours: &mut Neighbours,
-    ) -> Result<Crowds, AllocError> {
+    /// The crowds of a round, with the best other machine of each task.
+    pub(crate) fn of(market: &Market<'_>, best: &[Option<Other>]) -> Crowds {
         let mut crowds = Crowds {
             dearer: Crowd::NOBODY,
             alike: Crowd::NOBODY,
         };
         for task in 0..market.case.task_count() {
-            if is_waiting(market, task) {
-                let best = neighbours.best_other(market, task)?;
+            if market.is_waiting(task) {
                 let wait = market.case.cost_of_choice(task, Choice::Wait);
-                crowds.join(task, wait, best);
+                crowds.join(task, wait, best_at(best, task));
             }
         }
-        Ok(crowds)
+        crowds
     }
 
     /// The crowd of the tasks with such a best other choice.
@@ -90,7 +86,10 @@ impl Crowds {
     }
 }
 
-/// Whether the task waited before the round and goes on waiting.
-pub(crate) fn is_waiting(market: &Market<'_>, task: usize) -> bool {
-    market.choice_of(task) == Choice::Wait && market.case.home(task) == Choice::Wait
+/// The best other machine of the task of this number, if it has one.
+pub(crate) fn best_at(best: &[Option<Other>], task: usize) -> Option<Other> {
+    match best.get(task) {
+        Some(other) => *other,
+        None => None,
+    }
 }

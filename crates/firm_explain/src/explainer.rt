@@ -1,8 +1,8 @@
-//! Who is shown the rounds, and writes their reasons.
+//! The watcher of the rounds, which writes their reasons.
 
 use crate::options::Asked;
 use crate::reasons::put_reasons;
-use crate::rents::{Case, placement_of};
+use firm_rents::{Case, placement_of};
 use firm_rules::{Name, Rows};
 use firm_table::Watcher;
 use firm_text::{Sink, write_all};

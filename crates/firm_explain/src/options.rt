@@ -12,7 +12,7 @@ pub(crate) struct Given<'a> {
     pub(crate) roster: &'a str,
     /// The tenant whose rounds are explained, if it is one alone.
     pub(crate) tenant: Option<&'a str>,
-    /// The task of which every choice is told.
+    /// The task whose choices are all given.
     pub(crate) why: Option<&'a str>,
     /// The slots of one more machine.
     pub(crate) machine: Option<u8>,
@@ -25,7 +25,7 @@ pub(crate) struct Given<'a> {
 pub(crate) struct Asked {
     /// The tenant whose rounds are explained; `None` for those of all.
     pub(crate) tenant: Option<Name>,
-    /// The task of which every choice is told.
+    /// The task whose choices are all given.
     pub(crate) why: Option<Name>,
     /// The slots of one more machine.
     pub(crate) machine: Option<Slots>,

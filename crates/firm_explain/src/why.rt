@@ -1,10 +1,14 @@
 //! All choices of one task, with rents of its own.
 
-use crate::choices::{Market, ranks_before};
+ghost use Rattle.std.specs.Prelude.{◌<◌, length};
+ghost use Rattle.firm_rents.specs.Rents.{CostsAtLeast, Show};
+
+use crate::choices::ranks_before;
+use crate::market::Market;
 use crate::reasons::{put_more, put_rents, put_sum};
-use crate::rents::{Rents, Shown, excess, rents_for, shows_least};
 use crate::text::{put_choice, put_labelled, put_other, put_task_name};
-use firm_rules::{Choice, Name, Rows};
+use firm_rents::{Rents, Shown, excess, rents_for, shows_least};
+use firm_rules::{Choice, Name, legality_is_judged};
 use std::alloc::{AllocError, Global};
 
 /// Another choice of the task, in the order of the line: by what it costs more; of those that cost as much first those
@@ -17,7 +21,7 @@ struct Rival {
 }
 
 impl Rival {
-    // Whether it is told with the other one.
+    // Whether it stands beside the other one, before the same words.
     fn is_like(&self, other: Rival) -> bool {
         self.more == other.more && self.ranks_before == other.ranks_before
     }
@@ -29,48 +33,41 @@ pub(crate) fn put_why(
     text: &mut Vec<u8>,
     market: &Market<'_>,
     name: Name,
-    cost: u64,
 ) -> Result<(), AllocError> {
-    let Some(number) = market.rows.task_place(name) else {
-        return Ok(());
-    };
-    let rents = rents_for(*text.allocator(), market.case, market.placement, number)?;
-    put_own(text, market, number, &rents)?;
-    put_shown(
-        text,
-        market.rows,
-        number,
-        shows_least(market.case, &rents, cost),
-    )
+    match market.rows.task_place(name) {
+        Some(number) if number < market.case.task_count() => put_task_why(text, market, number),
+        _ => Ok(()),
+    }
 }
 
-// What the task's own rents say.
-fn put_own(
-    text: &mut Vec<u8>,
-    market: &Market<'_>,
-    number: usize,
-    rents: &Rents,
-) -> Result<(), AllocError> {
+// The same for the task of this number.
+fn put_task_why(text: &mut Vec<u8>, market: &Market<'_>, number: usize) -> Result<(), AllocError>
+    requires { number < length market.now.case.now.tasks }
+{
+    let rents = rents_for(*text.allocator(), market.case, market.placement, number)?;
+    let shown = shows_least(market.case, &rents, market.placement);
     text.extend_from_slice(b"# ")?;
+    if !shown.least {
+        text.extend_from_slice(b"NOT SHOWN to be least by ")?;
+        put_task_name(text, market.rows, number)?;
+        return text.extend_from_slice(b"'s rents\n");
+    }
     put_task_name(text, market.rows, number)?;
     text.extend_from_slice(b"'s")?;
-    put_rents(text, market.rows, rents)?;
-    put_rivals(text, market, number, rents)
+    put_rents(text, market.rows, &rents)?;
+    put_rivals(text, market, number, &rents)?;
+    put_shown(text, market, number, shown)
 }
 
 // The line that closes the proof by the task's own rents.
 fn put_shown(
     text: &mut Vec<u8>,
-    rows: &Rows,
+    market: &Market<'_>,
     number: usize,
     shown: Shown,
 ) -> Result<(), AllocError> {
-    text.extend_from_slice(if shown.least {
-        b"# least by "
-    } else {
-        b"# NOT SHOWN to be least by "
-    })?;
-    put_task_name(text, rows, number)?;
+    text.extend_from_slice(b"# least by ")?;
+    put_task_name(text, market.rows, number)?;
     put_labelled(text, b"'s rents: cost ", shown.cost)?;
     put_sum(text, shown)?;
     text.extend_from_slice(b"\n")
@@ -82,7 +79,10 @@ fn put_rivals(
     market: &Market<'_>,
     number: usize,
     rents: &Rents,
-) -> Result<(), AllocError> {
+) -> Result<(), AllocError>
+    requires task { number < length market.now.case.now.tasks }
+    requires shown { Show market.now.case.now rents.now market.now.placement.now }
+{
     let (choice, home) = (market.choice_of(number), market.case.home(number));
     text.extend_from_slice(b"# ")?;
     put_task_name(text, market.rows, number)?;
@@ -107,14 +107,17 @@ fn rivals_of(
     market: &Market<'_>,
     number: usize,
     rents: &Rents,
-) -> Result<Vec<Rival>, AllocError> {
+) -> Result<Vec<Rival>, AllocError>
+    requires task { number < length market.now.case.now.tasks }
+    requires shown { Show market.now.case.now rents.now market.now.placement.now }
+{
     let (choice, home) = (market.choice_of(number), market.case.home(number));
     let machines = market.case.machine_count();
     let mut rivals = Vec::with_capacity(alloc, machines.saturating_add(1))?;
     for place in 0..=machines {
         let other = choice_at(place, machines);
         if other != choice {
-            let more = excess(market.case, rents, number, choice, other);
+            let more = more_by(market, rents, number, other);
             rivals.push(Rival {
                 more,
                 ranks_before: more == 0 && ranks_before(other, choice, home),
@@ -124,6 +127,16 @@ fn rivals_of(
     }
     rivals.sort()?;
     Ok(rivals)
+}
+
+// How much more every legal placement costs at least, by these rents, in which the task has this choice.
+fn more_by(market: &Market<'_>, rents: &Rents, number: usize, other: Choice) -> u64
+    requires task { number < length market.now.case.now.tasks }
+    requires shown { Show market.now.case.now rents.now market.now.placement.now }
+    ensures { CostsAtLeast market.now.case.now market.now.placement.now number other result }
+{
+    legality_is_judged();
+    excess(market.case, rents, number, market.choice_of(number), other)
 }
 
 // The choice at a place, where waiting stands past the last machine.

@@ -4,3 +4,5 @@ pub mod Cheapest
 pub mod Rows
 pub mod Bounding
 pub mod OtherSlots
+pub mod CostParts
+pub mod NearestByBoth

@@ -13,7 +13,7 @@ use Rattle.firm_rules.specs.Placement.{Demand, Case, total, goes_to, load, IsPla
 use Rattle.firm_rules.specs.Placement.{load_cost, placement_cost}
 use Rattle.firm_rents.specs.Rents.{rent, paid, least_on, least_paid, all_least, takings, gain, gains, RentsBound}
 use Rattle.firm_rents.specs.Rents.{RentsShowLeast, EachChoiceCostsItsExcess, Show, Suit, RentsThatShowSuit}
-use Rattle.firm_rents.specs.Rents.{task_at, choice_at}
+use Rattle.firm_rents.specs.Rents.{task_at, choice_at, CostsMore}
 
 total_zero : (f : ℕ → ℕ) (n : ℕ) → ((i : ℕ) → i < n → f i ≡ 0) → total f n ≡ 0
 total_zero f zero h = refl
@@ -196,6 +196,21 @@ exceeded case rents placement legal i l =
       excess case rents case.tasks placement legal.one_each legal.places i l,
       paid-le case rents placement legal,
     )
+
+pub costs_more : (case : Case) (rents : List ℕ) (i : ℕ) (chosen other : Choice) (more : ℕ) → i < length case.tasks
+    → more ≡ paid case rents (task_at case i) other - paid case rents (task_at case i) chosen
+    → CostsMore case rents i chosen other more
+costs_more case rents i chosen other more l is placement legal show here another allowed there =
+    let least : least_paid case rents (task_at case i) ≤ paid case rents (task_at case i) chosen =
+    subst (λ c. least_paid case rents (task_at case i) ≤ paid case rents (task_at case i) c) here
+    (least_on-le case rents (task_at case i) (length case.slots) (choice_at placement i)
+    (legal.places i Wait (omega (arith, l, legal.one_each)))) in
+    let dearer : all_least case rents case.tasks + paid case rents (task_at case i) other
+    ≤ placement_cost case another + gains case rents + least_paid case rents (task_at case i) =
+    subst (λ c. all_least case rents case.tasks + paid case rents (task_at case i) c
+    ≤ placement_cost case another + gains case rents + least_paid case rents (task_at case i)) there
+    (exceeded case rents another allowed i l) in
+    omega (arith, least, dearer, show, bound case rents another allowed, is)
 
 -- LOADS STEP BY STEP
 abbrev tri : ℕ → ℕ

@@ -1,16 +1,18 @@
 -- What the rows say of a task at its place, and lists that grow by what stands at a place.
 use Rattle.std.proofs.Common.{◌≡◌, ℕ, zero, suc, ◌+◌, ◌<◌, ◌≤◌, List, [], ◌∷◌, ◌++◌, length, map, take, get_or}
-use Rattle.std.proofs.Common.{Some}
+use Rattle.std.proofs.Common.{Some, Bool, ◌&&◌}
 use Rattle.std.proofs.Common.{None, sym, ap, subst, ◌∙◌, arith, ⊎_elim}
 use Rattle.std.specs.Prelude.{slice_get, slice_index_or}
-use Rattle.std.specs.List.{All}
+use Rattle.std.specs.List.{All, list_all}
+use Rattle.std.proofs.Math.Bool.{and-true}
 use Rattle.std.proofs.lemmas.Bool.{cases_lt}
 use Rattle.std.proofs.lemmas.List.{take_more, map_push, get_or-map, get_or_past, length-map}
+use Rattle.std.proofs.lemmas.List.Folds.{list_all-append}
 use Rattle.std.proofs.lemmas.Option.{slice_get_within, get_or_from_slice_get}
 use Rattle.firm_rules.specs.declared.parts.Job.{Job}
 use Rattle.firm_rules.specs.declared.rounds.Choice.{Choice}
 use Rattle.firm_rules.specs.Book.{TenantRows}
-use Rattle.firm_rules.specs.Placement.{Demand, Case, task_cost, tasks_cost}
+use Rattle.firm_rules.specs.Placement.{Demand, Case, numbers, task_cost, tasks_cost}
 use Rattle.firm_rules.specs.Round.{weight_at}
 use Rattle.firm_rents.specs.Rents.{least_paid, all_least, choice_at}
 
@@ -83,3 +85,11 @@ pub tasks_cost_more : (case : Case) (tasks : List Demand) (placement : List Choi
 tasks_cost_more case tasks placement i l e =
     let q : i + 1 ≡ suc i = omega arith in
     ap (λ n. tasks_cost case (take n tasks) (take n placement)) q ∙ tasks_cost_next case tasks placement i l e
+
+-- what holds of the numbers below n and of n
+pub room_more : (f : ℕ → Bool) (n : ℕ) → (list_all f (numbers n) && f n) ≡ list_all f (numbers (n + 1))
+room_more f n =
+    let e : suc n ≡ n + 1 = omega arith in
+    ap (λ b. list_all f (numbers n) && b) (sym (and-true (f n)))
+    ∙ sym (list_all-append f (numbers n) (n ∷ []))
+    ∙ ap (λ m. list_all f (numbers m)) e

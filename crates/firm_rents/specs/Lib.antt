@@ -2,3 +2,5 @@ pub mod inner
 pub mod Rents
 pub mod Placed
 pub mod OtherSlots
+pub mod CostParts
+pub mod TwoTables

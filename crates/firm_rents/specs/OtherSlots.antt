@@ -24,8 +24,8 @@ drawn case rents rent [] = 0
 drawn case rents rent (task ∷ tasks) =
     (least_paid case rents task - (task_cost case task (On (length case.slots)) + rent)) + drawn case rents rent tasks
 
--- a machine more, of so many slots: it saves no more than what tasks would pay less there at any one rent, and its gain
--- at that rent
+-- a machine more, with this number of slots: it saves no more than what tasks would pay less there at any one rent, and
+-- its gain at that rent
 abbrev pub OneMoreMachineSaves : Type 0
 OneMoreMachineSaves = (case : Case) (rents : List ℕ) (placement : List Choice) → Show case rents placement
     → length rents ≡ length case.slots → (slots rent : ℕ)

@@ -84,6 +84,16 @@ EachChoiceCostsItsExcess = (case : Case) (rents : List ℕ) (placement : List Ch
     → all_least case rents case.tasks + paid case rents (task_at case i) (choice_at placement i)
     ≤ placement_cost case placement + gains case rents + least_paid case rents (task_at case i)
 
+-- each legal placement in which the task of this number has the choice costs at least this much more than this one
+abbrev pub CostsAtLeast : Case → List Choice → ℕ → Choice → ℕ → Type 0
+CostsAtLeast case placement i choice more = (another : List Choice) → IsLegal case another
+    → choice_at another i ≡ choice → placement_cost case placement + more ≤ placement_cost case another
+
+-- the same, beside each legal placement that the rents show and in which the task has the chosen one
+abbrev pub CostsMore : Case → List ℕ → ℕ → Choice → Choice → ℕ → Type 0
+CostsMore case rents i chosen other more = (placement : List Choice) → IsLegal case placement
+    → Show case rents placement → choice_at placement i ≡ chosen → CostsAtLeast case placement i other more
+
 -- what rents ask that show the placement: each task pays its least, the last task that a machine has is paid for, and
 -- a slot that is free is worth no more than it would cost
 pub record Suit (case : Case) (rents : List ℕ) (placement : List Choice) : Type 0 where

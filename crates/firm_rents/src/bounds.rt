@@ -34,7 +34,7 @@ pub fn shows_least(case: &Case, rents: &Rents, placement: &[Choice]) -> Shown
         → placement_cost case.now placement.now ≤ placement_cost case.now other }
 {
     rents_show_least();
-    let cost = load_costs(case, placement) + task_costs(case, placement);
+    let cost = loads_cost(case, placement) + task_costs(case, placement);
     let paid = paid_of_all(case, rents);
     let gains = gains_of(case, rents);
     Shown {
@@ -89,8 +89,8 @@ pub(crate) fn gain_of(spread: u64, rent: u64, slots: u64) -> u64
     most
 }
 
-// What the loads of all machines cost.
-fn load_costs(case: &Case, placement: &[Choice]) -> u64
+/// What the loads of all machines cost. There is one choice for each task.
+pub(crate) fn loads_cost(case: &Case, placement: &[Choice]) -> u64
     requires { length placement.now ≡ length case.now.tasks }
     ensures cost { result ≡ total (λ j. load_cost case.now.spread (load placement.now j)) (length case.now.slots) }
     ensures most { result ≤ 2 ^ 45 }

@@ -1,19 +1,21 @@
 //! What a round is about, in numbers: names are looked up once, and what follows is arithmetic.
 ghost use Rattle.std.specs.Prelude.{◌≡◌, ◌+◌, ◌^◌, ◌<◌, ◌≤◌, true, ℕ, length, map, All, IfSome, IfOk, slice_index};
-ghost use Rattle.std.specs.Prelude.{bytes_eq};
-ghost use Rattle.std.specs.List.{position_or_len};
+ghost use Rattle.std.specs.Prelude.{bytes_eq, nat_le};
+ghost use Rattle.std.specs.List.{list_all, position_or_len};
 ghost use Rattle.std.specs.Option.{option_to_list};
 ghost use Rattle.arrayvec.specs.ArrayVec.{array_vec_len};
 ghost use Rattle.firm_rules.specs.Book.{job_names, machine_names};
 ghost use Rattle.firm_rules.specs.Names.{is_among};
-ghost use Rattle.firm_rules.specs.Placement.{goes_to, leaves, prefers, is_remote, runs_at, task_cost};
+ghost use Rattle.firm_rules.specs.Placement.{goes_to, is_legal, is_place, is_remote, leaves, load, numbers, prefers};
+ghost use Rattle.firm_rules.specs.Placement.{runs_at, task_cost};
 ghost use Rattle.firm_rules.specs.Round.{case_of, demand_of, job_place, machine_place, place_of, weight_at};
 ghost use Rattle.firm_rents.specs.Rents.{task_at, home_choice};
+ghost use Rattle.firm_rents.specs.CostParts.{churn_cost, remote_cost, wait_cost};
 ghost use Rattle.firm_rents.specs.inner.Demands.{seen, Fits};
 ghost use Rattle.firm_rents.specs.inner.Lowest.{wide_cost, near};
 
 use arrayvec::ArrayVec;
-use firm_rules::{Choice, Limits, MOST_PREFERENCES, Name, Rows, Task, weight_of};
+use firm_rules::{Choice, Limits, MOST_PREFERENCES, Name, Rows, Task, loads_of, weight_of};
 use std::alloc::{AllocError, Global};
 use std::marker::Model;
 
@@ -115,18 +117,60 @@ impl Case {
         ensures cost { result ≡ task_cost self.now (task_at self.now task) choice }
         ensures most { result ≤ 2 ^ 22 }
     {
+        self.rest_of(task, choice) + self.churn_of(task, choice)
+    }
+
+    /// Churn, where a choice takes the task of this number from its machine.
+    pub(crate) fn churn_of(&self, task: usize, choice: Choice) -> u64
+        requires { task < length self.now.tasks }
+        ensures churn { result ≡ churn_cost self.now (task_at self.now task) choice }
+        ensures most { result ≤ 2 ^ 21 }
+    {
         let limits = self.limits();
-        let demand = self.demand(task);
-        let churn = if leaves_home(demand.home, choice) {
+        if leaves_home(self.demand(task).home, choice) {
             limits.churn()
         } else {
             0
-        };
-        match choice {
-            Choice::On(place) if is_remote(demand, place) => churn + limits.remote(),
-            Choice::On(_) => churn,
-            Choice::Wait => demand.delay + churn,
         }
+    }
+
+    /// What a choice costs the task of this number apart from churn.
+    pub(crate) fn rest_of(&self, task: usize, choice: Choice) -> u64
+        requires { task < length self.now.tasks }
+        ensures rest { result ≡ remote_cost self.now (task_at self.now task) choice
+            + wait_cost (task_at self.now task) choice }
+        ensures most { result ≤ 2 ^ 21 }
+    {
+        let limits = self.limits();
+        let demand = self.demand(task);
+        match choice {
+            Choice::On(place) if is_remote(demand, place) => limits.remote(),
+            Choice::On(_) => 0,
+            Choice::Wait => demand.delay,
+        }
+    }
+
+    /// Whether there is one choice for each task, each a machine or to wait, and no machine has more tasks than slots.
+    pub fn is_legal(&self, placement: &[Choice]) -> bool
+        ensures { result ≡ is_legal self.now placement.now }
+    {
+        placement.len() == self.task_count()
+            && are_places(placement, self.machine_count())
+            && self.has_room(placement)
+    }
+
+    // Whether no machine has more tasks than slots.
+    fn has_room(&self, placement: &[Choice]) -> bool
+        requires { length placement.now ≤ 4096 }
+        ensures { result ≡ list_all (λ j. nat_le (load placement.now j) (slice_index self.now.slots j))
+            (numbers (length self.now.slots)) }
+    {
+        let loads = loads_of(placement);
+        let mut has_room = true;
+        for place in 0..self.machine_count() {
+            has_room = has_room && u64::from(loads[place]) <= self.slots(place);
+        }
+        has_room
     }
 
     /// What a machine that is neither its own nor preferred costs the task of this number: no machine costs it more.
@@ -150,8 +194,9 @@ impl Case {
         churn + remote
     }
 
-    /// The machines that may cost the task of this number less than the others: its own, and those that it prefers.
-    pub(crate) fn near(&self, task: usize) -> ArrayVec<u32, MOST_NEAR>
+    /// The machines that may cost the task of this number less than the others: its own, and those that it prefers, in
+    /// this order; its own may stand among both.
+    pub fn near(&self, task: usize) -> ArrayVec<u32, MOST_NEAR>
         requires { task < length self.now.tasks }
         ensures places { result.items ≡ near (task_at self.now task) }
         ensures below { All (λ place. place < length self.now.slots) result.items }
@@ -178,6 +223,16 @@ impl Case {
     {
         &self.demands[task]
     }
+}
+
+// Whether each choice is one of this number of machines or to wait.
+fn are_places(placement: &[Choice], machines: usize) -> bool
+    ensures { result ≡ list_all (is_place machines) placement.now }
+{
+    placement.iter().all(|choice| match choice {
+        Choice::On(place) => (*place as usize) < machines,
+        Choice::Wait => true,
+    })
 }
 
 // The place of the machine that a task runs on, if it runs, alone in a list.

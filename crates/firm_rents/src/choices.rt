@@ -1,7 +1,7 @@
 //! What a task pays, and what another choice costs it more.
-ghost use Rattle.std.specs.Prelude.{◌≡◌, ◌-◌, ◌^◌, ◌<◌, ◌≤◌, length};
+ghost use Rattle.std.specs.Prelude.{◌≡◌, ◌-◌, ◌^◌, ◌<◌, ◌≤◌, true, false, length};
 ghost use Rattle.firm_rules.specs.Placement.{IsPlace};
-ghost use Rattle.firm_rents.specs.Rents.{task_at, paid, least_paid};
+ghost use Rattle.firm_rents.specs.Rents.{task_at, paid, least_paid, CostsMore};
 ghost use Rattle.firm_rents.specs.inner.Lowest.{IsLowest};
 ghost use Rattle.firm_rules.specs.declared.rounds.Choice.TheVariants.{On};
 
@@ -18,17 +18,20 @@ pub fn paid(case: &Case, rents: &Rents, task: usize, choice: Choice) -> u64
     case.cost_of_choice(task, choice) + rents.of_choice(choice)
 }
 
-/// How much more the task of this number pays for the other choice than for the chosen one; 0 where that is less.
+/// How much more the task of this number pays for the other choice than for the chosen one; 0 where that is less. If
+/// the rents show a placement with the chosen one, every legal placement with the other costs at least this much more.
 pub fn excess(case: &Case, rents: &Rents, task: usize, chosen: Choice, other: Choice) -> u64
     requires task { task < length case.now.tasks }
-    ensures { result ≡ paid case.now rents.now (task_at case.now task) other
+    ensures excess { result ≡ paid case.now rents.now (task_at case.now task) other
         - paid case.now rents.now (task_at case.now task) chosen }
+    ensures more { CostsMore case.now rents.now task chosen other result }
 {
     paid(case, rents, task, other).saturating_sub(paid(case, rents, task, chosen))
 }
 
 /// Of the machines but these two one that costs the task of this number least with its rent; to wait where there is no
-/// other machine. It looks at the task's own machine, those that it prefers, and one with the lowest rent.
+/// other machine, and the first of those that cost as little. It looks at the task's own machine, those that it
+/// prefers, and the first with the lowest rent.
 pub fn cheapest_other(case: &Case, rents: &Rents, task: usize, one: Choice, other: Choice) -> Choice
     requires task { task < length case.now.tasks }
     requires one_each { length rents.now ≡ length case.now.slots }
@@ -40,12 +43,33 @@ pub fn cheapest_other(case: &Case, rents: &Rents, task: usize, one: Choice, othe
         let machine = Choice::On(*place);
         if !is_on(one, *place)
             && !is_on(other, *place)
-            && paid(case, rents, task, machine) < paid(case, rents, task, best)
+            && is_before(case, rents, task, machine, best)
         {
             best = machine;
         }
     }
     best
+}
+
+// Whether a machine costs the task less with its rent than the other one, or as much and stands before it.
+fn is_before(case: &Case, rents: &Rents, task: usize, machine: Choice, other: Choice) -> bool
+    requires task { task < length case.now.tasks }
+    ensures yes { result ≡ true → paid case.now rents.now (task_at case.now task) machine
+        ≤ paid case.now rents.now (task_at case.now task) other }
+    ensures no { result ≡ false → paid case.now rents.now (task_at case.now task) other
+        ≤ paid case.now rents.now (task_at case.now task) machine }
+{
+    let here = paid(case, rents, task, machine);
+    let there = paid(case, rents, task, other);
+    here < there || (here == there && stands_before(machine, other))
+}
+
+// Whether these are two machines, and the first was added first.
+fn stands_before(machine: Choice, other: Choice) -> bool {
+    match (machine, other) {
+        (Choice::On(place), Choice::On(another)) => place < another,
+        _ => false,
+    }
 }
 
 /// What the task of this number pays at least: to wait, or for a machine with its rent.

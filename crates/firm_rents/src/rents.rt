@@ -53,6 +53,7 @@ impl Rents {
     pub fn as_slice(&self) -> &[u64]
         ensures rents { result.now ≡ self.now }
         ensures small { AreRents (length self.now) self.now }
+        ensures few { length self.now ≤ 4096 }
     {
         self.table.as_slice()
     }

@@ -27,8 +27,8 @@ pub struct Saving {
     pub tasks: Vec<u32>,
 }
 
-/// What one more machine of so many slots would save at most in a round of which these rents show the placement. The
-/// error comes only where memory is refused.
+/// What one more machine with this number of slots would save at most in a round of which these rents show the
+/// placement. The error comes only where memory is refused.
 pub fn saved_by_machine(
     alloc: Global,
     case: &Case,

@@ -14,7 +14,7 @@ seen demand =
       job = demand.job;
     }
 
--- a task that runs on one of so many machines, if it runs, and prefers 4 such ones at most
+-- a task that runs on one of this number of machines, if it runs, and prefers at most 4 of them
 pub record Fits (machines : ℕ) (demand : Demand) : Type 0 where
   pub home : IfSome demand.home (λ place. place < machines)
   pub preferred : All (λ place. place < machines) demand.preferred.items

@@ -1,6 +1,6 @@
 use Rattle.std.proofs.Common.{◌≡◌, ◌*◌, ◌≤◌}
 use Rattle.firm_rules.specs.Placement.{total, load, load_cost}
-use Rattle.firm_rents.proofs.bounds.load_costs.Given as goal
+use Rattle.firm_rents.proofs.bounds.loads_cost.Given as goal
 
 abbrev pub invariant-loop-place : goal.invariant-loop-place
 invariant-loop-place l =

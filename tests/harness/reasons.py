@@ -1,0 +1,280 @@
+"""The comment lines that firm_explain writes behind a round, word for word.
+
+All but the rents follows from the rows before the round, its placement and the rents, by arithmetic. `fault_by` reads
+the rents in the lines of an output, writes the lines anew, and compares them as texts.
+"""
+
+from __future__ import annotations
+
+import argparse
+from collections import Counter
+from itertools import groupby, zip_longest
+from typing import Callable, Iterator, Mapping, NamedTuple, Protocol, Sequence
+
+Choice = str | None  # a machine; None is to wait
+Rents = Mapping[Choice, int]
+
+MOST_LINES = 20  # where more tasks than these wait for the same reason, they share one line
+
+
+class Task(Protocol):
+    @property
+    def home(self) -> Choice:
+        ...
+
+    @property
+    def preferred(self) -> Sequence[str]:
+        ...
+
+
+class Tenant(Protocol):
+    """The rows of a tenant, as tests/certificates keeps them."""
+
+    @property
+    def spread(self) -> int:
+        ...
+
+    @property
+    def churn(self) -> int:
+        ...
+
+    @property
+    def slots(self) -> Mapping[str, int]:
+        ...
+
+    @property
+    def tasks(self) -> Mapping[str, Task]:
+        ...
+
+    def load_cost(self, tasks: int) -> int:
+        ...
+
+    def cost_of(self, name: str, choice: Choice) -> int:
+        ...
+
+    def paid_and_gains(self, rents: Rents) -> tuple[int, int]:
+        ...
+
+
+class Round(Protocol):
+    """A round of an output, as tests/certificates reads it."""
+
+    @property
+    def tenant(self) -> Tenant:
+        ...
+
+    @property
+    def to(self) -> Mapping[str, Choice]:
+        ...
+
+    @property
+    def reply(self) -> Sequence[str]:
+        ...
+
+    @property
+    def comments(self) -> Sequence[str]:
+        ...
+
+    def rents(self, line: str) -> Rents:
+        ...
+
+
+class Asked(NamedTuple):
+    """What firm_explain is asked by its options."""
+
+    tenant: str | None = None
+    why: str | None = None
+    machine: int | None = None
+    all: bool = False
+
+
+def read_options(words: Sequence[str]) -> Asked:
+    parser = argparse.ArgumentParser(prog="--claims")
+    parser.add_argument("--tenant", metavar="NAME")
+    parser.add_argument("--why", metavar="TASK")
+    parser.add_argument("--machine", type=int, metavar="SLOTS")
+    parser.add_argument("--all", action="store_true")
+    return Asked(**vars(parser.parse_args(words)))
+
+
+def fault_by(words: Sequence[str]) -> Callable[[Round], str]:
+    """Says of a round which comment line is not the one that firm_explain writes with these options, or nothing."""
+    asked = read_options(words)
+
+    def fault_of(found: Round) -> str:
+        where, is_asked = " ".join(found.reply[:2]), asked.tenant in (None, found.reply[0])
+        if is_asked and not found.comments:
+            return f"{where}: no reasons"
+        for wanted, line in zip_longest(reasons(found, asked) if is_asked else (), found.comments):
+            if wanted != line:
+                return f"{where}: {line}; it should be {wanted}"
+        return ""
+
+    return fault_of
+
+
+def reasons(found: Round, asked: Asked) -> Iterator[str]:
+    """The comment lines of a round, with the rents that it names."""
+    low, high = (found.rents(line) for line in found.comments[1:3])
+    market = Market(found, low, high)
+    yield f"# cost {found.reply[5]}: {', '.join(market.parts())}"
+    yield f"# low rents: {market.rents_text(low)}"
+    yield f"# high rents: {market.rents_text(high)}"
+    yield from market.task_lines(asked.all)
+    if asked.machine is not None:
+        yield market.machine_line(asked.machine, low)
+    if asked.why is not None and asked.why in found.to:
+        yield from why_lines(found, asked.why)
+    yield f"# least: cost {found.reply[5]} = {market.sum_text(low)} = {market.sum_text(high)}"
+
+
+def why_lines(found: Round, name: str) -> Iterator[str]:
+    """The lines on all choices of a task, by the rents of its own that the round names."""
+    start = f"# {name}'s rents: "
+    rents = found.rents(next(line for line in found.comments if line.startswith(start)))
+    market = Market(found, rents)
+    yield start + market.rents_text(rents)
+    yield market.task_line(name, market.all_claims(name))
+    yield f"# least by {name}'s rents: cost {found.reply[5]} = {market.sum_text(rents)}"
+
+
+class Market:
+    """A round, and the tables of rents by which its choices are compared."""
+
+    def __init__(self, found: Round, *tables: Rents) -> None:
+        self.tenant, self.to, self.tables = found.tenant, found.to, tables
+        self.places = {name: place for place, name in enumerate(found.tenant.slots)}
+        self.by_gap: dict[int, list[str]] = {}
+
+    def parts(self) -> Iterator[str]:
+        """What the placement costs, by what for."""
+        sums = Counter[str](loads=sum(map(self.tenant.load_cost, Counter(filter(None, self.to.values())).values())))
+        for name, choice in self.to.items():
+            churn = self.tenant.churn if self.tenant.tasks[name].home not in (None, choice) else 0
+            sums["moves" if choice else "preemptions"] += churn
+            sums["remote" if choice else "waits"] += self.tenant.cost_of(name, choice) - churn
+        return (f"{part} {sums[part]}" for part in ("loads", "moves", "preemptions", "waits", "remote"))
+
+    def rents_text(self, rents: Rents) -> str:
+        """The rent that most machines have, the lowest of those, and the rents of the others."""
+        counts = Counter(rents[machine] for machine in self.places)
+        usual = min(counts, key=lambda rent: (-counts[rent], rent), default=0)
+        others = [f"{machine} {rents[machine]}" for machine in self.places if rents[machine] != usual]
+        return f"{usual} each" + (f", but {', '.join(others)}" if others else "")
+
+    def sum_text(self, rents: Rents) -> str:
+        paid, gains = self.tenant.paid_and_gains(rents)
+        return f"{paid} - {gains}"
+
+    def more(self, name: str, other: Choice) -> int:
+        """How much more the other choice costs a task, by the table that makes it the most."""
+        return max(self.paid(name, other, rents) - self.paid(name, self.to[name], rents) for rents in self.tables)
+
+    def paid(self, name: str, choice: Choice, rents: Rents) -> int:
+        return self.tenant.cost_of(name, choice) + rents[choice]
+
+    def best_other(self, name: str) -> Choice:
+        """Of the machines that a task neither has nor had the one that costs least more, the first of several."""
+        chosen, task = self.to[name], self.tenant.tasks[name]
+        here = (chosen, task.home)
+        # Of the machines that cost the task alike the first in the order of their rents is enough.
+        first = next((machine for machine in self.cheapest_by(chosen) if machine not in here), None)
+        others = {machine for machine in (first, *task.preferred) if machine and machine not in here}
+        return min(others, key=lambda machine: (self.more(name, machine), self.rank(name, machine)), default=None)
+
+    def cheapest_by(self, chosen: Choice) -> list[str]:
+        """The machines as they rank by both tables for a task with this choice, apart from what they cost it."""
+        low, high = self.tables
+        gap = high[chosen] - low[chosen]
+        if gap not in self.by_gap:
+            self.by_gap[gap] = sorted(self.places, key=lambda machine: max(low[machine] + gap, high[machine]))
+        return self.by_gap[gap]
+
+    def task_lines(self, all_of_them: bool) -> Iterator[str]:
+        """A line for each task that changes or waits; one for many that wait for the same reason."""
+        best: dict[str, Choice] = {}
+        crowds: dict[bool, list[str]] = {False: [], True: []}  # by whether a machine costs as much
+        for name, choice in self.to.items():
+            if choice is None or choice != self.tenant.tasks[name].home:
+                best[name] = self.best_other(name)
+                if self.goes_on_waiting(name):
+                    crowds[self.is_as_much(name, best[name])].append(name)
+        for name, other in best.items():
+            crowd = crowds[self.is_as_much(name, other)]
+            if all_of_them or len(crowd) <= MOST_LINES or not self.goes_on_waiting(name):
+                yield self.task_line(name, self.claims(name, other))
+            elif name == crowd[0]:
+                yield self.crowd_line(crowd, best)
+
+    def goes_on_waiting(self, name: str) -> bool:
+        return self.to[name] is None and self.tenant.tasks[name].home is None
+
+    def is_as_much(self, name: str, other: Choice) -> bool:
+        return other is not None and self.more(name, other) == 0
+
+    def crowd_line(self, crowd: list[str], best: Mapping[str, Choice]) -> str:
+        """What tasks pay that wait for the same reason, and what a machine would cost each of them more."""
+        waits = sorted({self.tenant.cost_of(name, None) for name in crowd})
+        span = " to ".join(map(str, waits[:1] + waits[1:][-1:]))
+        line = f"# {crowd[0]} and {len(crowd) - 1} others wait: {span} each"
+        if best[crowd[0]] is None:
+            return line
+        more = min(self.more(name, best[name]) for name in crowd)
+        return line + (f"; each machine at least {more} more" if more else "; a machine as much")
+
+    def claims(self, name: str, best: Choice) -> Iterator[str]:
+        """What stands in the line of a task on its other choices: waiting, its own machine and the best other one."""
+        choice, home = self.to[name], self.tenant.tasks[name].home
+        others = ([None] if choice else []) + [machine for machine in (home, best) if machine not in (None, choice)]
+        return (f"{self.word(name, other)} {self.claim(name, other)}" for other in others)
+
+    def all_claims(self, name: str) -> Iterator[str]:
+        """The same on all: those that cost least more first, and of these those that rank after the task's choice."""
+        others = [choice for choice in [*self.places, None] if choice != self.to[name]]
+        others.sort(key=lambda other: (self.more(name, other), self.claim(name, other) == "as much"))
+        for claim, alike in groupby(others, key=lambda other: self.claim(name, other)):
+            yield f"{', '.join(self.word(name, other) for other in alike)} {claim}"
+
+    def task_line(self, name: str, claims: Iterator[str]) -> str:
+        """What a task does and pays, and what other choices would cost more."""
+        choice = self.to[name]
+        paid = str(self.tenant.cost_of(name, choice))
+        if choice:
+            paid += f" + rent {' to '.join(str(rents[choice]) for rents in self.tables)}"
+        return "; ".join([f"# {name} {self.change(name)}: {paid}", *claims])
+
+    def change(self, name: str) -> str:
+        home, choice = self.tenant.tasks[name].home, self.to[name]
+        if choice is None:
+            return f"preempted from {home}" if home else "waits"
+        if home is None:
+            return f"starts on {choice}"
+        return f"stays on {choice}" if choice == home else f"moves from {home} to {choice}"
+
+    def word(self, name: str, other: Choice) -> str:
+        if other is None:
+            return "to wait"
+        return "to stay" if other == self.tenant.tasks[name].home else other
+
+    def claim(self, name: str, other: Choice) -> str:
+        """How much more another choice of a task costs; where it is nothing, whether the order may have decided."""
+        more = self.more(name, other)
+        if more:
+            return f"at least {more} more"
+        return "as much, ranks after" if self.rank(name, self.to[name]) < self.rank(name, other) else "as much"
+
+    def rank(self, name: str, choice: Choice) -> tuple[bool, bool, int]:
+        """The order of a task's choices: its own machine, the others by their places, waiting."""
+        return choice is None, choice != self.tenant.tasks[name].home, self.places[choice] if choice else 0
+
+    def machine_line(self, slots: int, rents: Rents) -> str:
+        """What one more machine, which no task prefers, would save at most, and the tasks that would go there."""
+        worth = {name: self.paid(name, self.to[name], rents) - self.cost_on_new(name) for name in self.to}
+        steps = enumerate(sorted(worth, key=lambda name: -worth[name])[:slots])
+        saved = {name: worth[name] - load * self.tenant.spread for load, name in steps}
+        takers = [name for name in saved if saved[name] > 0]
+        line = f"# one more machine of {slots} slots would save at most {sum(saved[name] for name in takers)}"
+        return line + (f": for {' '.join(takers)}" if takers else "")
+
+    def cost_on_new(self, name: str) -> int:
+        return self.tenant.cost_of(name, "")  # a machine without a name is neither its own nor preferred
