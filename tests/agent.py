@@ -41,6 +41,7 @@ sys.path.insert(0, str(SERVICE))
 
 from firm_service.books import Books  # noqa: E402 (found by the line before)
 from firm_service.observers import Status  # noqa: E402
+from firm_service.state import ID  # noqa: E402
 from firm_service.view import serve_view  # noqa: E402
 
 Result = TypeVar("Result")
@@ -69,9 +70,8 @@ class StandIn:
     """The view of firmd over its real books, and its client socket. What firm answers is said by the test."""
 
     def __init__(self, folder: Path) -> None:
-        self.folder, self.number = folder, 0
-        self.books = Books()
-        self.books.start(ROSTER)
+        self.folder = folder
+        self.begin_state("first")
         self.asked: list[str] = []  # lines of clients
         self.loop = asyncio.new_event_loop()
         self.loop.set_exception_handler(lambda *_: None)  # agents are killed, and so their connections fail
@@ -79,6 +79,12 @@ class StandIn:
         self.thread.start()
         self.writers: set[asyncio.StreamWriter] = set()
         self.open()
+
+    def begin_state(self, name: str) -> None:
+        """As firmd with a new state: an id of its own, and no line yet."""
+        (self.folder / ID).write_text(name)
+        self.number, self.books = 0, Books()
+        self.books.start(ROSTER)
 
     def open(self) -> None:
         self.servers = self.within(self._serve())
@@ -141,11 +147,9 @@ class Case:
         self.folder = Path(tempfile.mkdtemp(prefix="firm-agent-"))
         self.table(table, tasks)
         self.firmd = StandIn(self.folder)
-        for machine in machines.split():
-            self.firmd.say(f"machine {machine} 4")
-        self.firmd.say("job j 10")
-        for task in tasks:
-            self.firmd.say(f"task j {task}")
+        self.rows = [*(f"machine {machine} 4" for machine in machines.split()), "job j 10"]
+        self.rows += [f"task j {task}" for task in tasks]
+        self.say_rows()
         self.log = open(self.folder / "log", "a+")
         self.agent: subprocess.Popen[str] | None = None
 
@@ -162,6 +166,15 @@ class Case:
         self.firmd.loop.call_soon_threadsafe(self.firmd.loop.stop)
         self.log.close()
         shutil.rmtree(self.folder)
+
+    def say_rows(self) -> None:
+        for row in self.rows:
+            self.firmd.say(row)
+
+    def begin_state(self, name: str) -> None:
+        """A new state of firmd, while it is away, with the same rows on the same lines."""
+        self.firmd.begin_state(name)
+        self.say_rows()
 
     def table(self, text: str, tasks: dict[str, str]) -> None:
         """Writes the table whole, as an editor does."""
@@ -411,7 +424,7 @@ def killed_and_restarted() -> None:
             lambda: case.processes().keys() == set(names) - {"ends", "fails"}, "two have ended while nobody looked"
         )
         case.start()
-        case.until(lambda: case.text("moves.log") == "begin m1\n" or "begin m1" in case.text("moves.log"), "one moves")
+        case.until(lambda: case.text("moves.log") == "begin m2\nbegin m1\n", "one moves")
         case.until(lambda: case.text("again.log").count("begin") == 2, "a new task of an old name is started anew")
         case.until(lambda: len(case.firmd.asked) == 2, "two are done")
         case.until_runs("stays", "moves", "again")
@@ -521,10 +534,8 @@ def never_begun() -> None:
         case.firmd.round("start a m1")
         (case.folder / "state").mkdir()
         line = case.firmd.books.tenants["alpha"].tasks["a"].line
-        rows: list[dict[str, object]] = [
-            {"event": "state", "name": "alpha-1"},
-            {"event": "start", "run": 1, "task": "a", "line": line, "job": "j", "weight": 10, "machine": "m1"},
-        ]
+        start = {"run": 1, "task": "a", "line": line, "state": "first", "job": "j", "weight": 10, "machine": "m1"}
+        rows: list[dict[str, object]] = [{"event": "state", "name": "alpha-1"}, {"event": "start", **start}]
         text = "".join(json.dumps({"time": 1, **row}) + "\n" for row in rows)
         (case.folder / "state/events.jsonl").write_text(text + '{"time": 2, "event": "ended", "run": 1, "sta')
         case.start("--until-empty")
@@ -683,6 +694,41 @@ def firmd_restarts() -> None:
         require(case.firmd.asked == ["alpha done a", "alpha done b"], case.firmd.asked)
 
 
+def new_state_of_firmd() -> None:
+    """Tasks of a new state of firmd are others, though they have the names and lines of tasks that ran for the old."""
+    with Case("", a=command(WAITS_FOR_GO), b=command(WAITS_FOR_GO)) as case:
+        case.start()
+        case.firmd.round("start a m1 start b m2")
+        case.until_runs("a", "b")
+        case.go("a")
+        case.until(lambda: case.firmd.asked == ["alpha done a"], "a is done")
+        case.started().terminate()
+        require(case.status() == 0, "the agent's status")
+        old = case.processes()["b"]
+        case.firmd.close()
+        case.begin_state("second")
+        (case.folder / "a.go").unlink()
+        case.firmd.round("start a m1 start b m2")
+        case.firmd.open()
+        case.start("--until-empty")
+        case.until(lambda: case.text("a.log").count("begin") == 2, "a of the second state is run")
+        case.until(lambda: case.text("b.log").count("begin") == 2, "b of the second state is run")
+        require(not any(map(is_there, old)), "what ran for the first state is still there")
+        require(case.firmd.asked == ["alpha done a"], case.firmd.asked)
+        case.firmd.close()
+        case.go("a")
+        case.until_runs("b")
+        case.until(lambda: case.events("ended")[-1]["status"] == 0, "a has ended while firmd is away")
+        case.begin_state("third")
+        (case.folder / "a.go").unlink()
+        case.firmd.round("start a m1 start b m2")
+        case.firmd.open()
+        case.until(lambda: case.text("a.log").count("begin") == 3, "a of the third state is run")
+        require(case.firmd.asked == ["alpha done a"], case.firmd.asked)
+        case.go("a", "b")
+        require(case.status() == 0, "the agent's status")
+
+
 def retired_tenant() -> None:
     """What runs for a tenant that is retired is ended, and its new tasks of old names are others."""
     with Case("", a=command(WAITS_FOR_GO)) as case:
@@ -821,6 +867,7 @@ def example(firm: str) -> None:
 
 QUICK = [
     killed_and_restarted,
+    new_state_of_firmd,
     start_to_done,
     deaf_to_sigterm,
     moves,
@@ -864,10 +911,10 @@ def main() -> int:
     parser.add_argument("--quick", action="store_true", help="the part that tests/quick runs")
     parser.add_argument("--only", default="", help="nothing but the checks whose names have these words")
     add_program(parser)
-    words = parser.parse_args()
-    if words.quick:
+    options = parser.parse_args()
+    if options.quick:
         print_skipped(", ".join([*map(name_of, LONG), "example"]), "--quick leaves out what takes longer")
-    chosen = {name: check for name, check in checks(words.program, words.quick).items() if words.only in name}
+    chosen = {name: check for name, check in checks(options.program, options.quick).items() if options.only in name}
     with ThreadPoolExecutor(AT_A_TIME) as pool:
         return count_ends(list(pool.map(passes, chosen.keys(), chosen.values())))
 

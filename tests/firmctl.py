@@ -14,7 +14,6 @@ from __future__ import annotations
 import argparse
 import asyncio
 import contextlib
-import html
 import http.client
 import importlib.util
 import json
@@ -36,7 +35,7 @@ from typing import Any, TypeVar
 
 import firmd
 from harness import program, service
-from harness.checks import Check, Missed, count_ends, passes, print_skipped, require, run_script
+from harness.checks import Check, Missed, Skipped, count_ends, passes, print_skipped, require, run_script
 from harness.program import ROOT
 from harness.small_streams import random_bad_roster, random_stream, with_noise
 
@@ -49,6 +48,8 @@ from firm_service.observers import Status  # noqa: E402
 from firm_service.view import MOST_CLIENTS, MOST_UNREAD, serve_view  # noqa: E402
 
 FIRMCTL = ROOT / "service" / "firmctl"
+EXPLAIN = program.built("firm_explain")
+BROWSER_SECONDS, BROWSER_TRIES = 30, 3  # headless Chromium hangs once in some fifty starts, whatever it is to show
 ROSTER = b"tenant,nodes,arcs,life,spread,churn\nalpha,12,40,100,1,2\nbeta,8,30,5,0,3\n"
 DAY = b"""alpha machine m1 2
 alpha machine m2 1
@@ -75,6 +76,7 @@ class Front:
 
     def __init__(self, folder: str, roster_text: bytes = ROSTER, has_http: bool = False) -> None:
         self.state, self.has_http = Path(folder), has_http
+        (self.state / "id").write_text("stand-in")
         self.port = 0
         self.model = service.Service(service.read_roster(roster_text))
         self.books = Books()
@@ -590,9 +592,63 @@ def firmctl_over_firmd(built: str) -> None:
             b"lines 15, 15 of them replayed at the start" in firmctl("status", "--state", str(daemon.state)).output,
             "status",
         )
+        with Viewer(daemon.state) as watcher:
+            require(len(watcher.ask({"ask": "watch"})["tenants"]) == 2, "watch")
+            daemon.stop()
+            require(watcher.next() is None, "a watcher is closed at a stop")
 
 
-EXPLAIN = """#!/bin/sh
+def reasons_over_firmd(built: str) -> None:
+    """why, of firmd and the built firm_explain: of a task that runs, one that waits, and one that ended."""
+    if not EXPLAIN.exists():
+        raise Skipped("firm_explain is not built: cd crates/firm_explain && rt run")
+    with firmd.Setup(built, True, 1).daemon(roster=ROSTER) as daemon:
+        daemon.start()
+        with firmd.Client(daemon.operator) as client:
+            for line in DAY:
+                client.ask(line)
+            for task, wanted in [("a", b"a stays on m1: "), ("d", b"d waits: 4")]:
+                done = firmctl("why", task, "alpha", "--state", str(daemon.state))
+                known, cost, *reasons = done.output.splitlines()
+                require(done.status == 0 and known.startswith(b"alpha %s " % task.encode()), done)
+                require(cost == b"cost 5: loads 1, moves 0, preemptions 0, waits 4, remote 0", done)
+                require(any(reason.startswith(wanted) for reason in reasons), done)
+            client.ask(b"alpha done d")
+        require(firmctl("why", "d", "--state", str(daemon.state)).status == 1, "a task that ended")
+
+
+def http_over_firmd(built: str) -> None:
+    """firmd serves metrics and the page itself; a faulty or taken address, or packages that are missing, stop it."""
+    setup = firmd.Setup(built, True, 1)
+    missing = missing_of(["aiohttp", "prometheus_client"])
+    with setup.daemon("--http", "0", roster=ROSTER) as daemon:
+        daemon.words = [sys.executable, "-S", str(ROOT / "service" / "firmd")]  # without the packages of the system
+        daemon.refuses(2, "--http needs a package that is not there", "apt-get install python3-aiohttp")
+    if missing:
+        raise Skipped(f"{sys.executable} has no {' and no '.join(missing)}")
+    for address in ("host", "127.0.0.1:65536"):
+        with setup.daemon("--http", address, roster=ROSTER) as daemon:
+            daemon.refuses(2, "--http:", address)
+    with socket.create_server(("127.0.0.1", 0)) as taken:
+        port = taken.getsockname()[1]
+        with setup.daemon("--http", f"127.0.0.1:{port}", roster=ROSTER) as daemon:
+            daemon.refuses(7, f"cannot serve 127.0.0.1:{port}")
+    with setup.daemon("--http", f"127.0.0.1:{port}", roster=ROSTER) as daemon:
+        daemon.start()
+        with firmd.Client(daemon.operator) as client:
+            for line in DAY:
+                client.ask(line)
+        samples = samples_of(port)
+        wanted = {("firm_lines_total", ""): 15, ("firm_rounds_total", "tenant=alpha"): 2}
+        wrong = {key: samples.get(key) for key, value in wanted.items() if samples.get(key) != value}
+        require(not wrong and samples["firm_round_seconds_count", ""] == 2, wrong)
+        require(samples["firm_process_resident_memory_bytes", ""] > 0, "the process of firm")
+        require(http_ask(port, "/")[2] == (ROOT / "service/firm_service/page.html").read_bytes(), "the page")
+        book = json.loads(http_ask(port, "/tenants/alpha.json")[2])
+        require((book["running"], book["waiting"], book["costs"]) == (3, 1, [1, 5]), book)
+
+
+STAND_IN = """#!/bin/sh
 cat > "$(dirname "$0")/asked"
 cat <<END
 alpha 7 ok round cost 9
@@ -612,7 +668,7 @@ def reasons_are_told() -> None:
     """why asks firm_explain, a stand-in here, over the journal's lines of the tenant, and tells what it says last."""
     with front() as started:
         stand_in = started.state / "firm_explain"
-        stand_in.write_text(EXPLAIN)
+        stand_in.write_text(STAND_IN)
         stand_in.chmod(0o755)
         folder = started.state / "journal"
         folder.mkdir()
@@ -639,7 +695,7 @@ def watchers_follow() -> None:
             [book["tenant"] for book in everyone.ask({"ask": "watch", "tenant": None})["tenants"]] == ["alpha", "beta"],
             "all",
         )
-        require(gamma.ask({"ask": "watch", "tenant": "gamma"}) == {"book": None}, "gamma")
+        require(gamma.ask({"ask": "watch", "tenant": "gamma"}) == {"state": "stand-in", "book": None}, "gamma")
         lines = [
             b"alpha done a",
             b"beta show",
@@ -685,9 +741,9 @@ def watch_prints() -> None:
         try:
             require(wait_until(lambda: bool(started.books.watchers)), "no watcher")
             started.say(b"alpha \x1b[2J", seconds=0.001)
-            assert watching.stdout
-            require(select.select([watching.stdout], [], [], 20)[0], "nothing is printed")
-            line = watching.stdout.readline().decode()
+            printed = program.opened(watching.stdout)
+            require(select.select([printed], [], [], 20)[0], "nothing is printed")
+            line = printed.readline().decode()
             require(re.fullmatch(r"\d\d:\d\d:\d\d  alpha \\x1b\[2J  ->  alpha 12 no 2 bad-command\n", line), line)
             started.stop()
             _, told = watching.communicate(timeout=20)
@@ -921,14 +977,18 @@ def page_has_no_external_part() -> None:
 
 def browse(port: int, place: str, seconds: int = 1, picture: Path | None = None, *words: str) -> str:
     """The page as Chromium has it after these seconds, of its own clock; as a picture too if asked."""
-    with tempfile.TemporaryDirectory(prefix="firm-") as profile:
-        command = ["chromium", "--headless=new", "--no-sandbox", "--disable-gpu", f"--user-data-dir={profile}", *words]
-        command += [f"--virtual-time-budget={1000 * seconds}", f"--screenshot={picture}" if picture else "--dump-dom"]
-        done = subprocess.run(
-            [*command, f"http://127.0.0.1:{port}/{place}"], capture_output=True, text=True, timeout=90
-        )
-    require(done.returncode == 0, done.stderr[-500:])
-    return re.sub(r"<(style|script)>.*?</\1>", "", done.stdout, flags=re.S)
+    words += (f"--virtual-time-budget={1000 * seconds}", f"--screenshot={picture}" if picture else "--dump-dom")
+    for _ in range(BROWSER_TRIES):
+        with tempfile.TemporaryDirectory(prefix="firm-", ignore_cleanup_errors=True) as profile:
+            command = ["chromium", "--headless=new", "--no-sandbox", "--disable-gpu", f"--user-data-dir={profile}"]
+            command += [*words, f"http://127.0.0.1:{port}/{place}"]
+            try:
+                done = subprocess.run(command, capture_output=True, text=True, timeout=BROWSER_SECONDS)
+            except subprocess.TimeoutExpired:
+                continue
+        require(done.returncode == 0, done.stderr[-500:])
+        return re.sub(r"<(style|script)>.*?</\1>", "", done.stdout, flags=re.S)
+    raise Missed(f"Chromium hangs at {place!r}: {BROWSER_TRIES} tries of {BROWSER_SECONDS} seconds")
 
 
 def page_shows_the_books() -> None:
@@ -950,11 +1010,8 @@ def page_shows_the_books() -> None:
         require("No answer" not in page and 'class="lost"' not in page, "it is there")
         page = browse(started.port, "")
         require(re.search(r'<a href="#beta"[^>]*>beta</a></th><td class="number">0</td>', page), "all tenants")
-        page = browse(started.port, "#<img src=x onerror=alert(1)>%")
-        require(
-            html.escape("No tenant <img src=x onerror=alert(1)>", quote=False) in page or "%3Cimg" in page,
-            "a name as text",
-        )
+        page = browse(started.port, "#<img src=x onerror=alert(1)>")
+        require("No tenant &lt;img" in page, "a name as text")
         require("<img" not in page, "a name became markup")
 
 
@@ -1032,7 +1089,8 @@ async def tab(url: str) -> AsyncIterator[Tab]:
         ]
         browser = await asyncio.create_subprocess_exec("chromium", *words, stderr=asyncio.subprocess.PIPE)
         try:
-            assert browser.stderr
+            if browser.stderr is None:
+                raise Missed("Chromium has no pipe for its errors")
             port = None
             while port is None:
                 port = re.search(
@@ -1123,6 +1181,8 @@ def checks(built: str, streams: range) -> dict[str, Check]:
         "view, refusals and limits": views_refuse,
         "view, slow watchers": slow_watchers_are_closed,
         "firmctl over firmd": partial(firmctl_over_firmd, built),
+        "firmctl why over firmd": partial(reasons_over_firmd, built),
+        "firmd with HTTP": partial(http_over_firmd, built),
         f"books beside firm, {len(fewer)} streams": partial(books_beside_firm, built, fewer),
     }
 

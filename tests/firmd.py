@@ -31,15 +31,20 @@ from pathlib import Path
 
 from harness import program, service
 from harness.checks import Skipped, count_ends, passes, print_skipped, require, run_script
-from harness.small_streams import Stream
+from harness.small_streams import Stream, random_stream
 
 SERVICE = program.ROOT / "service"
+sys.path.insert(0, str(SERVICE))
+
+from firm_service.books import Books  # noqa: E402
+
 NO_LIMITS = service.Limits(2, 0, 1, 0, 0)
 FIRMD = [sys.executable, str(SERVICE / "firmd")]
 CHECKS_AT_A_TIME = 4
 HEADING = b"tenant,nodes,arcs,life,spread,churn\n"
 ROSTER = HEADING + b"alpha,30,300,1000000000,1,2\nbeta,30,300,1000000000,0,3\n"
 START_SECONDS = 20
+NOBODY = 65534  # a user and a group without rights of their own
 REPLY_SECONDS = 20
 ROWS = [
     b"alpha machine m1 2",
@@ -176,8 +181,8 @@ class Daemon:
 
     def stop(self, number: int = signal.SIGTERM) -> None:
         self.running().send_signal(number)
-        status = self.status()
-        require(status == 0, f"status {status} at its stop: {self.said().decode()}")
+        status, said = self.status(), self.said().decode()
+        require(status == 0 and "Traceback" not in said, f"status {status} at its stop: {said}")
 
     def kill(self) -> None:
         process = self.running()
@@ -378,7 +383,10 @@ def kills(setup: Setup, part: int) -> None:
     draw = random.Random(seed)
     tenants = [Tenant(f"t{place}", seed + place) for place in range(4)]
     with setup.daemon("--segment-bytes", "30000", "--after", "1", roster=roster_of(tenants)) as daemon:
-        for _ in range((20 if setup.is_quick else 200) // CHECKS_AT_A_TIME):
+        kills_left = (12 if setup.is_quick else 200) // CHECKS_AT_A_TIME
+        # A slow host may answer few lines before each, and none shows nothing.
+        while kills_left > 0 or sum(len(tenant.answered) for tenant in tenants) < 200:
+            kills_left -= 1
             if draw.random() < 0.2:  # at any moment of its start
                 daemon.spawn()
                 time.sleep(draw.uniform(0.05, 0.5))
@@ -412,14 +420,11 @@ def check_kept(setup: Setup, daemon: Daemon, tenants: list[Tenant]) -> None:
     alone = setup.alone(roster_of(tenants), journal)
     require(len(lines) == len(alone), "a reply for each line of the journal")
     kept = {tuple(reply.split()[:2]): (line, reply) for line, reply in zip(lines, alone)}
-    count = 0
     for tenant in tenants:
         for answered in tenant.answered:
             if not answered.reply.startswith(b"!"):
                 found = kept.get(tuple(answered.reply.split()[:2]))
                 require(found == (answered.line, answered.reply), f"{found} and not {answered}")
-                count += 1
-    require(count > 100, f"{count} lines alone were answered")
 
 
 def torn_line(setup: Setup) -> None:
@@ -551,6 +556,54 @@ def no_rights(setup: Setup) -> None:
         daemon.refuses(4, "cannot open the journal", "Is a directory")
 
 
+def unprivileged(daemon: Daemon) -> list[str]:
+    """Words in front of a program that run it without root's rights; gives it the daemon's folder."""
+    if os.geteuid() != 0:
+        return []
+    words = ["setpriv", f"--reuid={NOBODY}", f"--regid={NOBODY}", "--clear-groups"]
+    if shutil.which("setpriv") is None:
+        raise Skipped("root has all rights, and there is no setpriv")
+    for path in (SERVICE / "firmd", Path(daemon.firm)):
+        if subprocess.run([*words, "test", "-r", str(path)]).returncode:
+            raise Skipped(f"others than root can't read {path}")
+    for path in (daemon.folder, *daemon.folder.iterdir()):
+        os.chown(path, NOBODY, NOBODY)
+    return words
+
+
+def denied_rights(setup: Setup) -> None:
+    """A state, a journal and a segment whose mode denies access, before the start and while it serves."""
+    with setup.daemon("--segment-bytes", "1000") as daemon:
+        daemon.words = [*unprivileged(daemon), *FIRMD]
+        daemon.start()
+        journal = daemon.state / "journal"
+        replies = []
+        with daemon.client() as client, suppress(Gone):
+            replies += [client.ask(line) for line in ROWS]
+            journal.chmod(0o500)  # what is there can be read and grow, and no segment can be begun
+            while not replies[-1].startswith(b"?"):
+                replies.append(client.ask(b"alpha show"))
+        require(daemon.status() == 4 and b"cannot write the journal" in daemon.said(), daemon.said())
+        require(b"Permission denied" in daemon.said() and len(replies) > len(ROWS), daemon.said())
+        journal.chmod(0o700)
+        denied = [
+            (daemon.segments()[-1], "cannot open the journal"),
+            (daemon.state, "cannot use the state"),
+            (journal, "cannot open the journal"),
+            (daemon.state / "lock", "cannot use the state"),
+        ]
+        for path, text in denied[:2] if setup.is_quick else denied:
+            mode = stat.S_IMODE(path.stat().st_mode)
+            path.chmod(0)
+            daemon.refuses(4, text, "Permission denied")
+            path.chmod(mode)
+        daemon.start()
+        with daemon.client() as client:
+            answered = [reply for reply in replies if reply.startswith(b"alpha ")]
+            require(client.ask(b"alpha show") == b"alpha %d " % (len(answered) + 1) + SHOWN % 0, "the rows")
+        daemon.stop()
+
+
 def read_only(setup: Setup) -> None:
     """A state on a write-protected file system, before the start and while it serves."""
     with setup.daemon() as daemon:
@@ -570,22 +623,25 @@ def read_only(setup: Setup) -> None:
 PATCHED = """\
 import os, sys, time
 sys.path.insert(0, {service!r})
-real, count = os.fdatasync, 0
-def patched(file):
-    global count
-    count += 1
-    with open({log!r}, "a") as log:
-        log.write("sync\\n")
-    {action}
-    real(file)
-os.fdatasync = patched
+count = 0
+def patched(name, real):
+    def sync(file):
+        global count
+        count += name == "fdatasync"
+        with open({log!r}, "a") as log:
+            print(name, os.path.basename(os.readlink(f"/proc/self/fd/{{file}}")), file=log)
+        if name == "fdatasync":
+            {action}
+        real(file)
+    return sync
+os.fsync, os.fdatasync = patched("fsync", os.fsync), patched("fdatasync", os.fdatasync)
 from firm_service.daemon import main
 sys.exit(main())
 """
 
 
 def patch_sync(daemon: Daemon, action: str) -> Path:
-    """Lets each sync of the journal do something first; gives the file with a line for each."""
+    """Lets each sync of lines do something first; gives the file with a line for each sync: its call and the file."""
     script, log = daemon.folder / "patched.py", daemon.folder / "syncs"
     script.write_text(PATCHED.format(service=str(SERVICE), log=str(log), action=action))
     daemon.words = [sys.executable, str(script)]
@@ -604,7 +660,7 @@ def group_commit(setup: Setup) -> None:
         replies = [client.reply() for client in clients]
         seconds = time.monotonic() - began
         require(len(set(replies)) == 20, replies)
-        syncs = log.read_text().count("sync")
+        syncs = log.read_text().count("fdatasync")
         require(1 <= syncs <= 3 and 0.2 * syncs <= seconds < 2, f"{syncs} syncs, {seconds:.2f} s")
         daemon.stop()
 
@@ -623,6 +679,54 @@ def failed_sync(setup: Setup) -> None:
         daemon.start()
         with daemon.client() as client:
             require(b" tasks 0 " in client.ask(b"alpha show"), "the line was obeyed")
+
+
+def syncs_of_starts(setup: Setup) -> None:
+    """A start syncs what a killed daemon wrote without a sync, and its name, before firm has a line of it."""
+    with setup.daemon("--segment-bytes", "40") as daemon:
+        log = patch_sync(daemon, "time.sleep(1000) if count == 3 else None")
+        daemon.start()
+        with daemon.client() as client:
+            require([client.ask(line) for line in ROWS[:2]] == [b"alpha 1 ok", b"alpha 2 ok"], "replies")
+            client.send(ROWS[2] + b"\n")
+            wait_for(lambda: log.read_text().endswith("fdatasync 00000002.lines\n"), "a line that is not synced")
+            daemon.kill()
+        require(daemon.journal().endswith(ROWS[2] + b"\n") and len(daemon.segments()) == 2, "it is written")
+        log.unlink()
+        daemon.firm = stand_in(daemon.folder, f"#!/bin/sh\necho firm >>'{log}'\nexec '{setup.program}' \"$@\"\n")
+        daemon.start()
+        before, _, behind = log.read_text().partition("firm\n")
+        require({"fsync 00000002.lines", "fsync journal"} <= set(before.splitlines()), f"{before!r}, then {behind!r}")
+        with daemon.client() as client:
+            require(client.ask(ROWS[2]).startswith(b"alpha 4 no 9 "), "the line is obeyed")
+        daemon.kill()
+        (daemon.state / "journal" / "refused").write_bytes(b"9 9\n1 ")
+        log.unlink()
+        daemon.start()
+        require("fsync refused" in log.read_text(), "the refusals are synced")
+        require((daemon.state / "journal" / "refused").read_bytes() == b"9 9\n", "a torn refusal is cut off")
+        daemon.stop()
+
+
+def books_at_once(setup: Setup) -> None:
+    """Books that take in many lines by one call are those that take in one line after another."""
+    for seed in range(setup.seed, setup.seed + (40 if setup.is_quick else 400)):
+        draw = random.Random(seed)
+        roster, text = random_stream(draw, 5)
+        model = service.Service(service.read_roster(roster))
+        answers = [(line, service.answer_line(model, line)) for line in service.lines_of(text)]
+        told = [(line, reply) for line, reply in answers if reply is not None]
+        single, many = Books(), Books()
+        single.start(roster)
+        many.start(roster)
+        while told:
+            part = told[: draw.choice([1, 2, 10, 100])]
+            told = told[len(part) :]
+            for line, reply in part:
+                single.replied(line, reply, None)
+            many.replied_all([line for line, _ in part], [reply for _, reply in part], None)
+            same = (single.tenants, single.refusals, single.lines) == (many.tenants, many.refusals, many.lines)
+            require(same, f"seed {seed}, up to line {single.lines}")
 
 
 def dying_firm(setup: Setup) -> None:
@@ -755,12 +859,10 @@ def dead_clients(setup: Setup) -> None:
                     client.socket.shutdown(socket.SHUT_RDWR)
                 client.socket.close()
             wait_for(lambda: daemon.journal().count(b"show\n") == 50, "their lines are taken")
-            require(
-                re.fullmatch(
-                    rb"alpha 101 ok machines (29|30|28|27|26|25) .*|alpha 101 ok machines .*", other.ask(b"alpha show")
-                ),
-                "x",
-            )
+            reply = other.ask(b"alpha show")
+            # Each machine takes one of the tenant's 30 nodes, two of which are there without any.
+            require(reply.startswith(b"alpha 101 ok machines 28 jobs 0 tasks 0 running 0 nodes 30 of 30 "), reply)
+            require(reply == setup.alone(ROSTER, daemon.journal())[-1], "the reply is its own line's")
             require(b"drain" not in daemon.journal(), "half a line was taken")
             with daemon.client() as half:
                 half.send(b"alpha show\nalpha show")
@@ -904,6 +1006,33 @@ def own_rounds(setup: Setup) -> None:
                 require(client.ask(b"alpha where a").endswith(b" ok at m1"), "the replay has the rounds")
 
 
+SLOW = """\
+#!/bin/bash
+while IFS= read -r line; do
+    if [ "$line" = "beta slow" ]; then sleep 2; fi
+    printf '%s\\n' "$line"
+done | '{program}' "$@"
+"""
+
+
+def rounds_of_another(setup: Setup) -> None:
+    """A tenant that is retired while its round is asked for, and admitted anew, has its rounds as before."""
+    with setup.daemon("--after", "700") as daemon:
+        daemon.firm = stand_in(daemon.folder, SLOW.format(program=setup.program))
+        daemon.start()
+        with daemon.client() as client, Client(daemon.operator) as operator:
+            for line in ROWS[:3]:
+                require(client.ask(line).endswith(b" ok"), line)
+            operator.send(b"beta slow\n+ retire alpha\n")
+            require([operator.reply() for _ in range(2)][1] == b"+ ok retired alpha", "the operator")
+            require(operator.ask(b"+ admit alpha,30,300,1000,1,2") == b"+ ok admitted alpha", "the operator")
+            for line in ROWS[:3]:
+                require(client.ask(line).endswith(b" ok"), line)
+            wait_for(lambda: client.ask(b"alpha where a").endswith(b" ok at m1"), "the task runs")
+        daemon.stop()
+        require(b"+ retire alpha\nalpha round\n+ admit" in daemon.journal(), "a round was asked for meanwhile")
+
+
 MEMORY_LINES = [
     *ROWS,
     b"alpha round",
@@ -961,12 +1090,25 @@ SHORT = [
     torn_line,
     damaged_journal,
     no_rights,
+    denied_rights,
     group_commit,
     failed_sync,
+    syncs_of_starts,
+    books_at_once,
     dying_firm,
     who_may_speak,
 ]
-SHORT += [slow_client, dead_clients, endless_line, limits, one_daemon, stops, notifications, own_rounds]
+SHORT += [
+    slow_client,
+    dead_clients,
+    endless_line,
+    limits,
+    one_daemon,
+    stops,
+    notifications,
+    own_rounds,
+    rounds_of_another,
+]
 LONG = [read_only, backpressure, refused_memory]
 
 
@@ -993,13 +1135,13 @@ def main() -> int:
     parser.add_argument(
         "--seed", type=int, default=random.randrange(10**6), help="of the random lines (default: any)"
     )
-    words = parser.parse_args()
-    setup = Setup(words.program, words.quick, words.seed)
-    print(f"seed {words.seed}", flush=True)
+    options = parser.parse_args()
+    setup = Setup(options.program, options.quick, options.seed)
+    print(f"seed {options.seed}", flush=True)
     if setup.is_quick:
         left_out = [*map(name_of, LONG), "full disk, a file system"]
         print_skipped(", ".join(left_out), "--quick asks nothing that needs root, a C compiler or a minute")
-    chosen = {name: check for name, check in checks(setup).items() if words.only in name}
+    chosen = {name: check for name, check in checks(setup).items() if options.only in name}
     with ThreadPoolExecutor(CHECKS_AT_A_TIME) as pool:
         return count_ends(list(pool.map(passes, chosen.keys(), chosen.values())))
 

@@ -13,7 +13,7 @@ import shlex
 import signal
 import sys
 from collections import Counter, defaultdict
-from dataclasses import dataclass
+from dataclasses import asdict, dataclass
 from enum import IntEnum
 from pathlib import Path
 from typing import Any
@@ -36,10 +36,17 @@ LONGEST_PAUSE = 60.0  # seconds between two tries
 LONGEST_FIRMD_PAUSE = 2.0
 LONGEST_ANSWER = 1 << 26  # bytes of a line of the view
 TABLE_SECONDS = 1.0  # between two looks at the table
+EXITS = """\
+exit statuses:
+  0  stopped, or --until-empty and the tenant has no tasks
+  1  the same with --until-empty, and a task was given up
+  2  the command line
+  3  the table can't be read or is faulty; standard error names the key
+  4  the agent's own folder can't be read or written, or another agent has it"""
 
 
 class Exit(IntEnum):
-    """Exit statuses, as docs/SERVICE.md has them; argparse ends with 2."""
+    """Exit statuses, as `firm-agent run --help` lists them; argparse ends with 2."""
 
     DONE = 0
     FAILED = 1
@@ -119,6 +126,8 @@ class Agent:
         self.options, self.table, self.state, self.history = options, table, state, state.history
         self.client = Client(options.socket)
         self.books: Books | None = None  # None until the view has told of them
+        self.firmd_state = ""  # the id of firmd's state that the books are of
+        self.is_watching = asyncio.Event()  # set while the books follow firmd
         self.machines: dict[str, int] = {}  # as last recorded
         self.controls: dict[int, asyncio.StreamWriter] = {}  # of the supervisors, by run
         self.gates: defaultdict[str, asyncio.Semaphore] = defaultdict(lambda: asyncio.Semaphore(BEGUN_AT_A_TIME))
@@ -170,6 +179,7 @@ class Agent:
                         pause, told = 0.1, ""
             except (OSError, ValueError) as error:
                 why = str(error)
+            self.is_watching.clear()
             if why != told:
                 told = why
                 tell(f"{self.options.view}: {why}; what runs goes on")
@@ -179,6 +189,8 @@ class Agent:
     def hear(self, event: Event) -> None:
         if "book" in event:
             self.books = books_of(self.table.tenant, event["book"])
+            self.firmd_state = event["state"]
+            self.is_watching.set()
             self.finishing = {key: task for key, task in self.finishing.items() if not task.done()}
         elif "reply" in event and self.books is not None:
             self.books.lines = event["number"] - 1
@@ -227,14 +239,17 @@ class Agent:
         loads = Counter(run.machine for run in self.history.runs.values())
         open_names = {run.key.task for run in self.history.runs.values()}
         for name, task in tasks.items():
-            key = Key(name, task.line)
+            key = self.key(name, task)
             if self.tally(key).finished:
                 self.finish(key)
             elif task.machine is not None and name not in open_names and loads[task.machine] < machines[task.machine]:
                 loads[task.machine] += self.try_start(key, task)
-        self.forget({Key(name, task.line) for name, task in tasks.items()})
+        self.forget({self.key(name, task) for name, task in tasks.items()})
         if self.options.until_empty and not tasks and not self.history.runs:
             self.stop.set()
+
+    def key(self, name: str, task: Task) -> Key:
+        return Key(name, task.line, self.firmd_state)
 
     def tally(self, key: Key) -> Tally:
         return self.history.tallies.get(key) or Tally()
@@ -243,7 +258,7 @@ class Agent:
         """Why firm wants a run no longer, None where it does."""
         book = self.book
         task = book.tasks.get(run.key.task) if book else None
-        if book is None or task is None or task.line != run.key.line:
+        if book is None or task is None or self.key(run.key.task, task) != run.key:
             return "removed"
         if task.machine == run.machine:
             return None
@@ -278,8 +293,8 @@ class Agent:
     def start(self, key: Key, task: Task, work: Work) -> None:
         """Records the start, then makes it, so that no restart can make it twice."""
         number, weight = self.history.last_run + 1, self.book.jobs[task.job] if self.book else None
-        row = {"task": key.task, "line": key.line, "job": task.job, "weight": weight, "machine": task.machine}
-        self.state.record("start", run=number, **row)
+        row = {"job": task.job, "weight": weight, "machine": task.machine}
+        self.state.record("start", run=number, **asdict(key), **row)
         self.group.create_task(self.drive(self.history.runs[number], work))
 
     def forget(self, keys: set[Key]) -> None:
@@ -295,9 +310,16 @@ class Agent:
             self.finishing[key] = self.group.create_task(self.say_done(key))
 
     async def say_done(self, key: Key) -> None:
-        """Has firm forget the task; asked again until firm has."""
+        """Has firm forget the task; asked again until firm has.
+
+        Nothing is asked while the books don't follow firmd: it may begin another state, with a task of this name.
+        """
         pause, told = 0.1, ""
-        while self.book and (task := self.book.tasks.get(key.task)) and task.line == key.line:
+        while True:
+            await self.is_watching.wait()
+            task = self.book.tasks.get(key.task) if self.book else None
+            if task is None or self.key(key.task, task) != key:
+                return
             try:
                 reply = await self.client.ask(f"{self.table.tenant} done {key.task}")
                 if reply.split()[2:] in (["ok"], ["no", "10", "no-such-task"]):
@@ -403,7 +425,7 @@ class Agent:
         )
         if tally.failures > work.retries:
             self.failed += 1
-            self.state.record("failed", task=run.key.task, line=run.key.line)
+            self.state.record("failed", **asdict(run.key))
             return tell(f"{run} failed, {why}; given up after {tally.failures} failures")
         pause = min(work.pause * 2 ** min(tally.failures + tally.lost - 1, 10), LONGEST_PAUSE)
         loop = asyncio.get_running_loop()
@@ -434,7 +456,8 @@ def run(options: Options) -> int:
 def main(words: list[str]) -> int:
     parser = argparse.ArgumentParser(prog="firm-agent", description=(__doc__ or "").splitlines()[0])
     commands = parser.add_subparsers(dest="verb", required=True)
-    one = commands.add_parser("run", help="run the tasks of a tenant")
+    raw = argparse.RawDescriptionHelpFormatter
+    one = commands.add_parser("run", help="run the tasks of a tenant", epilog=EXITS, formatter_class=raw)
     one.add_argument(
         "--table", type=Path, required=True, metavar="FILE", help="machines, and the tasks' command lines (TOML)"
     )

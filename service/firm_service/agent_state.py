@@ -26,7 +26,8 @@ class Key:
     """One task of firm; its name alone may come again."""
 
     task: str
-    line: int  # that submitted it
+    line: int  # that submitted it, counted from the beginning of firmd's state
+    state: str  # firmd's, by its id
 
 
 @dataclass
@@ -71,7 +72,7 @@ class History:
             self.name = event["name"]
         elif kind == "start":
             self.last_run = event["run"]
-            key = Key(event["task"], event["line"])
+            key = Key(event["task"], event["line"], event.get("state", ""))
             self.runs[self.last_run] = Run(self.last_run, key, event["job"], event["machine"])
         elif kind == "end":
             self.runs[event["run"]].ends = event["why"]
@@ -81,7 +82,7 @@ class History:
             tally.failures += kind == "ended" and event["status"] != 0 and not event["asked"]
             tally.finished |= kind == "ended" and event["status"] == 0 and not event["asked"]
         elif kind == "failed":
-            self.tallies[Key(event["task"], event["line"])].finished = True
+            self.tallies[Key(event["task"], event["line"], event.get("state", ""))].finished = True
 
 
 def events_of(text: bytes) -> Iterator[Event]:

@@ -5,11 +5,13 @@ from __future__ import annotations
 import time
 from bisect import bisect_left
 from collections import Counter, deque
-from collections.abc import Callable, Iterator
+from collections.abc import Callable, Iterator, Sequence
 from dataclasses import dataclass, field
 
 from .roster import Limits, read_roster
 
+# The byte that tells `no ..` from `ok ..`, and those behind `ok `; all other outcomes change no rows.
+REFUSAL, EVICTED, ROUND = b"ner"
 LONGEST_WAIT = 1_000_000  # rounds; firm counts a wait no further
 COSTS_KEPT = 120  # of a tenant's last rounds, for the page; firm itself tells 8
 ROUND_SECONDS = (0.0001, 0.0002, 0.0005, 0.001, 0.002, 0.005, 0.01, 0.02, 0.05, 0.1, 0.2, 0.5, 1.0, 2.0, 5.0, 10.0)
@@ -172,46 +174,67 @@ class Books:
         for limits in read_roster(roster):
             self._admit(limits)
 
-    def replied(self, line: bytes, reply: bytes, seconds: float | None) -> None:
-        """Takes in a line and its reply, in the order of the lines; the seconds are None in a replay.
-
-        A replay calls this for each line, so what changes nothing is looked at as little as can be.
-        """
-        self.lines += 1
-        words = reply.split(b" ", 2)
-        book = self._books.get(words[0])
-        tenant = None
-        if book is None:
-            tenant = self._operated(line, reply)
+    def replied_all(self, lines: Sequence[bytes], replies: Sequence[bytes], seconds: float | None) -> None:
+        """Takes in lines and their replies, in the order of the lines; the seconds are None in a replay."""
+        if self.watchers:
+            for line, reply in zip(lines, replies):
+                self.replied(line, reply, seconds)
         else:
-            book.number, outcome = words[1], words[2]
-            if outcome == b"ok" or outcome.startswith(b"ok evicted"):
+            self._take_in(lines, replies, seconds)
+
+    def replied(self, line: bytes, reply: bytes, seconds: float | None) -> None:
+        """The same for one line; the watchers hear of it once the books have it."""
+        self._take_in((line,), (reply,), seconds)
+        if self.watchers:
+            tenant = tenant_of(reply)
+            for watcher in tuple(self.watchers):  # one may leave
+                watcher(tenant, line, reply)
+
+    def _take_in(self, lines: Sequence[bytes], replies: Sequence[bytes], seconds: float | None) -> None:
+        """Most of a replay's time goes here, so a reply that changes no rows is looked at as little as can be."""
+        books, now = self._books, None if seconds is None else time.time()
+        for place, reply in enumerate(replies):
+            try:
+                name, number, outcome = reply.split(b" ", 2)
+                book = books[name]
+            except (ValueError, KeyError):
+                self._operated(lines[place], reply)
+                continue
+            book.number = number
+            if outcome[0] == REFUSAL:
+                book.refused[outcome] += 1
+            elif outcome == b"ok" or outcome[3] == EVICTED:
                 # What was obeyed is made of names, numbers and verbs, all ASCII, parted by spaces and tabs.
-                now = None if seconds is None else time.time()
-                book.obeyed(self.lines, line.decode("ascii").split(), now)
-            elif outcome.startswith(b"ok round"):
-                book.settled(outcome.decode("ascii").split(), None if seconds is None else time.time())
+                book.obeyed(self.lines + place + 1, lines[place].decode("ascii").split(), now)
+            elif outcome[3] == ROUND:
+                book.settled(outcome.decode("ascii").split(), now)
                 if seconds is not None:
                     self.round_times.add(seconds)
-            elif outcome.startswith(b"no"):
-                book.refused[outcome] += 1
-        if self.watchers:
-            for watcher in tuple(self.watchers):  # one may leave
-                watcher(tenant if book is None else book.limits.tenant, line, reply)
+        self.lines += len(replies)
 
     def _admit(self, limits: Limits) -> None:
         self._books[limits.tenant.encode()] = self.tenants[limits.tenant] = Book(limits)
 
-    def _operated(self, line: bytes, reply: bytes) -> str | None:
-        """Takes in a line of the operator or of nobody; the tenant that it admitted or retired."""
+    def _operated(self, line: bytes, reply: bytes) -> None:
+        """Takes in a line of the operator or of nobody."""
         match reply.decode("ascii").split():
             case "+", "ok", "admitted", tenant:
                 self._admit(Limits.of_fields(line.decode("ascii").split()[2].split(",")))
-                return tenant
             case "+", "ok", "retired", tenant:
                 del self.tenants[tenant], self._books[tenant.encode()]
-                return tenant
             case ("+", "no", _, name) | ("!", name):
                 self.refusals[name] += 1
-                return None
-        raise ValueError(f"a reply that belongs to no tenant: {reply!r}")
+            case _:
+                raise ValueError(f"a reply that belongs to no tenant: {reply!r}")
+
+
+def tenant_of(reply: bytes) -> str | None:
+    """The tenant that a reply concerns, one that is admitted or retired too."""
+    match reply.decode("ascii").split():
+        case "+", "ok", _, tenant:
+            return tenant
+        case ("+" | "!"), *_:
+            return None
+        case tenant, *_:
+            return tenant
+    return None

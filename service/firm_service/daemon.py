@@ -35,24 +35,43 @@ SEGMENT_BYTES = 16 * 2**20
 TICK_SECONDS = 0.5  # between looks at what the status counts
 SPARE_FILES = 256  # open files beside the clients'
 BUILT = Path(__file__).resolve().parents[2] / "crates" / "firm" / "out" / "firm"
+EXITS = """\
+exit statuses, each but 0 with the reason on standard error:
+  0  stopped by SIGTERM or SIGINT; each line taken is answered
+  1  an error of firmd itself
+  2  the command line, or a package that --http needs
+  3  the roster can't be read, firm refuses it, or it is not the state's
+  4  the state can't be read or written, lacks a part of its journal, or another firmd has it
+  5  the replay gives other lines or replies than were kept
+  6  firm can't be started, or ended by itself
+  7  a socket or address can't be had"""
 
 
 class Daemon:
     """One service, from its start to its end."""
 
-    def __init__(self, words: argparse.Namespace) -> None:
-        self._words = words
-        self._state = State(words.state)
-        self._program = [words.firm, *(["--workers", str(words.workers)] if words.workers is not None else [])]
-        self._roster = self._state.roster(words.roster, self._program)
+    def __init__(self, options: argparse.Namespace) -> None:
+        self._options = options
+        self._state = State(options.state)
+        self._program = [options.firm, *(["--workers", str(options.workers)] if options.workers is not None else [])]
+        self._roster = self._state.roster(options.roster, self._program)
         self._sockets: list[tuple[Listener, socket.socket]] = []
         self._has_warned = False
 
     async def run(self) -> None:
         """Serves until it is told to stop; raises the fault that ended it otherwise."""
-        journal = Journal(self._state.journal_path, self._words.segment_bytes)
+        journal = Journal(self._state.journal_path, self._options.segment_bytes)
         firm = Firm([*self._program, "--roster", str(self._state.roster_path)])
-        self._status = Status(time.time(), firm.process.pid, 0, 0, 0, self._words.journal_limit, 0, 0)
+        self._status = Status(
+            started=time.time(),
+            firm_process=firm.process.pid,
+            clients=0,
+            unread_replies=0,
+            journal_bytes=0,
+            journal_limit=self._options.journal_limit,
+            replayed_lines=0,
+            lines=0,
+        )
         self._stream = Stream(firm, journal, self._status)
         loop = asyncio.get_running_loop()
         loop.set_exception_handler(self._hear_of_error)
@@ -67,9 +86,9 @@ class Daemon:
         await self._stream.ended
 
     async def _serve(self) -> None:
-        clients = Clients(self._stream, Limits(self._words.most_clients, self._words.most_unread))
-        rounds = Rounds(self._books, self._stream, Times(self._words.every, self._words.after))
-        if self._words.after is not None:
+        clients = Clients(self._stream, Limits(self._options.most_clients, self._options.most_unread))
+        rounds = Rounds(self._books, self._stream, Times(self._options.every, self._options.after))
+        if self._options.after is not None:
             self._stream.observe(rounds)
         self._stream.on_stop = partial(self._stop_taking, clients, rounds)
         servers = []
@@ -93,10 +112,10 @@ class Daemon:
     async def _listen(self, clients: Clients) -> list[asyncio.Server]:
         loop = asyncio.get_running_loop()
         servers = [await self._serve_view()]
-        if self._words.http is not None:
-            await self._serve_http(self._words.http)
-        for listener in self._words.listeners:
-            bound = listener.bind(self._words.socket_mode)
+        if self._options.http is not None:
+            await self._serve_http(self._options.http)
+        for listener in self._options.listeners:
+            bound = listener.bind(self._options.socket_mode)
             self._sockets.append((listener, bound))
             client = partial(Client, clients, listener.rights)
             servers.append(await loop.create_unix_server(client, sock=bound, backlog=BACKLOG))
@@ -117,7 +136,7 @@ class Daemon:
             raise Fault(Exit.SOCKET, f"cannot serve {address}: {reason(error)}") from error
 
     async def _serve_view(self) -> asyncio.Server:
-        mask = os.umask(0o777 & ~self._words.socket_mode)
+        mask = os.umask(0o777 & ~self._options.socket_mode)
         try:
             return await serve_view(self._state.view_path, self._books, self._status)
         except OSError as error:
@@ -214,20 +233,7 @@ def default_firm() -> str:
     return str(BUILT) if BUILT.exists() else shutil.which("firm") or str(BUILT)
 
 
-def parser() -> argparse.ArgumentParser:
-    found = argparse.ArgumentParser(
-        prog="firmd", description="firm as a service for many clients; docs/SERVICE.md says more"
-    )
-    add = found.add_argument
-    add(
-        "--state",
-        type=Path,
-        required=True,
-        metavar="DIR",
-        help="the folder of the roster, the journal and the view's socket",
-    )
-    add("--roster", type=Path, metavar="FILE", help="the roster to begin with; the state keeps it")
-    sockets = found.add_argument_group("sockets, at least one")
+def add_sockets(sockets: argparse._ArgumentGroup) -> None:
     sockets.add_argument("--socket", type=Path, metavar="PATH", help="takes the lines of any tenant")
     sockets.add_argument("--operator", type=Path, metavar="PATH", help="takes the operator's lines too")
     sockets.add_argument(
@@ -241,65 +247,69 @@ def parser() -> argparse.ArgumentParser:
     sockets.add_argument(
         "--socket-mode", choices=["600", "660"], default="600", help="who may reach them (default: %(default)s)"
     )
-    add("--every", type=duration, metavar="SECONDS", help="a round as often, for each tenant with a task that waits")
-    add("--after", type=duration, metavar="MILLISECONDS", help="a round so long after a change, where a task waits")
-    add("--http", metavar="ADDRESS:PORT", help="serves /metrics and a page")
+
+
+def add_bytes(limits: argparse._ArgumentGroup, name: str, most: int, default: int, meaning: str) -> None:
+    told = f"{meaning} (default: %(default)s)"
+    limits.add_argument(name, type=partial(number, 1, most), default=default, metavar="BYTES", help=told)
+
+
+def parser() -> argparse.ArgumentParser:
+    found = argparse.ArgumentParser(
+        prog="firmd",
+        description="firm as a service for many clients; docs/SERVICE.md says more",
+        epilog=EXITS,
+        formatter_class=argparse.RawDescriptionHelpFormatter,
+    )
+    add = found.add_argument
+    told = "the folder of the roster, the journal and the view's socket"
+    add("--state", type=Path, required=True, metavar="DIR", help=told)
+    add("--roster", type=Path, metavar="FILE", help="the roster to begin with; the state keeps it")
+    add_sockets(found.add_argument_group("sockets, at least one"))
+    add("--every", type=duration, metavar="SECONDS", help="ask for rounds this often, of tenants with a waiting task")
+    add(
+        "--after",
+        type=duration,
+        metavar="MILLISECONDS",
+        help="ask for a round so long after a change, if a task waits",
+    )
+    add("--http", metavar="ADDRESS:PORT", help="serve /metrics and a page")
     add("--firm", default=default_firm(), metavar="PROGRAM", help="the built program (default: %(default)s)")
     add("--workers", type=partial(number, 1, 8), metavar="N", help="threads of firm that solve rounds")
-    add(
-        "--most-clients",
-        type=partial(number, 1, 10**5),
-        default=1_000,
-        metavar="N",
-        help="at a time (default: %(default)s)",
-    )
-    add(
-        "--most-unread",
-        type=partial(number, 1, 2**40),
-        default=8 * 2**20,
-        metavar="BYTES",
-        help="of replies that a client may leave unread (default: %(default)s)",
-    )
-    add(
-        "--journal-limit",
-        type=partial(number, 1, MOST_INPUT),
-        default=MOST_INPUT,
-        metavar="BYTES",
-        help="of all segments; firm reads no more than %(default)s, which is the default",
-    )
-    add(
-        "--segment-bytes",
-        type=partial(number, 1, MOST_INPUT),
-        default=SEGMENT_BYTES,
-        metavar="BYTES",
-        help="of a segment of the journal (default: %(default)s)",
-    )
+    limits = found.add_argument_group("limits")
+    most_clients = partial(number, 1, 10**5)
+    told = "at a time (default: %(default)s)"
+    limits.add_argument("--most-clients", type=most_clients, default=1_000, metavar="N", help=told)
+    add_bytes(limits, "--most-unread", 2**40, 8 * 2**20, "of replies that a client may leave unread")
+    add_bytes(limits, "--journal-limit", MOST_INPUT, MOST_INPUT, "of all segments; firm reads no more")
+    add_bytes(limits, "--segment-bytes", MOST_INPUT, SEGMENT_BYTES, "of a segment of the journal")
     return found
 
 
-def read_words(arguments: list[str]) -> argparse.Namespace:
+def read_options(arguments: list[str]) -> argparse.Namespace:
     found = parser()
-    words = found.parse_args(arguments)
-    open_listeners = [(words.socket, Rights()), (words.operator, Rights(is_operator=True))]
-    words.listeners = [Listener(path, rights) for path, rights in open_listeners if path is not None] + words.client
-    if not words.listeners:
+    options = found.parse_args(arguments)
+    open_listeners = [(options.socket, Rights()), (options.operator, Rights(is_operator=True))]
+    options.listeners = [Listener(path, rights) for path, rights in open_listeners if path is not None]
+    options.listeners += options.client
+    if not options.listeners:
         found.error("name a socket: --socket, --operator or --client")
-    paths = [listener.path for listener in words.listeners]
+    paths = [listener.path for listener in options.listeners]
     if len(set(paths)) < len(paths):
         found.error("each socket needs a path of its own")
-    words.socket_mode = int(words.socket_mode, 8)
-    if words.after is not None:
-        words.after /= 1_000
-    if words.every is not None and words.every < 0.001:
+    options.socket_mode = int(options.socket_mode, 8)
+    if options.after is not None:
+        options.after /= 1_000
+    if options.every is not None and options.every < 0.001:
         found.error("--every: a millisecond, 0.001, is the shortest time")
-    return words
+    return options
 
 
 def main() -> int:
-    words = read_words(sys.argv[1:])
-    allow_files(words.most_clients)
+    options = read_options(sys.argv[1:])
+    allow_files(options.most_clients)
     try:
-        asyncio.run(Daemon(words).run())
+        asyncio.run(Daemon(options).run())
     except Fault as fault:
         say(str(fault))
         return fault.status

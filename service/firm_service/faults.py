@@ -8,7 +8,7 @@ from enum import IntEnum
 
 
 class Exit(IntEnum):
-    """Exit statuses, as docs/SERVICE.md has them."""
+    """Exit statuses, as `firmd --help` lists them."""
 
     SERVED = 0
     INTERNAL = 1  # an error of firmd itself

@@ -21,6 +21,13 @@ from .why import NotBuilt, why
 # Exit statuses. The first is for a roster with a fault too.
 NOT_THERE, USAGE, NO_SERVICE, NOT_BUILT = 1, 2, 3, 4
 ANSWER_SECONDS = 20
+EXITS = """\
+exit statuses:
+  0  it is printed
+  1  no such tenant or task, or a faulty roster
+  2  the command line, a file that can't be read, or a task name that several tenants have
+  3  no firmd answers, it ended meanwhile, or its journal can't be read
+  4  firm_explain is not built, or failed"""
 
 TIME = Column("TIME", lambda row: tables.duration(row["seconds"]), is_number=True)
 TASKS = [text("TENANT", "tenant"), text("TASK", "task"), text("JOB", "job"), text("STATE", "state")]
@@ -212,7 +219,13 @@ def common(state: str | None, as_json: bool | str) -> argparse.ArgumentParser:
 
 
 def parser() -> argparse.ArgumentParser:
-    found = argparse.ArgumentParser(prog="firmctl", description=__doc__, parents=[common(None, False)])
+    found = argparse.ArgumentParser(
+        prog="firmctl",
+        description=__doc__,
+        epilog=EXITS,
+        formatter_class=argparse.RawDescriptionHelpFormatter,
+        parents=[common(None, False)],
+    )
     behind = common(argparse.SUPPRESS, argparse.SUPPRESS)
     commands = found.add_subparsers(metavar="COMMAND", required=True)
 

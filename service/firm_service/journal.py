@@ -21,6 +21,7 @@ from .lines import gets_reply
 
 PIECE_BYTES = 262_144  # of lines without a record, in a replay
 DIGEST_BYTES = 16
+REFUSED = "refused"
 
 
 def digest() -> blake2b:
@@ -34,6 +35,18 @@ def sync_folder(path: Path) -> None:
         os.fsync(folder)
     finally:
         os.close(folder)
+
+
+def whole_text(path: Path) -> bytes:
+    """A file's text, empty where there is no file.
+
+    What follows the last LF is cut off: it was not on the disk as a whole, so nobody was answered.
+    """
+    data = path.read_bytes() if path.exists() else b""
+    end = data.rfind(b"\n") + 1
+    if end < len(data):
+        os.truncate(path, end)
+    return data[:end]
 
 
 @dataclass(frozen=True, slots=True)
@@ -133,7 +146,7 @@ class Journal:
         """Keeps on the disk that memory was refused to these lines, before that is answered."""
         text = "".join(f"{segment} {line}\n" for line in lines)
         try:
-            with open(self.folder / "refused", "ab", buffering=0) as file:
+            with open(self.folder / REFUSED, "ab", buffering=0) as file:
                 file.write(text.encode())
                 os.fsync(file.fileno())
             sync_folder(self.folder)
@@ -144,40 +157,36 @@ class Journal:
         os.close(self._file)
 
     def _open(self) -> list[Segment]:
+        """Finds the segments, or begins the first, and syncs what a replay is about to obey."""
         numbers = sorted(int(path.stem) for path in self.folder.glob("*.lines"))
         if numbers != list(range(1, len(numbers) + 1)):
             raise Fault(Exit.STATE, f"{self.folder}: segments are missing: those there are {numbers}")
         if numbers:
             self._open_lines(numbers[-1], os.O_RDWR | os.O_APPEND)
-            self._cut_torn_line(self._lines_path(numbers[-1]))
+            whole_text(self._lines_path(numbers[-1]))
         else:
             numbers = [1]
             self._open_lines(1, os.O_RDWR | os.O_APPEND | os.O_CREAT | os.O_EXCL)
-            sync_folder(self.folder)
-        for number, line in self._read_numbers(self.folder / "refused"):
+        for number, line in self._read_numbers(self.folder / REFUSED):
             self._refused[number].add(line)
+        self._sync()
         return [self._read_segment(number) for number in numbers]
 
     def _open_lines(self, number: int, flags: int) -> None:
         self._file = os.open(self._lines_path(number), flags, 0o600)
 
-    def _cut_torn_line(self, path: Path) -> None:
-        """Cuts off what follows the last LF: it was not on the disk as a whole, so nobody was answered."""
-        data = path.read_bytes()
-        end = data.rfind(b"\n") + 1
-        if end < len(data):
-            os.truncate(path, end)
-            os.fsync(self._file)
+    def _sync(self) -> None:
+        """Syncs what a firmd that was killed may have left without: the last segment, its name, and refusals."""
+        os.fsync(self._file)
+        with suppress(FileNotFoundError), open(self.folder / REFUSED, "rb") as refused:
+            os.fsync(refused.fileno())
+        sync_folder(self.folder)
 
     def _read_segment(self, number: int) -> Segment:
         """A segment whose lines are not read yet: its size is how far a replay has come."""
         path = self._blocks_path(number)
         records: list[Record] = []
-        data = path.read_bytes() if path.exists() else b""
-        whole, torn = data[: data.rfind(b"\n") + 1], data[data.rfind(b"\n") + 1 :]
-        if torn:
-            os.truncate(path, len(whole))
-        for place, line in enumerate(whole.splitlines(), 1):
+        for place, line in enumerate(whole_text(path).splitlines(), 1):
             try:
                 end, count, lines, replies = line.decode().split()
                 records.append(Record(number, int(end), int(count), lines, replies))
@@ -186,8 +195,7 @@ class Journal:
         return Segment(number, records=records)
 
     def _read_numbers(self, path: Path) -> Iterator[tuple[int, int]]:
-        data = path.read_bytes() if path.exists() else b""
-        for place, line in enumerate(data[: data.rfind(b"\n") + 1].splitlines(), 1):
+        for place, line in enumerate(whole_text(path).splitlines(), 1):
             try:
                 segment, number = map(int, line.split())
             except ValueError as error:

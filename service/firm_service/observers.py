@@ -4,29 +4,20 @@ from __future__ import annotations
 
 from collections.abc import Sequence
 from dataclasses import dataclass
-from typing import Protocol, runtime_checkable
+from typing import Protocol
 
 
 class Observer(Protocol):
     """Hears of each line that got a reply, in the order of the lines, in a replay too.
 
-    It is called for each line, some fifty thousand times a second and more often in a replay, so it should take a
-    microsecond or two.
+    A replay has a million lines a second, so it should take half a microsecond for one.
     """
 
-    def replied(self, line: bytes, reply: bytes, seconds: float | None) -> None:
-        """A line and its reply, both without their LF (the line may end with CR).
-
-        The seconds are those from firm's standard input to the reply, None in a replay.
-        """
-
-
-@runtime_checkable
-class BulkObserver(Observer, Protocol):
-    """Hears of many lines by one call, which takes a replay half the time."""
-
     def replied_all(self, lines: Sequence[bytes], replies: Sequence[bytes], seconds: float | None) -> None:
-        """The same as `replied` for each line and its reply; both have the same length."""
+        """Lines and as many replies, without their LF (a line may end with CR).
+
+        The seconds are those from firm's standard input to the replies, None in a replay.
+        """
 
 
 @dataclass

@@ -3,6 +3,8 @@
 from __future__ import annotations
 
 import asyncio
+from collections import deque
+from collections.abc import Sequence
 from dataclasses import dataclass
 from typing import Protocol
 
@@ -31,7 +33,7 @@ class Rounds:
         self._books, self._taker, self._times = books, taker, times
         self._loop = asyncio.get_running_loop()
         self._awaited: dict[str, asyncio.TimerHandle] = {}  # tenants that changed, and when each is to have its round
-        self._asked: set[str] = set()  # tenants whose round is not answered yet
+        self._asked: deque[str] = deque()  # tenants whose rounds are not answered yet, in order
         self._timer: asyncio.TimerHandle | None = None
 
     def start(self) -> None:
@@ -47,13 +49,16 @@ class Rounds:
                 timer.cancel()
         self._times = Times(None, None)
 
-    def replied(self, line: bytes, reply: bytes, seconds: float | None) -> None:
-        # Machines, jobs and tasks that come or go are answered `ok` alone, and a drain `ok evicted K`.
-        if seconds is not None and (reply.endswith(b" ok") or b" ok evicted " in reply):
-            self._changed(reply[: reply.index(b" ")].decode())
+    def replied_all(self, lines: Sequence[bytes], replies: Sequence[bytes], seconds: float | None) -> None:
+        for reply in replies:
+            # Machines, jobs and tasks that come or go are answered `ok` alone, and a drain `ok evicted K`.
+            if reply.endswith(b" ok") or b" ok evicted " in reply:
+                self._changed(reply[: reply.index(b" ")].decode())
 
     def answered(self, replies: bytes, count: int) -> None:
-        self._asked.discard(replies[: replies.index(b" ")].decode())
+        # Not by the names in the replies: a tenant that was retired meanwhile is `! unknown-tenant`.
+        for _ in range(count):
+            self._asked.popleft()
 
     def _changed(self, tenant: str) -> None:
         after = self._times.after_seconds
@@ -77,7 +82,7 @@ class Rounds:
         if book is None or tenant in self._asked or is_worn(book) or not book.has_waiting():
             return
         if self._taker.take(self, b"%s round\n" % tenant.encode(), 1):
-            self._asked.add(tenant)
+            self._asked.append(tenant)
 
 
 def is_worn(book: Book) -> bool:

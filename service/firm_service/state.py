@@ -1,9 +1,10 @@
-"""The state's folder: its lock, the roster that it began with, and the journal."""
+"""The state's folder: its lock, its id, the roster that it began with, and the journal."""
 
 from __future__ import annotations
 
 import fcntl
 import os
+import secrets
 import subprocess
 from collections.abc import Sequence
 from pathlib import Path
@@ -11,7 +12,7 @@ from pathlib import Path
 from .faults import Exit, Fault, reason
 from .journal import sync_folder
 
-ROSTER, LOCK, JOURNAL, VIEW = "roster.csv", "lock", "journal", "view"
+ROSTER, LOCK, JOURNAL, VIEW, ID = "roster.csv", "lock", "journal", "view", "id"
 
 
 class State:
@@ -30,6 +31,7 @@ class State:
         except OSError as error:
             raise Fault(Exit.STATE, f"cannot use the state {folder}: {reason(error)}") from error
         self._take_lock()
+        self._keep_id()
 
     def roster(self, given: Path | None, firm: Sequence[str]) -> bytes:
         """The roster of the state. The first one that firm accepts is kept; another one is refused from then on."""
@@ -61,13 +63,22 @@ class State:
         except OSError as error:
             raise Fault(Exit.STATE, f"cannot use the state {self.folder}: {reason(error)}") from error
 
+    def _keep_id(self) -> None:
+        """Draws the state's id, unless it has one."""
+        path = self.folder / ID
+        try:
+            if not path.exists():
+                new = path.with_suffix(".new")
+                write(new, f"{secrets.token_hex(8)}\n".encode())
+                new.replace(path)
+                sync_folder(self.folder)
+        except OSError as error:
+            raise Fault(Exit.STATE, f"cannot keep an id in {self.folder}: {reason(error)}") from error
+
     def _keep_roster(self, text: bytes, given: Path, firm: Sequence[str]) -> None:
         new = self.roster_path.with_suffix(".new")
         try:
-            with open(new, "wb") as file:
-                file.write(text)
-                file.flush()
-                os.fsync(file.fileno())
+            write(new, text)
             try_roster(new, given, firm)
             new.replace(self.roster_path)
             sync_folder(self.folder)
@@ -87,6 +98,19 @@ def try_roster(path: Path, given: Path, firm: Sequence[str]) -> None:
         raise Fault(Exit.ROSTER, f"{given}: {said}; firmctl check-roster {given} names line, field and value")
     if done.returncode:
         raise Fault(Exit.FIRM, f"firm ended with status {done.returncode}, and said: {said}")
+
+
+def write(path: Path, text: bytes) -> None:
+    """Writes a file, and returns once it is on the disk."""
+    with open(path, "wb") as file:
+        file.write(text)
+        file.flush()
+        os.fsync(file.fileno())
+
+
+def id_of(folder: Path) -> str:
+    """The id of a state: no other state has it, so its lines' numbers are told from another's by it."""
+    return (folder / ID).read_text().strip()
 
 
 def read(path: Path) -> bytes:

@@ -16,7 +16,6 @@ from collections import deque
 from collections.abc import Callable, Sequence
 from contextlib import suppress
 from dataclasses import dataclass, field
-from functools import partial
 from hashlib import blake2b
 from queue import SimpleQueue
 from threading import Event, Thread
@@ -25,7 +24,7 @@ from typing import Protocol
 from .faults import Exit, Fault, reason
 from .journal import Journal, Piece, Place, Record, digest
 from .lines import first_word
-from .observers import BulkObserver, Observer, Status
+from .observers import Observer, Status
 
 BLOCK_LINES = 1_024  # at least, in a block of the journal
 PIPE_BYTES = 1_048_576  # that a pipe to or from firm holds, where the system lets it
@@ -110,7 +109,7 @@ class Stream:
 
     def __init__(self, firm: Firm, journal: Journal, status: Status) -> None:
         self.status = status
-        self._observers: list[Callable[[list[bytes], list[bytes], float | None], None]] = []
+        self._observers: list[Observer] = []
         self.on_stop: Callable[[], None] = lambda: None  # called once, before the last lines are handed over
         self._loop = asyncio.get_running_loop()
         self.replayed: asyncio.Future[None] = self._loop.create_future()
@@ -133,10 +132,7 @@ class Stream:
 
     def observe(self, observer: Observer) -> None:
         """Tells it of each line from now on."""
-        if isinstance(observer, BulkObserver):
-            self._observers.append(observer.replied_all)
-        else:
-            self._observers.append(partial(tell_each, observer))
+        self._observers.append(observer)
 
     def take(self, owner: Owner | None, text: bytes, count: int) -> bool:
         """Takes whole lines, each of which gets a reply; False where firm can't read as many bytes any more."""
@@ -283,8 +279,8 @@ class Stream:
         share.lines = share.lines or share.text.split(b"\n")
         seconds = None if share.sent is None else time.monotonic() - share.sent
         try:
-            for tell in self._observers:
-                tell(share.lines[first:last], replies, seconds)
+            for observer in self._observers:
+                observer.replied_all(share.lines[first:last], replies, seconds)
         except Exception as error:
             trouble = (
                 f"the books can't take in {replies[0]!r} to {share.lines[first]!r}, or a reply behind it: {error!r}"
@@ -369,11 +365,6 @@ class Stream:
             return fault
         self._journal.close()
         return None
-
-
-def tell_each(observer: Observer, lines: list[bytes], replies: list[bytes], seconds: float | None) -> None:
-    for line, reply in zip(lines, replies):
-        observer.replied(line, reply, seconds)
 
 
 def placed(share: Share) -> Place:

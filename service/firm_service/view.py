@@ -1,4 +1,18 @@
-"""The view socket: what is going on, as JSON, one request and one answer a line. It only reads."""
+"""The view socket: what is going on, as JSON. It only reads.
+
+A request is one object on a line, and so is its answer:
+
+- {"ask": "status"};
+- {"ask": "tasks", "tenant": "alpha"}, also "machines" and "jobs"; of all tenants where none is named;
+- {"ask": "book", "tenant": "alpha"}, all rows of a tenant; {"ask": "lines", "tenant": "alpha"};
+- {"ask": "watch", "tenant": "alpha"}: first {"state": ID, "book": ..}, the state's id and the rows or null, then
+  {"line": .., "reply": .., "number": ..} for each line of that tenant, and of the operator that admits or retires it.
+  Where no tenant is named, first {"tenants": [..]}, a row for each, then all lines.
+
+`number` counts the lines with a reply since the journal's beginning. A task's `line` is the number of its submission,
+which no other task of this state has. A request without an answer gives {"error": NAME, "text": ..}; one of more than
+65,536 bytes closes its connection.
+"""
 
 from __future__ import annotations
 
@@ -13,6 +27,7 @@ from pathlib import Path
 
 from .books import Book, Books
 from .observers import Status
+from .state import id_of
 
 MOST_CLIENTS = 64  # at a time
 MOST_UNREAD = 4 << 20  # bytes, beside the rows at first, that a watcher may leave unread before it is closed
@@ -105,8 +120,8 @@ LISTS: Lists = {"tasks": tasks_of, "machines": machines_of, "jobs": jobs_of}  # 
 class View:
     """Answers what may be asked once; see `Connection` for a watch."""
 
-    def __init__(self, books: Books, status: Status) -> None:
-        self.books, self.status = books, status
+    def __init__(self, books: Books, status: Status, state: str) -> None:
+        self.books, self.status, self.state = books, status, state
         self.clients = 0
 
     async def answer(self, request: Json) -> str:
@@ -156,6 +171,8 @@ class View:
                 await writer.drain()
         except (ConnectionError, ValueError):  # it is gone, or its line is endless
             pass
+        except asyncio.CancelledError:  # the service ends; asyncio would report a cancelled connection as an error
+            pass
         finally:
             self.clients -= 1
             connection.unwatch()
@@ -193,7 +210,8 @@ class Connection:
         if wanted is None:
             answer: Json = {"tenants": [summary_of(book) for book in tenants.values()]}
         else:
-            answer = {"book": rows_of(tenants[wanted]) if isinstance(wanted, str) and wanted in tenants else None}
+            book = rows_of(tenants[wanted]) if isinstance(wanted, str) and wanted in tenants else None
+            answer = {"state": self.view.state, "book": book}
         self.most_unread = MOST_UNREAD + send(self.writer, answer)
         self.view.books.watchers.append(self.tell)
 
@@ -222,5 +240,8 @@ def send(writer: asyncio.StreamWriter, answer: Json) -> int:
 
 
 async def serve_view(path: Path, books: Books, status: Status) -> asyncio.Server:
-    """Begins to answer on a Unix socket, with the mode that the umask leaves; replaces one of a dead service."""
-    return await asyncio.start_unix_server(partial(View.serve, View(books, status)), path)
+    """Begins to answer on a Unix socket in the state's folder, with the mode that the umask leaves.
+
+    Replaces the socket of a dead service; raises OSError where it can't be made, or the state's id can't be read.
+    """
+    return await asyncio.start_unix_server(partial(View.serve, View(books, status, id_of(path.parent))), path)
