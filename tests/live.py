@@ -20,7 +20,7 @@ import time
 import tty
 from dataclasses import dataclass
 from functools import partial
-from typing import Iterator
+from typing import Callable, Iterator
 
 from harness import program, service
 from harness.checks import Check, require, run_script, status_of
@@ -62,7 +62,7 @@ class Starter:
     def client(
         self,
         roster_path: str,
-        workers: str = "2",
+        workers: str,
         stdin: int = subprocess.PIPE,
         is_slow: bool = False,
         **asked: int,
@@ -114,7 +114,7 @@ def line_by_line(starter: Starter, workers: str) -> None:
 
 def lines_during_a_round(starter: Starter, workers: str) -> None:
     """While a round is solved another tenant's lines are answered; the replies come right behind its own."""
-    with program.Roster(ROSTER) as roster_path, starter.client(roster_path, workers=workers, is_slow=True) as client:
+    with program.Roster(ROSTER) as roster_path, starter.client(roster_path, workers, is_slow=True) as client:
         add_rows(client)
         client.send(b"alpha round\n")
         time.sleep(PAUSE_SECONDS)
@@ -129,9 +129,9 @@ def lines_during_a_round(starter: Starter, workers: str) -> None:
         require(client.close() == (0, b"", b""), "its end")
 
 
-def closed_output(starter: Starter, line: bytes, is_slow: bool) -> None:
+def closed_output(starter: Starter, workers: str, line: bytes, is_slow: bool) -> None:
     """Where nobody reads the replies any more the service ends with the next one, while its input is still open."""
-    with program.Roster(ROSTER) as roster_path, starter.client(roster_path, is_slow=is_slow) as client:
+    with program.Roster(ROSTER) as roster_path, starter.client(roster_path, workers, is_slow=is_slow) as client:
         add_rows(client)
         if is_slow:
             client.send(line)
@@ -142,23 +142,23 @@ def closed_output(starter: Starter, line: bytes, is_slow: bool) -> None:
         require(client.end() == (5, b"", b"firm: write\n"), "its end")
 
 
-def rest_of_the_input(starter: Starter) -> None:
+def rest_of_the_input(starter: Starter, workers: str) -> None:
     """What follows the last line feed is answered at the end of the input, behind the rounds that are asked."""
-    with program.Roster(ROSTER) as roster_path, starter.client(roster_path, is_slow=True) as client:
+    with program.Roster(ROSTER) as roster_path, starter.client(roster_path, workers, is_slow=True) as client:
         add_rows(client)
         client.send(b"alpha round\nbeta round\nalpha where a")
         wanted = b"%s\nbeta 4 ok round cost 0 start l m1\nalpha 6 ok at m1\n" % FIRST_ROUND
         require(client.close() == (0, wanted, b""), "the replies at the end")
 
 
-def terminal(starter: Starter, is_hung_up: bool) -> None:
+def terminal(starter: Starter, workers: str, is_hung_up: bool) -> None:
     """A terminal's end of input ends the service well, its hang-up as a failed read, also while a round is solved."""
     for is_slow in (False, True):
         ours, theirs = pty.openpty()
         if is_hung_up:
             tty.setraw(theirs)
         with program.Roster(ROSTER) as roster_path, starter.client(
-            roster_path, stdin=theirs, is_slow=is_slow
+            roster_path, workers, stdin=theirs, is_slow=is_slow
         ) as client:
             os.close(theirs)
             for line in ROWS:
@@ -179,9 +179,9 @@ def terminal(starter: Starter, is_hung_up: bool) -> None:
                 require(end.output in ([b"", FIRST_ROUND + b"\n"] if is_slow else [b""]), f"at the hang-up: {end}")
 
 
-def suspended(starter: Starter) -> None:
+def suspended(starter: Starter, workers: str) -> None:
     """A program that is stopped and goes on, as by a shell, goes on with its reads."""
-    with program.Roster(ROSTER) as roster_path, starter.client(roster_path, is_slow=True) as client:
+    with program.Roster(ROSTER) as roster_path, starter.client(roster_path, workers, is_slow=True) as client:
         add_rows(client)
         for line, wanted in ((b"beta where l\n", b"beta 4 ok waits 0"), (b"alpha round\n", FIRST_ROUND)):
             for number in (signal.SIGSTOP, signal.SIGCONT):
@@ -205,11 +205,11 @@ def threads(starter: Starter, workers: str) -> None:
         require(client.close() == (0, b"", b""), "its end")
 
 
-def no_reading_thread(starter: Starter) -> None:
+def no_reading_thread(starter: Starter, workers: str) -> None:
     """Without the thread that reads ahead a round's reply comes with a later line at the latest."""
-    with program.Roster(ROSTER) as roster_path, starter.client(roster_path, refuse_thread=1) as client:
+    with program.Roster(ROSTER) as roster_path, starter.client(roster_path, workers, refuse_thread=1) as client:
         add_rows(client)
-        require(client.threads() == 3, "the threads")
+        require(client.threads() == int(workers) + 1, "the threads")
         client.send(b"alpha round\nalpha where a\n")
         require((client.reply(), client.reply()) == (FIRST_ROUND, b"alpha 6 ok at m1"), "the replies")
         require(client.close() == (0, b"", b""), "its end")
@@ -218,17 +218,21 @@ def no_reading_thread(starter: Starter) -> None:
 def checks(starter: Starter) -> Iterator[tuple[str, Check]]:
     """Each check's name, and the check."""
     for workers in ("1", "2", "8"):
-        yield f"line by line, workers {workers}", partial(line_by_line, starter, workers)
-        yield f"lines during a round, workers {workers}", partial(lines_during_a_round, starter, workers)
-        yield f"threads, workers {workers}", partial(threads, starter, workers)
-    yield "closed output, a line", partial(closed_output, starter, b"alpha show\n", False)
-    yield "closed output, a round", partial(closed_output, starter, b"alpha round\n", False)
-    yield "closed output while a round is solved", partial(closed_output, starter, b"alpha round\n", True)
-    yield "rest of the input", partial(rest_of_the_input, starter)
-    yield "terminal, end of input", partial(terminal, starter, False)
-    yield "terminal, hang-up", partial(terminal, starter, True)
-    yield "suspended", partial(suspended, starter)
-    yield "no reading thread", partial(no_reading_thread, starter)
+        named: dict[str, Callable[[Starter, str], None]] = {
+            "line by line": line_by_line,
+            "lines during a round": lines_during_a_round,
+            "threads": threads,
+            "closed output, a line": partial(closed_output, line=b"alpha show\n", is_slow=False),
+            "closed output, a round": partial(closed_output, line=b"alpha round\n", is_slow=False),
+            "closed output while a round is solved": partial(closed_output, line=b"alpha round\n", is_slow=True),
+            "rest of the input": rest_of_the_input,
+            "terminal, end of input": partial(terminal, is_hung_up=False),
+            "terminal, hang-up": partial(terminal, is_hung_up=True),
+            "suspended": suspended,
+            "no reading thread": no_reading_thread,
+        }
+        for name, check in named.items():
+            yield f"{name}, workers {workers}", partial(check, starter, workers)
 
 
 def read_options() -> Options:

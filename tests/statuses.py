@@ -37,9 +37,9 @@ Options:
   -h, --help           Print help
   -V, --version        Print version
 
-Input: a command a line, the name of its tenant first. Operator's lines begin
-with +. Empty lines and lines that begin with # are skipped.
-Output: a reply a line, in the order of the commands, with the name of the
+Input: one command per line, tenant first. Operator's lines begin with +.
+Empty lines and lines that begin with # are skipped.
+Output: one reply per line, in the order of the commands, with the name of the
 tenant and how many commands it has given. At the end of the input firm ends.
 
 Example:

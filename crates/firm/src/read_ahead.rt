@@ -117,7 +117,7 @@ fn read_when_asked<R: Wait, T: Read>(rt: &R, shared: &Shared<T>) {
 }
 
 impl<R: Threads + Wait, T: Read + Drop> ReadAhead<'_, R, T> {
-    /// Ends the thread, unless it stands in a read. Nobody can end that one but the end of the program.
+    /// Ends the thread, unless it is in a read. A thread blocked in a read ends only with the program.
     pub(crate) fn close(self) {
         let ReadAhead {
             rt,

@@ -10,7 +10,7 @@ use Rattle.firm_hall.specs.Desks.{DeskIs, PlaceIs}
 abbrev pub asked_weight : (Ticket → ℕ) → List DeskIs → ℕ
 asked_weight h desks = weigh (λ d. weigh h (numbered d.place d.put)) desks
 
--- and those that were asked at these places, which no tenant has any more
+-- and of those asked at these places, which have no tenant now
 abbrev pub left_weight : (Ticket → ℕ) → List PlaceIs → ℕ
 left_weight h places = weigh (λ p. weigh h (numbered p.place p.put)) places
 
@@ -18,15 +18,13 @@ left_weight h places = weigh (λ p. weigh h (numbered p.place p.put)) places
 abbrev pub is_ticket : Ticket → Ticket → ℕ
 is_ticket one other = cond ((one.place == other.place) && (one.number == other.number)) 1 0
 
--- how many tickets these reports tell of
+-- how many tickets these reports list
 abbrev pub taken_count : List PopIs → ℕ
 taken_count reports = weigh (λ r. length r.got) reports
 
--- The tickets that were asked at the desks and at the places that no tenant has any more are, each as often, those of
--- the
--- reports and of the jobs that are left: however tickets are weighed, both weigh the same. And each ticket was asked
--- once
--- at most; so each stands exactly once in the reports and jobs.
+-- Each ticket asked at the desks and at the places without a tenant stands in the reports and the jobs left, as often
+-- as it was asked: however tickets are weighed, both weigh the same. Each was asked at most once, so it stands there
+-- exactly once.
 pub record IsClosed (desks : List DeskIs) (empty : List PlaceIs) (reports : List PopIs)
     (jobs : List JobIs) : Type 0 where
   pub as_often : (h : Ticket → ℕ)

@@ -62,13 +62,13 @@ abbrev pub refusals_in : List LineAnswer → ℕ
 refusals_in [] = 0
 refusals_in (answer ∷ answers) = refusal_in answer + refusals_in answers
 
--- So many rounds were asked: all that the lines tell, but for some to which memory was refused.
+-- This many rounds were asked: all that the lines ask for, but for some that were refused memory.
 pub record Counted (asked : ℕ) (lines : List MarkedLine) (answers : List LineAnswer) : Type 0 where
   pub least : asked ≤ rounds_in lines answers
   pub most : rounds_in lines answers ≤ asked + refusals_in answers
 
--- What Ok says of a service: what was written is the output for all that was read; and so many rounds were asked, which
--- are all that the lines tell where no reply of a tenant says that memory was refused.
+-- What Ok says of a service: what was written is the output for all that was read; and this many rounds were asked, all
+-- that the lines ask for if no reply of a tenant says that memory was refused.
 pub record ServedWith (roster : List RosterRow) (most : ℕ) (reader writer : Device) (asked : ℕ) : Type 0 where
   pub served : Served roster most reader writer
   pub counted : Counted asked served.answers.lines (answers_of roster served.answers.lines)

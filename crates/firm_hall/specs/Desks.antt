@@ -51,18 +51,17 @@ pub record IsRefused (before : DeskIs) (reply : Reply) (after : DeskIs) : Type 0
   pub stepped : IsStep before Round reply after
   pub why : (reply.outcome ≡ Refused Worn) ⊎ (reply.outcome ≡ Refused Memory)
 
--- so many tenants ask so many rounds at most, since each is given at most 2^40 commands
+-- the most rounds of this many tenants, each of which answers at most 2^40 commands
 abbrev pub rounds_of : ℕ → ℕ
 rounds_of tenants = tenants * 2 ^ 40
 
--- a place was given no more often than it may be, and no more rounds were asked there than its tenants may ask
+-- a place was given at most as often as it may be, and no more rounds were asked there than its tenants may ask
 pub record IsCounted (put admissions : ℕ) : Type 0 where
   pub few : admissions ≤ most_admissions
   pub asked : put ≤ rounds_of admissions
 
 -- a tenant was given no more commands than its life has, and no more rounds were asked than it was given commands,
--- beside
--- those that the tenants before it may have asked
+-- beside those that the tenants before it may have asked
 pub record IsLive (put admissions : ℕ) (book : Book) : Type 0 where
   pub asked : put + rounds_of 1 ≤ rounds_of admissions + book.given
   pub given : book.given ≤ book.rows.limits.life

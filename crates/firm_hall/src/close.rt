@@ -33,8 +33,8 @@ pub enum CloseFault {
 
 impl Hall {
     /// Closes the hall, with its desks, empty ones too, and the reports of its workers. Ok says that the reports'
-    /// tickets are those that were asked at the desks, by whoever had their places, each exactly once, and how many
-    /// they are. It takes no memory.
+    /// tickets are those asked at the desks, by all tenants of their places, each exactly once, and how many they are.
+    /// It takes no memory.
     pub fn close<R: Wait>(
         self,
         rt: &R,

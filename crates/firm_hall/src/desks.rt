@@ -18,8 +18,8 @@ use std::alloc::{AllocError, Global};
 use std::marker::Model;
 use std::sync::Wait;
 
-/// A tenant at home: whoever holds the desk owns it. Contracts see its hall, its place, how many rounds were asked
-/// there and how often the place was given, whoever had it, and the tenant's book.
+/// A tenant at home, owned by the desk's holder. Contracts see its hall, its place, how many rounds all tenants of the
+/// place asked, how often the place was given, and the tenant's book.
 #[derive(Drop)]
 pub struct Desk {
     tenant: Tenant,
@@ -95,8 +95,8 @@ impl Desk {
         self.tenant.step(alloc, command)
     }
 
-    /// Asks for the tenant's round, which goes to a worker of the hall. Where no life is left, or no memory for the way
-    /// back, the desk comes back with the reply that says so.
+    /// Asks for the tenant's round, which goes to a worker of the hall. Without life or memory, returns the desk with
+    /// that refusal.
     pub fn ask<R: Wait>(self, rt: &R, alloc: Global, hall: &Hall) -> Result<Asked, (Desk, Reply)>
         requires { self.queue ≡ hall.now.id }
         ensures asked { MatchResult result

@@ -15,8 +15,8 @@ use firm_tenant::Tenant;
 use std::alloc::Global;
 use std::marker::Model;
 
-/// A place that no tenant has: whoever holds it may admit one. Contracts see its hall, which place it is, how many
-/// rounds were asked there and how often the place was given.
+/// A place without a tenant; its holder may admit one. Contracts see its hall, which place it is, how many rounds were
+/// asked there and how often the place was given.
 #[derive(Drop)]
 pub struct EmptyDesk {
     place: Place,

@@ -117,7 +117,7 @@ impl Hall {
     }
 }
 
-// A hall of so many places, the first of which the tenants of the roster have.
+// A hall of this many places, the first of which the tenants of the roster have.
 fn open_hall(
     alloc: Global,
     roster: &Roster,

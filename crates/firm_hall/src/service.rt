@@ -27,7 +27,8 @@ use std::thread::Threads;
 /// admitted first, and for those that the operator admits meanwhile, up to 64 at a time. 1 to 8 workers solve their
 /// rounds, each on a thread of its own and after it passed the gate. Answers are written in the order of their lines.
 /// It waits for a round only where the next line is for its tenant or retires it, where 1,024 answers are held, at the
-/// end of the input, or before a read for which the reader is not ready.
+/// end of the input, or before a read for which the reader is not ready. It flushes the writer at the end alone, so a
+/// writer that buffers holds replies back until then.
 ///
 /// On `Ok` a read has found the end of the input, and what was written is the output for all of it. After a fault it is
 /// a prefix of the output for the bytes that were read. `Read` and `Write` come where a call of the reader or the
@@ -73,6 +74,8 @@ pub fn serve<S: Source, W: Sink, R: Threads + Wait + Sync, G: Gate + Sync>(
     let (served, reports) = serve_with(team, clerk, reader, writer, most);
     let ended = served?;
     let rounds = ended.rounds;
+    // All desks are home, so each round was answered, and the rounds are counted by place: how the hall closes tells
+    // nothing more.
     close(rt, alloc, hall, ended, reports);
     Ok(Totals { rounds })
 }

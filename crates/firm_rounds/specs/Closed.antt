@@ -21,7 +21,7 @@ job_weight h jobs = weigh (λ j. h j.ticket) jobs
 abbrev pub of_place : ℕ → List PutIs → ℕ
 of_place place puts = weigh (λ p. is_at place (share p.place p.put [])) puts
 
--- what these shares put is, each as often, what they got and what is left; and each place has one of them at most
+-- each ticket that these shares put they got or it is left, as often as it was put; each place has at most one of them
 pub record Settled (shares : List Share) (jobs : List JobIs) : Type 0 where
   pub balanced : (h : Ticket → ℕ) → weigh (put_by h) shares ≡ weigh (got_by h) shares + job_weight h jobs
   pub placed : (place : ℕ) → place < beyond → weigh (is_at place) shares ≤ 1
@@ -39,7 +39,7 @@ pub record HasAll (v : Sight) (puts : List PutIs) (pops : List PopIs) : Type 0 w
   pub count : length v.shares ≡ length puts + length pops
   pub places : (place : ℕ) → of_place place puts ≤ weigh (is_at place) v.shares
 
--- what was put is, each as often, what was got and what is left; and each place has one pass at most
+-- each ticket put was got or is left, as often as it was put; each place has at most one pass
 pub record AsOften (puts : List PutIs) (pops : List PopIs) (jobs : List JobIs) : Type 0 where
   pub balanced : (h : Ticket → ℕ) → put_weight h puts ≡ got_weight h pops + job_weight h jobs
   pub placed : (place : ℕ) → place < beyond → of_place place puts ≤ 1

@@ -1,4 +1,4 @@
--- The rule of the round queue: what was put is, each as often, what was got and what the queue holds.
+-- The rule of the round queue: each ticket put was got or is in the queue, as often as it was put.
 use Rattle.std.specs.Prelude.{◌≡◌, ℕ, zero, suc, ◌+◌, ◌-◌, ◌*◌, ◌^◌, ◌<◌, ◌≤◌, ◌==◌, nat_lt, Bool, true, false, cond}
 use Rattle.std.specs.Prelude.{List, [], ◌∷◌, ◌++◌, map, length}
 use mathlib.Core.Option.{some}
@@ -57,8 +57,8 @@ tickets items = map (λ x. x.ticket) items
 abbrev pub beyond : ℕ
 beyond = 4294967296
 
--- However tickets are weighed, those that were put are those that were got and those that lie in the queue. Each seat
--- with a share knows how many shares there are.
+-- However tickets are weighed, those put weigh as much as those got and those in the queue. Each seat with a share
+-- knows how many shares there are.
 pub record Fair (items : List JobParts) (views : List Sight) : Type 0 where
   pub all : ℕ
   pub agree : (id : ℕ) (v : Sight) → get_elem? views id ≡ some v → 0 < length v.shares → v.all ≡ all

@@ -200,7 +200,7 @@ impl Queue {
         Closing { ring, keep, left }
     }
 
-    /// Ends the queue, with all its passes. Ok says that what was put is, each as often, what was got. It takes no
+    /// Ends the queue, with all its passes. Ok says that each ticket was got as often as it was put. It takes no
     /// memory.
     pub fn close<R: Wait>(
         self,

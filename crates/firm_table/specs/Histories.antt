@@ -153,8 +153,8 @@ EventsKeepAlone = (roster : List RosterRow) (workers place stay : ℕ) (events :
     × ((seat : Seat) → slice_get (table_after (opening_table roster workers) events).seats place ≡ Some seat
     → is_home seat.station ≡ true → first.waiting ≡ [])
 
--- two stays that began with the same limits, at any places of any two tables and behind any events, whoever was there
--- before, that agree on the commands up to one, and on which of these are refused for want of memory, give it the same
+-- two stays that began with the same limits, at any places of any two tables and behind any events and any earlier
+-- tenants, that agree on the commands up to one, and on which of these are refused for want of memory, give it the same
 -- reply as far as both have come
 abbrev pub EventsAreIsolated : Type 0
 EventsAreIsolated =

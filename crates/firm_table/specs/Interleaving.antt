@@ -39,7 +39,7 @@ is_home (queued book ticket) = false
 is_home (held book ticket worker) = false
 is_home (answered book reply) = false
 
--- a place: what stands there, and how many rounds it queued and how many tenants it was given, whoever these were
+-- a place: what stands there, and how many rounds all its tenants have queued and how many tenants it was given
 pub record Seat : Type 0 where
   pub station : Station
   pub rounds : ℕ

@@ -31,15 +31,14 @@ AnswersLineByLine = (roster : List RosterRow) (lines : List MarkedLine) (given :
     → answers_of roster (lines ++ given ∷ [])
     ≡ answers_of roster lines ++ answer_of (after_lines (opening_places roster) lines) given ∷ []
 
--- at every moment a tenant has got, since it came, the replies of one that is alone in the service and is given what
--- it was given
+-- a tenant's replies since admission are those of a tenant served alone
 abbrev pub RepliesAreAlone : Type 0
 RepliesAreAlone = (roster : List RosterRow) (lines : List MarkedLine) (name : List ℕ) (stay : Stay)
     → stay_in roster lines name ≡ Some stay
     → replies_to name (answers_of roster lines) ≡ alone_marked stay.limits stay.commands
 
--- two stays that began with the same limits and were given the same have got the same, whatever else the two services
--- hold and were told, and whoever stayed there before
+-- two stays that began with the same limits and were given the same commands have the same replies, regardless of what
+-- else the two services hold and were given, earlier tenants of the place included
 abbrev pub StaysAreIsolated : Type 0
 StaysAreIsolated = (roster other_roster : List RosterRow) (lines other_lines : List MarkedLine) (name : List ℕ)
     (stay : Stay)
@@ -108,7 +107,7 @@ StaysBeginAnew = (roster : List RosterRow) (lines later : List MarkedLine) (admi
     ≡ Some (with_commands (commands_to name later) (new_stay name limits))
 
 -- a tenant that two services admitted so, with the same limits, gets the same replies where the later lines to it are
--- equal, whatever stands before its admission
+-- equal, regardless of what precedes its admission
 abbrev pub AdmissionsAreIsolated : Type 0
 AdmissionsAreIsolated = (roster other_roster : List RosterRow) (lines later other_lines other_later : List MarkedLine)
     (admission other_admission : MarkedLine) (name : List ℕ) (limits : TenantLimits)

@@ -35,7 +35,7 @@ pub record BeginsAnswers (roster : List RosterRow) (input : List ℕ)
   pub count : ℕ
   pub wrote : Appends written written_after (take count (output_of roster lines))
 
--- all that was left to read was read, at most so many bytes, what was written is the output for it, and no call has
+-- all that was left to read was read, at most `most` bytes, what was written is the output for it, and no call has
 -- failed
 pub record Served (roster : List RosterRow) (most : ℕ) (reader writer : Device) : Type 0 where
   pub input : List ℕ
@@ -46,7 +46,7 @@ pub record Served (roster : List RosterRow) (most : ℕ) (reader writer : Device
   pub reads : reader.failed ≡ false
   pub writes : writer.failed ≡ false
 
--- the fault of a service that read this much and takes at most so many bytes: a read failed, a write failed, or neither
+-- the fault of a service that read this much and takes at most `most` bytes: a read failed, a write failed, or neither
 -- did, and the input is longer or memory was refused
 abbrev pub IsCause : ServeFault → List ℕ → ℕ → Bool → Bool → Type 0
 IsCause Read input most read_failed write_failed = (read_failed ≡ true) × (write_failed ≡ false)

@@ -1,4 +1,4 @@
-//! What each tenant of the service may rely on, whatever the others are told.
+//! What each tenant of the service may rely on, regardless of the others.
 
 ghost use Rattle.firm_table.specs.Isolation.{AdmissionsAreIsolated, AnswersLineByLine, RepliesAreAlone};
 ghost use Rattle.firm_table.specs.Isolation.{StaysAreIsolated};
@@ -15,17 +15,17 @@ use firm_tenant::{replies_tell_their_marks, unmarked_steps_are_granted};
 use firm_text::refuses_for_the_form;
 
 /// The laws of isolation, first for lines. Answers come line by line. In each stay a tenant's replies are those of a
-/// service that holds this tenant alone and is given its commands alone, whatever else stands in roster and input. A
-/// tenant is given the commands of its own lines: one of the roster from the first line, one admitted later from its
-/// admission, each until a line of the operator for it is obeyed; a refused line changes nothing. So two services that
-/// agree on a tenant's limits and on these lines give it the same replies. Where memory is refused to no line, the
-/// output is a function of the roster and of the bytes read.
+/// service that holds this tenant alone and is given its commands alone, regardless of other input. A tenant is given
+/// the commands of its own lines: one of the roster from the first line, one admitted later from its admission, each
+/// until a line of the operator for it is obeyed; a refused line changes nothing. So two services that agree on a
+/// tenant's limits and on these lines give it the same replies. Where memory is refused to no line, the output is a
+/// function of the roster and of the bytes read.
 ///
 /// Then for every list of the table's events, and for each stay at a place, earlier ones too: the replies are the first
 /// replies of a tenant alone with the same limits to the same commands, and all of them once the stay has ended or
-/// while the tenant is home. No stay is left out; where nobody comes or goes they are those of the roster's rows. Two
-/// stays with the same limits that agree up to a command have the same reply to it, where both have one, whatever
-/// events of others stand between and whoever had the place before.
+/// while the tenant is home. Every stay is covered; without admissions or retirements, stays are the roster's rows. Two
+/// stays with the same limits that agree up to a command have the same reply to it, where both have one, regardless of
+/// events of others in between and of earlier tenants of the place.
 pub fn isolation()
     ensures line_by_line { AnswersLineByLine }
     ensures alone { RepliesAreAlone }
@@ -47,7 +47,7 @@ pub fn isolation()
     refuses_for_the_form();
 }
 
-/// The laws by which a clerk's answers add up to the output: where what it told is right so far, it is right after one
+/// The laws by which a clerk's answers add up to the output: where its answers are right so far, they are after one
 /// line more that is answered as the tenants' books say, and after a part of what it holds was written.
 pub fn answers_add_up()
     ensures opening { NothingIsTold }

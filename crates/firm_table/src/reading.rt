@@ -73,7 +73,7 @@ pub fn serve_lines<R: Source, W: Sink, C: Clerk>(
     }
 }
 
-// Has the lines that end in this piece answered; the cutter keeps what follows the last of them.
+// Answers the lines that end in this piece; the cutter keeps what follows the last of them.
 fn answer_piece<W: Sink, C: Clerk>(
     clerk: &mut C,
     cutter: &mut Cutter,
@@ -103,7 +103,7 @@ fn answer_piece<W: Sink, C: Clerk>(
     Ok(())
 }
 
-// Has the first line that ends in this piece answered, and gives what follows it.
+// Answers the first line that ends in this piece, and returns what follows it.
 fn answer_first<'b, W: Sink, C: Clerk>(
     clerk: &mut C,
     cutter: &mut Cutter,
@@ -140,7 +140,7 @@ fn answer_first<'b, W: Sink, C: Clerk>(
     Ok(behind)
 }
 
-// Has what follows the last line feed answered, and all written.
+// Answers the unterminated last line and writes all answers.
 fn answer_end<W: Sink, C: Clerk>(
     clerk: &mut C,
     cutter: &mut Cutter,
@@ -173,7 +173,7 @@ fn answer_end<W: Sink, C: Clerk>(
     }
 }
 
-// Has what follows the last line feed answered.
+// Answers the unterminated last line.
 fn answer_rest<W: Sink, C: Clerk>(
     clerk: &mut C,
     cutter: &mut Cutter,

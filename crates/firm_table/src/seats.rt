@@ -14,7 +14,7 @@ use firm_text::MOST_ADMISSIONS;
 use std::alloc::{AllocError, Global};
 use std::marker::Model;
 
-// Who is at a place, and how many rounds it has queued and how often it was given, whoever was there.
+// Who is at a place, and how many rounds were queued there and how often it was given, by all its tenants together.
 #[derive(Drop)]
 pub(crate) struct Seat {
     occupant: Option<Occupant>,

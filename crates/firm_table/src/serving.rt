@@ -16,7 +16,7 @@ use firm_tenant::unmarked_steps_are_granted;
 use firm_text::{Line, Roster, Sink, Source, refuses_for_the_form};
 use std::alloc::{AllocError, Global};
 
-/// Answers of so many bytes are written before the next line is answered.
+/// The answers that are held are written, before the next line is answered, once they have this many bytes.
 const FULL: usize = 4_096;
 
 /// Answers the lines of an input of at most `most` bytes, 2^32 at most, for the tenants of the roster, which are

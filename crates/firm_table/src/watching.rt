@@ -24,7 +24,7 @@ pub trait Watcher {
     fn after_round(&mut self, name: Name, rows: &Rows) -> Result<(), AllocError>;
 }
 
-/// Answers the lines of an input of at most 2^32 bytes as `serve_one` does, whatever the watcher does, and shows it
+/// Answers the lines of an input of at most 2^32 bytes as `serve_one` does, regardless of the watcher, and shows it
 /// each round. What it writes itself into another sink, of the same device maybe, comes behind the reply to its round.
 ///
 /// What is read, what is written to the writer and how it ends are those of `serve_one`; `Memory` also comes where the

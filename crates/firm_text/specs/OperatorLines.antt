@@ -28,7 +28,7 @@ row_refusal RowName = BadName
 row_refusal RowNumber = BadNumber
 row_refusal _ = BadRow
 
--- the tenant that a row tells, whose fields stand between commas, or what is wrong with it
+-- the tenant that a row describes, whose fields stand between commas, or what is wrong with it
 abbrev pub row_told : List ℕ → Result RosterRow OperatorRefusal
 row_told row = result_map_both (λ tenant. tenant) row_refusal (tenant_told (slice_split is_comma row))
 

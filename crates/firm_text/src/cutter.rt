@@ -61,7 +61,8 @@ impl Cutter {
     /// Takes the bytes of the piece up to its first line feed and with it, or all where it has none.
     pub fn feed(&mut self, piece: &[u8]) -> Fed
         requires { self.old.has_ended ≡ false }
-        ensures stands { (text : List ℕ) → StandsFor self.old text → StandsFor self.new (text ++ take (position_or_len is_line_feed piece.now) piece.now) }
+        ensures stands { (text : List ℕ) → StandsFor self.old text
+            → StandsFor self.new (text ++ take (position_or_len is_line_feed piece.now) piece.now) }
         ensures used { result.used ≡ min (1 + position_or_len is_line_feed piece.now) (length piece.now) }
         ensures ended { result.ended ≡ nat_lt (position_or_len is_line_feed piece.now) (length piece.now) }
         ensures open { self.new.has_ended ≡ result.ended }
@@ -94,9 +95,10 @@ impl Cutter {
         self.count > 0
     }
 
-    // A line as long as the count goes is told by its first bytes, whatever its last byte.
+    // The first bytes of a line as long as the count goes decide what it is, regardless of its last byte.
     fn told(&self) -> &[u8]
-        ensures { (text : List ℕ) → StandsFor self.now text → line_of result.now ≡ line_of (strip_carriage_return text) }
+        ensures { (text : List ℕ) → StandsFor self.now text
+            → line_of result.now ≡ line_of (strip_carriage_return text) }
     {
         if self.count == MOST_COUNTED {
             &self.bytes

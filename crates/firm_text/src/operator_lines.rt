@@ -53,7 +53,7 @@ fn retire(line: &[u8]) -> Result<OperatorLine, OperatorRefusal>
     Ok(OperatorLine::Retire(name))
 }
 
-// The tenant that a row tells, whose fields stand between commas.
+// The tenant that a row describes, whose fields stand between commas.
 fn row_told(row: &[u8]) -> Result<(Name, Limits), OperatorRefusal>
     ensures { result ≡ row_told row.now }
 {

@@ -52,10 +52,7 @@ fn put_operator_words(text: &mut Vec<u8>, reply: OperatorReply) -> Result<(), Al
     match reply {
         OperatorReply::Admitted(name) => put_three(text, b"ok", b"admitted", name.as_bytes()),
         OperatorReply::Retired(name) => put_three(text, b"ok", b"retired", name.as_bytes()),
-        OperatorReply::Refused(refusal) => {
-            put_labelled(text, b"no", u64::from(refusal.code()))?;
-            put(text, refusal.name().as_bytes())
-        }
+        OperatorReply::Refused(refusal) => put_refusal(text, refusal.code(), refusal.name()),
     }
 }
 
@@ -66,9 +63,9 @@ fn put_outcome(text: &mut Vec<u8>, outcome: &Outcome) -> Result<(), AllocError>
 {
     match outcome {
         Outcome::Plain => put(text, b"ok"),
-        Outcome::Evicted(tasks) => put_count(text, b"evicted", *tasks),
+        Outcome::Evicted(tasks) => put_labelled(text, b" ok evicted ", u64::from(*tasks)),
         Outcome::At(machine) => put_three(text, b"ok", b"at", machine.as_bytes()),
-        Outcome::Waits(rounds) => put_count(text, b"waits", *rounds),
+        Outcome::Waits(rounds) => put_labelled(text, b" ok waits ", u64::from(*rounds)),
         Outcome::Shown {
             machines,
             jobs,
@@ -79,7 +76,6 @@ fn put_outcome(text: &mut Vec<u8>, outcome: &Outcome) -> Result<(), AllocError>
             arcs,
             arcs_limit,
         } => {
-            put(text, b"ok")?;
             put_rows(text, *machines, *jobs, *tasks, *running)?;
             put_use(text, *nodes, *nodes_limit, *arcs, *arcs_limit)
         }
@@ -93,22 +89,19 @@ fn put_outcome(text: &mut Vec<u8>, outcome: &Outcome) -> Result<(), AllocError>
             put_cost(text, *cost)?;
             put_changes(text, changes.as_slice())
         }
-        Outcome::Refused(refusal) => {
-            put_labelled(text, b"no", u64::from(refusal.code()))?;
-            put(text, refusal.name().as_bytes())
-        }
+        Outcome::Refused(refusal) => put_refusal(text, refusal.code(), refusal.name()),
     }
 }
 
-/// Adds `ok`, a word and a count.
+/// Adds a refusal by its number and its name.
 #[tactic(auto, using(crate::proofs::Puts::kept_trans))]
-fn put_count(text: &mut Vec<u8>, label: &[u8], count: u32) -> Result<(), AllocError>
+fn put_refusal(text: &mut Vec<u8>, code: u32, name: &str) -> Result<(), AllocError>
     ensures kept { StartsWith text.new.items text.old.items }
     ensures added { OnOk result (text.new.items
-        ≡ text.old.items ++ flat_map spaced (codes "ok" ∷ labelled label.now count)) }
+        ≡ text.old.items ++ flat_map spaced (labelled (codes "no") code ++ name.now ∷ [])) }
 {
-    put(text, b"ok")?;
-    put_labelled(text, label, u64::from(count))
+    put_labelled(text, b" no ", u64::from(code))?;
+    put(text, name.as_bytes())
 }
 
 /// Adds the costs of rounds.
@@ -155,7 +148,7 @@ fn put_change(text: &mut Vec<u8>, change: Change) -> Result<(), AllocError>
     }
 }
 
-/// Adds how many machines, jobs and tasks there are, and how many of the tasks run.
+/// Adds `ok`, how many machines, jobs and tasks there are, and how many of the tasks run.
 #[tactic(auto, using(crate::proofs::Puts::kept_trans))]
 fn put_rows(
     text: &mut Vec<u8>,
@@ -166,12 +159,12 @@ fn put_rows(
 ) -> Result<(), AllocError>
     ensures kept { StartsWith text.new.items text.old.items }
     ensures added { OnOk result (text.new.items ≡ text.old.items
-        ++ flat_map spaced (rows_words machines jobs tasks running)) }
+        ++ flat_map spaced (codes "ok" ∷ rows_words machines jobs tasks running)) }
 {
-    put_labelled(text, b"machines", machines)?;
-    put_labelled(text, b"jobs", jobs)?;
-    put_labelled(text, b"tasks", tasks)?;
-    put_labelled(text, b"running", running)
+    put_labelled(text, b" ok machines ", machines)?;
+    put_labelled(text, b" jobs ", jobs)?;
+    put_labelled(text, b" tasks ", tasks)?;
+    put_labelled(text, b" running ", running)
 }
 
 /// Adds how many nodes and arcs there are, each with its limit.
@@ -187,10 +180,10 @@ fn put_use(
     ensures added { OnOk result (text.new.items ≡ text.old.items
         ++ flat_map spaced (use_words nodes nodes_limit arcs arcs_limit)) }
 {
-    put_labelled(text, b"nodes", nodes)?;
-    put_labelled(text, b"of", nodes_limit)?;
-    put_labelled(text, b"arcs", arcs)?;
-    put_labelled(text, b"of", arcs_limit)
+    put_labelled(text, b" nodes ", nodes)?;
+    put_labelled(text, b" of ", nodes_limit)?;
+    put_labelled(text, b" arcs ", arcs)?;
+    put_labelled(text, b" of ", arcs_limit)
 }
 
 /// Adds three words.
@@ -220,26 +213,35 @@ fn put(text: &mut Vec<u8>, word: &[u8]) -> Result<(), AllocError>
     text.extend_from_slice(word)
 }
 
-// Most numbers of a reply have one digit, which needs no buffer.
+/// Adds a number, and the space before it.
 #[tactic(auto, using(crate::proofs::Puts::kept_trans))]
 fn put_number(text: &mut Vec<u8>, number: u64) -> Result<(), AllocError>
     ensures kept { StartsWith text.new.items text.old.items }
     ensures added { OnOk result (text.new.items ≡ text.old.items ++ flat_map spaced (decimal number ∷ [])) }
 {
-    if number < 10 {
-        return put(text, &[b'0' + number as u8]);
-    }
+    text.push(b' ')?;
     put_digits(text, number)
 }
 
-#[inline(never)]
-#[tactic(auto, using(crate::proofs::Puts::kept_trans))]
+// Most numbers of a reply have one digit, which needs no buffer.
 fn put_digits(text: &mut Vec<u8>, number: u64) -> Result<(), AllocError>
     ensures kept { StartsWith text.new.items text.old.items }
-    ensures added { OnOk result (text.new.items ≡ text.old.items ++ flat_map spaced (decimal number ∷ [])) }
+    ensures added { OnOk result (text.new.items ≡ text.old.items ++ decimal number) }
+{
+    if number < 10 {
+        text.push(b'0' + number as u8)?;
+        return Ok(());
+    }
+    put_many_digits(text, number)
+}
+
+#[inline(never)]
+fn put_many_digits(text: &mut Vec<u8>, number: u64) -> Result<(), AllocError>
+    ensures kept { StartsWith text.new.items text.old.items }
+    ensures added { OnOk result (text.new.items ≡ text.old.items ++ decimal number) }
 {
     let mut digits = Buffer::new();
-    put(text, digits.format(number).as_bytes())
+    text.extend_from_slice(digits.format(number).as_bytes())
 }
 
 #[tactic(auto, using(crate::proofs::Puts::kept_trans))]
@@ -251,11 +253,12 @@ fn put_cost(text: &mut Vec<u8>, cost: i64) -> Result<(), AllocError>
     put(text, digits.format(cost).as_bytes())
 }
 
+/// Adds a label, which has a space at each end, and a number.
 #[tactic(auto, using(crate::proofs::Puts::kept_trans))]
 fn put_labelled(text: &mut Vec<u8>, label: &[u8], number: u64) -> Result<(), AllocError>
     ensures kept { StartsWith text.new.items text.old.items }
-    ensures added { OnOk result (text.new.items ≡ text.old.items ++ flat_map spaced (labelled label.now number)) }
+    ensures added { OnOk result (text.new.items ≡ text.old.items ++ label.now ++ decimal number) }
 {
-    put(text, label)?;
-    put_number(text, number)
+    text.extend_from_slice(label)?;
+    put_digits(text, number)
 }

@@ -52,7 +52,7 @@ abbrev pub state_with : (ℕ → Bool) → List RosterRow → List Entry → Lis
 state_with marks roster register seats answers output =
     state_is roster (tenants_are register (map (book_at marks) seats)) (output ++ held_text marks answers)
 
--- how many rounds were asked at a seat, by whoever had its place
+-- how many rounds were asked at a seat, by all tenants of its place
 abbrev pub asked_at : Seat → ℕ
 asked_at (Home desk) = desk.put
 asked_at (Away asked) = asked.put
@@ -134,7 +134,7 @@ pub record Follows (old new : ServingIs) : Type 0 where
   pub same_hall : new.queue ≡ old.queue
   pub fewer : length new.answers ≤ length old.answers
 
--- a change of the service with which as much is told as before
+-- a step that answers no further line
 abbrev pub Keeps : ServingIs → ServingIs → Type 0
 Keeps old new = (roster : List RosterRow) (text : List ℕ) (written now : Option (List ℕ))
     → TellsAll roster old text written now → TellsAll roster new text written now

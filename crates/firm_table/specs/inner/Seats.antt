@@ -28,7 +28,7 @@ station_at (Some occupant) = station_of occupant
 abbrev pub seat_of : Option Occupant → ℕ → ℕ → Seat
 seat_of occupant rounds admissions = record { station = station_at occupant; rounds = rounds; admissions = admissions }
 
--- so many tenants queue so many rounds at most, since each is given at most 2^40 commands
+-- the most rounds that this many tenants queue, since each is given at most 2^40 commands
 abbrev pub rounds_of : ℕ → ℕ
 rounds_of tenants = tenants * 2 ^ 40
 

@@ -3,7 +3,7 @@
 ghost use Rattle.std.specs.Prelude.{◌≡◌, All};
 ghost use Rattle.std.specs.Thread.{IsSync};
 
-use super::closing::rounds_at_close;
+use super::closing::{Over, rounds_at_close};
 use super::teams::with_workers;
 use super::{expect_idle_round, opened};
 use firm_hall::{Desk, Hall, Open, Report, WorkerPass};
@@ -17,8 +17,11 @@ use std::thread::Threads;
 
 const FOUR: &str = "a,8,30,100,0,3\nb,8,30,100,0,3\nc,8,30,100,0,3\nd,8,30,100,0,3";
 
-/// Seven lines, and what each is answered with.
-const ROW: [(&[u8], &[u8]); 7] = [
+/// A line, and what it is answered with.
+type Exchange<'a> = (&'a [u8], &'a [u8]);
+
+/// Seven of them.
+const ROW: [Exchange<'static>; 7] = [
     (b"t machine m1 1", b"t 1 ok"),
     (b"t job low 2", b"t 2 ok"),
     (b"t task low l", b"t 3 ok"),
@@ -55,12 +58,12 @@ fn answers<R: Abort + Wait>(
     alloc: Global,
     hall: &Hall,
     desk: Desk,
-    text: &[u8],
-    wanted: &[u8],
+    exchange: Exchange<'_>,
 ) -> Desk
     requires { desk.queue ≡ hall.now.id }
     ensures { result.queue ≡ hall.now.id }
 {
+    let (text, wanted) = exchange;
     let Line::For(tenant, command) = line(text) else {
         panic!(rt; "a line for a tenant")
     };
@@ -76,8 +79,8 @@ fn run<R: Abort + Wait>(rt: &R, alloc: Global, hall: &Hall, desk: Desk) -> Desk
     ensures { result.queue ≡ hall.now.id }
 {
     let mut desk = desk;
-    for (text, wanted) in ROW {
-        desk = answers(rt, alloc, hall, desk, text, wanted);
+    for exchange in ROW {
+        desk = answers(rt, alloc, hall, desk, exchange);
     }
     desk
 }
@@ -205,7 +208,13 @@ fn hand_over_with<R: Abort + Threads + Wait + Sync>(
 fn rounds_of_four_callers_go_to_two_workers_and_come_back(rt: HostRuntime) {
     let (hall, desks, passes, empty) = opened(&rt, rt.alloc(), FOUR_IDLE, 2);
     let (reports, desks) = hand_over_with(&rt, rt.alloc(), &hall, desks, passes);
-    let rounds = rounds_at_close(&rt, rt.alloc(), hall, desks, reports, empty);
+    let over = Over {
+        hall,
+        desks,
+        reports,
+        empty,
+    };
+    let rounds = rounds_at_close(&rt, rt.alloc(), over);
     assert_eq!(rt; rounds, Some(4 * ROUNDS));
 }
 
@@ -213,6 +222,12 @@ fn rounds_of_four_callers_go_to_two_workers_and_come_back(rt: HostRuntime) {
 fn four_callers_ask_eight_rounds(rt: HostRuntime) {
     let (hall, desks, passes, empty) = opened(&rt, rt.alloc(), FOUR, 2);
     let (reports, desks) = run_with(&rt, rt.alloc(), &hall, desks, passes);
-    let rounds = rounds_at_close(&rt, rt.alloc(), hall, desks, reports, empty);
+    let over = Over {
+        hall,
+        desks,
+        reports,
+        empty,
+    };
+    let rounds = rounds_at_close(&rt, rt.alloc(), over);
     assert_eq!(rt; rounds, Some(8));
 }

@@ -8,19 +8,26 @@ use std::alloc::Global;
 use std::process::Abort;
 use std::sync::Wait;
 
+/// A hall that is to be closed, with its desks, its empty ones and the reports of its workers.
+#[derive(Drop)]
+pub struct Over {
+    pub hall: Hall,
+    pub desks: Vec<Desk>,
+    pub reports: Vec<Report>,
+    pub empty: Vec<EmptyDesk>,
+    ghost desks_are_its: { All (λ d. d.queue ≡ hall.id) desks.items },
+    ghost reports_are_its: { All (λ r. r.queue ≡ hall.id) reports.items },
+    ghost empty_are_its: { All (λ e. e.queue ≡ hall.id) empty.items },
+}
+
 /// How many rounds a closed hall had. None where it is not closed.
-pub fn rounds_at_close<R: Wait>(
-    rt: &R,
-    alloc: Global,
-    hall: Hall,
-    desks: Vec<Desk>,
-    reports: Vec<Report>,
-    empty: Vec<EmptyDesk>,
-) -> Option<u64>
-    requires desks { All (λ d. d.queue ≡ hall.id) desks.items }
-    requires reports { All (λ r. r.queue ≡ hall.id) reports.items }
-    requires empty { All (λ e. e.queue ≡ hall.id) empty.items }
-{
+pub fn rounds_at_close<R: Wait>(rt: &R, alloc: Global, over: Over) -> Option<u64> {
+    let Over {
+        hall,
+        desks,
+        reports,
+        empty,
+    } = over;
     match hall.close(rt, desks, reports, empty) {
         Ok(totals) => Some(totals.rounds),
         Err(CloseFault::Missing(_hall, _desks, _reports, _empty)) => None,
@@ -32,7 +39,7 @@ pub fn rounds_at_close<R: Wait>(
 }
 
 /// The report is with the others.
-fn hand_in(rt: &impl Abort, hall: &Hall, reports: &mut Vec<Report>, report: Report)
+pub fn hand_in(rt: &impl Abort, hall: &Hall, reports: &mut Vec<Report>, report: Report)
     requires report { report.queue ≡ hall.now.id }
     requires others { All (λ r. r.queue ≡ hall.now.id) reports.old.items }
     ensures { All (λ r. r.queue ≡ hall.now.id) reports.new.items }
@@ -45,22 +52,28 @@ fn hand_in(rt: &impl Abort, hall: &Hall, reports: &mut Vec<Report>, report: Repo
 fn closes_without_a_report<R: Abort + Wait>(
     rt: &R,
     alloc: Global,
-    hall: Hall,
-    desks: Vec<Desk>,
-    reports: Vec<Report>,
-    empty: Vec<EmptyDesk>,
+    over: Over,
     report: Report,
 ) -> Option<u64>
-    requires desks { All (λ d. d.queue ≡ hall.id) desks.items }
-    requires reports { All (λ r. r.queue ≡ hall.id) reports.items }
-    requires empty { All (λ e. e.queue ≡ hall.id) empty.items }
-    requires report { report.queue ≡ hall.id }
+    requires { report.queue ≡ over.hall.id }
 {
+    let Over {
+        hall,
+        desks,
+        reports,
+        empty,
+    } = over;
     match hall.close(rt, desks, reports, empty) {
         Ok(_totals) => None,
         Err(CloseFault::Missing(hall, desks, mut reports, empty)) => {
             hand_in(rt, &hall, &mut reports, report);
-            rounds_at_close(rt, alloc, hall, desks, reports, empty)
+            let over = Over {
+                hall,
+                desks,
+                reports,
+                empty,
+            };
+            rounds_at_close(rt, alloc, over)
         }
         Err(CloseFault::Left(_desks, _reports, jobs, _empty)) => {
             finish_all(alloc, jobs);
@@ -70,7 +83,7 @@ fn closes_without_a_report<R: Abort + Wait>(
 }
 
 /// The empty desk is with the others again.
-fn put_back(rt: &impl Abort, hall: &Hall, empty: &mut Vec<EmptyDesk>, place: EmptyDesk)
+pub fn put_back(rt: &impl Abort, hall: &Hall, empty: &mut Vec<EmptyDesk>, place: EmptyDesk)
     requires place { place.queue ≡ hall.now.id }
     requires others { All (λ e. e.queue ≡ hall.now.id) empty.old.items }
     ensures { All (λ e. e.queue ≡ hall.now.id) empty.new.items }
@@ -80,24 +93,25 @@ fn put_back(rt: &impl Abort, hall: &Hall, empty: &mut Vec<EmptyDesk>, place: Emp
 }
 
 /// How many rounds a hall had that is closed once an empty desk was missing.
-fn closes_without_an_empty_desk<R: Abort + Wait>(
-    rt: &R,
-    alloc: Global,
-    hall: Hall,
-    desks: Vec<Desk>,
-    reports: Vec<Report>,
-    mut empty: Vec<EmptyDesk>,
-) -> Option<u64>
-    requires desks { All (λ d. d.queue ≡ hall.id) desks.items }
-    requires reports { All (λ r. r.queue ≡ hall.id) reports.items }
-    requires empty { All (λ e. e.queue ≡ hall.id) empty.items }
-{
+fn closes_without_an_empty_desk<R: Abort + Wait>(rt: &R, alloc: Global, over: Over) -> Option<u64> {
+    let Over {
+        hall,
+        desks,
+        reports,
+        mut empty,
+    } = over;
     let place = last_empty(rt, &hall, &mut empty);
     match hall.close(rt, desks, reports, empty) {
         Ok(_totals) => None,
         Err(CloseFault::Missing(hall, desks, reports, mut empty)) => {
             put_back(rt, &hall, &mut empty, place);
-            rounds_at_close(rt, alloc, hall, desks, reports, empty)
+            let over = Over {
+                hall,
+                desks,
+                reports,
+                empty,
+            };
+            rounds_at_close(rt, alloc, over)
         }
         Err(CloseFault::Left(_desks, _reports, jobs, _empty)) => {
             finish_all(alloc, jobs);
@@ -116,7 +130,7 @@ fn shut_first<R: Wait>(rt: &R, alloc: Global, hall: &Hall, pass: WorkerPass) -> 
 }
 
 /// A list of this report alone.
-fn alone(rt: &impl Abort, alloc: Global, hall: &Hall, report: Report) -> Vec<Report>
+pub fn alone(rt: &impl Abort, alloc: Global, hall: &Hall, report: Report) -> Vec<Report>
     requires { report.queue ≡ hall.now.id }
     ensures { All (λ r. r.queue ≡ hall.now.id) result.items }
 {
@@ -141,7 +155,13 @@ fn a_hall_that_is_shut_first_closes_with_all_its_reports(rt: HostRuntime) {
     expect_no_rounds(&rt, &first);
     expect_no_rounds(&rt, &second);
     let reports = alone(&rt, rt.alloc(), &hall, first);
-    let rounds = closes_without_a_report(&rt, rt.alloc(), hall, desks, reports, empty, second);
+    let over = Over {
+        hall,
+        desks,
+        reports,
+        empty,
+    };
+    let rounds = closes_without_a_report(&rt, rt.alloc(), over, second);
     assert_eq!(rt; rounds, Some(0));
 }
 
@@ -151,6 +171,12 @@ fn a_hall_closes_with_all_its_empty_desks(rt: HostRuntime) {
     let pass = last_pass(&rt, &hall, &mut passes);
     let report = shut_first(&rt, rt.alloc(), &hall, pass);
     let reports = alone(&rt, rt.alloc(), &hall, report);
-    let rounds = closes_without_an_empty_desk(&rt, rt.alloc(), hall, desks, reports, empty);
+    let over = Over {
+        hall,
+        desks,
+        reports,
+        empty,
+    };
+    let rounds = closes_without_an_empty_desk(&rt, rt.alloc(), over);
     assert_eq!(rt; rounds, Some(0));
 }

@@ -18,7 +18,7 @@ pub struct Count {
 }
 
 impl Count {
-    /// A count of 0, for which each thread that waits looks so often.
+    /// A count of 0. A thread that waits for it looks this often.
     pub fn new(looks: u32) -> Count {
         Count {
             reached: AtomicU64::new(0),
@@ -71,7 +71,7 @@ impl Gate for Holds {
 }
 
 impl Holds {
-    /// A gate for so many places.
+    /// A gate for this many places.
     pub fn new(places: u32) -> Holds {
         Holds {
             places,
@@ -85,7 +85,7 @@ impl Holds {
         self.places as usize
     }
 
-    /// So many rounds come to the gate in all, and are held there.
+    /// This many rounds come to the gate in all, and are held there.
     pub fn expect_come(&self, rt: &impl Abort, rounds: u64) {
         self.come.wait_for(rounds);
         assert!(rt; self.come.was_reached() && self.opened.was_reached());

@@ -137,13 +137,13 @@ fn expect_answered<R: Abort + Wait>(
     rt: &R,
     alloc: Global,
     queue: &Queue,
-    early: AskSide,
-    late: AskSide,
+    sides: (AskSide, AskSide),
     pass: &mut PopPass,
 )
     requires { pass.old.queue ≡ queue.now.id }
     ensures { pass.new.queue ≡ pass.old.queue }
 {
+    let (early, late) = sides;
     let early = unanswered(rt, early);
     get_both(rt, alloc, queue, pass);
     expect_back(rt, early);
@@ -199,9 +199,9 @@ fn expect_both_left(rt: &impl Abort, alloc: Global, left: Option<Vec<Job>>) {
 #[test]
 fn tickets_are_got_in_the_order_in_which_they_were_put(rt: HostRuntime) {
     let (queue, mut puts, mut pops) = opened(&rt, rt.alloc(), 2, 1);
-    let (early, late) = ask_both(&rt, rt.alloc(), &queue, &mut puts);
+    let sides = ask_both(&rt, rt.alloc(), &queue, &mut puts);
     let pass = &mut pops[0];
-    expect_answered(&rt, rt.alloc(), &queue, early, late, pass);
+    expect_answered(&rt, rt.alloc(), &queue, sides, pass);
     let left = left(&rt, queue, puts, pops);
     expect_none_left(&rt, rt.alloc(), left);
 }

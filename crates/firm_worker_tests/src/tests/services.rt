@@ -367,6 +367,72 @@ impl Sink for CountsLines<'_> {
     }
 }
 
+/// Gives its lines in one read, and the end once they are all answered: only the writer makes it ready, so it notifies
+/// nobody.
+#[derive(Drop)]
+struct EndsBehind<'a> {
+    lines: &'a [u8],
+    answers: u64,
+    is_given: bool,
+    written: &'a Count,
+}
+
+impl Source for EndsBehind<'_> {
+    ghost read_failed = { λ _. false };
+
+    fn read(&mut self, buffer: &mut [u8]) -> Result<usize, Failed> {
+        if self.is_given {
+            return Ok(0);
+        }
+        self.is_given = true;
+        let count = self.lines.len().min(buffer.len());
+        buffer[..count].copy_from_slice(&self.lines[..count]);
+        Ok(count)
+    }
+
+    fn is_ready(&self, _waker: Option<&Arc<EventCount, Global>>) -> bool {
+        !self.is_given || self.answers <= self.written.reached()
+    }
+}
+
+/// Holds the second tenant's round until a line is written.
+#[derive(Drop)]
+struct HoldsSecond<'a> {
+    written: &'a Count,
+}
+
+impl Gate for HoldsSecond<'_> {
+    fn pass(&self, ticket: Ticket) {
+        if ticket.place == 1 {
+            self.written.wait_for(1);
+        }
+    }
+}
+
+#[test]
+fn a_reply_is_written_while_another_round_is_held(rt: HostRuntime) {
+    let roster = roster_of(&rt, rt.alloc(), "a,2,0,1,0,0\nb,2,0,1,0,0");
+    let written = &Count::new(LOOKS);
+    let mut reader = EndsBehind {
+        lines: b"a round\nb round\n",
+        answers: 2,
+        is_given: false,
+        written,
+    };
+    let mut writer = CountsLines { written };
+    let ended = serve(
+        &rt,
+        rt.alloc(),
+        &mut reader,
+        &mut writer,
+        &roster,
+        2,
+        &HoldsSecond { written },
+        MOST,
+    );
+    assert!(rt; ended.is_ok() && written.reached() == 2 && written.was_reached());
+}
+
 // Where the service sleeps through a round's answer no line comes any more.
 #[test]
 fn each_reply_is_written_before_the_next_line_comes(rt: HostRuntime) {

@@ -2,7 +2,7 @@
 
 ghost use Rattle.std.specs.Prelude.{◌≡◌, All};
 
-use super::closing::rounds_at_close;
+use super::closing::{Over, alone, hand_in, put_back, rounds_at_close};
 use super::{expect_idle_round, first_desk, last_empty, last_pass, opened};
 use firm_hall::{AdmitFault, Asked, Desk, EmptyDesk, Gate, Hall, Report, WorkerPass, worker};
 use firm_rules::{Limits, Reply, Ticket};
@@ -87,9 +87,8 @@ fn retired<R: Wait>(rt: &R, hall: &Hall, asked: Asked) -> (EmptyDesk, Reply)
 }
 
 /// A tenant comes, asks a round, which a worker solves on this thread, and leaves.
-fn stay_one_round<R: Abort + Wait>(
+fn stay_one_round<R: Alloc<A = Global> + Abort + Wait>(
     rt: &R,
-    alloc: Global,
     hall: &Hall,
     empty: EmptyDesk,
     pass: WorkerPass,
@@ -99,38 +98,15 @@ fn stay_one_round<R: Abort + Wait>(
     requires pass { pass.queue ≡ hall.now.id }
     ensures { (result.empty.queue ≡ hall.now.id) × (result.report.queue ≡ hall.now.id) }
 {
-    let desk = admitted(rt, alloc, hall, empty);
-    let asked = asked_round(rt, alloc, hall, desk);
-    let report = worker(rt, alloc, hall, pass, notes);
+    let desk = admitted(rt, rt.alloc(), hall, empty);
+    let asked = asked_round(rt, rt.alloc(), hall, desk);
+    let report = worker(rt, rt.alloc(), hall, pass, notes);
     let (empty, reply) = retired(rt, hall, asked);
     Stay {
         empty,
         reply,
         report,
     }
-}
-
-/// How many rounds a hall had that is closed with this place, which was used, among its empty ones.
-fn closes_after<R: Abort + Wait>(
-    rt: &R,
-    alloc: Global,
-    hall: Hall,
-    desks: Vec<Desk>,
-    mut empty: Vec<EmptyDesk>,
-    place: EmptyDesk,
-    first: Report,
-    second: Report,
-) -> Option<u64>
-    requires desks { All (λ d. d.queue ≡ hall.id) desks.items }
-    requires empty { All (λ e. e.queue ≡ hall.id) empty.items }
-    requires place { place.queue ≡ hall.id }
-    requires reports { (first.queue ≡ hall.id) × (second.queue ≡ hall.id) }
-{
-    empty.push(place).expect(rt, "memory");
-    let mut reports = Vec::with_capacity(alloc, 2).expect(rt, "memory");
-    reports.push_reserved(first);
-    reports.push_reserved(second);
-    rounds_at_close(rt, alloc, hall, desks, reports, empty)
 }
 
 // Two stays follow one another at the last place.
@@ -142,22 +118,22 @@ fn the_next_stay_begins_anew_and_its_tickets_go_on(rt: HostRuntime) {
     let place = last_empty(&rt, &hall, &mut empty);
     let pass = last_pass(&rt, &hall, &mut passes);
     let other = last_pass(&rt, &hall, &mut passes);
-    let first = stay_one_round(&rt, rt.alloc(), &hall, place, pass, &notes);
+    let first = stay_one_round(&rt, &hall, place, pass, &notes);
     expect_idle_round(&rt, &first.reply, 1);
     notes.expect_last(&rt, 63, 1);
-    let second = stay_one_round(&rt, rt.alloc(), &hall, first.empty, other, &notes);
+    let second = stay_one_round(&rt, &hall, first.empty, other, &notes);
     expect_idle_round(&rt, &second.reply, 1);
     notes.expect_last(&rt, 63, 2);
-    let rounds = closes_after(
-        &rt,
-        rt.alloc(),
+    put_back(&rt, &hall, &mut empty, second.empty);
+    let mut reports = alone(&rt, rt.alloc(), &hall, first.report);
+    hand_in(&rt, &hall, &mut reports, second.report);
+    let over = Over {
         hall,
         desks,
+        reports,
         empty,
-        second.empty,
-        first.report,
-        second.report,
-    );
+    };
+    let rounds = rounds_at_close(&rt, rt.alloc(), over);
     assert_eq!(rt; rounds, Some(2));
 }
 

@@ -38,9 +38,8 @@ fn wait_back<R: Abort + Wait>(rt: &R, hall: &Hall, asked: Asked, desks: &mut Vec
 }
 
 /// One worker is held at the gate with a round; two rounds are put in one go, and come to the gate too.
-fn put_two_in_one_go<R: Abort + Wait>(
+fn put_two_in_one_go<R: Alloc<A = Global> + Abort + Wait>(
     rt: &R,
-    alloc: Global,
     hall: &Hall,
     desks: &mut Vec<Desk>,
     gate: &Holds,
@@ -51,11 +50,11 @@ fn put_two_in_one_go<R: Abort + Wait>(
 {
     let come = turn.saturating_mul(3);
     rest_awhile(turn);
-    let held = ask_first(rt, alloc, hall, desks);
+    let held = ask_first(rt, rt.alloc(), hall, desks);
     gate.expect_come(rt, come.saturating_add(1));
     rest_awhile(turn / 2);
-    let second = ask_first(rt, alloc, hall, desks);
-    let third = ask_first(rt, alloc, hall, desks);
+    let second = ask_first(rt, rt.alloc(), hall, desks);
+    let third = ask_first(rt, rt.alloc(), hall, desks);
     gate.expect_come(rt, come.saturating_add(3));
     gate.open();
     wait_back(rt, hall, held, desks);
@@ -63,9 +62,8 @@ fn put_two_in_one_go<R: Abort + Wait>(
     wait_back(rt, hall, third, desks);
 }
 
-fn put_two_each_turn<R: Abort + Wait>(
+fn put_two_each_turn<R: Alloc<A = Global> + Abort + Wait>(
     rt: &R,
-    alloc: Global,
     hall: &Hall,
     desks: Vec<Desk>,
     gate: &Holds,
@@ -74,7 +72,7 @@ fn put_two_each_turn<R: Abort + Wait>(
 {
     let mut desks = desks;
     for turn in 0..TURNS {
-        put_two_in_one_go(rt, alloc, hall, &mut desks, gate, turn);
+        put_two_in_one_go(rt, hall, &mut desks, gate, turn);
     }
 }
 
@@ -92,7 +90,7 @@ fn taken(reports: &[Report]) -> u64 {
 fn no_worker_sleeps_while_rounds_wait(rt: HostRuntime) {
     let (hall, desks, passes, _empty) = opened(&rt, rt.alloc(), THREE, 3);
     let gate = &Holds::new(3);
-    let (rt, alloc, hall) = (&rt, rt.alloc(), &hall);
+    let (rt, hall) = (&rt, &hall);
     let (reports, ()) = with_workers(
         rt,
         hall,
@@ -100,7 +98,7 @@ fn no_worker_sleeps_while_rounds_wait(rt: HostRuntime) {
         gate,
         move ||
             requires { All (λ d. d.queue ≡ hall.now.id) desks.items }
-        { put_two_each_turn(rt, alloc, hall, desks, gate) },
+        { put_two_each_turn(rt, hall, desks, gate) },
     );
     assert_eq!(rt; taken(&reports), 3 * TURNS);
 }
@@ -109,9 +107,8 @@ fn no_worker_sleeps_while_rounds_wait(rt: HostRuntime) {
 const HALLS: u64 = 2_000;
 
 /// Works once it was seen to begin.
-fn begin_and_work<R: Wait>(
+fn begin_and_work<R: Alloc<A = Global> + Wait>(
     rt: &R,
-    alloc: Global,
     hall: &Hall,
     pass: WorkerPass,
     begun: &Count,
@@ -120,13 +117,12 @@ fn begin_and_work<R: Wait>(
     ensures { result.queue ≡ hall.now.id }
 {
     begun.add_one();
-    worker(rt, alloc, hall, pass, &Open)
+    worker(rt, rt.alloc(), hall, pass, &Open)
 }
 
 /// Asks for the desk's round once the worker begins, and shuts the hall right behind it.
-fn ask_and_shut<R: Abort + Wait>(
+fn ask_and_shut<R: Alloc<A = Global> + Abort + Wait>(
     rt: &R,
-    alloc: Global,
     hall: &Hall,
     desk: Desk,
     begun: &Count,
@@ -138,14 +134,17 @@ fn ask_and_shut<R: Abort + Wait>(
     for _ in 0..pause {
         spin_loop();
     }
-    let asked = desk.ask(rt, alloc, hall).ok().expect(rt, "a round");
+    let asked = desk.ask(rt, rt.alloc(), hall).ok().expect(rt, "a round");
     hall.shut();
     asked
 }
 
 /// The round is answered once the worker has ended.
-fn expect_answered_at_end<R: Abort + Threads + Wait + Sync>(rt: &R, alloc: Global, pause: u64) {
-    let (hall, mut desks, mut passes, _empty) = opened(rt, alloc, "t,2,0,1,0,0", 1);
+fn expect_answered_at_end<R: Alloc<A = Global> + Abort + Threads + Wait + Sync>(
+    rt: &R,
+    pause: u64,
+) {
+    let (hall, mut desks, mut passes, _empty) = opened(rt, rt.alloc(), "t,2,0,1,0,0", 1);
     let desk = first_desk(rt, &hall, &mut desks);
     let pass = last_pass(rt, &hall, &mut passes);
     let (hall, begun) = (&hall, &Count::new(LOOKS));
@@ -153,10 +152,10 @@ fn expect_answered_at_end<R: Abort + Threads + Wait + Sync>(rt: &R, alloc: Globa
         rt,
         move || -> Report
             requires { pass.queue ≡ hall.now.id }
-        { begin_and_work(rt, alloc, hall, pass, begun) },
+        { begin_and_work(rt, hall, pass, begun) },
         move || -> Asked
             requires { desk.queue ≡ hall.now.id }
-        { ask_and_shut(rt, alloc, hall, desk, begun, pause) },
+        { ask_and_shut(rt, hall, desk, begun, pause) },
     );
     match asked.poll() {
         AskedPoll::Back(_desk, reply) => expect_idle_round(rt, &reply, 1),
@@ -167,6 +166,6 @@ fn expect_answered_at_end<R: Abort + Threads + Wait + Sync>(rt: &R, alloc: Globa
 #[test]
 fn a_round_that_was_asked_before_the_hall_was_shut_is_solved(rt: HostRuntime) {
     for turn in 0..HALLS {
-        expect_answered_at_end(&rt, rt.alloc(), turn % 100);
+        expect_answered_at_end(&rt, turn % 100);
     }
 }

@@ -57,6 +57,6 @@ returns c =
     c.in-Some.ensures.within in
     let here = seat_is books at c.index_mut.result.now low c.index_mut.ensures.value in
     rw (← c.self.view_is)
-    (tenants_are_answered (tenants_are c.self.inside.register books) c.args.name c.args.command at c.in-Some-index_mut.tenant
-    c.step.new.self c.step.result
+    (tenants_are_answered (tenants_are c.self.inside.register books) c.args.name c.args.command at
+    c.in-Some-index_mut.tenant c.step.new.self c.step.result
     c.place_of.ensures.sound found (here ∙ c.in-Some-index_mut.is) c.step.ensures)

@@ -1,8 +1,0 @@
-use Rattle.std.proofs.Common.{arith}
-use Rattle.firm_text.proofs.Puts.{digit_added}
-use Rattle.firm_text.proofs.replies.put_number.Goals as goal
-
-pub returns-then-number-lt10-clause-added : goal.returns-then-number-lt10-clause-added
-returns-then-number-lt10-clause-added c =
-    digit_added c.put.result c.put.new.text.items c.args.text.now.items c.args.number
-    (let small = c.if-number-lt10.true in omega arith) c.put.ensures.added
