@@ -87,7 +87,7 @@ module _ (E : El) {M : Type 1} {𝓤 : Ura M} (𝓛 : Logic 𝓤) (memory byte :
       (taken_out 𝓛 (row_lends (R E) memory byte row κ) place capacity within) $ split ! $ keep ! (0 ∷ []) $
       rewrite ! 0 (λ (z : Option (el_x E)). ‵ (place_lends (R E) memory byte κ place z)) is refl $ done !
 
-  -- the room of an array is so many empty places, and back
+  -- the room of an array is as many empty places, and back
   rooms_out : (first count : ℕ)
       → ent 𝓤 (H.room (ty_array (elτ E) count) memory (at first))
       (sem 𝓛 (each_place (λ place. place_owns (R E) memory byte place None) first count))

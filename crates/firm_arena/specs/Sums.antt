@@ -11,11 +11,11 @@ use Rattle.firm_arena.specs.declared.Id.{Id}
 
 module _ {X : Type 0} where
   -- what a slot at a place weighs
-  abbrev slot_weight : (Id × X → ℕ) → ℕ → Option (ℕ × X) → ℕ
+  abbrev pub slot_weight : (Id × X → ℕ) → ℕ → Option (ℕ × X) → ℕ
   slot_weight f place None = 0
   slot_weight f place (Some own) = f (record { place = place; stamp = own.0 }, own.1)
 
-  sum-slot : (f : Id × X → ℕ) (p : ℕ) (o : Option (ℕ × X)) (rest : List (Option (ℕ × X)))
+  pub sum-slot : (f : Id × X → ℕ) (p : ℕ) (o : Option (ℕ × X)) (rest : List (Option (ℕ × X)))
       → sum_by f (entries_from p (o ∷ rest)) ≡ slot_weight f p o + sum_by f (entries_from (p + 1) rest)
   sum-slot f p None rest = omega arith
   sum-slot f p (Some own) rest = sum_by-cons f (record { place = p; stamp = own.0 }, own.1) (entries_from (p + 1) rest)

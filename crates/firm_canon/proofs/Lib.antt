@@ -1,6 +1,6 @@
 pub mod Counts
 pub mod Graphs
-pub mod Homes
+pub mod Heads
 pub mod Totals
 pub mod Nears
 pub mod Placed
@@ -26,3 +26,4 @@ pub mod Sealed
 pub mod Ranks
 pub mod States
 pub mod Ends
+pub mod Looks

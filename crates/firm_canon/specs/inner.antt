@@ -6,3 +6,4 @@ pub mod Turns
 pub mod Classes
 pub mod Ways
 pub mod State
+pub mod Looks

@@ -12,6 +12,7 @@ ghost use Rattle.firm_canon.specs.inner.Turns.{IsBlocked, IsFullInto, IsIdle, Is
 ghost use Rattle.firm_canon.specs.inner.Choosing.{IsSpent, Keeps, best};
 ghost use Rattle.firm_canon.specs.inner.Classes.{IsCut, IsMost, IsOwnWay, IsSealedAt, LeadsTo, one_if};
 ghost use Rattle.firm_canon.specs.inner.State.{GoesOn, IsReady, prefix, price, view};
+ghost use Rattle.firm_canon.specs.inner.Looks.{LooksOn};
 ghost use Rattle.firm_graph.specs.declared.network.Key.TheVariants.{Through, Wide, Stay, Delay};
 
 use crate::choosing::Choosing;
@@ -41,6 +42,7 @@ impl Choosing<'_> {
         requires there { IsArc self.old.graph.now.net arc }
         requires idle { IsIdle self.old.graph.now.net arc }
         ensures goes_on { GoesOn self.old self.new 1 1 }
+        ensures looked { LooksOn self.old self.new (one_if result) }
         ensures more { result ≡ true → flow_of_row (row_at self.new.graph.now.net arc)
             ≡ flow_of_row (row_at self.old.graph.now.net arc) + 1 }
         ensures joined { result ≡ true → IsJoined self.old.graph.now.net self.old.scratch.now arc }
@@ -72,6 +74,7 @@ impl Choosing<'_> {
         requires cut { (row : Row) → row_at self.old.graph.now.net arc ≡ Some row
             → IsCut (view self.old) row.head.id.place goal.id.place }
         ensures goes_on { GoesOn self.old self.new 1 (one_if result) }
+        ensures looked { LooksOn self.old self.new (one_if result) }
         ensures more { result ≡ true → flow_of_row (row_at self.new.graph.now.net arc)
             ≡ flow_of_row (row_at self.old.graph.now.net arc) + 1 }
         ensures others { (b : ArcName) → b ≢ arc → IsFullInto self.old.graph.now.net arc b
@@ -113,6 +116,7 @@ impl Choosing<'_> {
         requires stay { flows (view self.old) (Stay (length (prefix self.old))) ≡ 0 }
         requires aside { aside (view self.old).case (flows (view self.old)) (length (prefix self.old)) ≡ 0 }
         ensures goes_on { GoesOn self.old self.new 1 (one_if result) }
+        ensures looked { LooksOn self.old self.new (one_if result) }
         ensures won { result ≡ true → flows (view self.new) (Stay (length (prefix self.old))) ≡ 1 }
         ensures most { result ≡ false
             → IsMost (view self.old) (prefix self.old) (Stay (length (prefix self.old))) }
@@ -134,6 +138,7 @@ impl Choosing<'_> {
         requires wide { flows (view self.old) (Wide (length (prefix self.old))) ≡ 0 }
         requires waits { flows (view self.old) (Delay (length (prefix self.old))) ≡ 1 }
         ensures goes_on { GoesOn self.old self.new 1 (one_if result) }
+        ensures looked { LooksOn self.old self.new (one_if result) }
         ensures won { result ≡ true → flows (view self.new) (Wide (length (prefix self.old))) ≡ 1 }
         ensures most { result ≡ false
             → IsMost (view self.old) (prefix self.old) (Wide (length (prefix self.old))) }
@@ -167,6 +172,7 @@ impl Choosing<'_> {
         requires machine { machine < length (view self.old).case.slots }
         requires wide { flows (view self.old) (Wide (length (prefix self.old))) ≡ 1 }
         ensures goes_on { GoesOn self.old self.new 1 (one_if result) }
+        ensures looked { LooksOn self.old self.new (one_if result) }
         ensures wide { flows (view self.new) (Wide (length (prefix self.old))) ≡ 1 }
         ensures won { result ≡ true → guests (view self.old).case (prefix self.old) machine
             < flows (view self.new) (Through machine) }

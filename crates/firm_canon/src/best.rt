@@ -6,20 +6,21 @@ ghost use Rattle.firm_paths.specs.NetArcs.{limits_of};
 ghost use Rattle.firm_paths.specs.PriceTable.{price_of};
 ghost use Rattle.firm_rules.specs.ArenaUse.{arena_arcs, preference_count};
 ghost use Rattle.firm_rules.specs.Round.{case_of, round_placement};
-ghost use Rattle.firm_canon.specs.Counts.{HasSearchedUpTo};
+ghost use Rattle.firm_canon.specs.Counts.{HasLookedUpTo, HasSearchedUpTo};
 ghost use Rattle.firm_graph.specs.Ids.{view_of};
 ghost use Rattle.firm_graph.specs.Network.{demand};
 ghost use Rattle.firm_canon.specs.inner.Graphs.{IsSameGraph};
 ghost use Rattle.firm_canon.specs.inner.Choosing.{Keeps};
 ghost use Rattle.firm_canon.specs.inner.Classes.{HasSought, cut_count};
 ghost use Rattle.firm_canon.specs.inner.State.{IsReady, prefix, view};
+ghost use Rattle.firm_canon.specs.inner.Looks.{LooksOn};
 ghost use Rattle.firm_canon.specs.inner.Ways.{preferred_before};
 
 use crate::choosing::Choosing;
 use crate::holds::hold_choice;
 use crate::reads::{arcs_are_counted, task_count, wishes_of};
 use firm_flow::{balanced_flows, conserved_where_balanced};
-use firm_graph::{Graph, Key, Node};
+use firm_graph::{Graph, Key, Node, networks_are_counted};
 use firm_paths::{Prices, Scratch, arcs_are_rows};
 use firm_rules::{Choice, the_round_is_the_first};
 use std::alloc::{AllocError, Global};
@@ -71,6 +72,7 @@ impl Choosing<'_> {
             (2 + length (demand (view self.old).case (length (prefix self.old))).preferred)
             (arena_arcs self.old.graph.now.rows)
             (cut_count (view self.old) self.old.scratch.now) (cut_count (view self.new) self.new.scratch.now) }
+        ensures looked { LooksOn self.old self.new 2 }
         ensures ready { IsReady self.new }
         ensures capacity { vec_capacity self.old.chosen.now ≤ vec_capacity self.new.chosen.now }
         ensures len { vec_len self.new.chosen.now ≡ vec_len self.old.chosen.now + 1 }
@@ -96,6 +98,7 @@ impl Choosing<'_> {
             (tasks * (length self.old.graph.now.rows.machines + 3))
             (2 * tasks + preferred_before (view self.old).case tasks) (arena_arcs self.old.graph.now.rows)
             (cut_count (view self.old) self.old.scratch.now) (cut_count (view self.new) self.new.scratch.now) }
+        ensures looked { LooksOn self.old self.new (2 * tasks) }
         ensures ready { IsReady self.new }
         ensures all { length (prefix self.new) ≡ tasks }
     {
@@ -125,9 +128,12 @@ pub fn first_best(
     ensures searched_few { HasSearchedUpTo scratch.old scratch.new
         (3 * length graph.old.rows.tasks + 2 * length graph.old.rows.machines + 1
         + preference_count graph.old.rows.tasks) (arena_arcs graph.old.rows) }
+    ensures looked_few { HasLookedUpTo scratch.old scratch.new (3 * length graph.old.rows.tasks)
+        (arena_arcs graph.old.rows) }
     ensures refused { OnErr result ((graph.new ≡ graph.old) × (prices.new ≡ prices.old) × (scratch.new ≡ scratch.old)) }
 {
     the_round_is_the_first();
+    networks_are_counted();
     let tasks = task_count(graph);
     let mut chosen = Vec::with_capacity(alloc, tasks)?;
     start(graph, prices, scratch);

@@ -8,6 +8,7 @@ ghost use Rattle.firm_canon.specs.inner.Placed.{aside};
 ghost use Rattle.firm_canon.specs.inner.Choosing.{IsChosen, IsPassed, IsShutOff, IsSpentBeside, Shut, best};
 ghost use Rattle.firm_canon.specs.inner.Classes.{IsMost, one_if, parted};
 ghost use Rattle.firm_canon.specs.inner.State.{GoesOn, IsReady, prefix, price, view};
+ghost use Rattle.firm_canon.specs.inner.Looks.{LooksOn};
 ghost use Rattle.firm_canon.specs.inner.Ways.{below};
 ghost use Rattle.firm_graph.specs.declared.network.Node.TheVariants.{Hub, Task};
 ghost use Rattle.firm_graph.specs.declared.network.Key.TheVariants.{Wide, Stay};
@@ -34,6 +35,7 @@ impl Choosing<'_> {
         ensures goes_on { GoesOn self.old self.new 1 (one_if result
             + aside (view self.old).case (flows (view self.old)) (length (prefix self.old))
             * parted (view self.old) (class_of self.new.scratch.now) (Task (length (prefix self.old))) Hub) }
+        ensures looked { LooksOn self.old self.new (one_if result) }
         ensures yes { result ≡ true → 1 ≤ flows (view self.new) (Stay (length (prefix self.old))) }
         ensures none { result ≡ false → flows (view self.old) (Stay (length (prefix self.old))) ≡ 0 }
         ensures most { result ≡ false
@@ -66,6 +68,7 @@ impl Choosing<'_> {
         requires next { length (prefix self.old) < length (view self.old).case.tasks }
         requires stay { flows (view self.old) (Stay (length (prefix self.old))) ≡ 0 }
         ensures goes_on { GoesOn self.old self.new 1 1 }
+        ensures looked { LooksOn self.old self.new (one_if result) }
         ensures yes { result ≡ true → flows (view self.new) (Wide (length (prefix self.old))) ≡ 1 }
         ensures joined { result ≡ true
             → (aside (view self.old).case (flows (view self.old)) (length (prefix self.old)) ≡ 0)
@@ -112,6 +115,7 @@ impl Choosing<'_> {
             → IsSpentBeside (view self.old).case (prefix self.old) (best (view self.old) (prefix self.old)) k }
         ensures goes_on { GoesOn self.old self.new (length (view self.old).case.slots - first + 1)
             (length wishes.now.places.items - below wishes.now.places.items first + one_if hub) }
+        ensures looked { LooksOn self.old self.new 1 }
         ensures chosen { IsChosen (view self.new) (prefix self.new) result }
     {
         let end = machine_count(self.graph);
@@ -154,6 +158,7 @@ impl Choosing<'_> {
             (2 + length wishes.now.places.items
             - aside (view self.old).case (flows (view self.old)) (length (prefix self.old))
             * parted (view self.old) (class_of self.old.scratch.now) (Task (length (prefix self.old))) Hub) }
+        ensures looked { LooksOn self.old self.new 2 }
         ensures chosen { IsChosen (view self.new) (prefix self.new) result }
     {
         self.spent = self.first_unspent();
@@ -179,6 +184,7 @@ impl Choosing<'_> {
             ≡ (demand (view self.old).case (length (prefix self.old))).preferred }
         ensures goes_on { GoesOn self.old self.new (length (view self.old).case.slots + 3)
             (2 + length (demand (view self.old).case (length (prefix self.old))).preferred) }
+        ensures looked { LooksOn self.old self.new 2 }
         ensures chosen { IsChosen (view self.new) (prefix self.new) result }
     {
         let Some(own) = wishes.home else {

@@ -1,20 +1,19 @@
 //! What is read of a graph, by the places of its case.
-ghost use Rattle.std.specs.Prelude.{◌≡◌, ◌<◌, ◌≤◌, true, length, map, nat_lt, All, IfSome};
-ghost use Rattle.firm_net.specs.Net.{IsArc, row_at, arc_count};
+ghost use Rattle.std.specs.Prelude.{◌≡◌, ◌≢◌, ◌<◌, ℕ, true, length, nat_lt, Some, IfSome, IfNone};
+ghost use Rattle.firm_net.specs.Row.{Row};
+ghost use Rattle.firm_net.specs.Net.{IsArc, IsNode, row_at, arc_count};
 ghost use Rattle.firm_rules.specs.ArenaUse.{arena_arcs};
-ghost use Rattle.firm_rules.specs.Book.{machine_names};
-ghost use Rattle.firm_rules.specs.Names.{is_among};
-ghost use Rattle.firm_rules.specs.Round.{machine_place, place_of};
-ghost use Rattle.firm_graph.specs.Network.{demand};
+ghost use Rattle.firm_graph.specs.Network.{demand, preferred_at};
 ghost use Rattle.firm_graph.specs.View.{flow_of_row, low_of_row};
 ghost use Rattle.firm_graph.specs.Ids.{view_of};
+ghost use Rattle.firm_graph.specs.declared.network.Node.TheVariants.{Hub, Machine};
 ghost use Rattle.firm_graph.specs.declared.network.Key.TheVariants.{Through, Wide, Stay, Delay, Prefer};
 
 use arrayvec::ArrayVec;
 use firm_graph::{Graph, networks_are_counted};
-use firm_net::{ArcId, Net};
+use firm_net::{ArcId, Net, NodeId};
 use firm_paths::arcs_are_rows;
-use firm_rules::{MOST_PREFERENCES, Name, Rows};
+use firm_rules::MOST_PREFERENCES;
 
 /// The places of a task's own machine and of those that it prefers, in the order of its row.
 #[derive(Drop)]
@@ -50,35 +49,68 @@ pub(crate) fn machine_count(graph: &Graph) -> u32
     rows.machine_count() as u32
 }
 
-/// The place of a known machine.
-fn place_named(rows: &Rows, name: Name) -> u32
-    requires there { is_among (machine_names rows.now) name ≡ true }
-    ensures { result ≡ place_of rows.now name }
+/// Whether a node is the hub.
+fn is_hub(graph: &Graph, node: NodeId) -> bool
+    ensures { result ≡ true → node ≡ (view_of graph.now).node Hub }
 {
-    rows.limits();
-    let Some(place) = rows.machine_place(name) else {
+    node == graph.hub()
+}
+
+/// The place of the machine to which an arc leads; `None` if it leads to none.
+fn machine_behind(graph: &Graph, arc: ArcId) -> Option<u32>
+    requires { IsArc graph.now.net arc }
+    ensures some { (row : Row) → row_at graph.now.net arc ≡ Some row → IfSome result (λ j.
+        (j < length (view_of graph.now).case.slots) × ((view_of graph.now).node (Machine j) ≡ row.head)) }
+    ensures none { (row : Row) → row_at graph.now.net arc ≡ Some row → IfNone result ((j : ℕ)
+        → j < length (view_of graph.now).case.slots → (view_of graph.now).node (Machine j) ≢ row.head) }
+    ensures node { (row : Row) → row_at graph.now.net arc ≡ Some row → IsNode graph.now.net row.head }
+{
+    let Some(row) = graph.net().arc(arc) else {
         unreachable!()
     };
-    place as u32
+    // While a task waits its stay arc leads here, and no machine is looked at.
+    if is_hub(graph, row.head()) {
+        return None;
+    }
+    graph.rows().limits();
+    let Some(place) = graph.machine_of(row.head()) else {
+        return None;
+    };
+    Some(place as u32)
 }
 
-/// The place of a task's own machine, a known one, if it runs.
-fn home_of(rows: &Rows, machine: Option<Name>) -> Option<u32>
-    requires there { IfSome machine (λ name. is_among (machine_names rows.now) name ≡ true) }
-    ensures { result ≡ machine_place rows.now machine }
+/// The place of the machine on which the task at a place runs, if it runs.
+fn home_of(graph: &Graph, task: usize) -> Option<u32>
+    requires { task < length (view_of graph.now).case.tasks }
+    ensures { result ≡ (demand (view_of graph.now).case task).home }
 {
-    Some(place_named(rows, machine?))
+    arcs_are_rows();
+    graph.net();
+    machine_behind(graph, stay_arc(graph, task))
 }
 
-/// The places of known machines.
-fn places_of(rows: &Rows, names: &[Name]) -> ArrayVec<u32, MOST_PREFERENCES>
-    requires few { length names.now ≤ 4 }
-    requires there { All (λ name. is_among (machine_names rows.now) name ≡ true) names.now }
-    ensures { result.items ≡ map (place_of rows.now) names.now }
+/// The place of the machine of the preference of this number, counted from 0, of the task at a place.
+fn preferred_place(graph: &Graph, task: usize, number: usize) -> u32
+    requires task { task < length (view_of graph.now).case.tasks }
+    requires number { number < length (demand (view_of graph.now).case task).preferred }
+    ensures { result ≡ preferred_at (view_of graph.now).case task number }
+{
+    arcs_are_rows();
+    graph.net();
+    let Some(place) = machine_behind(graph, prefer_arc(graph, task, number)) else {
+        unreachable!()
+    };
+    place
+}
+
+/// The places of the machines that the task at a place prefers.
+fn places_of(graph: &Graph, task: usize) -> ArrayVec<u32, MOST_PREFERENCES>
+    requires { task < length (view_of graph.now).case.tasks }
+    ensures { result.items ≡ (demand (view_of graph.now).case task).preferred }
 {
     let mut places = ArrayVec::new();
-    for name in names {
-        places.push(place_named(rows, *name));
+    for number in 0..graph.task_arcs(task).preferred.len() {
+        places.push(preferred_place(graph, task, number));
     }
     places
 }
@@ -89,14 +121,9 @@ pub(crate) fn wishes_of(graph: &Graph, task: usize) -> Wishes
     ensures home { result.home ≡ (demand (view_of graph.now).case task).home }
     ensures places { result.places.items ≡ (demand (view_of graph.now).case task).preferred }
 {
-    let rows = graph.rows();
-    rows.limits();
-    let Some(row) = rows.task_at(task) else {
-        unreachable!()
-    };
     Wishes {
-        home: home_of(rows, row.machine),
-        places: places_of(rows, row.preferred.as_slice()),
+        home: home_of(graph, task),
+        places: places_of(graph, task),
     }
 }
 

@@ -9,6 +9,7 @@ ghost use Rattle.firm_paths.specs.Classes.{class_of};
 ghost use Rattle.firm_canon.specs.inner.Choosing.{HasRoom, IsPassed, IsShutOff, IsSpent, best};
 ghost use Rattle.firm_canon.specs.inner.Classes.{IsMost, one_if};
 ghost use Rattle.firm_canon.specs.inner.State.{GoesOn, IsReady, prefix, price, view};
+ghost use Rattle.firm_canon.specs.inner.Looks.{LooksOn};
 ghost use Rattle.firm_canon.specs.inner.Ways.{IsWay, below, found_by};
 ghost use Rattle.firm_canon.specs.declared.ways.Way.TheVariants.{ByHub};
 ghost use Rattle.firm_rules.specs.declared.rounds.Choice.TheVariants.{On};
@@ -104,6 +105,7 @@ impl Choosing<'_> {
         requires next { length (prefix self.old) < length (view self.old).case.tasks }
         requires number { number < length (demand (view self.old).case (length (prefix self.old))).preferred }
         ensures goes_on { GoesOn self.old self.new 1 1 }
+        ensures looked { LooksOn self.old self.new (one_if result) }
         ensures yes { result ≡ true → 1 ≤ flows (view self.new) (Prefer (length (prefix self.old)) number) }
         ensures none { result ≡ false → flows (view self.old) (Prefer (length (prefix self.old)) number) ≡ 0 }
         ensures most { result ≡ false
@@ -129,6 +131,7 @@ impl Choosing<'_> {
         requires way { IsWay (demand (view self.old).case (length (prefix self.old))).preferred true machine way }
         requires wide { way ≡ ByHub → flows (view self.old) (Wide (length (prefix self.old))) ≡ 1 }
         ensures goes_on { GoesOn self.old self.new 1 (found_by way result) }
+        ensures looked { LooksOn self.old self.new (one_if result) }
         ensures room { result ≡ true
             → HasRoom (view self.new).case (prefix self.old) (On machine) (flows (view self.new)) }
         ensures passed { result ≡ false → IsPassed (view self.old) (price self.old) (prefix self.old)
@@ -167,6 +170,8 @@ impl Choosing<'_> {
             (nat_le stretch.behind k) k) }
         ensures goes_on_none { IfNone result (GoesOn self.old self.new (stretch.end - stretch.from)
             (below wishes.now.places.items stretch.end - below wishes.now.places.items stretch.from)) }
+        ensures looked { IfSome result (λ _. LooksOn self.old self.new 1) }
+        ensures looked_none { IfNone result (LooksOn self.old self.new 0) }
         ensures unchanged { IfNone result (self.new.graph.now ≡ self.old.graph.now) }
     {
         let mut machine = next_place(&wishes.places, stretch.from, stretch.behind);

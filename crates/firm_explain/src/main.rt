@@ -4,12 +4,12 @@
 #![tactic(auto)]
 
 mod choices;
+mod cost_line;
 mod crowds;
 mod explainer;
 mod faults;
 mod market;
 mod options;
-mod parts;
 mod program;
 mod reasons;
 mod roster_file;

@@ -2,13 +2,14 @@
 
 use crate::faults::Fault;
 use firm_table::ServeFault;
+use firm_text::LONGEST_ROSTER;
 use std::alloc::Global;
 use std::fs;
 use std::io::{Error, ErrorKind, Read};
 use std::rt::Files;
 
 // One byte more than a roster may have, so that a longer file is seen to be longer.
-const MOST_BYTES: u64 = 65_537;
+const MOST_BYTES: u64 = LONGEST_ROSTER as u64 + 1;
 
 /// The first 65,537 bytes of the file at the path, or all of a shorter one.
 pub(crate) fn read<R: Files>(rt: &R, alloc: Global, path: &str) -> Result<Vec<u8>, Fault> {

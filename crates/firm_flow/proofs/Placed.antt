@@ -226,10 +226,11 @@ advances_on old mid new from at to spent more all first second sources sink orig
 
 -- routes forgotten
 abbrev pub no_route : Proposed
-no_route = record { source = record { id = record { place = 0; stamp = 0 } }; route = Search }
+no_route = record { source = record { id = record { place = 0; stamp = 0 } }; route = Search; looks = 0 }
 
 pub forgotten_same : (xs : List Proposed) (k : ℕ) (d : Proposed)
-    → sources_of (slice_set xs k (record { source = (get_or xs k d).source; route = Search })) ≡ sources_of xs
+    → sources_of (slice_set xs k
+    (record { source = (get_or xs k d).source; route = Search; looks = (get_or xs k d).looks })) ≡ sources_of xs
 forgotten_same [] k d = refl
 forgotten_same (x ∷ xs) zero d = refl
 forgotten_same (x ∷ xs) (suc k) d = ap (λ (z : List NodeId). x.source ∷ z) (forgotten_same xs k d)

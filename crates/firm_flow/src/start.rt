@@ -1,7 +1,7 @@
 //! The flow of least cost from a start that a caller proposes: most units go by routes that it names, at prices that it
 //! names, one look at each arc shows that nothing cheaper exists so far, and searches send the rest.
-ghost use Rattle.std.specs.Prelude.{◌≡◌, ◌≢◌, ◌↔◌, ℕ, ◌+◌, ◌*◌, ◌<◌, ◌≤◌, ◌++◌, ◌∷◌, [], All, Bool, pos, map, length};
-ghost use Rattle.std.specs.Prelude.{IfSome, IfNone, IfOk, OnOk, OnErr, IsSome, OnSome, IsTrue};
+ghost use Rattle.std.specs.Prelude.{◌≡◌, ◌≢◌, ◌↔◌, ℕ, ◌+◌, ◌-◌, ◌*◌, ◌<◌, ◌≤◌, ◌++◌, ◌∷◌, [], All, Bool, pos, length};
+ghost use Rattle.std.specs.Prelude.{map, IfSome, IfNone, IfOk, OnOk, OnErr, IsSome, OnSome, IsTrue};
 ghost use Rattle.firm_net.specs.Net.{IsNet, IsNode, arc_count, without_flow};
 ghost use Rattle.firm_paths.specs.Network.{AreValid};
 ghost use Rattle.firm_paths.specs.NetArcs.{arcs_of, limits_of};
@@ -46,6 +46,8 @@ impl Route {
 pub struct Proposed {
     pub source: NodeId,
     pub route: Route,
+    /// How many looks the search took that found the route; 0 if it was found without a search.
+    pub looks: u32,
 }
 
 /// A unit under way: the node where it stands, and what it cost to get there.
@@ -186,6 +188,46 @@ fn accept(
     Some(cost)
 }
 
+/// How many of the sources have a route.
+fn count_routes(sources: &[Proposed]) -> u32
+    requires few { length sources.now ≤ 4096 }
+    ensures { result ≤ length (with_routes sources.now) }
+{
+    let mut routes: u32 = 0;
+    for proposed in sources {
+        if proposed.route.is_proposed() {
+            routes += 1;
+        }
+    }
+    routes
+}
+
+/// The searches that found routes, and their looks.
+fn searches_of(sources: &[Proposed]) -> (u32, u64) {
+    let (mut searches, mut looks): (u32, u64) = (0, 0);
+    for proposed in sources {
+        if proposed.looks > 0 {
+            searches = searches.saturating_add(1);
+            looks = looks.saturating_add(u64::from(proposed.looks));
+        }
+    }
+    (searches, looks)
+}
+
+/// Counts the searches that found routes, of all routes but one at most: the look at each arc counts as a search too.
+/// Says how many.
+fn count_searches(scratch: &mut Scratch, net: &Net, sources: &[Proposed]) -> u32
+    requires few { length sources.now ≤ 4096 }
+    ensures few { result ≤ length (with_routes sources.now) - 1 }
+    ensures counts { HasSearched scratch.old scratch.new result (arc_count net.now) }
+{
+    let most = count_routes(sources).saturating_sub(1);
+    let (found, looks) = searches_of(sources);
+    let searches = found.min(most);
+    scratch.count(net, searches, looks);
+    searches
+}
+
 /// Forgets all routes.
 fn forget_routes(sources: &mut [Proposed])
     ensures sources { sources_of sources.new ≡ sources_of sources.old }
@@ -220,6 +262,7 @@ fn start(
     searches_add_up();
     net.clear_flow();
     if let Some(cost) = accept(net, prices, scratch, sources, sink) {
+        count_searches(scratch, net, sources);
         return cost;
     }
     net.clear_flow();
@@ -232,8 +275,8 @@ fn start(
 /// begins with the units for which routes are proposed and with the prices as they stand, where these show at one look
 /// at each arc that nothing cheaper exists; searches send the other units. Where they don't, the routes are forgotten,
 /// and searches send all. Whatever is proposed changes the time that it takes and which of several least flows is
-/// found, and nothing else. Makes at most one search for each source, the look at each arc counted as one. Takes no
-/// memory.
+/// found, and nothing else. Makes at most one search for each source: the look at each arc counts as one, and so does
+/// each search that found a route of a start that is taken. Takes no memory.
 pub fn solve_from(
     net: &mut Net,
     prices: &mut Prices,

@@ -5,13 +5,14 @@ use Rattle.std.proofs.Common.{length-append}
 use Rattle.std.proofs.lemmas.List.Elements.{All-head, All-tail}
 use Rattle.std.specs.List.{All, sum_by, position, position_or_len, slice_get}
 use Rattle.std.specs.Prelude.{slice_index_or}
-use Rattle.std.proofs.lemmas.List.{map-append, length-replicate, get_or-map}
+use Rattle.std.proofs.lemmas.List.{map-append, length-replicate, get_or-map, length-map}
 use Rattle.std.proofs.lemmas.List.Sums.{sum_by_push, sum_by-append, sum_by-cons}
 use Rattle.indexmap.proofs.SetLemmas.{AllZip-push}
 use Rattle.firm_arena.specs.Arena.{capacity_of, entries_from}
 use Rattle.firm_arena.specs.declared.Id.{Id}
 use Rattle.firm_rules.specs.Limits.{TenantLimits}
-use Rattle.firm_graph.proofs.NetEdits.{edit-then, edit-same, nodes-sum, spans-sum, node_weight, span_weight}
+use Rattle.firm_net.specs.Laws.{nodes-sum, spans-sum, node_weight, span_weight}
+use Rattle.firm_graph.proofs.NetEdits.{edit-then, edit-same}
 use Rattle.firm_graph.proofs.Said.{grown}
 use Rattle.firm_net.specs.Net.{Net, IsNode, added_of, node_count, arc_count, empty_net}
 use Rattle.firm_graph.proofs.Found.{job-there}
@@ -33,12 +34,8 @@ use Rattle.firm_graph.specs.Network.{away}
 use Rattle.firm_graph.specs.Graph.{preferred_spans, home_node, node_under, weight_under, machine_nodes, job_nodes}
 use Rattle.firm_graph.proofs.Totals.{preferred-count, slots-count, nodes-counted, arcs-counted, flat_sum-push}
 use Rattle.firm_graph.proofs.Totals.{nodes-total, spans-total, tasks-same, sum-one}
-use Rattle.firm_graph.proofs.Lookups.{position-is, node_under-at, weight_under-at, is_among-push, node_under-push}
+use Rattle.firm_graph.proofs.Lookups.{position-is, node_under-at, weight_under-at, node_under-push}
 use Rattle.firm_graph.proofs.Lookups.{weight_under-push}
-
-length-map : {A B : Type 0} (f : A → B) (xs : List A) → length (map f xs) ≡ length xs
-length-map f [] = refl
-length-map f (x ∷ xs) = omega (arith, length-map f xs)
 
 -- the graph with a job added last
 abbrev pub job_added : Graph → Net → JobParts → List ℕ → ℕ → Graph
@@ -61,7 +58,7 @@ job-target : (g : Graph) (net : Net) (parts : JobParts) (name : List ℕ) (weigh
 job-target g net parts name weight task e there =
     let job : Job = record { name = name; weight = weight } in
     let lengths : length (job_nodes g) ≡ length (job_names g.rows) =
-    length-map (λ (p : JobParts). p.node) g.jobs ∙ e ∙ sym (length-map (λ (j : Job). j.name) g.rows.jobs) in
+    length-map g.jobs (λ (p : JobParts). p.node) ∙ e ∙ sym (length-map g.rows.jobs (λ (j : Job). j.name)) in
     let owner : node_under (job_names (with_job g.rows name weight))
     (map (λ (p : JobParts). p.node) (g.jobs ++ parts ∷ [])) g.hub task.job
     ≡ node_under (job_names g.rows) (job_nodes g) g.hub task.job =
@@ -222,7 +219,7 @@ task-added g n1 n2 n3 n4 n5 parts job name preferred owner far weight is node ne
     let whole : IsEdit g.net n5 [] (parts.node ∷ []) [] (t1 ∷ s2 ∷ t3 ∷ ss) =
     subst (λ (s : Span). E t1 s) e3 (subst (λ (s : Span). E s s3) e1 in_order) in
     let heads : length (nodes_under g preferred) ≡ length preferred =
-    length-map (node_under (machine_names g.rows) (machine_nodes g) g.hub) preferred in
+    length-map preferred (node_under (machine_names g.rows) (machine_nodes g) g.hub) in
     let counted : length ss ≡ length (nodes_under g preferred) = preferred-count parts.node 0 (nodes_under g preferred)
     parts.arcs.preferred (paired ∙ sym heads) in
     grown g new parts.node (t1 ∷ s2 ∷ t3 ∷ ss) is whole
@@ -273,8 +270,8 @@ home-push g parts name slots None e there = refl
 home-push g parts name slots (Some m) e there =
     let machine : Machine = record { name = name; slots = slots } in
     let lengths : length (machine_nodes g) ≡ length (machine_names g.rows) =
-    length-map (λ (p : MachineParts). p.node) g.machines ∙ e ∙ sym
-    (length-map (λ (j : Machine). j.name) g.rows.machines) in
+    length-map g.machines (λ (p : MachineParts). p.node) ∙ e ∙ sym
+    (length-map g.rows.machines (λ (j : Machine). j.name)) in
     ap₂ (λ (ns : List (List ℕ)) (xs : List NodeId). node_under ns xs g.hub m)
     (map-append (λ (j : Machine). j.name) g.rows.machines (machine ∷ []))
     (map-append (λ (p : MachineParts). p.node) g.machines (parts ∷ []))
@@ -309,12 +306,6 @@ machine-target g net parts name slots task e there preferred =
     } in t)
     (home-push g parts name slots task.machine e there)
     (preferred-push g parts name slots task.preferred e preferred)
-
-still-among : (names : List (List ℕ)) (name : List ℕ) (home : Option (List ℕ))
-    → IfSome home (λ m. is_among names m ≡ true)
-    → IfSome home (λ m. is_among (names ++ name ∷ []) m ≡ true)
-still-among names name None h = h
-still-among names name (Some m) h = is_among-push names (name ∷ []) m h
 
 pub machine-added : (g : Graph) (n1 n2 n3 : Net) (parts : MachineParts) (name : List ℕ) (slots : ℕ) → Mirrors g
     → AreSound g.rows
@@ -431,7 +422,7 @@ pub node-read : {A : Type 0} (node : A → NodeId) (names : List (List ℕ)) (pa
     → node (get_or parts place d) ≡ node_under names (map node parts) other name
 node-read node names parts other name place e lengths d =
     let at = position-is (bytes_eq name) names place e in
-    let same : length (map node parts) ≡ length names = length-map node parts ∙ lengths in
+    let same : length (map node parts) ≡ length names = length-map parts node ∙ lengths in
     let below : place < length parts = omega (arith, at.1, lengths) in
     sym (get_or-map node parts place d other below)
     ∙ sym (ap (λ (k : ℕ). get_or (map node parts) k other) at.0)
@@ -443,7 +434,7 @@ pub owner-read : (g : Graph) (name : List ℕ) (place : ℕ) → position (bytes
     → (d : JobParts) → (get_or g.jobs place d).node ≡ node_under (job_names g.rows) (job_nodes g) g.hub name
 owner-read g name place e lengths d =
     node-read (λ (p : JobParts). p.node) (job_names g.rows) g.jobs g.hub name place e
-    (lengths ∙ sym (length-map (λ (j : Job). j.name) g.rows.jobs)) d
+    (lengths ∙ sym (length-map g.rows.jobs (λ (j : Job). j.name))) d
 
 pub weight-read : (rows : TenantRows) (name : List ℕ) (place : ℕ) (job : Job)
     → position (bytes_eq name) (job_names rows) ≡ Some place
@@ -451,7 +442,7 @@ pub weight-read : (rows : TenantRows) (name : List ℕ) (place : ℕ) (job : Job
 weight-read rows name place job e there =
     let at = position-is (bytes_eq name) (job_names rows) place e in
     let below : position_or_len (bytes_eq name) (job_names rows) < length rows.jobs = omega
-    (arith, at.0, at.1, length-map (λ (j : Job). j.name) rows.jobs) in
+    (arith, at.0, at.1, length-map rows.jobs (λ (j : Job). j.name)) in
     let read : get_or rows.jobs place job ≡ job = got rows.jobs place job there in
     sym (ap (λ (j : Job). j.weight) read)
     ∙ sym (ap (λ (k : ℕ). (get_or rows.jobs k job).weight) at.0)
@@ -468,7 +459,7 @@ pub job-read : (g : Graph) (place : ℕ) (read : JobParts) → Mirrors g → (na
     → read ≡ get_or g.jobs place read → IsNode g.net read.node
 job-read g place read is name e at =
     let there = position-is (bytes_eq name) (job_names g.rows) place e in
-    let below : place < length g.jobs = omega (arith, there.1, is.jobs, length-map (λ (j : Job). j.name) g.rows.jobs) in
+    let below : place < length g.jobs = omega (arith, there.1, is.jobs, length-map g.rows.jobs (λ (j : Job). j.name)) in
     let P : JobParts → Type 0 = λ (p : JobParts). IsNode g.net p.node in
     subst P (sym at) (job-there g place read is below)
 

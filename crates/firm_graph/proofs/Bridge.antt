@@ -4,7 +4,7 @@ use Rattle.std.proofs.Common.{Some}
 use Rattle.std.proofs.Common.{None, List, [], ◌∷◌, ◌++◌, map, length, get_or, bytes_eq, append_assoc, arith, refl, sym}
 use Rattle.std.proofs.Common.{ap, ap₂, ◌∙◌, ⊎_elim}
 use Rattle.std.specs.List.{position_or_len}
-use Rattle.std.proofs.lemmas.List.{map-append, get_or-map}
+use Rattle.std.proofs.lemmas.List.{map-append, get_or-map, length-map}
 use Rattle.std.proofs.lemmas.Bool.{cases_Bool, cond-true, cond-false, not_from_true, not_from_false}
 use Rattle.firm_paths.specs.Network.{Arc}
 use Rattle.firm_rules.specs.Book.{TenantRows, machine_names, job_names}
@@ -95,10 +95,6 @@ gather_from f zero = refl
 gather_from {A} f (suc n) =
     ap₂ (λ (a b : List A). a ++ b) (gather_from f n) (ap f (let e : n ≡ 0 + n = omega arith in e)) ∙ sym
     (from_last f 0 n)
-
-length-map : {A B : Type 0} (f : A → B) (xs : List A) → length (map f xs) ≡ length xs
-length-map f [] = refl
-length-map f (x ∷ xs) = omega (arith, length-map f xs)
 
 module _ (rows : TenantRows) (low x : Key → ℕ) where
   abbrev c : Case
@@ -198,7 +194,7 @@ module _ (rows : TenantRows) (low x : Key → ℕ) where
       ∷ map (fill low x) (preferred_rows (machine_names rows) (cond b c.churn 0) i 0 t.preferred) in
       let to : ℕ → List (Arc Node Key) = λ (k : ℕ). arc low x (Prefer i k) (TaskAt i)
       (MachineAt (get_or q.preferred k 0)) 1 cost ∷ [] in
-      let counted : length t.preferred ≡ length q.preferred = sym (length-map (place_of rows) t.preferred) in
+      let counted : length t.preferred ≡ length q.preferred = sym (length-map t.preferred (place_of rows)) in
       let preferred : map (fill low x) (preferred_rows (machine_names rows) cost i 0 t.preferred) ≡ gather to
       (length q.preferred) =
       preferred_same (λ (k : ℕ). get_or q.preferred k 0) cost i 0 t.preferred
@@ -238,7 +234,7 @@ module _ (rows : TenantRows) (low x : Key → ℕ) where
       (λ i l. ap (slots_of c) (let e : 0 + i ≡ i = omega arith in e) ∙ get_or-map (λ (m : Machine). m.slots)
       rows.machines i no_machine 0 l)
       ∙ (sym (gather_from (machine_arcs c low x) (length rows.machines)) ∙ ap (gather (machine_arcs c low x))
-      (sym (length-map (λ (m : Machine). m.slots) rows.machines))))
+      (sym (length-map rows.machines (λ (m : Machine). m.slots)))))
       (map-append (fill low x) (job_rows rows.limits.nodes 0 rows.jobs) (task_rows rows 0 rows.tasks)
       ∙ ap₂ (λ (a b : List (Arc Node Key)). a ++ b)
       (jobs_same 0 rows.jobs ∙ sym (gather_from (job_arcs c low x) (length rows.jobs)))
@@ -246,4 +242,4 @@ module _ (rows : TenantRows) (low x : Key → ℕ) where
       get_or-map (demand_of rows) rows.tasks k no_task (record { home = None; preferred = []; delay = 0; job = 0 })
       l)
       ∙ (sym (gather_from (task_arcs c low x) (length rows.tasks)) ∙ ap (gather (task_arcs c low x))
-      (sym (length-map (demand_of rows) rows.tasks)))))
+      (sym (length-map rows.tasks (demand_of rows))))))

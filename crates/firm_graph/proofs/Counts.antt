@@ -1,6 +1,7 @@
 -- The network of some rows has as many nodes and arcs as they take of the arena.
-use Rattle.std.proofs.Common.{◌≡◌, ℕ, zero, suc, ◌+◌, ◌*◌, cond, is_some, List, [], ◌∷◌, ◌++◌, map, length, arith, refl}
+use Rattle.std.proofs.Common.{◌≡◌, ℕ, zero, suc, ◌+◌, ◌*◌, cond, is_some, List, [], ◌∷◌, ◌++◌, length, arith, refl}
 use Rattle.std.proofs.Common.{sym, ap, length-append}
+use Rattle.std.proofs.lemmas.List.{length-map}
 use Rattle.std.specs.List.{sum_by}
 use Rattle.std.proofs.lemmas.List.Sums.{sum_by-cons}
 use Rattle.firm_paths.specs.Network.{Arc}
@@ -18,10 +19,6 @@ use Rattle.firm_graph.specs.Network.{gather, task_nodes, IsCounted}
 use Rattle.firm_graph.proofs.Bridge.{slot_rows, machine_rows, job_rows, preferred_rows, task_rows, rows_network, fill}
 use Rattle.firm_graph.proofs.Bridge.{network_is}
 use Rattle.firm_graph.proofs.Shown.{gather-count}
-
-length-map : {A B : Type 0} (f : A → B) (xs : List A) → length (map f xs) ≡ length xs
-length-map f [] = refl
-length-map f (x ∷ xs) = omega (arith, length-map f xs)
 
 slots-count : (spread j k left : ℕ) → length (slot_rows spread j k left) ≡ left
 slots-count spread j k zero = refl
@@ -76,14 +73,14 @@ counted rows =
         gather-count MachineAt (length c.slots),
         gather-count JobAt c.jobs,
         gather-count TaskAt (length c.tasks),
-        length-map (λ (m : Machine). m.slots) rows.machines,
-        length-map (demand_of rows) rows.tasks,
+        length-map rows.machines (λ (m : Machine). m.slots),
+        length-map rows.tasks (demand_of rows),
       );
       arcs = λ low flow.
           omega (
             arith,
             ap (λ (l : List (Arc Node Key)). length l) (sym (network_is rows low flow)),
-            length-map (fill low flow) (rows_network rows),
+            length-map (rows_network rows) (fill low flow),
             length-append (machine_rows rows.limits.spread 0 rows.machines)
                 (job_rows rows.limits.nodes 0 rows.jobs ++ task_rows rows 0 rows.tasks),
             length-append (job_rows rows.limits.nodes 0 rows.jobs) (task_rows rows 0 rows.tasks),

@@ -32,7 +32,7 @@ use Rattle.firm_graph.specs.Network.{away}
 use Rattle.firm_graph.specs.Graph.{preferred_spans, graph_spans, graph_nodes, machine_nodes, job_nodes, task_nodes}
 use Rattle.firm_graph.proofs.Found.{ones, same_id-refl, node-there, sink-there, Contains-skip}
 use Rattle.firm_graph.proofs.Drops.{is_node, node-once, four-sum}
-use Rattle.firm_graph.proofs.NetEdits.{sum-map, spans-sum}
+use Rattle.firm_net.specs.Laws.{sum-map, spans-sum}
 use Rattle.firm_graph.proofs.Totals.{nodes-total, spans-total}
 
 -- what an arc carries out of a set of places

@@ -1,30 +1,29 @@
 -- What a graph is once a row was removed from it, and what its net holds on the way.
 use Rattle.std.proofs.Common.{◌≡◌, ℕ, zero, suc, ◌+◌, ◌*◌, ◌<◌, ◌≤◌, true, false, cond, is_some, ◌⊎◌, inl, inr, ⊎_elim}
-use Rattle.std.proofs.Common.{Option, Some, None, IsSome, List, [], ◌∷◌, ◌++◌, map, length, get_or, drop, bytes_eq}
+use Rattle.std.proofs.Common.{Option, Some, None, List, [], ◌∷◌, ◌++◌, map, length, get_or, drop, bytes_eq}
 use Rattle.std.proofs.Common.{arith}
 use Rattle.std.proofs.Common.{refl, sym, ap, ◌∙◌, subst, drop-cons}
-use Rattle.std.specs.List.{sum_by, All, AllZip, Contains, remove}
+use Rattle.std.specs.List.{sum_by, AllZip, Contains, remove}
 use Rattle.std.proofs.lemmas.Bool.{cases_Bool, cond-true, cond-false}
 use Rattle.std.proofs.lemmas.List.Sums.{sum_by-cons, sum_by-append, sum_by-remove}
 use Rattle.std.proofs.lemmas.List.Edits.{length-remove}
 use Rattle.std.proofs.lemmas.List.{get_or-map, length-map}
-use Rattle.std.proofs.lemmas.List.Elements.{All-head, All-tail, All-cons}
 use Rattle.firm_arena.specs.Changes.{find-held}
 use Rattle.firm_arena.specs.Arena.{entries_from}
 use Rattle.firm_arena.specs.declared.Id.{Id}
 use Rattle.firm_net.specs.Row.{Row}
-use Rattle.firm_net.specs.Net.{Net, IsNet, IsNode, IsArc, IsListed, arcs_on, end_of, out_list, in_list, row_at}
+use Rattle.firm_net.specs.Net.{Net, IsNet, IsNode, IsListed, arcs_on, end_of, out_list, in_list, row_at}
 use Rattle.firm_net.specs.declared.row.NodeId.{NodeId}
 use Rattle.firm_net.specs.declared.row.ArcId.{ArcId}
 use Rattle.firm_net.specs.declared.links.Side.{Side}
 use Rattle.firm_net.specs.declared.links.Side.TheVariants.{Out, In}
 use Rattle.firm_rules.specs.Book.{machine_names, job_names}
-use Rattle.firm_graph.specs.Steps.{task_gone, no_task}
+use Rattle.firm_graph.specs.inner.Steps.{task_gone, no_task}
 use Rattle.firm_rules.specs.declared.parts.Machine.{Machine}
 use Rattle.firm_rules.specs.declared.parts.Job.{Job}
 use Rattle.firm_rules.specs.declared.parts.Task.{Task}
 use Rattle.firm_net.specs.Edits.{Span, span_of, nodes_of, spans_of, AsOften, IsEdit}
-use Rattle.firm_graph.specs.Steps.{Holds}
+use Rattle.firm_graph.specs.inner.Steps.{Holds}
 use Rattle.firm_graph.specs.Parts.{MachineParts}
 use Rattle.firm_graph.specs.declared.parts.JobParts.{JobParts}
 use Rattle.firm_graph.specs.declared.parts.TaskParts.{TaskParts}
@@ -32,9 +31,9 @@ use Rattle.firm_graph.specs.Graph.{Graph, Mirrors, flat_zip, machine_spans, slot
 use Rattle.firm_graph.specs.Graph.{target_of, home_node, node_under, graph_nodes, graph_spans, machine_nodes, job_nodes}
 use Rattle.firm_graph.specs.Graph.{preferred_spans, task_nodes}
 use Rattle.firm_graph.specs.Network.{away}
-use Rattle.firm_graph.proofs.Entries.{sum-slot}
+use Rattle.firm_arena.specs.Sums.{sum-slot}
 use Rattle.firm_arena.specs.Sums.{sum-without}
-use Rattle.firm_graph.proofs.NetEdits.{nodes-sum, spans-sum, span_weight, sum-map, arc-below}
+use Rattle.firm_net.specs.Laws.{nodes-sum, spans-sum, span_weight, sum-map, row-below}
 use Rattle.firm_graph.proofs.Found.{Contains-skip, node-there, span-there, HasRow, ones, same_id, same_id-true}
 use Rattle.firm_graph.proofs.Found.{same_id-refl}
 use Rattle.firm_graph.proofs.Said.{shrunk}
@@ -56,13 +55,6 @@ holds-start g is ss same =
 pub holds-row : (base net : Net) (ns : List NodeId) (s : Span) (ss : List Span) → Holds base net ns (s ∷ ss)
     → HasRow net s
 holds-row base net ns s ss h = span-there net (s ∷ ss) s h.spans (0, omega arith, refl)
-
-pub holds-arc : (base net : Net) (ns : List NodeId) (s : Span) (ss : List Span) → Holds base net ns (s ∷ ss)
-    → IsArc net s.arc
-holds-arc base net ns s ss h =
-    let r = holds-row base net ns s ss h in
-    let P : Option Row → Type 0 = λ (o : Option Row). IsSome o in
-    subst P (sym r.there) refl
 
 pub holds-unlinked : (base old new : Net) (ns : List NodeId) (s : Span) (ss : List Span) → Holds base old ns (s ∷ ss)
     → ((row : Row) → row_at old s.arc ≡ Some row → IsEdit old new [] [] (span_of s.arc row ∷ []) [])
@@ -356,7 +348,7 @@ listed-weight net a row w sound there =
     omega (
       arith,
       spans-sum w net,
-      sum-without (span_weight w) net.arcs a.id.place a.id.stamp row (arc-below net a row there)
+      sum-without (span_weight w) net.arcs a.id.place a.id.stamp row (row-below net a row there)
           (find-held net.arcs a.id row there),
     )
 
@@ -419,12 +411,6 @@ flat_sum-remove w f (x ∷ xs) (y ∷ ys) (suc i) d e below same =
       sum_by-append w (f x y) (flat_zip f (remove xs i) (remove ys i)),
       flat_sum-remove w f xs ys i d e (omega arith) (omega arith),
     )
-
-All-remove : {X : Type 0} (P : X → Type 0) (xs : List X) (i : ℕ) → All P xs → All P (remove xs i)
-All-remove P [] zero h = h
-All-remove P [] (suc i) h = h
-All-remove P (x ∷ xs) zero h = All-tail P x xs h
-All-remove P (x ∷ xs) (suc i) h = All-cons P x (remove xs i) (All-head P x xs h) (All-remove P xs i (All-tail P x xs h))
 
 pub AllZip-remove : {A B : Type 0} (R : A → B → Type 0) (xs : List A) (ys : List B) (i : ℕ) → AllZip R xs ys
     → AllZip R (remove xs i) (remove ys i)
@@ -565,9 +551,6 @@ task-dropped g before after place parts is below at h edit =
       jobs = is.jobs;
       tasks = omega (arith, is.tasks, length-remove g.tasks place below, length-remove g.rows.tasks place here);
     })
-
-Contains-place : {X : Type 0} (xs : List X) (i : ℕ) (x : X) → i < length xs → x ≡ get_or xs i x → Contains xs x
-Contains-place xs i x below at = (i, below, sym at)
 
 -- the node of a task is among the graph's
 pub task-listed : (g : Graph) (place : ℕ) (parts : TaskParts) → place < length g.tasks

@@ -1,9 +1,9 @@
 -- Steps of a loop that changes the elements of a list in turn.
-use Rattle.std.proofs.Common.{◌≡◌, ℕ, zero, suc, ◌+◌, ◌<◌, ◌≤◌, Bool, true, false, not, ⊎_elim, Option, None, List, []}
+use Rattle.std.proofs.Common.{◌≡◌, ℕ, zero, suc, ◌+◌, ◌<◌, ◌≤◌, true, false, not, ⊎_elim, Option, None, List, []}
 use Rattle.std.proofs.Common.{◌∷◌, map}
 use Rattle.std.proofs.Common.{length, get_or, bytes_eq, arith, refl, sym, ap, ap₂, ◌∙◌, subst}
 use Rattle.std.specs.List.{All}
-use Rattle.std.proofs.lemmas.Bool.{cond-true, cond-false, cases_Bool}
+use Rattle.std.proofs.lemmas.Bool.{cond-true, cond-false, cases_Bool, not-true}
 use Rattle.std.proofs.lemmas.List.{get_or-map, length-map}
 use Rattle.std.proofs.lemmas.List.Elements.{All-nil, All-cons, filter_passes}
 use Rattle.firm_rules.specs.Book.{TenantRows, is_on, forgetting, evicted}
@@ -12,8 +12,9 @@ use Rattle.firm_rules.specs.Round.{task_after, rows_after, zipped}
 use Rattle.firm_rules.specs.declared.parts.Task.{Task}
 use Rattle.firm_rules.specs.declared.rounds.Choice.{Choice}
 use Rattle.firm_rules.specs.declared.rounds.Choice.TheVariants.{On, Wait}
-use Rattle.firm_graph.specs.Steps.{update_at, placed, with_task_at, changed_first, settled_first, no_task, task_at}
-use Rattle.firm_graph.specs.Steps.{forgetting_rows, thrown_out, thrown_out_first}
+use Rattle.firm_graph.specs.inner.Steps.{update_at, placed, with_task_at, changed_first, settled_first, no_task}
+use Rattle.firm_graph.specs.inner.Steps.{task_at}
+use Rattle.firm_graph.specs.inner.Steps.{forgetting_rows, thrown_out, thrown_out_first}
 
 module _ {X : Type 0} (f : ℕ → X → X) where
   pub length-first : (i n : ℕ) (xs : List X) → length (changed_first f i n xs) ≡ length xs
@@ -146,12 +147,8 @@ evicted-off name task = ⊎_elim
 forgotten : (name : List ℕ) (preferred : List (List ℕ))
     → All (λ m. bytes_eq name m ≡ false) (without_preference name preferred)
 forgotten name preferred k d below =
-    not_true (bytes_eq name (get_or (without_preference name preferred) k d))
+    not-true (bytes_eq name (get_or (without_preference name preferred) k d))
     (filter_passes (λ other. not (bytes_eq name other)) preferred k d below)
-  where
-    not_true : (b : Bool) → not b ≡ true → b ≡ false
-    not_true true h = let clash : false ≡ true = h in absurd cc
-    not_true false h = refl
 
 evicted-loose : (name : List ℕ) (task : Task) → All (λ m. bytes_eq name m ≡ false) (evicted name task).preferred
 evicted-loose name task =

@@ -22,8 +22,9 @@ use Rattle.firm_graph.specs.declared.parts.TaskParts.{TaskParts}
 use Rattle.firm_graph.specs.Network.{away}
 use Rattle.firm_graph.specs.Graph.{Graph, Mirrors, flat_zip, preferred_spans, task_spans, target_of, node_under}
 use Rattle.firm_graph.specs.Graph.{graph_nodes, graph_spans, machine_nodes}
-use Rattle.firm_graph.specs.Steps.{Holds, near, update_at, refitted, with_forgetting_at, IsFitting, no_task, task_at}
-use Rattle.firm_graph.specs.Steps.{forgetting_first, forgetting_rows}
+use Rattle.firm_graph.specs.inner.Steps.{Holds, near, update_at, refitted, with_forgetting_at, IsFitting, no_task}
+use Rattle.firm_graph.specs.inner.Steps.{task_at}
+use Rattle.firm_graph.specs.inner.Steps.{forgetting_first, forgetting_rows}
 use Rattle.firm_graph.proofs.Totals.{nodes-total, spans-total}
 use Rattle.firm_graph.proofs.Lookups.{position-is}
 use Rattle.firm_graph.proofs.Drops.{holds-unlinked, task_dropped, task-start, wide_of, stay_of, wait_of, preferred_of}

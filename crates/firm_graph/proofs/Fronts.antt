@@ -1,12 +1,12 @@
 -- Tables that begin with arcs and are empty past them.
 use Rattle.std.proofs.Common.{◌≡◌, ℕ, zero, suc, ◌+◌, ◌-◌, ◌<◌, ◌≤◌, Option, Some, None, List, [], ◌∷◌, ◌++◌, map}
 use Rattle.std.proofs.Common.{length}
-use Rattle.std.proofs.Common.{get_or, set, replicate, append_assoc, arith, refl, sym, ap, ◌∙◌}
+use Rattle.std.proofs.Common.{set, replicate, append_assoc, arith, refl, sym, ap, ◌∙◌}
 use Rattle.std.specs.List.{remove}
 use Rattle.firm_net.specs.declared.row.ArcId.{ArcId}
-use Rattle.firm_graph.specs.Parts.{arcs_in, padded, AreFront}
+use Rattle.firm_graph.specs.inner.Tables.{arcs_in, padded, AreFront}
 
--- the arcs, and so many empty places
+-- the arcs, and a number of empty places behind them
 abbrev front : List ArcId → ℕ → List (Option ArcId)
 front xs m = map Some xs ++ replicate m None
 
@@ -36,18 +36,6 @@ arcs-padded table xs e = ap arcs_in e ∙ arcs-front xs (4 - length xs)
 
 pub front-few : (table : List (Option ArcId)) (count : ℕ) → AreFront table count → count ≤ 4
 front-few table count is = omega (arith, is.counted, is.few)
-
--- what is read of it
-read-front : (xs : List ArcId) (m k : ℕ) (d : ArcId) → k < length xs → get_or (front xs m) k None ≡ Some (get_or xs k d)
-read-front [] m k d below = absurd (omega arith)
-read-front (x ∷ xs) m zero d below = refl
-read-front (x ∷ xs) m (suc k) d below = read-front xs m k d (omega arith)
-
-pub front-read : (table : List (Option ArcId)) (count k : ℕ) (d : ArcId) → AreFront table count → k < count
-    → get_or table k None ≡ Some (get_or (arcs_in table) k d)
-front-read table count k d is below =
-    ap (λ (t : List (Option ArcId)). get_or t k None) is.rest
-    ∙ read-front (arcs_in table) (4 - length (arcs_in table)) k d (omega (arith, below, is.counted))
 
 -- one arc more
 set-front : (xs : List ArcId) (m : ℕ) (arc : ArcId)

@@ -1,5 +1,4 @@
 pub mod Fronts
-pub mod Entries
 pub mod NetEdits
 pub mod Found
 pub mod Totals

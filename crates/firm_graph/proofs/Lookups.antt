@@ -2,16 +2,13 @@
 use Rattle.std.proofs.Common.{◌≡◌, ℕ, suc, not, ltb, get_or, Some, None, ◌+◌, ◌<◌, Bool, true, false, cond, ◌||◌, List}
 use Rattle.std.proofs.Common.{[], ◌∷◌, ◌++◌, map, length, bytes_eq, arith, refl, sym, ap, ◌∙◌, ⊎_elim}
 use Rattle.std.specs.List.{list_any, position_or_len, position}
-use Rattle.std.proofs.lemmas.Bool.{cases_Bool, cond-true, cond-false, ltb-true}
+use Rattle.std.proofs.lemmas.Bool.{cases_Bool, cond-true, cond-false, ltb-true, or_left}
 use Rattle.firm_net.specs.declared.row.NodeId.{NodeId}
 use Rattle.firm_rules.specs.Names.{is_among}
 use Rattle.firm_rules.specs.declared.parts.Job.{Job}
 use Rattle.firm_graph.specs.Graph.{node_under, weight_under}
 
-or-true : (a b : Bool) → a ≡ true → a || b ≡ true
-or-true a b e = ap (λ (x : Bool). x || b) e
-
-or-false : (a b : Bool) → a ≡ false → a || b ≡ b
+pub or-false : (a b : Bool) → a ≡ false → a || b ≡ b
 or-false a b e = ap (λ (x : Bool). x || b) e
 
 -- a name that is among some is among more
@@ -19,7 +16,7 @@ pub is_among-push : (names more : List (List ℕ)) (name : List ℕ) → is_amon
     → is_among (names ++ more) name ≡ true
 is_among-push [] more name h = let e : false ≡ true = h in absurd cc
 is_among-push (n ∷ names) more name h = ⊎_elim
-    (λ (t : bytes_eq name n ≡ true). or-true (bytes_eq name n) (list_any (bytes_eq name) (names ++ more)) t)
+    (λ (t : bytes_eq name n ≡ true). or_left (bytes_eq name n) (list_any (bytes_eq name) (names ++ more)) t)
     (λ (f : bytes_eq name n ≡ false).
     or-false (bytes_eq name n) (list_any (bytes_eq name) (names ++ more)) f
     ∙ is_among-push names more name (sym (or-false (bytes_eq name n) (list_any (bytes_eq name) names) f) ∙ h))

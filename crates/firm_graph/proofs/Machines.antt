@@ -1,8 +1,8 @@
 -- What a graph is once a machine was removed from it.
-use Rattle.std.proofs.Common.{◌≡◌, ℕ, zero, suc, ◌+◌, ◌<◌, Bool, true, false, true≢false, cond, ◌||◌, ⊎_elim, Option}
+use Rattle.std.proofs.Common.{◌≡◌, ℕ, zero, suc, ◌+◌, ◌<◌, true, false, true≢false, cond, ⊎_elim, Option}
 use Rattle.std.proofs.Common.{Some, None, List, [], ◌∷◌, ◌++◌, map, length, get_or, bytes_eq, arith, refl, sym, ap, ap₂}
 use Rattle.std.proofs.Common.{◌∙◌}
-use Rattle.std.specs.List.{sum_by, All, Contains, remove, position, position_or_len, list_any}
+use Rattle.std.specs.List.{sum_by, All, Contains, remove, position, position_or_len}
 use Rattle.std.specs.Prelude.{slice_index_or}
 use Rattle.std.proofs.lemmas.Bool.{cases_Bool, cond-false}
 use Rattle.std.proofs.lemmas.List.{get_or-map, length-map}
@@ -15,12 +15,11 @@ use Rattle.firm_net.specs.Row.{Row}
 use Rattle.firm_net.specs.Net.{Net, row_at}
 use Rattle.firm_net.specs.declared.row.NodeId.{NodeId}
 use Rattle.firm_rules.specs.Book.{machine_names, job_names, is_on}
-use Rattle.firm_graph.specs.Steps.{machine_gone}
-use Rattle.firm_rules.specs.Names.{is_among}
+use Rattle.firm_graph.specs.inner.Steps.{machine_gone}
 use Rattle.firm_rules.specs.declared.parts.Machine.{Machine}
 use Rattle.firm_rules.specs.declared.parts.Task.{Task}
 use Rattle.firm_net.specs.Edits.{Span, span_of, IsEdit}
-use Rattle.firm_graph.specs.Steps.{Holds}
+use Rattle.firm_graph.specs.inner.Steps.{Holds}
 use Rattle.firm_graph.specs.Parts.{MachineParts}
 use Rattle.firm_graph.specs.Graph.{Graph, Mirrors, machine_spans, slot_spans, Target, target_of, home_node, node_under}
 use Rattle.firm_graph.specs.Graph.{weight_under, graph_nodes, graph_spans, machine_nodes, job_nodes, task_nodes}
@@ -30,12 +29,6 @@ use Rattle.firm_graph.proofs.Totals.{nodes-total, spans-total, tasks-same}
 use Rattle.firm_graph.proofs.Lookups.{position-is}
 use Rattle.firm_graph.proofs.Drops.{holds-start, holds-unlinked, holds-through, flat_sum-remove, AllZip-remove, free}
 use Rattle.firm_graph.proofs.Drops.{IsFree}
-
-or-true : (a b : Bool) → a ≡ true → a || b ≡ true
-or-true a b e = ap (λ (x : Bool). x || b) e
-
-or-false : (a b : Bool) → a ≡ false → a || b ≡ b
-or-false a b e = ap (λ (x : Bool). x || b) e
 
 -- look-ups of another name, once a name is removed
 pub node_under-remove : (names : List (List ℕ)) (nodes : List NodeId) (i : ℕ) (other : NodeId) (name : List ℕ)
@@ -49,20 +42,6 @@ node_under-remove (m ∷ names) (n ∷ nodes) zero other name e below f =
 node_under-remove (m ∷ names) (n ∷ nodes) (suc i) other name e below f =
     ap (λ (x : NodeId). cond (bytes_eq name m) n x)
     (node_under-remove names nodes i other name (omega arith) (omega arith) f)
-
-pub is_among-remove : (names : List (List ℕ)) (i : ℕ) (name : List ℕ) → i < length names
-    → bytes_eq name (get_or names i []) ≡ false
-    → is_among names name ≡ true → is_among (remove names i) name ≡ true
-is_among-remove [] i name below f h = absurd (omega arith)
-is_among-remove (m ∷ names) zero name below f h =
-    sym (or-false (bytes_eq name m) (list_any (bytes_eq name) names) f) ∙ h
-is_among-remove (m ∷ names) (suc i) name below f h = ⊎_elim
-    (λ (t : bytes_eq name m ≡ true). or-true (bytes_eq name m) (list_any (bytes_eq name) (remove names i)) t)
-    (λ (g : bytes_eq name m ≡ false).
-    or-false (bytes_eq name m) (list_any (bytes_eq name) (remove names i)) g
-    ∙ is_among-remove names i name (omega arith) f
-    (sym (or-false (bytes_eq name m) (list_any (bytes_eq name) names) g) ∙ h))
-    (cases_Bool (bytes_eq name m))
 
 -- the graph without the machine at a place
 abbrev pub machine_dropped : Graph → Net → ℕ → Graph

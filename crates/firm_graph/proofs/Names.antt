@@ -6,7 +6,7 @@ use Rattle.firm_rules.specs.Book.{TenantRows, evicted, without_machine, without_
 use Rattle.firm_rules.specs.declared.parts.Machine.{Machine}
 use Rattle.firm_rules.specs.declared.parts.Job.{Job}
 use Rattle.firm_rules.specs.declared.parts.Task.{Task}
-use Rattle.firm_graph.specs.Steps.{machine_gone, job_gone, task_gone}
+use Rattle.firm_graph.specs.inner.Steps.{machine_gone, job_gone, task_gone}
 use Rattle.firm_graph.proofs.Machines.{bytes_eq-swap}
 
 -- what is left by name is what is left by place

@@ -11,7 +11,7 @@ use Rattle.firm_net.specs.Edits.{Span, span_of, IsEdit}
 use Rattle.firm_net.specs.declared.row.NodeId.{NodeId}
 use Rattle.firm_net.specs.declared.row.ArcId.{ArcId}
 use Rattle.firm_graph.specs.Graph.{preferred_spans}
-use Rattle.firm_graph.specs.Steps.{Holds, near, mixed_spans}
+use Rattle.firm_graph.specs.inner.Steps.{Holds, near, mixed_spans}
 use Rattle.firm_graph.proofs.NetEdits.{edit-then}
 use Rattle.firm_graph.proofs.Drops.{holds-unlinked}
 use Rattle.firm_graph.proofs.Places.{Rates, holds-same, holds-rated}

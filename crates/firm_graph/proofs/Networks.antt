@@ -2,7 +2,7 @@
 use Rattle.std.proofs.Common.{◌≡◌, ℕ, suc, ◌+◌, ◌*◌, ◌<◌, cond, is_some, Option, Some, None, List, [], ◌∷◌, ◌++◌, map}
 use Rattle.std.proofs.Common.{length, get_or, bytes_eq, arith, refl, sym, ap, ap₂, ◌∙◌, subst}
 use Rattle.std.specs.List.{AllZip, position_or_len}
-use Rattle.std.proofs.lemmas.List.{map-append, get_or-map}
+use Rattle.std.proofs.lemmas.List.{map-append, get_or-map, length-map}
 use Rattle.firm_net.specs.declared.row.NodeId.{NodeId}
 use Rattle.firm_net.specs.declared.row.ArcId.{ArcId}
 use Rattle.firm_paths.specs.Network.{Arc}
@@ -27,10 +27,6 @@ use Rattle.firm_graph.specs.Network.{away}
 use Rattle.firm_graph.proofs.Bridge.{bare, slot_rows, machine_rows, job_rows, preferred_rows, one_task_rows, task_rows}
 use Rattle.firm_graph.proofs.Bridge.{head_of, rows_network}
 use Rattle.firm_graph.proofs.Lookups.{node_under-at}
-
-length-map : {A B : Type 0} (f : A → B) (xs : List A) → length (map f xs) ≡ length xs
-length-map f [] = refl
-length-map f (x ∷ xs) = omega (arith, length-map f xs)
 
 -- an arc of the network under ids
 abbrev pub shown : (Node → NodeId) → (Key → ArcId) → Arc Node Key → Span
@@ -234,8 +230,8 @@ home-named : (g : Graph) (home : Option (List ℕ)) → length g.machines ≡ le
 home-named g None e = refl
 home-named g (Some m) e =
     node_under-at (machine_names g.rows) (machine_nodes g) g.hub m
-    (length-map (λ (p : MachineParts). p.node) g.machines ∙ e ∙ sym
-    (length-map (λ (j : Machine). j.name) g.rows.machines))
+    (length-map g.machines (λ (p : MachineParts). p.node) ∙ e ∙ sym
+    (length-map g.rows.machines (λ (j : Machine). j.name)))
 
 -- the graph's arcs are the network of its rows under its ids
 pub graph-shown : (g : Graph) → Mirrors g → map (shown (node_id g) (arc_id g)) (rows_network g.rows) ≡ graph_spans g
@@ -263,8 +259,8 @@ graph-shown g is =
       ap (λ (n : ℕ). id (Exit n)) (at i),
     )) in
     let machine_lengths : length (machine_nodes g) ≡ length (machine_names g.rows) =
-    length-map (λ (p : MachineParts). p.node) g.machines ∙ is.machines ∙ sym
-    (length-map (λ (j : Machine). j.name) g.rows.machines) in
+    length-map g.machines (λ (p : MachineParts). p.node) ∙ is.machines ∙ sym
+    (length-map g.rows.machines (λ (j : Machine). j.name)) in
     let targets : (t : Task) → target_of g t ≡ target_by name g.rows t =
     λ t. ap₂ (λ (a b : NodeId). let x : Target = record {
       home = a;
@@ -274,7 +270,7 @@ graph-shown g is =
     } in x)
     (home-named g t.machine is.machines)
     (node_under-at (job_names g.rows) (job_nodes g) g.hub t.job
-    (length-map (λ (p : JobParts). p.node) g.jobs ∙ is.jobs ∙ sym (length-map (λ (j : Job). j.name) g.rows.jobs)))
+    (length-map g.jobs (λ (p : JobParts). p.node) ∙ is.jobs ∙ sym (length-map g.rows.jobs (λ (j : Job). j.name))))
     ∙ ap (λ (l : List NodeId). let x : Target = record {
       home = name (head_of (machine_names g.rows) t.machine);
       owner = name (JobAt (position_or_len (bytes_eq t.job) (job_names g.rows)));

@@ -2,25 +2,24 @@
 use Rattle.std.proofs.Common.{◌≡◌, ◌≢◌, ℕ, zero, suc, ◌+◌, ◌<◌, ◌≤◌, true, false, cond, is_some, ⊎_elim, Option, Some}
 use Rattle.std.proofs.Common.{None, List, [], ◌∷◌, ◌++◌, length, get_or, bytes_eq, arith, refl, sym, ap, ap₂, ◌∙◌}
 use Rattle.std.proofs.Common.{subst}
-use Rattle.std.specs.List.{sum_by, All, AllZip, Contains, remove}
+use Rattle.std.specs.List.{sum_by, AllZip, Contains, remove}
 use Rattle.std.proofs.lemmas.Bool.{cases_Bool, cond-true, cond-false}
 use Rattle.std.proofs.lemmas.List.Sums.{sum_by-cons, sum_by-append, sum_by-remove}
-use Rattle.std.proofs.lemmas.List.Elements.{All-head, All-tail, All-cons}
 use Rattle.firm_net.specs.Row.{Row}
-use Rattle.firm_net.specs.Net.{Net, IsNode, HasOtherTail, row_at, added_of}
+use Rattle.firm_net.specs.Net.{Net, IsNode, row_at, added_of}
 use Rattle.firm_net.specs.declared.row.NodeId.{NodeId}
 use Rattle.firm_net.specs.declared.row.ArcId.{ArcId}
-use Rattle.firm_rules.specs.Book.{TenantRows, machine_names}
-use Rattle.firm_graph.specs.Steps.{update_at, placed, with_task_at, no_task}
+use Rattle.firm_rules.specs.Book.{machine_names}
+use Rattle.firm_graph.specs.inner.Steps.{update_at, placed, with_task_at, no_task}
 use Rattle.firm_rules.specs.declared.parts.Task.{Task}
 use Rattle.firm_net.specs.Edits.{Span, span_of, nodes_of, AsOften, IsEdit}
-use Rattle.firm_graph.specs.Steps.{Holds}
+use Rattle.firm_graph.specs.inner.Steps.{Holds}
 use Rattle.firm_graph.specs.Parts.{MachineParts}
 use Rattle.firm_graph.specs.declared.parts.TaskParts.{TaskParts}
 use Rattle.firm_graph.specs.Graph.{Graph, Mirrors, flat_zip, task_spans, target_of, home_node, node_under, weight_under}
 use Rattle.firm_graph.specs.Network.{away}
 use Rattle.firm_graph.specs.Graph.{preferred_spans, graph_nodes, graph_spans, machine_nodes, job_nodes, task_nodes}
-use Rattle.firm_graph.proofs.NetEdits.{sum-map}
+use Rattle.firm_net.specs.Laws.{sum-map}
 use Rattle.firm_graph.proofs.Found.{ones, same_id-refl, node-there, Contains-front}
 use Rattle.firm_graph.proofs.Totals.{nodes-total, spans-total, sum-one}
 use Rattle.firm_graph.proofs.Drops.{holds-row, task-start, task_dropped, task_at, wide_of, stay_of, wait_of, is_node}
@@ -30,13 +29,6 @@ pub length-updated : {X : Type 0} (xs : List X) (place : ℕ) (f : X → X) → 
 length-updated [] place f = refl
 length-updated (x ∷ xs) zero f = refl
 length-updated (x ∷ xs) (suc place) f = omega (arith, length-updated xs place f)
-
-All-updated : {X : Type 0} (P : X → Type 0) (xs : List X) (i : ℕ) (f : X → X) → All P xs → ((x : X) → P x → P (f x))
-    → All P (update_at xs i f)
-All-updated P [] i f h step = h
-All-updated P (x ∷ xs) zero f h step = All-cons P (f x) xs (step x (All-head P x xs h)) (All-tail P x xs h)
-All-updated P (x ∷ xs) (suc i) f h step =
-    All-cons P x (update_at xs i f) (All-head P x xs h) (All-updated P xs i f (All-tail P x xs h) step)
 
 flat_sum-update : {A B C : Type 0} (w : C → ℕ) (f : A → B → List C) (h : A → A) (xs : List A) (ys : List B) (i : ℕ)
     (d : A) (e : B) → i < length xs → length ys ≡ length xs
@@ -144,14 +136,6 @@ holds-led base old new ns s ss head h edits none =
     let P : Span → Type 0 = λ (t : Span). IsEdit old new [] [] (t ∷ [])
     (record { arc = s.arc; tail = t.tail; head = head; cap = t.cap; cost = t.cost } ∷ []) in
     holds-changed base old new ns s (led head s) ss h (subst P r.is (edits r.row r.there)) none
-
-pub holds-tail : (base now : Net) (ns : List NodeId) (s : Span) (ss : List Span) (n : NodeId)
-    → Holds base now ns (s ∷ ss) → s.tail ≢ n → HasOtherTail (row_at now s.arc) n
-holds-tail base now ns s ss n h other =
-    let r = holds-row base now ns s ss h in
-    let P : Option Row → Type 0 = λ (o : Option Row). HasOtherTail o n in
-    let e : r.row.tail ≡ s.tail = ap (λ (t : Span). t.tail) r.is in
-    subst P (sym r.there) (λ f. other (sym e ∙ f))
 
 -- a task's home is there, and is not the task's own node
 under-listed : (names : List (List ℕ)) (nodes : List NodeId) (other : NodeId) (name : List ℕ)
@@ -442,32 +426,3 @@ step-5 g place parts n4 n5 home node waited leaving far cap weight is below at h
       four-sum w s3 s2 s1 [] rest,
       four-sum w t1 t2 t3 ts rest,
     ))
-
-pub placed-said : (g : Graph) (net : Net) (place : ℕ) (home : Option (List ℕ)) (waited : ℕ) (rows : TenantRows)
-    → rows ≡ with_task_at g.rows place home waited
-    → Mirrors (task_placed g net place home waited)
-    → Mirrors (record {
-      rows = rows;
-      net = net;
-      hub = g.hub;
-      sink = g.sink;
-      machines = g.machines;
-      jobs = g.jobs;
-      tasks
-          = g.tasks;
-      asked = g.asked;
-    })
-placed-said g net place home waited rows e is =
-    let P : TenantRows → Type 0 = λ (r : TenantRows). Mirrors
-    (record {
-      rows = r;
-      net = net;
-      hub = g.hub;
-      sink = g.sink;
-      machines = g.machines;
-      jobs = g.jobs;
-      tasks =
-          g.tasks;
-      asked = g.asked;
-    }) in
-    subst P (sym e) is

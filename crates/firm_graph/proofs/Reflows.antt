@@ -5,16 +5,14 @@ use Rattle.std.specs.List.{sum_by}
 use Rattle.std.proofs.lemmas.List.{length-map}
 use Rattle.firm_arena.specs.Arena.{held_at, capacity_of}
 use Rattle.firm_net.specs.Row.{Row}
-use Rattle.firm_net.specs.Net.{Net, IsNet, row_at, added_of, with_row, without_flow, slot_changed, CanPush, with_unit}
+use Rattle.firm_net.specs.Net.{Net, IsNet, row_at, added_of, with_row, without_flow, slot_changed}
 use Rattle.firm_net.specs.Net.{with_numbers}
-use Rattle.firm_net.specs.declared.row.Way.{Way}
-use Rattle.firm_net.specs.declared.row.Way.TheVariants.{Forward, Backward}
 use Rattle.firm_net.specs.declared.row.ArcId.{ArcId}
 use Rattle.firm_arena.specs.Changes.{find-held}
 use Rattle.firm_net.specs.Edits.{Span, nodes_of, spans_of}
 use Rattle.firm_graph.specs.Graph.{Graph, Mirrors, IsGraph}
 use Rattle.firm_arena.specs.Sums.{sum-changed_all}
-use Rattle.firm_graph.proofs.NetEdits.{spans-sum, span_weight}
+use Rattle.firm_net.specs.Laws.{spans-sum, span_weight}
 
 abbrev pub cleared : Row → Row
 cleared old = record old { low = 0; flow = 0 }
@@ -84,23 +82,6 @@ clear-same old new is =
     ap without_flow is
     ∙ ap (λ (h : List (Option (ℕ × Row))). let n : Net = record
     { nodes = old.nodes; arcs = record { held = h; counter = old.arcs.counter } } in n) (cleared-twice old.arcs.held)
-
-some-row : (o : Option Row) (P : Option Row → Type 0) → (P None → ⊥) → P o → (row : Row) × (o ≡ Some row)
-some-row None P none p = absurd (none p)
-some-row (Some row) P none p = (row, refl)
-
-unit-cleared : (way : Way) (row : Row) → cleared (with_unit way row) ≡ cleared row
-unit-cleared Forward row = refl
-unit-cleared Backward row = refl
-
-pub push-same : (old new : Net) (a : ArcId) (way : Way) (pushed : Bool)
-    → ((pushed ≡ true → CanPush way (row_at old a)) × (CanPush way (row_at old a) → pushed ≡ true))
-    → (pushed ≡ true → new ≡ with_row old a (with_unit way)) → (pushed ≡ false → new ≡ old)
-    → without_flow new ≡ without_flow old
-push-same old new a way true allowed pushes stays =
-    let r = some-row (row_at old a) (CanPush way) (λ h. h) (allowed.0 refl) in
-    ap without_flow (pushes refl) ∙ row-reflowed old a r.0 (with_unit way) r.1 (unit-cleared way r.0)
-push-same old new a way false allowed pushes stays = ap without_flow (stays refl)
 
 pub set-same : (old new : Net) (a : ArcId) (row : Row) (low cap cost flow : ℕ) (done : Bool) → Some row ≡ row_at old a
     → cap ≡ row.cap → cost ≡ row.cost

@@ -10,7 +10,7 @@ use Rattle.firm_graph.specs.Parts.{MachineParts}
 use Rattle.firm_graph.specs.declared.parts.JobParts.{JobParts}
 use Rattle.firm_graph.specs.declared.parts.TaskParts.{TaskParts}
 use Rattle.firm_graph.specs.Graph.{Graph, Mirrors, graph_nodes, graph_spans}
-use Rattle.firm_graph.specs.Steps.{Holds}
+use Rattle.firm_graph.specs.inner.Steps.{Holds}
 use Rattle.firm_graph.proofs.Totals.{sum-one}
 
 -- rows and parts of the same value make the same graph

@@ -6,7 +6,7 @@ use Rattle.std.specs.List.{sum_by, All, Contains, position_or_len, list_any}
 use Rattle.std.specs.List.Sorted.{IsPermutation}
 use Rattle.std.specs.Option.{option_map}
 use Rattle.std.proofs.lemmas.Bool.{cases_Bool, cases_eq, cases_lt, eqb-true, eq-eqb}
-use Rattle.std.proofs.lemmas.List.{map-append, get_or-map, get_or_default}
+use Rattle.std.proofs.lemmas.List.{map-append, get_or-map, get_or_default, length-map}
 use Rattle.std.proofs.lemmas.List.Sums.{position_or_len_is, sum_by-append, sum_by-cons, sum_by_push}
 use Rattle.firm_arena.specs.Arena.{entries_from}
 use Rattle.firm_arena.specs.declared.Id.{Id}
@@ -39,9 +39,9 @@ use Rattle.firm_graph.specs.Network.{network, nodes, task_nodes as case_tasks, I
 use Rattle.firm_graph.specs.View.{View, Shows, IsAtRest, lows, flows, low_of_row, flow_of_row, named, spot_of}
 use Rattle.firm_graph.specs.Graph.{Graph, IsGraph, Mirrors, graph_nodes, machine_nodes, job_nodes, task_nodes}
 use Rattle.firm_graph.specs.Ids.{node_id, arc_id, view_of}
-use Rattle.firm_graph.specs.Steps.{no_task}
-use Rattle.firm_graph.proofs.Entries.{sum-slot}
-use Rattle.firm_graph.proofs.NetEdits.{sum-map, nodes-sum, spans-sum}
+use Rattle.firm_graph.specs.inner.Steps.{no_task}
+use Rattle.firm_arena.specs.Sums.{sum-slot}
+use Rattle.firm_net.specs.Laws.{sum-map, contains-mapped, nodes-sum, spans-sum}
 use Rattle.firm_graph.proofs.Found.{ones, ones-true, same_id, same_id-refl, same_id-true, node-there, node-weighs}
 use Rattle.firm_graph.proofs.Found.{Contains-skip, Contains-front}
 use Rattle.firm_graph.proofs.Drops.{once-from, preferred-paired}
@@ -50,10 +50,6 @@ use Rattle.firm_graph.proofs.Bridge.{from, gather_from, fill, rows_network, netw
 use Rattle.firm_graph.proofs.Networks.{shown, graph-shown}
 use Rattle.firm_graph.proofs.Permutes.{is-network}
 use Rattle.firm_graph.proofs.Reflows.{cleared}
-
-length-map : {A B : Type 0} (f : A → B) (xs : List A) → length (map f xs) ≡ length xs
-length-map f [] = refl
-length-map f (x ∷ xs) = omega (arith, length-map f xs)
 
 -- gathered lists
 gather-map : {A B : Type 0} (g : A → B) (f : ℕ → List A) (n : ℕ) → map g (gather f n) ≡ gather (λ i. map g (f i)) n
@@ -332,16 +328,16 @@ module _ (g : Graph) (is : IsGraph g) where
   -- the nodes of the network are the graph's, one by one
   abbrev machine_count : length v.case.slots ≡ length (machine_nodes g)
   machine_count =
-      length-map (λ (m : Machine). m.slots) g.rows.machines ∙ sym is.mirrors.machines ∙ sym
-      (length-map (λ (p : MachineParts). p.node) g.machines)
+      length-map g.rows.machines (λ (m : Machine). m.slots) ∙ sym is.mirrors.machines ∙ sym
+      (length-map g.machines (λ (p : MachineParts). p.node))
 
   abbrev job_count : v.case.jobs ≡ length (job_nodes g)
-  job_count = sym is.mirrors.jobs ∙ sym (length-map (λ (p : JobParts). p.node) g.jobs)
+  job_count = sym is.mirrors.jobs ∙ sym (length-map g.jobs (λ (p : JobParts). p.node))
 
   abbrev task_count : length v.case.tasks ≡ length (task_nodes g)
   task_count =
-      length-map (demand_of g.rows) g.rows.tasks
-      ∙ sym is.mirrors.tasks ∙ sym (length-map (λ (p : TaskParts). p.node) g.tasks)
+      length-map g.rows.tasks (demand_of g.rows)
+      ∙ sym is.mirrors.tasks ∙ sym (length-map g.tasks (λ (p : TaskParts). p.node))
 
   pub task-count : length v.case.tasks ≡ length (task_nodes g)
   task-count = task_count
@@ -369,14 +365,11 @@ module _ (g : Graph) (is : IsGraph g) where
       ∙ ap₂ (λ (a b : List NodeId). a ++ b) machines
       (map-append (node_id g) js (case_tasks v.case) ∙ ap₂ (λ (a b : List NodeId). a ++ b) jobs sources-named))
 
-  mapped-there : {A B : Type 0} (f : A → B) (xs : List A) (x : A) → Contains xs x → Contains (map f xs) (f x)
-  mapped-there f xs x c = (c.0, omega (arith, c.1, length-map f xs), get_or-map f xs c.0 x (f x) c.1 ∙ ap f c.2)
-
   pub node-of : (n : Node) → IsNodeOf v.case n → IsNode g.net (node_id g n)
   node-of n h =
       node-there g.net (graph_nodes g) (node_id g n) is.mirrors.nodes
       (subst (λ (l : List NodeId). Contains l (node_id g n)) nodes-named
-      (mapped-there (node_id g) (nodes v.case) n (node-listed v.case n h)))
+      (contains-mapped (node_id g) (nodes v.case) n (node-listed v.case n h)))
 
   -- a node of the net is one of the network's
   pub only-these : (id : NodeId) → IsNode g.net id → (n : Node) × IsNodeOf v.case n × (node_id g n ≡ id)
@@ -483,7 +476,7 @@ module _ (g : Graph) (is : IsGraph g) where
   read-demand : (i : ℕ) → i < length v.case.tasks → (i < length g.rows.tasks) ×
       (demand v.case i ≡ demand_of g.rows (get_or g.rows.tasks i no_task))
   read-demand i below =
-      let here : i < length g.rows.tasks = omega (arith, below, length-map (demand_of g.rows) g.rows.tasks) in (
+      let here : i < length g.rows.tasks = omega (arith, below, length-map g.rows.tasks (demand_of g.rows)) in (
         here,
         get_or-map (demand_of g.rows) g.rows.tasks i no_task
             (record { home = None; preferred = []; delay = 0; job = 0 }) here,
@@ -498,7 +491,7 @@ module _ (g : Graph) (is : IsGraph g) where
         arith,
         job,
         among-below (job_names g.rows) (get_or g.rows.tasks i no_task).job (is.sound.jobs_there i no_task r.0),
-        length-map (λ (j : Job). j.name) g.rows.jobs,
+        length-map g.rows.jobs (λ (j : Job). j.name),
       )
 
   home-below : (home : Option (List ℕ)) → IfSome home (λ name. is_among (machine_names g.rows) name ≡ true) → IsNodeOf
@@ -508,8 +501,8 @@ module _ (g : Graph) (is : IsGraph g) where
       omega (
         arith,
         among-below (machine_names g.rows) name h,
-        length-map (λ (m : Machine). m.name) g.rows.machines,
-        length-map (λ (m : Machine). m.slots) g.rows.machines,
+        length-map g.rows.machines (λ (m : Machine). m.name),
+        length-map g.rows.machines (λ (m : Machine). m.slots),
       )
 
   home-there : (i : ℕ) → i < length v.case.tasks → IsNodeOf v.case (stay_head (demand v.case i).home)
@@ -526,8 +519,8 @@ module _ (g : Graph) (is : IsGraph g) where
         arith,
         get_or-map (place_of g.rows) task.preferred k [] 0 below,
         among-below (machine_names g.rows) (get_or task.preferred k []) (there k [] below),
-        length-map (λ (m : Machine). m.name) g.rows.machines,
-        length-map (λ (m : Machine). m.slots) g.rows.machines,
+        length-map g.rows.machines (λ (m : Machine). m.name),
+        length-map g.rows.machines (λ (m : Machine). m.slots),
       )
 
   preferred-there : (i k : ℕ) → i < length v.case.tasks → k < length (demand v.case i).preferred
@@ -538,7 +531,7 @@ module _ (g : Graph) (is : IsGraph g) where
       let names : (demand v.case i).preferred ≡ map (place_of g.rows) task.preferred = ap (λ (d : Demand). d.preferred)
       r.1 in
       let below : k < length task.preferred = omega
-      (arith, below_k, ap (λ (l : List ℕ). length l) names, length-map (place_of g.rows) task.preferred) in
+      (arith, below_k, ap (λ (l : List ℕ). length l) names, length-map task.preferred (place_of g.rows)) in
       subst (λ (l : List ℕ). get_or l k 0 < length v.case.slots) (sym names)
       (preferred-below task k below (is.sound.preferred_there i no_task r.0))
 
@@ -546,7 +539,7 @@ module _ (g : Graph) (is : IsGraph g) where
   case-sound = record {
     jobs_in = job-below;
     limit_fits = omega
-        (arith, is.sound.fits.nodes, length-map (demand_of g.rows) g.rows.tasks);
+        (arith, is.sound.fits.nodes, length-map g.rows.tasks (demand_of g.rows));
   }
 
   pub graph-shows : Shows (view_of g)
@@ -574,7 +567,7 @@ preferences-counted g place parts is below at =
     let brought : demand (view_of g).case place ≡ demand_of g.rows task = get_or-map (demand_of g.rows) g.rows.tasks
     place no_task none below in
     preferred-paired g place parts is (omega (arith, below, is.tasks)) at
-    ∙ sym (length-map (place_of g.rows) task.preferred)
+    ∙ sym (length-map task.preferred (place_of g.rows))
     ∙ ap (λ (d : Demand). length d.preferred) (sym brought)
 
 -- an arc of a net whose flow was cleared has neither lower bound nor flow

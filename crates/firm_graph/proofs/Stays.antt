@@ -14,7 +14,7 @@ use Rattle.firm_graph.specs.declared.parts.TaskParts.{TaskParts}
 use Rattle.firm_graph.specs.Graph.{Graph, Mirrors, graph_nodes, graph_spans, home_node, machine_nodes, weight_under}
 use Rattle.firm_graph.specs.Graph.{preferred_spans, target_of}
 use Rattle.firm_graph.specs.Network.{away}
-use Rattle.firm_graph.specs.Steps.{Holds}
+use Rattle.firm_graph.specs.inner.Steps.{Holds}
 use Rattle.firm_graph.proofs.Drops.{task-start, task_dropped, task_at, wide_of, stay_of, wait_of, preferred_of}
 use Rattle.firm_graph.proofs.Drops.{four-sum}
 use Rattle.firm_graph.proofs.Drops.{holds-row}

@@ -1,7 +1,8 @@
 -- What the nodes and arcs of a graph weigh, part by part.
-use Rattle.std.proofs.Common.{◌≡◌, ℕ, ◌+◌, ◌*◌, cond, is_some, List, [], ◌∷◌, ◌++◌, map, length, arith, refl, sym, ap}
+use Rattle.std.proofs.Common.{◌≡◌, ℕ, ◌+◌, ◌*◌, cond, is_some, List, [], ◌∷◌, ◌++◌, length, arith, refl, sym, ap}
 use Rattle.std.proofs.Common.{ap₂, ◌∙◌}
 use Rattle.std.proofs.Common.{length-append}
+use Rattle.std.proofs.lemmas.List.{length-map}
 use Rattle.std.specs.List.{sum_by, All, AllZip}
 use Rattle.std.specs.Prelude.{slice_index_or}
 use Rattle.std.proofs.lemmas.List.Sums.{sum_by-cons, sum_by-append}
@@ -23,7 +24,7 @@ use Rattle.firm_graph.specs.Graph.{Graph, Mirrors, flat_zip, machine_spans, slot
 use Rattle.firm_graph.specs.Graph.{preferred_spans, node_under, target_of, graph_nodes, graph_spans, machine_nodes}
 use Rattle.firm_graph.specs.Graph.{job_nodes, task_nodes}
 use Rattle.firm_arena.specs.Laws.{length-entries_from}
-use Rattle.firm_graph.proofs.NetEdits.{sum-map}
+use Rattle.firm_net.specs.Laws.{sum-map}
 
 module _ {A B C : Type 0} where
   -- one pair more at the end of two lists of one length
@@ -120,10 +121,6 @@ sum-ones {X} (x ∷ xs) =
     let w : X → ℕ = λ (_ : X). 1 in
     omega (arith, sum_by-cons w x xs, sum-ones xs)
 
-length-map : {A B : Type 0} (f : A → B) (xs : List A) → length (map f xs) ≡ length xs
-length-map f [] = refl
-length-map f (x ∷ xs) = omega (arith, length-map f xs)
-
 pub often-length : {X : Type 0} (xs ys : List X) → AsOften xs ys → length xs ≡ length ys
 often-length {X} xs ys often =
     let w : X → ℕ = λ (_ : X). 1 in
@@ -191,13 +188,13 @@ nodes-counted g is =
     omega (
       arith,
       often-length (nodes_of g.net) (graph_nodes g) is.nodes,
-      length-map (λ e. let n : NodeId = record { id = e.0 } in n) (entries g.net.nodes),
+      length-map (entries g.net.nodes) (λ e. let n : NodeId = record { id = e.0 } in n),
       length-entries_from 0 g.net.nodes.held,
       length-append (g.hub ∷ g.sink ∷ machine_nodes g) (job_nodes g ++ task_nodes g),
       length-append (job_nodes g) (task_nodes g),
-      length-map (λ (p : MachineParts). p.node) g.machines,
-      length-map (λ (p : JobParts). p.node) g.jobs,
-      length-map (λ (p : TaskParts). p.node) g.tasks,
+      length-map g.machines (λ (p : MachineParts). p.node),
+      length-map g.jobs (λ (p : JobParts). p.node),
+      length-map g.tasks (λ (p : TaskParts). p.node),
       is.machines,
       is.jobs,
       is.tasks,
@@ -212,12 +209,12 @@ arcs-counted g is =
     omega (
       arith,
       often-length (spans_of g.net) (graph_spans g) is.spans,
-      length-map (λ e. span_of (record { id = e.0 }) e.1) (entries g.net.arcs),
+      length-map (entries g.net.arcs) (λ e. span_of (record { id = e.0 }) e.1),
       length-entries_from 0 g.net.arcs.held,
       length-append machines (jobs ++ tasks),
       length-append jobs tasks,
       machines-count g.hub g.sink g.rows.limits.spread g.rows.machines g.machines is.slots,
       jobs-count g.sink g.rows.limits.nodes g.rows.jobs g.jobs is.jobs,
       tasks-count g.hub g.rows.limits.churn g.rows.limits.remote (target_of g) g.rows.tasks g.tasks is.preferred
-          (λ t. length-map (node_under (machine_names g.rows) (machine_nodes g) g.hub) t.preferred),
+          (λ t. length-map t.preferred (node_under (machine_names g.rows) (machine_nodes g) g.hub)),
     )

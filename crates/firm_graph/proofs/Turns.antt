@@ -3,7 +3,7 @@ use Rattle.std.proofs.Common.{◌≡◌, ◌≢◌, ℕ, zero, suc, ◌+◌, ◌
 use Rattle.std.proofs.Common.{length, get_or, bytes_eq, arith, refl, sym, ap, ◌∙◌, subst}
 use Rattle.std.specs.List.{AllByRecursion, IsDistinct}
 use Rattle.std.proofs.lemmas.Bool.{cond-true, cond-false}
-use Rattle.std.proofs.lemmas.List.{get_or-map, length-map, get_or_default}
+use Rattle.std.proofs.lemmas.List.{get_or-map, length-map}
 use Rattle.std.proofs.lemmas.Map.Keys.{IsDistinct-head, IsDistinct-tail}
 use Rattle.std.proofs.lemmas.Slice.Eq.{bytes_eq-Decides}
 use Rattle.firm_net.specs.Row.{Row}
@@ -20,8 +20,8 @@ use Rattle.firm_graph.specs.Parts.{MachineParts}
 use Rattle.firm_graph.specs.declared.parts.TaskParts.{TaskParts}
 use Rattle.firm_graph.specs.declared.parts.Stand.{Stand}
 use Rattle.firm_graph.specs.Graph.{Graph, Mirrors, graph_nodes, home_node, node_under, machine_nodes}
-use Rattle.firm_graph.specs.Steps.{IsPlacing, Stands, Holds, moved, with_task_at, thrown_out, thrown_out_first}
-use Rattle.firm_graph.specs.Steps.{forgetting_rows, settled_first, no_task, task_at}
+use Rattle.firm_graph.specs.inner.Steps.{IsPlacing, Stands, Holds, moved, with_task_at, thrown_out, thrown_out_first}
+use Rattle.firm_graph.specs.inner.Steps.{forgetting_rows, settled_first, no_task, task_at}
 use Rattle.firm_graph.proofs.Machines.{bytes_eq-swap}
 use Rattle.firm_graph.proofs.Drops.{holds-row}
 use Rattle.firm_graph.proofs.Places.{home-there, home-other}
@@ -43,13 +43,6 @@ leads-home g place parts home net head s ss is below at head_is tail_is h row th
       subst (λ (n : NodeId). IsNode net n) (sym head_is) (home-there g net home h.nodes),
       λ e. home-other g place parts home is below at (sym tail ∙ e ∙ head_is),
     )
-
--- what is read of a list that equals another
-pub parts-at : {X : Type 0} (xs ys : List X) (place : ℕ) (d : X) → xs ≡ ys → place < length ys
-    → get_or ys place d ≡ get_or xs place (get_or ys place d)
-parts-at {X} xs ys place d e below =
-    get_or_default ys place d (get_or ys place d) below ∙ ap (λ (l : List X). get_or l place (get_or ys place d))
-    (sym e)
 
 -- the step of a loop that throws a task out
 pub evict-next : (g : Graph) (rows : TenantRows) (name : List ℕ) (place : ℕ) (parts : TaskParts) (stand : Stand)

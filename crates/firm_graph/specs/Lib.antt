@@ -1,8 +1,6 @@
 pub mod Parts
-pub mod Order
 pub mod Graph
 pub mod Network
 pub mod View
 pub mod Ids
-pub mod Steps
-pub mod Inside
+pub mod inner

@@ -12,7 +12,7 @@ ghost use Rattle.firm_rules.specs.Book.{machine_names};
 ghost use Rattle.firm_rules.specs.Names.{is_among};
 ghost use Rattle.firm_graph.specs.Graph.{slot_spans, preferred_spans, node_under};
 ghost use Rattle.firm_net.specs.Edits.{Span, IsEdit, span_of};
-ghost use Rattle.firm_graph.specs.Steps.{Holds};
+ghost use Rattle.firm_graph.specs.inner.Steps.{Holds};
 
 use crate::parts::MachineIds;
 use crate::preferred::PreferredArcs;

@@ -1,5 +1,6 @@
 //! The network of a tenant.
-ghost use Rattle.std.specs.Prelude.{◌≡◌, ◌+◌, ◌^◌, ◌<◌, ◌≤◌, ◌↔◌, false, true, [], IfOk, OnOk, OnErr, IsTrue, ℕ};
+ghost use Rattle.std.specs.Prelude.{◌≡◌, ◌≢◌, ◌+◌, ◌^◌, ◌<◌, ◌≤◌, ◌↔◌, false, true, [], IfOk, OnOk, OnErr, IsTrue, ℕ};
+ghost use Rattle.std.specs.Prelude.{IfSome, IfNone};
 ghost use Rattle.std.specs.Prelude.{length, map, pos, slice_index_or};
 ghost use Rattle.std.specs.List.{All};
 ghost use Rattle.firm_net.specs.Net.{CountsAre, arc_count, without_flow, CanPush, SameOtherRows, row_at, with_row};
@@ -20,7 +21,7 @@ ghost use Rattle.firm_graph.specs.Graph.{IsGraph, LackNodes, LackArcs};
 ghost use Rattle.firm_graph.specs.Ids.{view_of};
 ghost use Rattle.firm_graph.specs.Network.{task_nodes, demand};
 ghost use Rattle.firm_graph.specs.View.{Shows, IsAtRest, IsSameCase, CanHold, with_low, spot_of};
-ghost use Rattle.firm_graph.specs.declared.network.Node.TheVariants.{Sink, Hub};
+ghost use Rattle.firm_graph.specs.declared.network.Node.TheVariants.{Sink, Hub, Machine};
 ghost use Rattle.firm_graph.specs.declared.network.Key.TheVariants.{Through, Wide, Stay, Delay, Prefer};
 
 use crate::edits::{
@@ -30,7 +31,7 @@ use crate::edits::{
 use crate::growth::{NewTask, grow_jobs, grow_machines, grow_tasks};
 use crate::moves::{Heads, evict_tasks, forget_machine, settle_tasks};
 use crate::order::SearchOrder;
-use crate::parts::{GraphRefusal, JobParts, MachineIds, TaskArcs, TaskParts};
+use crate::parts::{GraphRefusal, JobParts, MachineIds, TaskArcs, TaskParts, find_machine};
 use firm_flow::in_any_order;
 use firm_net::{ArcId, Net, NodeId, Way};
 use firm_paths::{Prices, Scratch};
@@ -58,7 +59,7 @@ impl Model for Graph {
 
     ghost Value = { Network };
 
-    ghost use Rattle.firm_graph.specs.Inside.{graph_of, IsKept};
+    ghost use Rattle.firm_graph.specs.inner.Inside.{graph_of, IsKept};
 
     ghost view = { graph_of };
 
@@ -393,6 +394,19 @@ impl Graph {
         ensures graph { IsGraph self.now }
     {
         self.machines[place].through
+    }
+
+    /// The place of the machine with a node; `None` exactly where no machine has it. Behind `least` it looks at one
+    /// machine, and behind a change of rows it may look at all.
+    pub fn machine_of(&self, node: NodeId) -> Option<usize>
+        ensures some { IfSome result (λ j. (j < length self.now.rows.machines)
+            × ((view_of self.now).node (Machine j) ≡ node)) }
+        ensures none { IfNone result ((j : ℕ) → j < length self.now.rows.machines
+            → (view_of self.now).node (Machine j) ≢ node) }
+        ensures graph { IsGraph self.now }
+    {
+        let guess = self.order.start.number_of(&self.net, node);
+        find_machine(&self.machines, node, guess)
     }
 
     /// Removes a job that has no tasks.

@@ -2,6 +2,7 @@
 #![tactic(auto)]
 
 mod edits;
+mod fill;
 mod graph;
 mod growth;
 mod laws;

@@ -6,13 +6,13 @@ ghost use Rattle.firm_rules.specs.Book.{is_on, evicted};
 ghost use Rattle.firm_rules.specs.Placement.{IsPlace};
 ghost use Rattle.firm_rules.specs.Round.{rows_after};
 ghost use Rattle.firm_graph.specs.Graph.{Graph as GraphRow, Mirrors, weight_under};
-ghost use Rattle.firm_graph.specs.Steps.{IsPlacing, IsFitting, Stands, moved, refitted, with_task_at, task_at};
-ghost use Rattle.firm_graph.specs.Steps.{with_forgetting_at, forgetting_rows, thrown_out_first};
+ghost use Rattle.firm_graph.specs.inner.Steps.{IsPlacing, IsFitting, Stands, moved, refitted, with_task_at, task_at};
+ghost use Rattle.firm_graph.specs.inner.Steps.{with_forgetting_at, forgetting_rows, thrown_out_first};
 
 use crate::edits::{away_cost, lead, leads_to, rate, rate_preferred, unlink};
 use crate::parts::{MachineIds, Stand, TaskParts};
 use firm_net::{Net, NodeId};
-use firm_rules::{Choice, Name, Rows};
+use firm_rules::{Choice, MOST_WAITED, Name, Rows};
 
 /// Gives the arcs of the task at a place the ends, capacities and costs of one that stands so.
 pub(crate) fn place_task(net: &mut Net, rows: &Rows, parts: TaskParts, place: usize, stand: Stand)
@@ -213,10 +213,10 @@ fn waited_after(rows: &Rows, place: usize) -> u32
     let Some(task) = rows.task_at(place) else {
         unreachable!()
     };
-    if task.waited < 1_000_000 {
+    if task.waited < MOST_WAITED {
         task.waited + 1
     } else {
-        1_000_000
+        MOST_WAITED
     }
 }
 

@@ -1,4 +1,7 @@
 //! The nodes and arcs of a machine, of a job and of a task.
+ghost use Rattle.std.specs.Prelude.{◌≡◌, ◌≢◌, ◌<◌, ℕ, true, false, length, map, slice_index_or, IfSome, IfNone};
+ghost use Rattle.firm_net.specs.declared.row.NodeId.{NodeId as NodeIdRow};
+
 use crate::preferred::PreferredArcs;
 use firm_net::{ArcId, NodeId};
 use std::marker::Model;
@@ -63,4 +66,42 @@ impl Model for MachineIds {
     ghost Value = { MachineParts };
 
     ghost view = { λ m. record { node = m.node; through = m.through; slots = m.slots.items } };
+}
+
+/// The place of the machine with a node. It looks at the others only if the guess is wrong.
+pub(crate) fn find_machine(
+    machines: &[MachineIds],
+    node: NodeId,
+    guess: Option<usize>,
+) -> Option<usize>
+    ensures some { IfSome result (λ j. (j < length machines.now)
+        × ((other : NodeIdRow) → slice_index_or (map (λ parts. parts.node) machines.now) j other ≡ node)) }
+    ensures none { IfNone result ((j : ℕ) → j < length machines.now
+        → (other : NodeIdRow) → slice_index_or (map (λ parts. parts.node) machines.now) j other ≢ node) }
+{
+    if let Some(place) = guess {
+        if has_node(machines, place, node) {
+            return Some(place);
+        }
+    }
+    for place in 0..machines.len() {
+        if has_node(machines, place, node) {
+            return Some(place);
+        }
+    }
+    None
+}
+
+// Whether there is a machine at the place, and it has the node.
+fn has_node(machines: &[MachineIds], place: usize, node: NodeId) -> bool
+    ensures yes { result ≡ true → (place < length machines.now)
+        × ((other : NodeIdRow) → slice_index_or (map (λ parts. parts.node) machines.now) place other ≡ node) }
+    ensures no { result ≡ false → place < length machines.now
+        → (other : NodeIdRow) → slice_index_or (map (λ parts. parts.node) machines.now) place other ≢ node }
+{
+    if place < machines.len() {
+        let parts = &machines[place];
+        return parts.node == node;
+    }
+    false
 }

@@ -67,8 +67,21 @@ impl TaskCosts {
         }
     }
 
+    /// The plan that sends it to a machine without the hub: its own, or one that it prefers.
+    fn plan_to(&self, number: u32) -> Plan {
+        if self.own == Some(number) {
+            return Plan::Stay;
+        }
+        for place in 0..self.count {
+            if self.preferred.get(place as usize) == Some(&number) {
+                return Plan::Prefer(place);
+            }
+        }
+        Plan::Open
+    }
+
     /// What it costs to get to that machine.
-    fn cost_to_machine(&self, plan: Plan) -> u32 {
+    pub(crate) fn cost_to_machine(&self, plan: Plan) -> u32 {
         if plan == Plan::Stay { 0 } else { self.away }
     }
 }
@@ -143,7 +156,7 @@ pub(crate) enum Fit {
     /// The tasks at the hub do not fill all slots that must be filled.
     High,
     Right,
-    /// There are too few slots for the tasks at the hub.
+    /// There are too few slots for the tasks at the hub, by more than a few.
     Low,
 }
 
@@ -171,10 +184,11 @@ impl Tally {
         self.need.saturating_add(self.spare)
     }
 
-    fn fit(&self) -> Fit {
+    /// How the price fits, where this number of tasks at the hub may be left to searches.
+    fn fit(&self, few: u32) -> Fit {
         if self.need > self.sure.saturating_add(self.ties) {
             Fit::High
-        } else if self.sure > self.free().saturating_add(self.loose) {
+        } else if self.sure > self.free().saturating_add(self.loose).saturating_add(few) {
             Fit::Low
         } else {
             Fit::Right
@@ -252,7 +266,13 @@ impl<A: Allocator> Plans<A> {
         }
         self.place_left();
         self.tally = self.tally_hub();
-        self.tally.fit()
+        self.tally.fit(self.few())
+    }
+
+    /// How many tasks at the hub may be left without a slot: searches for a fiftieth of all take less time than the
+    /// passes of another price.
+    fn few(&self) -> u32 {
+        u32::try_from(self.count / 50).unwrap_or(0)
     }
 
     /// Puts each running task on its machine, and no other on any.
@@ -600,6 +620,153 @@ impl<A: Allocator> Plans<A> {
                 spare = spare.saturating_sub(more);
                 machine.through = must.saturating_sub(machine.load).saturating_add(more);
             }
+            machine.load = 0;
+        }
+    }
+}
+
+/// What the searches for open tasks read and change: a spot is a machine, by its number, or the hub, whose number is
+/// behind theirs.
+impl<A: Allocator> Plans<A> {
+    /// The number of the hub.
+    pub(crate) fn hub(&self) -> u32 {
+        u32::try_from(self.machine_count).unwrap_or(u32::MAX)
+    }
+
+    pub(crate) fn is_open(&self, rank: usize) -> bool {
+        self.tasks
+            .get(rank)
+            .is_some_and(|task| task.plan == Plan::Open)
+    }
+
+    pub(crate) fn has_open(&self) -> bool {
+        self.tasks
+            .iter()
+            .take(self.count)
+            .any(|task| task.plan == Plan::Open)
+    }
+
+    /// The spot to which a plan sends a task, and what the task then pays to the sink; `None` where it is to none.
+    pub(crate) fn way(&self, task: &TaskCosts, plan: Plan) -> Option<(u32, u32)> {
+        if plan == Plan::Wide {
+            return Some((self.hub(), task.wide.saturating_add(self.price)));
+        }
+        let offer = self.offer(task, plan)?;
+        Some((task.machine(plan)?, offer.cost))
+    }
+
+    /// The spot of the task of a rank.
+    pub(crate) fn spot_of(&self, rank: usize) -> Option<u32> {
+        let task = self.tasks.get(rank)?;
+        Some(self.way(task, task.plan)?.0)
+    }
+
+    /// What a task pays to the sink by its plan; by its cheapest way, where it has none.
+    pub(crate) fn pays(&self, task: &TaskCosts) -> u32 {
+        if task.plan == Plan::Wait {
+            return task.wait;
+        }
+        let Some((_, cost)) = self.way(task, task.plan) else {
+            return self.cheapest(task, Plan::Open).cost;
+        };
+        cost
+    }
+
+    pub(crate) fn price_at(&self, spot: u32) -> u32 {
+        if spot == self.hub() {
+            return self.price;
+        }
+        self.machines
+            .get(spot as usize)
+            .map_or(FULL_PRICE, |machine| machine.price)
+    }
+
+    /// Raises the price of a spot.
+    pub(crate) fn raise(&mut self, spot: u32, by: u32) {
+        if spot == self.hub() {
+            self.price = self.price.saturating_add(by);
+        } else if let Some(machine) = self.machines.get_mut(spot as usize) {
+            machine.price = machine.price.saturating_add(by);
+        }
+    }
+
+    /// By how much the next slot of a machine costs more than its price; `None` where it has no slot left.
+    pub(crate) fn slot_above(&self, spot: u32) -> Option<u32> {
+        if spot == self.hub() {
+            return None;
+        }
+        let machine = self.machines.get(spot as usize)?;
+        if machine.load >= machine.slots {
+            return None;
+        }
+        let cost = machine.load.saturating_mul(self.spread);
+        Some(cost.saturating_sub(machine.price))
+    }
+
+    /// Whether units come to a machine by the hub.
+    pub(crate) fn comes_through(&self, number: u32) -> bool {
+        self.machines
+            .get(number as usize)
+            .is_some_and(|machine| machine.through > 0)
+    }
+
+    /// Whether more units may come to a machine by the hub.
+    pub(crate) fn lets_through(&self, number: u32) -> bool {
+        self.machines
+            .get(number as usize)
+            .is_some_and(|machine| machine.through < machine.slots)
+    }
+
+    /// Sends the task of a rank to a spot, or lets it wait.
+    pub(crate) fn send(&mut self, rank: usize, to: Option<u32>) {
+        let hub = self.hub();
+        let Some(task) = self.tasks.get_mut(rank) else {
+            return;
+        };
+        task.plan = match to {
+            None => Plan::Wait,
+            Some(number) if number == hub => Plan::Wide,
+            Some(number) => task.plan_to(number),
+        };
+    }
+
+    /// Moves a unit from a machine to the hub, from the hub to a machine, or to the next slot of its machine.
+    pub(crate) fn move_unit(&mut self, from: Option<u32>, to: Option<u32>) {
+        let hub = self.hub();
+        let number = match to {
+            Some(number) if number != hub => Some(number),
+            _ => from,
+        };
+        let Some(number) = number else {
+            return;
+        };
+        let Some(machine) = self.machines.get_mut(number as usize) else {
+            return;
+        };
+        match to {
+            None => machine.load = machine.load.saturating_add(1),
+            Some(number) if number == hub => machine.through = machine.through.saturating_sub(1),
+            Some(_) => machine.through = machine.through.saturating_add(1),
+        }
+    }
+
+    /// Counts the tasks on each machine, those that come by the hub among them.
+    pub(crate) fn count_loads(&mut self) {
+        for machine in self.machines.iter_mut().take(self.machine_count) {
+            machine.load = machine.through;
+        }
+        for task in self.tasks.iter().take(self.count) {
+            if let Some(number) = task.machine(task.plan) {
+                if let Some(machine) = self.machines.get_mut(number as usize) {
+                    machine.load = machine.load.saturating_add(1);
+                }
+            }
+        }
+    }
+
+    /// Takes the counts of tasks off the machines: their slots are given out anew.
+    pub(crate) fn forget_loads(&mut self) {
+        for machine in self.machines.iter_mut().take(self.machine_count) {
             machine.load = 0;
         }
     }

@@ -20,7 +20,7 @@ impl Model for PreferredArcs {
 
     ghost Value = { List ArcRow };
 
-    ghost use Rattle.firm_graph.specs.Parts.{arcs_in, padded, AreFront};
+    ghost use Rattle.firm_graph.specs.inner.Tables.{arcs_in, padded, AreFront};
     ghost use Rattle.std.proofs.Common.{sym};
 
     ghost view = { λ p. arcs_in p.arcs };

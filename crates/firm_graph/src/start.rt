@@ -2,13 +2,15 @@
 //!
 //! A price is what a unit pays from a node to the sink. At a price of the hub, slots that cost less must be filled and
 //! those that cost as much may be; tasks for which a machine of their own or waiting is cheaper take that, and the
-//! others go by the hub. A price is sought at which these fill all slots that must be filled, and each finds one.
+//! others go by the hub. A price is sought at which these fill all slots that must be filled, and all but a few find
+//! one; searches over hub and machines send what is left.
 //! `firm_flow::solve_from` checks what comes of it, so that nothing here has to be right: where it isn't, the searches
 //! do the work.
 ghost use Rattle.std.specs.Prelude.{◌≡◌};
 ghost use Rattle.firm_paths.specs.NetArcs.{limits_of};
 ghost use Rattle.firm_flow.specs.NetFlow.{sources_of};
 
+use crate::fill::Fill;
 use crate::order::RankedTask;
 use crate::parts::{MachineIds, TaskParts};
 use crate::plan::{FULL_PRICE, Fit, MOST_PRICE, Plan, Plans, TaskCosts};
@@ -28,6 +30,7 @@ const MOST_TRIES: u32 = 24;
 #[derive(Drop)]
 pub(crate) struct Start<A: Allocator> {
     pub(crate) plans: Plans<A>,
+    fill: Fill<A>,
     /// The number of the machine whose node has this place.
     numbers: Vec<Option<u32>, A>,
     /// Where the tasks' wide arcs lead; `None` without tasks.
@@ -41,6 +44,7 @@ impl<A: Allocator + Copy> Start<A> {
     pub(crate) fn new(alloc: A, nodes: usize, spread: u32) -> Result<Start<A>, AllocError> {
         Ok(Start {
             plans: Plans::new(alloc, nodes, spread)?,
+            fill: Fill::new(alloc, nodes)?,
             numbers: vec![in alloc; None; nodes]?,
             hub: None,
             next: 0,
@@ -51,6 +55,7 @@ impl<A: Allocator + Copy> Start<A> {
 impl<A: Allocator> Start<A> {
     /// Makes room for this number of tasks. The error comes for lack of memory alone.
     pub(crate) fn reserve(&mut self, count: usize) -> Result<(), AllocError> {
+        self.fill.reserve(count)?;
         self.plans.reserve(count)
     }
 
@@ -89,6 +94,13 @@ impl<A: Allocator> Start<A> {
         }
     }
 
+    /// The number of the machine with a node, as it was when the machines were last read.
+    pub(crate) fn number_of(&self, net: &Net, node: NodeId) -> Option<usize> {
+        let place = net.place(node)?;
+        let number = (*self.numbers.get(place as usize)?)?;
+        Some(number as usize)
+    }
+
     /// The number of the machine at the head of an arc, and what the arc costs, where it can carry a unit.
     fn machine_at(&self, net: &Net, arc: ArcId) -> Option<(u32, u32)> {
         let row = net.arc(arc)?;
@@ -122,8 +134,8 @@ impl<A: Allocator> Start<A> {
         costs
     }
 
-    /// Finds a price at which the tasks at the hub fill all slots that must be filled and each finds one, or the
-    /// highest of those that were tried at which they fill these, and what each task does there.
+    /// Finds a price at which the tasks at the hub fill all slots that must be filled and all but a few find one, or
+    /// the highest of those that were tried at which they fill these, and what each task does there.
     pub(crate) fn find_price(&mut self, ranked: &[RankedTask]) {
         let mut range = Range::ALL;
         let mut probe = self.guess(ranked);
@@ -145,6 +157,11 @@ impl<A: Allocator> Start<A> {
         }
         self.plans.plan(range.low.unwrap_or(0));
         self.plans.share_out();
+    }
+
+    /// Sends the tasks that the plan leaves open.
+    pub(crate) fn send_open(&mut self) {
+        self.fill.send_open(&mut self.plans);
     }
 
     /// The next price to try, where one that is left to try says more than those at the ends.
@@ -192,7 +209,11 @@ impl<A: Allocator> Start<A> {
         self.next = 0;
         for at in 0..proposed.len() {
             let route = self.route(net, machines, tasks, at);
-            proposed[at].route = route.unwrap_or(Route::Search);
+            proposed[at] = Proposed {
+                source: proposed[at].source,
+                route: route.unwrap_or(Route::Search),
+                looks: self.fill.looks(at),
+            };
         }
     }
 

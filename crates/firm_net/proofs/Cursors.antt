@@ -4,7 +4,7 @@ use Rattle.std.proofs.Common.{Option, Some, None, option_map}
 use Rattle.std.proofs.lemmas.Option.{same_Some}
 use Rattle.firm_arena.specs.Arena.{Arena, find, capacity_of, id_of}
 use Rattle.firm_net.specs.Row.{Row}
-use Rattle.firm_net.specs.Net.{Lists, Net, IsNet, IsNode, IsListed, side_list, EachOnce, row_at, listed_in, arcs_on}
+use Rattle.firm_net.specs.Net.{Lists, Net, IsNet, IsNode, side_list, EachOnce, row_at, listed_in, arcs_on}
 use Rattle.firm_net.specs.Net.{end_of, first_of, next_in, next_on, behind, same_arc, Follows, rows_of, with_its_row}
 use Rattle.firm_net.specs.inner.Links.{neighbours_of, list_of, arc_at, walk_rows, nodes_shown, IsChain, Shows}
 use Rattle.firm_net.specs.declared.row.NodeId.{NodeId}
@@ -20,6 +20,7 @@ use Rattle.firm_net.specs.Laws.{same_arc_or_not, same_arc_self, same_arc_other}
 use Rattle.firm_net.proofs.Relists.{shown-node}
 use Rattle.firm_net.proofs.Frames.{walk_rows-chain}
 use Rattle.firm_net.proofs.Shown.{shown_net, row-shown, node-there, listing-short}
+use Rattle.firm_net.proofs.Listings.{listed-on}
 use Rattle.firm_net.proofs.Results.{node-missing, row-missing}
 
 -- the arc that a chain begins with
@@ -69,10 +70,6 @@ pub first-none : (side : Side) (links : Arena Link) (nodes : Arena Node) (old : 
     → shown_net links nodes ≡ old → find nodes n.id ≡ None → None ≡ first_of (arcs_on side old n)
 first-none side links nodes old n was none =
     sym (ap (λ (o : Option Lists). first_of (listed_in side o)) (node-missing links nodes old n was none))
-
-listed-on : (side : Side) (net : Net) → IsNet net → IsListed side net
-listed-on Out net is = is.outgoing
-listed-on In net is = is.incoming
 
 end-node : (side : Side) (net : Net) (a : ArcId) (row : Row) → IsNet net → row_at net a ≡ Some row
     → IsNode net (end_of side row)

@@ -1,39 +1,20 @@
 -- What each change of a net takes away from it and brings to it.
-use Rattle.std.proofs.Common.{◌≡◌, ℕ, ◌+◌, ◌<◌, Some, None, List, [], ◌∷◌, map, arith, refl, sym, ap, ◌∙◌, length-set}
+use Rattle.std.proofs.Common.{◌≡◌, ℕ, ◌+◌, ◌<◌, Some, None, [], ◌∷◌, arith, refl, sym, ap, ◌∙◌, length-set}
 use Rattle.std.specs.List.{sum_by}
 use Rattle.std.proofs.lemmas.List.Sums.{sum_by-cons}
 use Rattle.firm_arena.specs.Arena.{Arena, entries, held_at, capacity_of, changed_at}
-use Rattle.firm_arena.specs.declared.Id.{Id}
 use Rattle.firm_net.specs.Row.{Row}
 use Rattle.firm_net.specs.Net.{Net, Lists, IsNet, lists_at, row_at, without_arc, with_node, without_node, with_arc}
 use Rattle.firm_net.specs.Net.{without_row, with_row, with_head, without_flow, with_list}
-use Rattle.firm_net.specs.Edits.{Span, span_of, nodes_of, spans_of, IsEdit}
+use Rattle.firm_net.specs.Edits.{span_of, IsEdit}
 use Rattle.firm_net.specs.declared.links.Side.TheVariants.{Out, In}
 use Rattle.firm_net.specs.declared.row.NodeId.{NodeId}
 use Rattle.firm_net.specs.declared.row.ArcId.{ArcId}
 use Rattle.firm_arena.specs.Changes.{find-held, some-is, capacity_of-changed_at, capacity_of-changed_all}
 use Rattle.firm_arena.specs.Sums.{sum-put, sum-without, sum-changed, sum-changed_same, sum-changed_all}
+use Rattle.firm_net.specs.Laws.{node_weight, span_weight, nodes-sum, spans-sum, row-below}
 use Rattle.firm_net.proofs.Facts.{with_node-counts, without_node-fewer, with_arc-counts, without_row-fewer}
 use Rattle.firm_net.proofs.Facts.{with_row-counts, with_head-counts, without_flow-counts}
-
-sum-map : {A B : Type 0} (f : B → ℕ) (g : A → B) (xs : List A) → sum_by f (map g xs) ≡ sum_by (λ x. f (g x)) xs
-sum-map f g [] = refl
-sum-map f g (x ∷ xs) =
-    sum_by-cons f (g x) (map g xs) ∙ ap (λ (n : ℕ). f (g x) + n) (sum-map f g xs)
-    ∙ sym (sum_by-cons (λ y. f (g y)) x xs)
-
--- what an entry weighs as a node, and as an arc apart from its flow
-abbrev node_weight : (NodeId → ℕ) → Id × Lists → ℕ
-node_weight w e = w (record { id = e.0 })
-
-abbrev span_weight : (Span → ℕ) → Id × Row → ℕ
-span_weight w e = w (span_of (record { id = e.0 }) e.1)
-
-nodes-sum : (w : NodeId → ℕ) (net : Net) → sum_by w (nodes_of net) ≡ sum_by (node_weight w) (entries net.nodes)
-nodes-sum w net = sum-map w (λ (e : Id × Lists). let n : NodeId = record { id = e.0 } in n) (entries net.nodes)
-
-spans-sum : (w : Span → ℕ) (net : Net) → sum_by w (spans_of net) ≡ sum_by (span_weight w) (entries net.arcs)
-spans-sum w net = sum-map w (λ (e : Id × Row). span_of (record { id = e.0 }) e.1) (entries net.arcs)
 
 one : {X : Type 0} (w : X → ℕ) (x : X) → sum_by w (x ∷ []) ≡ w x
 one w x = sum_by-cons w x [] ∙ (let e : w x + 0 ≡ w x = omega arith in e)
@@ -51,11 +32,6 @@ relisted-sum w nodes f p g q =
 relisted-room : (nodes : Arena Lists) (f : Lists → Lists) (p : ℕ) (g : Lists → Lists) (q : ℕ)
     → capacity_of (relisted nodes f p g q) ≡ capacity_of nodes
 relisted-room nodes f p g q = capacity_of-changed_at (changed_at nodes p f) q g ∙ capacity_of-changed_at nodes p f
-
--- a row that is there lies below the room
-row-below : (net : Net) (a : ArcId) (row : Row) → IsNet net → row_at net a ≡ Some row
-    → a.id.place < capacity_of net.arcs
-row-below net a row is there = is.arc_map.places a.id (some-is (row_at net a) row there)
 
 -- a node is added
 pub with_node-edit : (net : Net) (n : NodeId) → n.id.place < capacity_of net.nodes → held_at net.nodes n.id.place ≡ None
@@ -160,7 +136,7 @@ without_row-edit net a row before there is =
         one w (span_of a row),
         spans-sum w net,
         spans-sum w (without_row net a row),
-        sum-without (span_weight w) net.arcs a.id.place a.id.stamp row (row-below net a row before there)
+        sum-without (span_weight w) net.arcs a.id.place a.id.stamp row (row-below net a row there)
             (find-held net.arcs a.id row there),
       );
       counted_nodes = omega (arith, fewer.0);
@@ -183,7 +159,7 @@ with_row-edit net a row f before there is =
         one w (span_of a (f row)),
         spans-sum w net,
         spans-sum w (with_row net a f),
-        sum-changed (span_weight w) net.arcs a.id.place a.id.stamp row f (row-below net a row before there)
+        sum-changed (span_weight w) net.arcs a.id.place a.id.stamp row f (row-below net a row there)
             (find-held net.arcs a.id row there),
       );
       counted_nodes = refl;
@@ -237,7 +213,7 @@ with_head-edit net a row n before there is =
         one w (span_of a (f row)),
         spans-sum w net,
         spans-sum w (with_head net a row n),
-        sum-changed (span_weight w) net.arcs a.id.place a.id.stamp row f (row-below net a row before there)
+        sum-changed (span_weight w) net.arcs a.id.place a.id.stamp row f (row-below net a row there)
             (find-held net.arcs a.id row there),
       );
       counted_nodes = omega (arith, counts.counted_nodes);

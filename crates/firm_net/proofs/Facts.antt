@@ -15,10 +15,11 @@ use Rattle.firm_arena.specs.Changes.{find-without_other, len_of-changed_at, len_
 use Rattle.firm_arena.specs.Changes.{len_of-with_put}
 use Rattle.firm_arena.specs.Changes.{found-after, found-before}
 
-node-id : (n m : NodeId) → m ≢ n → m.id ≢ n.id
+-- ids of different nodes, and of different arcs, differ
+pub node-id : (n m : NodeId) → m ≢ n → m.id ≢ n.id
 node-id n m other e = other (ap (λ (i : Id). let made : NodeId = record { id = i } in made) e)
 
-arc-id : (a b : ArcId) → b ≢ a → b.id ≢ a.id
+pub arc-id : (a b : ArcId) → b ≢ a → b.id ≢ a.id
 arc-id a b other e = other (ap (λ (i : Id). let made : ArcId = record { id = i } in made) e)
 
 pub with_node-others : (net : Net) (n : NodeId) → n.id.place < capacity_of net.nodes

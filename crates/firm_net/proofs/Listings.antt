@@ -1,21 +1,21 @@
 -- The lists of one side of a net's nodes, through the steps of a change: each arc stands in the list of its end.
-use Rattle.std.proofs.Common.{◌≡◌, ◌≢◌, ℕ, ◌<◌, ◌==◌, ◌⊎◌, inl, inr, true, false, cond, List, ◌∷◌, Contains, refl, sym}
-use Rattle.std.proofs.Common.{ap, ap₂, ◌∙◌, subst, Option, Some, None, option_map}
-use Rattle.std.proofs.lemmas.Bool.{cases_eq}
+use Rattle.std.proofs.Common.{◌≡◌, ◌≢◌, ℕ, ◌<◌, ◌==◌, inl, inr, true, false, cond, List, ◌∷◌, Contains, refl, sym}
+use Rattle.std.proofs.Common.{ap, ◌∙◌, subst, Option, Some, None, option_map}
 use Rattle.std.proofs.lemmas.Option.{none-some, same_Some}
 use Rattle.firm_arena.specs.Arena.{Arena, find, held_at, capacity_of, with_put, without, changed_at}
-use Rattle.firm_arena.specs.declared.Id.{Id}
 use Rattle.firm_net.specs.Row.{Row}
-use Rattle.firm_net.specs.Net.{Lists, Net, IsListed, listed_in, end_of, with_list, EachOnce, without_arc}
+use Rattle.firm_net.specs.Net.{Lists, Net, IsNet, IsListed, listed_in, end_of, with_list, EachOnce, without_arc}
 use Rattle.firm_net.specs.Net.{linked_at_front, unlinked}
 use Rattle.firm_net.specs.declared.row.NodeId.{NodeId}
 use Rattle.firm_net.specs.declared.row.ArcId.{ArcId}
 use Rattle.firm_net.specs.declared.links.Side.{Side}
+use Rattle.firm_net.specs.declared.links.Side.TheVariants.{Out, In}
 use Rattle.firm_arena.specs.Changes.{find-changed_at, find-nothing, find-changed_own, find-changed_other}
 use Rattle.firm_arena.specs.Changes.{find-without_own, find-without_other, find-put_other}
 use Rattle.firm_net.proofs.Lists.{contains-here, contains-there, contains-cases, contains-without, without-contains}
 use Rattle.firm_net.proofs.Lists.{once-without}
-use Rattle.firm_net.specs.Laws.{same_arc_or_not}
+use Rattle.firm_net.specs.Laws.{same_arc_or_not, same_node_or_not}
+use Rattle.firm_net.proofs.Facts.{node-id, arc-id}
 use Rattle.firm_net.proofs.Chains.{opposite, side_list-with_same, side_list-with_opposite}
 
 -- the list of a node on one side
@@ -44,6 +44,10 @@ listing-of side net listed =
       all = λ b row _ found. listed.all b row found;
     }
 
+pub listed-on : (side : Side) (net : Net) → IsNet net → IsListed side net
+listed-on Out net is = is.outgoing
+listed-on In net is = is.incoming
+
 pub listed-of : (side : Side) (net : Net) → Listing side net.nodes net.arcs nothing → IsListed side net
 listed-of side net listing =
     record {
@@ -51,25 +55,6 @@ listed-of side net listing =
       arcs = λ n b has. (listing.arcs_of n b has).1;
       all = λ b row found. listing.all b row (λ h. h) found;
     }
-
-cases_node : (n m : NodeId) → (n ≡ m) ⊎ (n ≢ m)
-cases_node n m =
-    elim (cases_eq n.id.place m.id.place) [
-      | inl places ↦
-          elim (cases_eq n.id.stamp m.id.stamp) [
-            | inl stamps ↦ inl (ap₂
-                (λ (p s : ℕ). let made : NodeId = record { id = record { place = p; stamp = s } } in made) places
-                stamps)
-            | inr other ↦ inr (λ e. other (ap (λ (c : NodeId). c.id.stamp) e))
-          ]
-      | inr other ↦ inr (λ e. other (ap (λ (c : NodeId). c.id.place) e))
-    ]
-
-id-other : (n m : NodeId) → m ≢ n → m.id ≢ n.id
-id-other n m other e = other (ap (λ (i : Id). let made : NodeId = record { id = i } in made) e)
-
-arc-other : (a b : ArcId) → b ≢ a → b.id ≢ a.id
-arc-other a b other e = other (ap (λ (i : Id). let made : ArcId = record { id = i } in made) e)
 
 -- the list that changed, and the lists of other nodes on its side
 listing-own : (side : Side) (nodes : Arena Lists) (n : NodeId) (lists : Lists) (f : List ArcId → List ArcId)
@@ -85,7 +70,7 @@ listing-other : (side : Side) (nodes : Arena Lists) (n m : NodeId) (lists : List
     → m ≢ n → listing side (changed_at nodes n.id.place (with_list side f)) m ≡ listing side nodes m
 listing-other side nodes n m lists f there other =
     ap (λ (o : Option Lists). listed_in side o)
-    (find-changed_other nodes n.id m.id lists (with_list side f) there (id-other n m other))
+    (find-changed_other nodes n.id m.id lists (with_list side f) there (node-id n m other))
 
 option-opposite : (side : Side) (f : List ArcId → List ArcId) (o : Option Lists)
     → listed_in (opposite side) (option_map (with_list side f) o) ≡ listed_in (opposite side) o
@@ -135,10 +120,10 @@ listing-put side nodes arcs a row below vacant stamp listed =
           let other : b ≢ a =
           λ e. none-some was.0
           (sym (find-nothing arcs a.id vacant) ∙ ap (λ (c : ArcId). find arcs c.id) (sym e) ∙ was.1) in
-          (other, (was.0, find-put_other arcs a.id b.id row below vacant stamp (arc-other a b other) ∙ was.1, was.2));
+          (other, (was.0, find-put_other arcs a.id b.id row below vacant stamp (arc-id a b other) ∙ was.1, was.2));
       all = λ b r other found.
           listed.all b r (λ h. h)
-          (sym (find-put_other arcs a.id b.id row below vacant stamp (arc-other a b other)) ∙ found);
+          (sym (find-put_other arcs a.id b.id row below vacant stamp (arc-id a b other)) ∙ found);
     }
 
 -- the arc that was in no list is listed first at its end
@@ -151,7 +136,7 @@ listing-listed side nodes arcs a row lists found there listed =
     let absent : Contains (listing side nodes n) a → ⊥ = λ h. (listed.arcs_of n a h).0 refl in
     record {
       once = λ m.
-          elim (cases_node m n) [
+          elim (same_node_or_not m n) [
             | inl same ↦
                 subst (λ (k : NodeId). EachOnce (listing side (changed_at nodes n.id.place (with_list side f)) k))
                 (sym same)
@@ -163,7 +148,7 @@ listing-listed side nodes arcs a row lists found there listed =
           ];
       arcs_of = λ m b has. (
         λ h. h,
-        elim (cases_node m n) [
+        elim (same_node_or_not m n) [
           | inl same ↦
               let here : Contains (a ∷ listing side nodes n) b =
               subst (λ (l : List ArcId). Contains l b) (listing-own side nodes n lists f there)
@@ -192,7 +177,7 @@ listing-listed side nodes arcs a row lists found there listed =
                 (contains-here a (listing side nodes n))))
             | inr other ↦
                 let was : Contains (listing side nodes (end_of side r)) b = listed.all b r other found_b in
-                elim (cases_node (end_of side r) n) [
+                elim (same_node_or_not (end_of side r) n) [
                   | inl same ↦
                       subst (λ (k : NodeId).
                       Contains (listing side (changed_at nodes n.id.place (with_list side f)) k) b)
@@ -215,7 +200,7 @@ listing-unlinked side nodes arcs a row lists found there listed =
     let n : NodeId = end_of side row in
     record {
       once = λ m.
-          elim (cases_node m n) [
+          elim (same_node_or_not m n) [
             | inl same ↦
                 subst (λ (k : NodeId).
                 EachOnce (listing side (changed_at nodes n.id.place (with_list side (without_arc a))) k))
@@ -227,7 +212,7 @@ listing-unlinked side nodes arcs a row lists found there listed =
                 (sym (listing-other side nodes n m lists (without_arc a) there other)) (listed.once m)
           ];
       arcs_of = λ m b has.
-          elim (cases_node m n) [
+          elim (same_node_or_not m n) [
             | inl same ↦
                 let here : (a ≢ b) × Contains (listing side nodes n) b =
                 contains-without a (listing side nodes n) b
@@ -251,7 +236,7 @@ listing-unlinked side nodes arcs a row lists found there listed =
           ];
       all = λ b r other found_b.
           let was : Contains (listing side nodes (end_of side r)) b = listed.all b r (λ h. h) found_b in
-          elim (cases_node (end_of side r) n) [
+          elim (same_node_or_not (end_of side r) n) [
             | inl same ↦
                 subst (λ (k : NodeId).
                 Contains (listing side (changed_at nodes n.id.place (with_list side (without_arc a))) k) b)
@@ -274,12 +259,12 @@ listing-taken side nodes arcs a row found listed =
       once = listed.once;
       arcs_of = λ n b has.
           let was = listed.arcs_of n b has in
-          (λ h. h, (was.1.0, find-without_other arcs a.id b.id row found (arc-other a b was.0) ∙ was.1.1, was.1.2));
+          (λ h. h, (was.1.0, find-without_other arcs a.id b.id row found (arc-id a b was.0) ∙ was.1.1, was.1.2));
       all = λ b r _ found_b.
           let other : b ≢ a =
           λ e. none-some r (sym (find-without_own arcs a.id)
           ∙ ap (λ (c : ArcId). find (without arcs a.id.place) c.id) (sym e) ∙ found_b) in
-          listed.all b r other (sym (find-without_other arcs a.id b.id row found (arc-other a b other)) ∙ found_b);
+          listed.all b r other (sym (find-without_other arcs a.id b.id row found (arc-id a b other)) ∙ found_b);
     }
 
 -- the row of the arc that is in no list changes
@@ -291,9 +276,9 @@ listing-rewritten side nodes arcs a row f found listed =
       once = listed.once;
       arcs_of = λ n b has.
           let was = listed.arcs_of n b has in
-          (was.0, (was.1.0, find-changed_other arcs a.id b.id row f found (arc-other a b was.0) ∙ was.1.1, was.1.2));
+          (was.0, (was.1.0, find-changed_other arcs a.id b.id row f found (arc-id a b was.0) ∙ was.1.1, was.1.2));
       all = λ b r other found_b.
-          listed.all b r other (sym (find-changed_other arcs a.id b.id row f found (arc-other a b other)) ∙ found_b);
+          listed.all b r other (sym (find-changed_other arcs a.id b.id row f found (arc-id a b other)) ∙ found_b);
     }
 
 -- rows change, their ends on this side stay

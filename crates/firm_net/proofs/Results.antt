@@ -9,7 +9,7 @@ use Rattle.firm_arena.specs.Arena.{Arena, find, held_at, capacity_of, len_of, wi
 use Rattle.firm_arena.specs.Arena.{changed_all, slot_changed}
 use Rattle.firm_arena.specs.declared.Id.{Id}
 use Rattle.firm_net.specs.Row.{Row, IsRow}
-use Rattle.firm_net.specs.Net.{Lists, Net, IsNet, IsNode, IsListed, end_of, lists_at, row_at, with_node, without_node}
+use Rattle.firm_net.specs.Net.{Lists, Net, IsNet, IsNode, end_of, lists_at, row_at, with_node, without_node}
 use Rattle.firm_net.specs.Net.{with_arc, without_row, with_row, with_head, without_flow, out_list, in_list}
 use Rattle.firm_net.specs.Net.{SameOtherRows, SameOtherNodes, CountsAre, node_count, arc_count, added_of, IsArc}
 use Rattle.firm_net.specs.Net.{arcs_on, IsResidual, CanPush, HasOtherTail, with_unit}
@@ -39,7 +39,7 @@ use Rattle.firm_net.proofs.Edits.{with_node-edit, without_node-edit, with_arc-ed
 use Rattle.firm_net.proofs.Edits.{with_flow-edit, with_head-edit, without_flow-edit}
 use Rattle.firm_net.proofs.Shown.{shown_net, IsShown, node-shown, row-shown, node-there, link-there, rows-links_past}
 use Rattle.firm_net.proofs.Shown.{list-count, count-fits, listing-short}
-use Rattle.firm_net.proofs.Listings.{listing}
+use Rattle.firm_net.proofs.Listings.{listing, listed-on}
 use Rattle.firm_net.proofs.Moves.{moved-add_node, moved-remove_node, moved-add_arc, moved-remove_arc}
 use Rattle.firm_arena.specs.Changes.{found-after, found-before}
 use Rattle.firm_net.proofs.Rewrites.{moved-row, moved-retarget, moved-clear}
@@ -51,10 +51,6 @@ nil-of (a ∷ rest) e = absurd (omega (arith, e))
 contains-some : (ids : List ArcId) (a : ArcId) → Contains ids a → 0 < length ids
 contains-some [] a (k, below, is) = absurd (omega (arith, below))
 contains-some (b ∷ rest) a has = omega arith
-
-pub listed-on : (side : Side) (net : Net) → IsNet net → IsListed side net
-listed-on Out net is = is.outgoing
-listed-on In net is = is.incoming
 
 -- a list without arcs, by its count
 list-none : (side : Side) (links : Arena Link) (nodes : Arena Node) (n : NodeId) (node : Node)

@@ -4,6 +4,7 @@ use Rattle.std.specs.Prelude.{Contains, Some, None, option_map}
 use Rattle.std.proofs.Common.{refl, sym, ap, ap₂, ◌∙◌, subst, arith, inl, inr, zero, suc, get_or, eq-eqb, ne_eqb}
 use Rattle.std.proofs.lemmas.Bool.{cases_eq, and_from, and_left, and_right}
 use Rattle.std.proofs.lemmas.List.Sums.{sum_by-cons}
+use Rattle.std.proofs.lemmas.List.{length-map}
 use Rattle.std.proofs.lemmas.Simd.{map-map}
 use Rattle.firm_arena.specs.Arena.{Arena, entries, held_at, capacity_of, IsVacant}
 use Rattle.firm_arena.specs.Laws.{entry_held, held_entry, held_of_found, found_of_held, found_within}
@@ -13,7 +14,8 @@ use Rattle.firm_arena.specs.Changes.{changed_all-changed_all}
 use Rattle.firm_arena.specs.Sums.{sum-put, sum-without, sum-changed, entries-changed_all}
 use Rattle.firm_arena.specs.declared.Id.{Id}
 use Rattle.firm_net.specs.Row.{Row}
-use Rattle.firm_net.specs.Net.{Net, IsNet, IsNode, IsArc, IsListed, lists_at, row_at, end_of, arcs_on, out_list}
+use Rattle.firm_net.specs.Edits.{Span, span_of, nodes_of, spans_of}
+use Rattle.firm_net.specs.Net.{Net, Lists, IsNet, IsNode, IsArc, IsListed, lists_at, row_at, end_of, arcs_on, out_list}
 use Rattle.firm_net.specs.Net.{in_list, arc_count, empty_net, with_arc, without_row, with_row, with_head, with_unit}
 use Rattle.firm_net.specs.Net.{without_flow, same_arc}
 use Rattle.firm_net.specs.declared.links.Side.{Side}
@@ -161,13 +163,13 @@ pub no_arcs_in : (net : Net) (n : NodeId) → IsNet net
 no_arcs_in net n is apart = no_arcs_on In net n is.incoming apart
 
 -- a sum over a list of images
-sum-mapped : {A B : Type 0} (w : B → ℕ) (g : A → B) (xs : List A) → sum_by w (map g xs) ≡ sum_by (λ x. w (g x)) xs
-sum-mapped w g [] = refl
-sum-mapped w g (x ∷ xs) =
-    sum_by-cons w (g x) (map g xs) ∙ ap (λ (n : ℕ). w (g x) + n) (sum-mapped w g xs)
+pub sum-map : {A B : Type 0} (w : B → ℕ) (g : A → B) (xs : List A) → sum_by w (map g xs) ≡ sum_by (λ x. w (g x)) xs
+sum-map w g [] = refl
+sum-map w g (x ∷ xs) =
+    sum_by-cons w (g x) (map g xs) ∙ ap (λ (n : ℕ). w (g x) + n) (sum-map w g xs)
     ∙ sym (sum_by-cons (λ y. w (g y)) x xs)
 
-contains-mapped : {A B : Type 0} (g : A → B) (xs : List A) (x : A) → Contains xs x → Contains (map g xs) (g x)
+pub contains-mapped : {A B : Type 0} (g : A → B) (xs : List A) (x : A) → Contains xs x → Contains (map g xs) (g x)
 contains-mapped g [] x has = absurd (omega (arith, has.1))
 contains-mapped {A} {B} g (y ∷ xs) x has = by_index has.0 has.1 has.2 (contains-mapped g xs x)
   where
@@ -189,9 +191,22 @@ mapped-contains {A} {B} g (x ∷ xs) y has = by_index has.0 has.1 has.2 (mapped-
         let later = rest (k, omega arith, is) in
         (later.0, (suc later.1.0, omega (arith, later.1.1), later.1.2), later.2)
 
-length-mapped : {A B : Type 0} (g : A → B) (xs : List A) → length (map g xs) ≡ length xs
-length-mapped g [] = refl
-length-mapped g (x ∷ xs) = omega (arith, length-mapped g xs)
+-- what an entry weighs as a node, and as an arc apart from its flow
+abbrev pub node_weight : (NodeId → ℕ) → Id × Lists → ℕ
+node_weight w e = w (record { id = e.0 })
+
+abbrev pub span_weight : (Span → ℕ) → Id × Row → ℕ
+span_weight w e = w (span_of (record { id = e.0 }) e.1)
+
+pub nodes-sum : (w : NodeId → ℕ) (net : Net) → sum_by w (nodes_of net) ≡ sum_by (node_weight w) (entries net.nodes)
+nodes-sum w net = sum-map w (λ (e : Id × Lists). let n : NodeId = record { id = e.0 } in n) (entries net.nodes)
+
+pub spans-sum : (w : Span → ℕ) (net : Net) → sum_by w (spans_of net) ≡ sum_by (span_weight w) (entries net.arcs)
+spans-sum w net = sum-map w (λ (e : Id × Row). span_of (record { id = e.0 }) e.1) (entries net.arcs)
+
+-- an arc that is there lies within the room
+pub row-below : (net : Net) (a : ArcId) (row : Row) → row_at net a ≡ Some row → a.id.place < capacity_of net.arcs
+row-below net a row there = found_within net.arcs a.id (some-is (row_at net a) row there)
 
 module _ {Y : Type 0} (f : ArcId → Row → Y) where
   -- what f makes of an entry
@@ -218,13 +233,10 @@ module _ {Y : Type 0} (f : ArcId → Row → Y) where
 
   -- as many are listed as the net counts
   pub rows_counted : (net : Net) → length (each_row f net) ≡ arc_count net
-  rows_counted net = length-mapped of_entry (entries net.arcs) ∙ length-entries_from 0 net.arcs.held
+  rows_counted net = length-map (entries net.arcs) of_entry ∙ length-entries_from 0 net.arcs.held
 
   of_sum : (w : Y → ℕ) (net : Net) → sum_by w (each_row f net) ≡ sum_by (λ e. w (of_entry e)) (entries net.arcs)
-  of_sum w net = sum-mapped w of_entry (entries net.arcs)
-
-  row-below : (net : Net) (a : ArcId) (row : Row) → row_at net a ≡ Some row → a.id.place < capacity_of net.arcs
-  row-below net a row there = found_within net.arcs a.id (some-is (row_at net a) row there)
+  of_sum w net = sum-map w of_entry (entries net.arcs)
 
   -- sums over the rows: after one changed
   pub rows_changed : (w : Y → ℕ) (net : Net) (a : ArcId) (row : Row) (g : Row → Row) → row_at net a ≡ Some row

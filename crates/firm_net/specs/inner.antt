@@ -1,3 +1,6 @@
--- What no public clause cites: how links keep the lists of a node's arcs.
+-- What no public clause cites: how a net, its rows and its walks keep what a contract sees of them.
 pub mod Place
 pub mod Links
+pub mod Fields
+pub mod Inside
+pub mod Arcs

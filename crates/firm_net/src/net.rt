@@ -64,7 +64,7 @@ impl Model for Net {
 
     ghost Value = { Network };
 
-    ghost use Rattle.firm_net.specs.Inside.{net_of, IsSound};
+    ghost use Rattle.firm_net.specs.inner.Inside.{net_of, IsSound};
 
     ghost view = { net_of };
 

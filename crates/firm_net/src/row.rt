@@ -47,7 +47,7 @@ impl Model for ArcRow {
 
     ghost Value = { Row };
 
-    ghost use Rattle.firm_net.specs.Fields.{row_of, fields_of, IsRowOfFields};
+    ghost use Rattle.firm_net.specs.inner.Fields.{row_of, fields_of, IsRowOfFields};
 
     ghost view = { row_of };
 

@@ -24,7 +24,7 @@ impl<'a> Model for Arcs<'a> {
 
     ghost Value = { List (ArcId × Row) };
 
-    ghost use Rattle.firm_net.specs.Arcs.{arcs_left};
+    ghost use Rattle.firm_net.specs.inner.Arcs.{arcs_left};
 
     ghost view = { arcs_left };
 }

@@ -22,5 +22,6 @@ pub mod FrontLooks
 pub mod Meetings
 pub mod Ends
 pub mod Splits
+pub mod Credits
 pub mod Within
 mod Examples

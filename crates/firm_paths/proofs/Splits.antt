@@ -25,11 +25,12 @@ seen_listed g t v reached seen =
     let n = reached.named f.0 f.1 in
     omega (arith, node_listed g.net (visit t.visits f.0).node n.0, n.1, f.2)
 
-class_of_seen : (g : Ground) (t : Tables) (v : ℕ) → AreReached g t → is t.seen v ≡ true → g.class v ≡ g.class t.start
+pub class_of_seen : (g : Ground) (t : Tables) (v : ℕ) → AreReached g t → is t.seen v ≡ true
+    → g.class v ≡ g.class t.start
 class_of_seen g t v reached seen =
     let f = reached.found v seen in ap g.class (sym f.2) ∙ reached.class f.0 f.1
 
-not_both : (a b : Bool) → (a ≡ true → b ≡ false) → b ≡ true → a ≡ false
+pub not_both : (a b : Bool) → (a ≡ true → b ≡ false) → b ≡ true → a ≡ false
 not_both true b apart t = absurd (both_ways b (apart refl) t)
 not_both false b apart t = refl
 

@@ -1,9 +1,10 @@
 -- Classes of nodes: unions of strongly connected components of the residual arcs of reduced cost 0, which are called
 -- tight here.
-use Rattle.std.specs.Prelude.{◌≡◌, ℕ, ◌<◌, ◌≤◌, ◌↔◌, Bool, true, false, List, All, map, slice_index}
+use Rattle.std.specs.Prelude.{◌≡◌, ℕ, ◌+◌, ◌<◌, ◌≤◌, ◌↔◌, Bool, true, false, List, All, map, slice_index}
 use Rattle.firm_net.specs.Net.{Net, arc_count}
 use Rattle.firm_paths.specs.Network.{Arc, Tight, StaysInside, enters}
 use Rattle.firm_paths.specs.NetArcs.{arcs_of, residual_of}
+use Rattle.firm_paths.specs.Credit.{AreFew, ArePaid, ends_of}
 use Rattle.firm_paths.specs.Workspace.{Workspace, HasSearched}
 use Rattle.firm_paths.specs.declared.search.Step.{Step}
 
@@ -50,7 +51,8 @@ abbrev pub StaysInClass : Net → (ℕ → ℕ) → ℕ → List Step → Type 0
 StaysInClass net class from steps = All (λ r. class (enters r) ≡ class from) (map (residual_of net) steps)
 
 -- what a search for a tight path inside the class of both ends leaves, by whether it found one: no search is made or
--- counted where the ends have different classes, and one that fails splits their class
+-- counted where the ends have different classes, and one that fails splits their class, with few looks for the size of
+-- the smaller part, paid by the credit of the class
 pub record HasSearchedWithin (net : Net) (price : ℕ → ℕ) (from to : ℕ) (found : Bool) (old new : Workspace) : Type
     0 where
   pub limits : new.limits ≡ old.limits
@@ -60,3 +62,7 @@ pub record HasSearchedWithin (net : Net) (price : ℕ → ℕ) (from to : ℕ) (
   pub split : AreTogether old from to → found ≡ false
       → (inside : ℕ → Bool) × IsSplit (arcs_of net) price (class_of old) (class_of new) from to inside
   pub classes : AreClasses (arcs_of net) price (class_of old) → AreClasses (arcs_of net) price (class_of new)
+  pub few : AreTogether old from to → found ≡ false
+      → (looks : ℕ) × (new.looks ≤ old.looks + looks) × AreFew (ends_of (arcs_of net)) from to looks new.classes
+  pub paid : found ≡ false → (looks : ℕ) × (new.looks ≤ old.looks + looks)
+      × ArePaid (ends_of (arcs_of net)) from to looks old.classes new.classes

@@ -7,7 +7,7 @@ use Rattle.firm_paths.specs.Workspace.{Workspace, HasSearched}
 use Rattle.firm_paths.specs.Classes.{HasSearchedWithin}
 use Rattle.firm_paths.specs.contracts.scratch.Scratch.{the_row}
 
--- it has counted one search, in a net of so many arcs
+-- it has counted one search, in a net with that number of arcs
 abbrev pub Rests : MutBor Workspace → ℕ → Fml
 Rests s arcs = follows_so the_row the_row s.ghost_name none (λ _ _. ⊤) (λ last. HasSearched s.now last 1 arcs)
 

@@ -4,7 +4,9 @@ pub mod Paths
 pub mod Laws
 pub mod PriceTable
 pub mod Workspace
+pub mod Credit
 pub mod Classes
 pub mod ClassLaws
+pub mod CreditLaws
 pub mod Lending
 pub mod inner

@@ -17,7 +17,7 @@ pub record HasCounted (old new more : ℕ) : Type 0 where
   pub kept : old ≤ new
   pub no_more : new ≤ old + more
 
--- so many searches were made in a net of so many arcs: each counts one, with at most two looks for each arc
+-- `made` searches were made in a net of `arcs` arcs: each counts one, with at most two looks for each arc
 pub record HasSearched (old new : Workspace) (made arcs : ℕ) : Type 0 where
   pub limits : new.limits ≡ old.limits
   pub begins : new.begins ≡ old.begins

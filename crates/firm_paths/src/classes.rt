@@ -10,13 +10,14 @@ ghost use Rattle.firm_paths.specs.NetArcs.{arcs_of, limits_of};
 ghost use Rattle.firm_paths.specs.Paths.{IsTightPath};
 ghost use Rattle.firm_paths.specs.PriceTable.{price_of};
 ghost use Rattle.firm_paths.specs.Classes.{IsSplit, StaysInClass, class_of};
+ghost use Rattle.firm_paths.specs.Credit.{AreFew, ArePaid, ends_of};
 ghost use Rattle.firm_paths.specs.Lending.{RestsWithin};
 ghost use Rattle.firm_paths.specs.inner.Search.{visit};
 ghost use Rattle.firm_paths.specs.inner.Queue.{IsVisited};
 ghost use Rattle.firm_paths.specs.inner.Spread.{is};
 ghost use Rattle.firm_paths.specs.inner.Front.{Ground, tables_of, IsLed, IsGoing, IsFit};
 ghost use Rattle.firm_paths.specs.inner.Meeting.{AreNumbered, AreFit, AreJoined, AreGoing, IsMeeting, EndsAs};
-ghost use Rattle.firm_paths.specs.inner.Meeting.{LeadsOn, IsPartedBy};
+ghost use Rattle.firm_paths.specs.inner.Meeting.{AreInTurn, LeadsOn, IsPartedBy};
 
 use crate::front::{Front, Look};
 use crate::prices::Prices;
@@ -103,7 +104,7 @@ fn walk_forth(visits: &[Visit], start: usize, steps: &mut Vec<Step>)
 }
 
 impl Classes {
-    /// Room for so many places, all in one class.
+    /// Room for `places` places, all in one class.
     pub fn new(alloc: Global, places: usize) -> Result<Classes, AllocError>
         ensures fit { IfOk result (AreFit places) }
     {
@@ -182,6 +183,7 @@ impl Classes {
           price = slice_index prices.now.prices;
           class = slice_index self.old.of.items;
         }) (tables_of self.old.forward) (tables_of self.old.backward) }
+        requires even { self.old.forward.looks ≡ self.old.backward.looks }
         ensures ends { IfSome result (EndsAs (record {
           net = net.now;
           price = slice_index prices.now.prices;
@@ -197,6 +199,8 @@ impl Classes {
         ensures kept { (self.new.of ≡ self.old.of) × (self.new.last ≡ self.old.last)
             × (self.new.forward.start ≡ self.old.forward.start)
             × (self.new.backward.start ≡ self.old.backward.start) }
+        ensures even { IfNone result (self.new.forward.looks ≡ self.new.backward.looks) }
+        ensures in_turn { AreInTurn net.now (tables_of self.new.forward) (tables_of self.new.backward) }
         ensures few { self.new.forward.looks + self.new.backward.looks ≤ 2 * length (arcs_of net.now) }
     {
         match self
@@ -227,6 +231,7 @@ impl Classes {
           price = slice_index prices.now.prices;
           class = slice_index self.old.of.items;
         }) (tables_of self.old.forward) (tables_of self.old.backward) }
+        requires even { self.old.forward.looks ≡ self.old.backward.looks }
         ensures ends { EndsAs (record {
           net = net.now;
           price = slice_index prices.now.prices;
@@ -237,6 +242,7 @@ impl Classes {
             × (self.new.forward.start ≡ self.old.forward.start)
             × (self.new.backward.start ≡ self.old.backward.start) }
         ensures few { self.new.forward.looks + self.new.backward.looks ≤ 2 * length (arcs_of net.now) }
+        ensures in_turn { AreInTurn net.now (tables_of self.new.forward) (tables_of self.new.backward) }
     {
         loop {
             if let Some(end) = self.look_twice(net, prices) {
@@ -280,6 +286,10 @@ impl Classes {
             (slice_index self.old.of.items) (slice_index self.new.of.items) from.place to.place inside) }
         ensures net { IsNet net.now }
         ensures few { self.new.forward.looks + self.new.backward.looks ≤ 2 * length (arcs_of net.now) }
+        ensures few_lost { IfNone result (AreFew (ends_of (arcs_of net.now)) from.place to.place
+            (self.new.forward.looks + self.new.backward.looks) self.new.of.items) }
+        ensures paid { IfNone result (ArePaid (ends_of (arcs_of net.now)) from.place to.place
+            (self.new.forward.looks + self.new.backward.looks) self.old.of.items self.new.of.items) }
     {
         self.forward.begin(net, from);
         self.backward.begin(net, to);
@@ -327,7 +337,8 @@ fn start_at(net: &Net, node: NodeId) -> Option<Visit>
 /// A path from `from` to `to` over residual arcs of reduced cost 0 whose nodes have one class. Where the two have
 /// different classes there is no search, and none is counted. A search that fails splits their class into a set and the
 /// rest; no residual arc of reduced cost 0 leads from the one that holds `from` to the one that holds `to`. Counts one
-/// search, and at most two looks for each arc. Takes no memory.
+/// search, and at most two looks for each arc; if it fails, two for each arc's end in the smaller part, and one.
+/// Takes no memory.
 pub fn tight_within<'s>(
     scratch: &'s mut Scratch,
     net: &Net,

@@ -80,7 +80,7 @@ fn reads_tight(prices: &Prices, way: Way, here: usize, there: usize, cost: u32) 
 }
 
 impl Front {
-    /// Room for searches among so many places.
+    /// Room for searches among `places` places.
     pub fn new(alloc: Global, places: usize, way: Way) -> Result<Front, AllocError>
         ensures fit { IfOk result (λ front. IsFit places front) }
         ensures way { IfOk result (λ front. front.way ≡ way) }

@@ -28,7 +28,7 @@ impl Model for Queue {
 }
 
 impl Queue {
-    /// An empty queue of so many places. `Err` only where memory is refused.
+    /// An empty queue of `places` places. `Err` only where memory is refused.
     pub fn new(alloc: Global, places: u32) -> Result<Queue, AllocError>
         ensures { IfOk result (λ q. q ≡ replicate places 18446744073709551615) }
     {

@@ -1,8 +1,8 @@
 //! The room in which the searches work.
 ghost use Rattle.std.specs.Prelude.{◌≡◌, ◌↔◌, ℕ, IfOk, IsTrue};
-ghost use Rattle.firm_net.specs.Net.{IsNode};
+ghost use Rattle.firm_net.specs.Net.{IsNode, arc_count};
 ghost use Rattle.firm_paths.specs.Classes.{AreTogether};
-ghost use Rattle.firm_paths.specs.Workspace.{HasCounted};
+ghost use Rattle.firm_paths.specs.Workspace.{HasCounted, HasSearched};
 ghost use Rattle.firm_paths.specs.NetArcs.{limits_of};
 
 use crate::classes::Classes;
@@ -94,6 +94,17 @@ impl Scratch {
         self.begins = self.begins.saturating_add(1);
         self.searches = 0;
         self.looks = 0;
+    }
+
+    /// Counts searches that were made outside the net, in a copy of a part of it. Looks beyond two for each arc of the
+    /// net and search are not counted.
+    pub fn count(&mut self, net: &Net, searches: u32, looks: u64)
+        ensures counts { HasSearched self.old self.new searches (arc_count net.now) }
+    {
+        let arcs = net.limits().1 - net.room().1;
+        let most = u64::from(searches).saturating_mul(2 * u64::from(arcs));
+        self.searches = self.searches.saturating_add(u64::from(searches));
+        self.looks = self.looks.saturating_add(looks.min(most));
     }
 
     /// How often `begin` was called; `u64::MAX` for more than can be told.

@@ -5,8 +5,8 @@ mod both;
 mod bounds;
 mod cases;
 mod choices;
+mod cost_parts;
 mod laws;
-mod parts;
 mod placed;
 mod rents;
 mod slots;
@@ -18,11 +18,11 @@ pub use both::Nearest;
 pub use bounds::{Shown, shows_least};
 pub use cases::Case;
 pub use choices::{cheapest_other, excess, least_paid, paid};
+pub use cost_parts::{Parts, parts_of};
 pub use laws::{
     each_choice_costs_its_excess, one_more_machine_saves, other_slots_cost, rents_bound,
     rents_show_least, rents_that_show_suit,
 };
-pub use parts::{Parts, parts_of};
 pub use placed::placement_of;
 pub use rents::Rents;
 pub use slots::{Saving, lost_by_slot, saved_by_machine, saved_by_slot};

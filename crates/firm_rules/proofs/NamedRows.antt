@@ -1,10 +1,10 @@
 -- Rows in a list, told by their names.
 use Rattle.std.proofs.Common.{◌≡◌, ℕ, zero, suc, ◌<◌, ◌≤◌, Bool, true, false, not, cond, ◌||◌, List, [], ◌∷◌, ◌++◌, map}
 use Rattle.std.proofs.Common.{filter, remove, length, sum_by, Option, None, Some, IfSome, find, position, bytes_eq}
-use Rattle.std.proofs.Common.{true≢false, refl, sym, ap, subst, ◌∙◌, arith}
-use Rattle.std.specs.List.{IsDistinct, AllByRecursion}
+use Rattle.std.proofs.Common.{true≢false, ◌+◌, eqb, ⊎_elim, refl, sym, ap, subst, ◌∙◌, arith}
+use Rattle.std.specs.List.{IsDistinct, AllByRecursion, position_or_len}
 use Rattle.std.specs.Map.{lookup, keys_of, values_of}
-use Rattle.std.proofs.lemmas.Bool.{cond_both}
+use Rattle.std.proofs.lemmas.Bool.{cond_both, cases_eq, eq-eqb, ne_eqb}
 use Rattle.std.proofs.lemmas.Slice.Eq.{bytes_eq-Decides}
 use Rattle.std.proofs.lemmas.List.{length-map}
 use Rattle.std.proofs.lemmas.List.Elements.{All-from_recursion}
@@ -140,3 +140,33 @@ place-named keys names name None is same = tt
 place-named keys names name (Some i) is same =
     subst (λ (l : List (List ℕ)). name_at l i ≡ name) same
     (sym ((bytes_eq-Decides name (name_at keys i)).0 (position-Some (bytes_eq name) keys i [] (sym is)).1))
+
+eqb-next : (a b : ℕ) → eqb (1 + a) (suc b) ≡ eqb a b
+eqb-next a b =
+    ⊎_elim
+    (λ (e : a ≡ b). eq-eqb (1 + a) (suc b) (omega (arith, e)) ∙ sym (eq-eqb a b e))
+    (λ (ne : a ≡ b → ⊥). ne_eqb (1 + a) (suc b) (λ e. ne (omega (arith, e))) ∙ sym (ne_eqb a b ne))
+    (cases_eq a b)
+
+-- where names differ, a name stands at a place exactly if it is the name there
+pub stands-at : (names : List (List ℕ)) (name : List ℕ) (place : ℕ) → IsDistinct bytes_eq names → place < length names
+    → eqb (position_or_len (bytes_eq name) names) place ≡ bytes_eq name (name_at names place)
+unfolding IsDistinct
+stands-at [] name place differ below = absurd (omega arith)
+stands-at (first ∷ names) name zero differ below =
+    let later : ℕ = position_or_len (bytes_eq name) names in
+    elim (bytes_eq name first) as (λ b. eqb (cond (not b) (1 + later) 0) zero ≡ b) [
+      | true ↦ refl
+      | false ↦ ne_eqb (1 + later) 0 (λ (e : 1 + later ≡ 0). absurd (omega (arith, e)))
+    ]
+stands-at (first ∷ names) name (suc place) differ below =
+    let later : ℕ = position_or_len (bytes_eq name) names in
+    let there : List ℕ = name_at names place in
+    let apart : bytes_eq first there ≡ false =
+    All-from_recursion (λ other. bytes_eq first other ≡ false) names differ.0 place [] (omega (arith, below)) in
+    elim (bytes_eq name first) as (λ b. bytes_eq name first ≡ b
+    → eqb (cond (not b) (1 + later) 0) (suc place) ≡ bytes_eq name there) [
+      | true ↦ λ own. ne_eqb 0 (suc place) (λ (e : 0 ≡ suc place). absurd (omega (arith, e)))
+          ∙ sym (ap (λ (n : List ℕ). bytes_eq n there) ((bytes_eq-Decides name first).0 own) ∙ apart)
+      | false ↦ λ other. eqb-next later place ∙ stands-at names name place differ.1 (omega (arith, below))
+    ] refl

@@ -19,7 +19,7 @@ module _ {X : Type 0} (most : ℕ) (fill : X) where
       ∙ ap (λ n. xs ++ x ∷ replicate n fill) left
       ∙ sym (append_assoc xs (x ∷ []) (replicate (most - length (xs ++ x ∷ [])) fill))
 
-  -- a table that holds so many elements, and one more behind them
+  -- a table that holds `count` elements, and one more behind them
   module _ (table : List X) (count : ℕ) (x : X) (rest : table ≡ filled (take count table))
       (counted : length (take count table) ≡ count)
       (few : count < most) where

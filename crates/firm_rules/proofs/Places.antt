@@ -3,17 +3,19 @@ use Rattle.std.proofs.Common.{◌≡◌, ℕ, ◌<◌, ◌≤◌, Bool, not, ltb
 use Rattle.std.proofs.Common.{bytes_eq, Option, Some, None}
 use Rattle.std.proofs.Common.{refl, sym, ap, ◌∙◌, arith, ⊎_elim}
 use Rattle.std.specs.Prelude.{position, slice_get, nat_lt, ◌==◌}
-use Rattle.std.specs.List.{position_or_len, list_any}
+use Rattle.std.specs.List.{position_or_len, list_any, IsDistinct}
 use Rattle.std.specs.Option.{unwrap_or, option_map}
-use Rattle.std.proofs.lemmas.List.{length-map}
-use Rattle.firm_rules.specs.Book.{TenantRows, job_names}
+use Rattle.std.proofs.lemmas.List.{length-map, get_or-map}
+use Rattle.firm_rules.specs.Book.{TenantRows, machine_names, job_names}
 use Rattle.firm_rules.specs.Placement.{is_remote, runs_at}
 use Rattle.firm_rules.specs.Round.{weight_at, place_of, machine_place, demand_of}
 use Rattle.firm_rules.specs.declared.parts.Task.{Task}
 use Rattle.firm_rules.specs.declared.parts.Job.{Job}
+use Rattle.firm_rules.specs.declared.parts.Machine.{Machine}
 use Rattle.std.proofs.lemmas.Bool.{cases_lt, cond-true, cond-false, lt-ltb, le-ltb}
 use Rattle.std.proofs.lemmas.List.Sums.{prefix_len-le-length}
-use Rattle.std.proofs.lemmas.Option.{slice_get-map, unwrap_or-slice_get}
+use Rattle.std.proofs.lemmas.Option.{slice_get-map, unwrap_or-slice_get, slice_get_within, get_or_from_slice_get}
+use Rattle.firm_rules.proofs.NamedRows.{stands-at}
 
 module _ {X : Type 0} (p : X → Bool) (xs : List X) where
   abbrev first : ℕ
@@ -67,3 +69,15 @@ weight_read rows name found count place row f n p r =
     ∙ ap (weight_at rows)
     (p ∙ ap (λ r. unwrap_or r count) f
     ∙ position_or_all (bytes_eq name) (job_names rows) count (n ∙ sym (length-map rows.jobs (λ (job : Job). job.name))))
+
+-- a machine that was read at a place has the name exactly if the name's place is this one
+pub stands-read : (rows : TenantRows) (name : List ℕ) (place : ℕ) (machine : Machine)
+    → IsDistinct bytes_eq (machine_names rows) → slice_get rows.machines place ≡ Some machine
+    → bytes_eq name machine.name ≡ (place_of rows name == place)
+stands-read rows name place machine differ read =
+    let below : place < length rows.machines = slice_get_within rows.machines place machine read in
+    ap (bytes_eq name)
+    (sym (get_or-map (λ (m : Machine). m.name) rows.machines place machine [] below
+    ∙ ap (λ (m : Machine). m.name) (get_or_from_slice_get rows.machines place machine machine read)))
+    ∙ sym (stands-at (machine_names rows) name place differ
+    (omega (arith, below, length-map rows.machines (λ (m : Machine). m.name))))

@@ -12,7 +12,8 @@ use Rattle.std.proofs.lemmas.Map.Keys.{IsDistinct-push}
 use Rattle.firm_rules.specs.Names.{is_among}
 use Rattle.firm_rules.specs.Book.{is_on, evicted, forgetting}
 use Rattle.firm_rules.specs.declared.parts.Task.{Task}
-use Rattle.firm_rules.specs.Preferences.{ArePreferences, padded, with_preference, without_preference}
+use Rattle.firm_rules.specs.Preferences.{with_preference, without_preference}
+use Rattle.firm_rules.specs.inner.Padding.{padded_preferences, ArePreferences}
 use Rattle.firm_rules.proofs.NamedRows.{bytes_eq-own, bytes_eq-other, length-filter-le}
 use Rattle.firm_rules.proofs.Padded.{written, long, taken}
 use Rattle.firm_rules.proofs.SoundRows.{IsDistinct-without}
@@ -32,7 +33,7 @@ pub added : (table : List (List ℕ)) (count : ℕ) (name : List ℕ) → ArePre
 added table count name kept few new =
     let held = taken 4 (codes "-") table count name kept.rest kept.counted few in
     record {
-      rest = written 4 (codes "-") table count name kept.rest kept.counted few ∙ ap padded (sym held);
+      rest = written 4 (codes "-") table count name kept.rest kept.counted few ∙ ap padded_preferences (sym held);
       counted = ap length held ∙ long 4 (codes "-") table count name kept.rest kept.counted few;
       few = omega arith;
       differ = subst (IsDistinct bytes_eq) (sym held)

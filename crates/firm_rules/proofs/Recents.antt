@@ -1,7 +1,7 @@
 -- A table of 8 costs, and one more cost.
 use Rattle.std.proofs.Common.{ℕ, ◌+◌, ◌<◌, List, ap, sym, ◌∙◌}
 use Rattle.std.specs.Prelude.{ℤ, pos, length, slice_set}
-use Rattle.firm_rules.specs.Recent.{padded, AreRecentCosts}
+use Rattle.firm_rules.specs.inner.Padding.{padded_costs, AreRecentCosts}
 use Rattle.firm_rules.proofs.Padded.{written, long, taken}
 
 pub pushed : (table : List ℤ) (count : ℕ) (cost : ℤ) → AreRecentCosts table count → count < 8
@@ -9,6 +9,6 @@ pub pushed : (table : List ℤ) (count : ℕ) (cost : ℤ) → AreRecentCosts ta
 pushed table count cost kept few =
     let held = taken 8 (pos 0) table count cost kept.zeros kept.counted few in
     record {
-      zeros = written 8 (pos 0) table count cost kept.zeros kept.counted few ∙ ap padded (sym held);
+      zeros = written 8 (pos 0) table count cost kept.zeros kept.counted few ∙ ap padded_costs (sym held);
       counted = ap length held ∙ long 8 (pos 0) table count cost kept.zeros kept.counted few;
     }

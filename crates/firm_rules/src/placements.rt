@@ -120,7 +120,7 @@ fn load_costs<A: Allocator>(rows: &Rows<A>, placement: &[Choice]) -> u64
     cost
 }
 
-/// What so many tasks cost as the load of one machine: nothing for the first, and for each further one `spread` more
+/// What a load of `tasks` tasks costs on one machine: nothing for the first, and for each further one `spread` more
 /// than for the one before.
 pub fn cost_of_load(spread: u64, tasks: u64) -> u64
     requires least_spread { spread ≤ 1000 }
@@ -150,7 +150,7 @@ fn cost_of_choice<A: Allocator>(rows: &Rows<A>, task: &Task, choice: Choice) -> 
     ensures cost { result ≡ task_cost (case_of rows.now) (demand_of rows.now task.now) choice }
     ensures most { result ≤ 2 ^ 34 }
 {
-    let churn = if leaves_home(home_of(rows, task), choice) {
+    let churn = if leaves_home(rows, task, choice) {
         rows.limits().churn()
     } else {
         0
@@ -168,17 +168,27 @@ fn cost_of_choice<A: Allocator>(rows: &Rows<A>, task: &Task, choice: Choice) -> 
 fn is_remote<A: Allocator>(rows: &Rows<A>, task: &Task, place: usize) -> bool
     ensures { result ≡ is_remote (demand_of rows.now task.now) place }
 {
-    0 < task.preferred.len()
-        && !prefers_place(rows, task, place)
-        && !is_home(home_of(rows, task), place)
+    0 < task.preferred.len() && !prefers_place(rows, task, place) && !is_home(rows, task, place)
 }
 
-// Whether a task that runs at `home`, if it runs, runs at the place.
-fn is_home(home: Option<usize>, place: usize) -> bool
-    ensures { result ≡ runs_at home place }
+// Whether the machine of this name stands at the place. Where a machine stands there, the two names are compared, and
+// none is looked up.
+fn stands_at<A: Allocator>(rows: &Rows<A>, name: Name, place: usize) -> bool
+    ensures { result ≡ (place_of rows.now name == place) }
 {
-    match home {
-        Some(own) => own == place,
+    rows.limits();
+    match rows.machine_at(place) {
+        Some(machine) => name == machine.name,
+        None => place_of(rows, name) == place,
+    }
+}
+
+// Whether the task runs on the machine at the place.
+fn is_home<A: Allocator>(rows: &Rows<A>, task: &Task, place: usize) -> bool
+    ensures { result ≡ runs_at (machine_place rows.now task.now.machine) place }
+{
+    match task.machine {
+        Some(own) => stands_at(rows, own, place),
         None => false,
     }
 }
@@ -190,16 +200,16 @@ fn prefers_place<A: Allocator>(rows: &Rows<A>, task: &Task, place: usize) -> boo
     task.preferred
         .as_slice()
         .iter()
-        .any(|name| place_of(rows, *name) == place)
+        .any(|name| stands_at(rows, *name, place))
 }
 
 // Whether the choice takes a running task from its machine.
-fn leaves_home(home: Option<usize>, choice: Choice) -> bool
-    ensures { result ≡ leaves home choice }
+fn leaves_home<A: Allocator>(rows: &Rows<A>, task: &Task, choice: Choice) -> bool
+    ensures { result ≡ leaves (machine_place rows.now task.now.machine) choice }
 {
-    match (home, choice) {
+    match (task.machine, choice) {
         (None, _) => false,
-        (Some(own), Choice::On(place)) => own != place as usize,
+        (Some(own), Choice::On(place)) => !stands_at(rows, own, place as usize),
         (Some(_), Choice::Wait) => true,
     }
 }

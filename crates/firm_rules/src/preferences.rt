@@ -23,14 +23,14 @@ impl Model for Preferred {
 
     ghost Value = { List (List ℕ) };
 
-    ghost use Rattle.firm_rules.specs.Preferences.{padded, ArePreferences};
+    ghost use Rattle.firm_rules.specs.inner.Padding.{padded_preferences, ArePreferences};
     ghost use Rattle.std.proofs.Common.{sym};
 
     ghost view = { λ p. take p.len p.names };
 
     ghost invariant = { λ p. ArePreferences p.names p.len };
 
-    ghost inverse = { λ names. record { names = padded names; len = length names } };
+    ghost inverse = { λ names. record { names = padded_preferences names; len = length names } };
 
     ghost inverse_ok = { λ p kept i. record { names = sym kept.rest i; len = kept.counted i } };
 }

@@ -4,7 +4,8 @@ ghost use Rattle.firm_rules.specs.Recent.{with_cost};
 
 use std::marker::Model;
 
-const MOST_COSTS: usize = 8;
+/// A tenant keeps the costs of this many rounds at most.
+pub const MOST_COSTS: usize = 8;
 
 /// The costs of the last 8 rounds at most, oldest first.
 #[derive(Clone, Copy, Debug, PartialEq, Eq)]
@@ -19,14 +20,14 @@ impl Model for RecentCosts {
 
     ghost Value = { List ℤ };
 
-    ghost use Rattle.firm_rules.specs.Recent.{padded, AreRecentCosts};
+    ghost use Rattle.firm_rules.specs.inner.Padding.{padded_costs, AreRecentCosts};
     ghost use Rattle.std.proofs.Common.{sym};
 
     ghost view = { λ r. take r.len r.costs };
 
     ghost invariant = { λ r. AreRecentCosts r.costs r.len };
 
-    ghost inverse = { λ costs. record { costs = padded costs; len = length costs } };
+    ghost inverse = { λ costs. record { costs = padded_costs costs; len = length costs } };
 
     ghost inverse_ok = { λ r kept i. record { costs = sym kept.zeros i; len = kept.counted i } };
 }

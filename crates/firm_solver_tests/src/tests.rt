@@ -6,5 +6,7 @@ mod flow;
 mod graph;
 mod net;
 mod paths;
+mod plain;
 mod random;
+mod start;
 mod worlds;

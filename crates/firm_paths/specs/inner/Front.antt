@@ -46,7 +46,7 @@ tables_of f =
       looks = f.looks;
     }
 
--- there is room for a net of so many places, and what was not visited is not seen
+-- there is room for a net of `places` places, and what was not visited is not seen
 pub record IsFit (places : ℕ) (f : Front) : Type 0 where
   pub seen : length f.seen.items ≡ places
   pub again : length f.again.items ≡ places

@@ -1,6 +1,7 @@
 -- What the forward and the backward search inside a class keep together, and the path where they meet.
 use Rattle.std.specs.Prelude.{◌≡◌, ℕ, ◌+◌, ◌<◌, ◌≤◌, true, false, List, [], ◌++◌, length, All, Contains, map}
 use Rattle.std.specs.Prelude.{slice_index}
+use Rattle.firm_net.specs.Net.{Net}
 use Rattle.firm_net.specs.declared.row.Way.{Way}
 use Rattle.firm_net.specs.declared.row.Way.TheVariants.{Forward, Backward}
 use Rattle.firm_paths.specs.Network.{Tight, IsResidual, leaves, enters}
@@ -9,7 +10,7 @@ use Rattle.firm_paths.specs.Paths.{IsTightPath}
 use Rattle.firm_paths.specs.inner.Search.{visit}
 use Rattle.firm_paths.specs.inner.Spread.{is}
 use Rattle.firm_paths.specs.inner.Walk.{EntersVisit}
-use Rattle.firm_paths.specs.inner.Front.{Ground, Tables, AreReached, IsGoing, IsFit, IsSpanning, tables_of}
+use Rattle.firm_paths.specs.inner.Front.{Ground, Tables, AreReached, IsGoing, IsFit, IsSpanning, tables_of, seen_from}
 use Rattle.firm_paths.specs.declared.search.Step.{Step}
 use Rattle.firm_paths.specs.declared.search.Visit.{Visit}
 use Rattle.firm_paths.specs.declared.classes.Classes.{Classes}
@@ -22,7 +23,7 @@ pub record AreNumbered (of : List ℕ) (last : ℕ) : Type 0 where
   pub below : (v : ℕ) → slice_index of v ≤ last
   pub used : (k : ℕ) → 1 ≤ k → k ≤ last → Contains of k
 
--- the tables are those for a net of so many places
+-- the tables are those for a net of `places` places
 pub record AreFit (places : ℕ) (c : Classes) : Type 0 where
   pub size : length c.of.items ≡ places
   pub numbered : AreNumbered c.of.items c.last
@@ -47,6 +48,13 @@ pub record AreGoing (g : Ground) (f b : Tables) : Type 0 where
   pub joined : AreJoined g f b
   pub forward : IsGoing g f
   pub backward : IsGoing g b
+
+-- they look in turn, the forward search first, and each has read no more than the arcs' ends at the nodes that it saw
+pub record AreInTurn (net : Net) (f b : Tables) : Type 0 where
+  pub forward : f.looks ≤ seen_from Forward net f.seen + seen_from Backward net f.seen
+  pub backward : b.looks ≤ seen_from Forward net b.seen + seen_from Backward net b.seen
+  pub even : b.looks ≤ f.looks
+  pub odd : f.looks ≤ b.looks + 1
 
 -- a tight residual arc leads from a visit of the forward search to one of the backward search
 pub record IsMeeting (g : Ground) (f b : Tables) (m : Meeting) : Type 0 where

@@ -69,7 +69,7 @@ fn consider(rt: &impl Abort, alloc: Global, rows: &Rows, best: &mut Best, placem
     }
 }
 
-fn all_wait(rt: &impl Abort, alloc: Global, rows: &Rows) -> Vec<Choice> {
+pub fn all_wait(rt: &impl Abort, alloc: Global, rows: &Rows) -> Vec<Choice> {
     let mut placement = Vec::new(alloc);
     for _ in 0..rows.task_count() {
         placement.push(Choice::Wait).expect(rt, "memory");

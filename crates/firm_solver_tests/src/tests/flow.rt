@@ -28,10 +28,10 @@ pub fn are_distinct(net: &Net, sources: &[NodeId], sink: NodeId) -> bool
 
 /// What a call of `solve` left: its answer, what flows along each arc, and the price of each node.
 #[derive(Drop)]
-struct Solved {
-    answer: Result<i64, NoWay>,
-    flows: Vec<u32>,
-    prices: Vec<u64>,
+pub struct Solved {
+    pub answer: Result<i64, NoWay>,
+    pub flows: Vec<u32>,
+    pub prices: Vec<u64>,
 }
 
 fn nodes_at(rt: &impl Abort, alloc: Global, world: &World, numbers: &[usize]) -> Vec<NodeId> {
@@ -42,7 +42,7 @@ fn nodes_at(rt: &impl Abort, alloc: Global, world: &World, numbers: &[usize]) ->
     nodes
 }
 
-fn solve_once(
+pub fn solve_once(
     rt: &impl Abort,
     world: &mut World,
     sources: &[NodeId],
@@ -168,7 +168,7 @@ fn are_valid(links: &[Link], flows: &[u32], prices: &[u64]) -> bool {
 }
 
 /// Checks that this is a feasible flow of that cost, with valid prices.
-fn check_flow(
+pub fn check_flow(
     rt: &impl Abort,
     links: &[Link],
     nodes: u32,
@@ -183,7 +183,7 @@ fn check_flow(
 }
 
 /// Checks that nothing flows, and that all prices are 0.
-fn check_no_flow(rt: &impl Abort, solved: &Solved) {
+pub fn check_no_flow(rt: &impl Abort, solved: &Solved) {
     assert!(rt; solved.flows.iter().all(|flow| *flow == 0));
     assert!(rt; solved.prices.iter().all(|price| *price == 0));
 }

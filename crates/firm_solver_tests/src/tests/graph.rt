@@ -154,12 +154,15 @@ fn done(rt: &impl Abort, graph: &mut Graph, bytes: &[u8]) {
     graph.drop_task(name);
 }
 
-// The nodes of all machines.
+// The nodes of all machines, each found again by its node; the hub is no machine's.
 fn nodes_of(rt: &impl Abort, alloc: Global, graph: &Graph) -> Vec<NodeId> {
     let mut nodes = Vec::new(alloc);
     for place in 0..graph.rows().machine_count() {
-        nodes.push(node_of(rt, graph, place)).expect(rt, "memory");
+        let node = node_of(rt, graph, place);
+        assert_eq!(rt; graph.machine_of(node), Some(place));
+        nodes.push(node).expect(rt, "memory");
     }
+    assert_eq!(rt; graph.machine_of(graph.hub()), None);
     nodes
 }
 

@@ -7,20 +7,12 @@ ghost use Rattle.firm_paths.specs.Paths.{IsHighest};
 ghost use Rattle.firm_paths.specs.PriceTable.{price_of};
 
 use super::random::Random;
-use super::worlds::{Link, World, arc, build, carrying, has_room, node, read_prices, unit};
+use super::worlds::{Link, World, arc, arc_at, build, carrying, has_room, node, read_prices, unit};
 use firm_net::Way::{Backward, Forward};
 use firm_net::{ArcId, ArcRow, NodeId, Way};
-use firm_paths::{Step, arcs_are_rows, raise, searches_add_up, tight_path};
+use firm_paths::{Step, arcs_are_rows, raise, searches_add_up, tight_path, tight_within};
 use std::alloc::Global;
 use std::process::Abort;
-
-fn arc_at(rt: &impl Abort, world: &World, number: usize) -> ArcId {
-    world
-        .arcs
-        .get(number)
-        .copied()
-        .expect(rt, "the arc is there")
-}
 
 fn row_of(rt: &impl Abort, world: &World, arc: ArcId) -> ArcRow {
     world.net.arc(arc).expect(rt, "the arc is there")
@@ -90,7 +82,7 @@ fn check_path(
 }
 
 /// Checks that the two nodes are different nodes of a net with the room that a world's has.
-fn check_nodes(rt: &impl Abort, world: &World, from: NodeId, to: NodeId)
+pub fn check_nodes(rt: &impl Abort, world: &World, from: NodeId, to: NodeId)
     ensures room { limits_of world.now.net ≡ (8, 16) }
     ensures nodes { IsNode world.now.net from × IsNode world.now.net to × (from ≢ to) }
 {
@@ -98,7 +90,7 @@ fn check_nodes(rt: &impl Abort, world: &World, from: NodeId, to: NodeId)
     assert!(rt; world.net.place(from).is_some() && world.net.place(to).is_some());
 }
 
-fn copied(rt: &impl Abort, alloc: Global, steps: Option<&[Step]>) -> Option<Vec<Step>> {
+pub fn copied(rt: &impl Abort, alloc: Global, steps: Option<&[Step]>) -> Option<Vec<Step>> {
     match steps {
         Some(steps) => Some(steps.to_vec(alloc).expect(rt, "memory")),
         None => None,
@@ -380,6 +372,142 @@ fn searches_and_looks_are_counted(rt: HostRuntime) {
     expect_counts(&rt, &world, (1, 1, 5));
     world.scratch.begin();
     expect_counts(&rt, &world, (2, 0, 0));
+}
+
+/// What is asked inside classes, in turn: the numbers of both ends, the path that is found, no steps for none, and how
+/// many searches were made by then.
+struct Asked {
+    ends: (usize, usize),
+    path: &'static [(usize, Way)],
+    searches: u64,
+}
+
+/// Asks for a path inside classes, and checks it.
+fn expect_within(rt: &impl Abort, alloc: Global, world: &mut World, asked: &Asked)
+    requires limits { (world.old.prices.limits ≡ (8, 16)) × (world.old.scratch.limits ≡ (8, 16)) }
+    ensures limits { (world.new.prices.limits ≡ (8, 16)) × (world.new.scratch.limits ≡ (8, 16)) }
+{
+    let (from, to) = (node(rt, world, asked.ends.0), node(rt, world, asked.ends.1));
+    check_nodes(rt, world, from, to);
+    let steps = tight_within(&mut world.scratch, &world.net, &world.prices, from, to);
+    let steps = copied(rt, alloc, steps);
+    assert_eq!(rt;
+        world.scratch.searches(),
+        asked.searches,
+        "from {} to {}",
+        asked.ends.0,
+        asked.ends.1
+    );
+    if asked.path.is_empty() {
+        expect_no_path(rt, steps);
+    } else {
+        expect_steps(rt, world, steps, asked.path);
+    }
+}
+
+fn expect_all_within(rt: &impl Abort, alloc: Global, nodes: u32, links: &[Link], asked: &[Asked]) {
+    let mut world = build(rt, alloc, nodes, links);
+    world.scratch.join_nodes();
+    for asked in asked {
+        expect_within(rt, alloc, &mut world, asked);
+    }
+}
+
+/// Three nodes on a cycle, and from the last of them a way to two more on another.
+static TWO_CYCLES: [Asked; 8] = [
+    Asked {
+        ends: (0, 2),
+        path: &[(0, Forward), (1, Forward)],
+        searches: 1,
+    },
+    // On no cycle, but nothing has parted its ends yet.
+    Asked {
+        ends: (0, 4),
+        path: &[(0, Forward), (1, Forward), (3, Forward), (4, Forward)],
+        searches: 2,
+    },
+    Asked {
+        ends: (4, 1),
+        path: &[],
+        searches: 3,
+    },
+    // The cycles are classes now. No search is made from one to the other, not even along the way between them.
+    Asked {
+        ends: (3, 2),
+        path: &[],
+        searches: 3,
+    },
+    Asked {
+        ends: (2, 3),
+        path: &[],
+        searches: 3,
+    },
+    Asked {
+        ends: (1, 0),
+        path: &[(1, Forward), (2, Forward)],
+        searches: 4,
+    },
+    Asked {
+        ends: (4, 3),
+        path: &[(5, Forward)],
+        searches: 5,
+    },
+    Asked {
+        ends: (4, 0),
+        path: &[],
+        searches: 5,
+    },
+];
+
+/// A unit from the second node to the first, a held one from the first to the third, a free way from the second to the
+/// third, and a dear one back.
+static UNITS: [Asked; 5] = [
+    Asked {
+        ends: (0, 2),
+        path: &[(0, Backward), (1, Forward)],
+        searches: 1,
+    },
+    // The dear arc is not tight, and the held unit leads nowhere.
+    Asked {
+        ends: (2, 0),
+        path: &[],
+        searches: 2,
+    },
+    Asked {
+        ends: (1, 0),
+        path: &[],
+        searches: 3,
+    },
+    Asked {
+        ends: (0, 1),
+        path: &[],
+        searches: 3,
+    },
+    Asked {
+        ends: (0, 2),
+        path: &[],
+        searches: 3,
+    },
+];
+
+#[test]
+fn paths_inside_classes(rt: HostRuntime) {
+    let cycles = [
+        unit(0, 1, 0),
+        unit(1, 2, 0),
+        unit(2, 0, 0),
+        unit(2, 3, 0),
+        unit(3, 4, 0),
+        unit(4, 3, 0),
+    ];
+    expect_all_within(&rt, rt.alloc(), 5, &cycles, &TWO_CYCLES);
+    let units = [
+        carrying(1, 0, 0),
+        unit(1, 2, 0),
+        carrying(0, 2, 1),
+        unit(2, 0, 4),
+    ];
+    expect_all_within(&rt, rt.alloc(), 3, &units, &UNITS);
 }
 
 /// An arc between two of five nodes, which may have no room.

@@ -74,7 +74,7 @@ fn is_free(row: ArcRow) -> bool
     row.flow() <= row.low() || row.cost() == 0
 }
 
-fn add_nodes(rt: &impl Abort, alloc: Global, net: &mut Net, count: u32) -> Vec<NodeId>
+pub fn add_nodes(rt: &impl Abort, alloc: Global, net: &mut Net, count: u32) -> Vec<NodeId>
     requires valid { AreValid (arcs_of net.old) (λ _. 0) }
     ensures valid { AreValid (arcs_of net.new) (λ _. 0) }
 {
@@ -114,7 +114,7 @@ fn add(rt: &impl Abort, net: &mut Net, row: ArcRow) -> ArcId
     net.add_arc(row).expect(rt, "there is room")
 }
 
-fn add_arcs(
+pub fn add_arcs(
     rt: &impl Abort,
     alloc: Global,
     net: &mut Net,
@@ -160,6 +160,14 @@ pub fn node(rt: &impl Abort, world: &World, number: usize) -> NodeId {
         .get(number)
         .copied()
         .expect(rt, "the node is there")
+}
+
+pub fn arc_at(rt: &impl Abort, world: &World, number: usize) -> ArcId {
+    world
+        .arcs
+        .get(number)
+        .copied()
+        .expect(rt, "the arc is there")
 }
 
 pub fn read_prices(rt: &impl Abort, alloc: Global, world: &World) -> Vec<u64>

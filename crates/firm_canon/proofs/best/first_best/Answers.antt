@@ -1,4 +1,4 @@
-use Rattle.std.proofs.Common.{rules, ◌≡◌, ℕ, [], ◌+◌, ◌*◌, List, length, arith, sym, ap, subst, ◌∙◌}
+use Rattle.std.proofs.Common.{rules, ◌≡◌, ℕ, [], ◌+◌, ◌*◌, List, length, arith, refl, sym, ap, subst, ◌∙◌}
 use Rattle.std.proofs.Math.Nat.{mul-add}
 use Rattle.std.proofs.lemmas.List.{length-map}
 use Rattle.firm_rules.specs.ArenaUse.{arena_arcs, preference_count}
@@ -11,11 +11,14 @@ use Rattle.firm_graph.specs.Graph.{Graph}
 use Rattle.firm_graph.specs.Ids.{view_of}
 use Rattle.firm_graph.specs.View.{View, IsSameCase}
 use Rattle.firm_canon.specs.Counts.{HasSearchedUpTo}
+use Rattle.firm_rules.specs.Book.{TenantRows}
 use Rattle.firm_canon.specs.inner.Choosing.{Keeps}
 use Rattle.firm_canon.specs.inner.Classes.{HasSought, cut_count}
 use Rattle.firm_canon.specs.inner.Ways.{preferred_before}
+use Rattle.firm_canon.specs.inner.Looks.{HasLooked, arc_ends}
 use Rattle.firm_canon.proofs.Counts.{few_cuts, more_since, no_cuts, preferences_counted, sought_in_all, sought_of_all}
 use Rattle.firm_canon.proofs.Graphs.{same_on, same_rows, same_machines}
+use Rattle.firm_canon.proofs.Looks.{ends_all, looks_of_round}
 use Rattle.firm_canon.proofs.Ranks.{lasting_start}
 use Rattle.firm_canon.proofs.Starts.{ends}
 use Rattle.firm_canon.proofs.best.first_best.Goals as goal
@@ -117,3 +120,22 @@ pub returns-clause-limits : goal.returns-clause-limits
 returns-clause-limits c =
     let tie : c.graph-1.given.0 ≡ c.choose_all.new.self.graph.now = search rules in
     rw tie (c.choose_all.ensures.same.limits ∙ c.start.ensures.same.limits)
+
+pub returns-clause-looked_few : goal.returns-clause-looked_few
+returns-clause-looked_few c =
+    let old : Graph = c.args.graph.now in
+    let mid : Graph = c.start.new.graph in
+    let scratch : Workspace = c.choose_all.new.self.scratch.now in
+    let places : List ℕ = arc_ends (view_of mid) in
+    let tasks : ℕ = length old.rows.tasks in
+    let rows : mid.rows ≡ old.rows = same_rows old mid c.start.ensures.same in
+    let size : length places ≡ 2 * arena_arcs old.rows =
+    ends_all c.networks_are_counted.ensures mid.rows (view_of mid) refl
+    ∙ ap (λ (r : TenantRows). 2 * arena_arcs r) rows in
+    let looked : HasLooked places (2 * tasks) (arena_arcs old.rows) c.start.new.scratch scratch =
+    subst (λ (r : TenantRows). HasLooked places (2 * tasks) (arena_arcs r) c.start.new.scratch scratch) rows
+    (subst (λ (n : ℕ). HasLooked places (2 * n) (arena_arcs mid.rows) c.start.new.scratch scratch)
+    c.task_count-tasks.ensures.rows c.choose_all.ensures.looked) in
+    let tie : c.scratch-1.given.0 ≡ scratch = search rules in
+    rw tie (looks_of_round places tasks (arena_arcs old.rows) c.args.scratch.now c.start.new.scratch scratch size
+    c.start.ensures.searched looked)

@@ -5,7 +5,7 @@ use Rattle.firm_flow.proofs.Placed.{some_routed}
 use Rattle.firm_flow.proofs.start.has_any.Goals as goal
 
 abbrev nothing : Proposed
-nothing = record { source = record { id = record { place = 0; stamp = 0 } }; route = Search }
+nothing = record { source = record { id = record { place = 0; stamp = 0 } }; route = Search; looks = 0 }
 
 pub returns-then-is_proposed : goal.returns-then-is_proposed
 returns-then-is_proposed c _ =

@@ -1,7 +1,8 @@
-use Rattle.std.proofs.Common.{◌∙◌, List, [], arith, ap, sym, subst}
-use Rattle.firm_net.specs.Net.{Net, without_flow}
+use Rattle.std.proofs.Common.{◌≡◌, ◌∙◌, ℕ, ◌+◌, List, [], arith, ap, sym, subst}
+use Rattle.firm_net.specs.Net.{Net, arc_count, without_flow}
 use Rattle.firm_net.specs.Laws.{cleared_twice}
 use Rattle.firm_paths.specs.PriceTable.{price_of}
+use Rattle.firm_paths.specs.Workspace.{HasSearched}
 use Rattle.firm_flow.specs.declared.start.Proposed.{Proposed}
 use Rattle.firm_flow.specs.NetFlow.{SameButFlow, places, sources_of}
 use Rattle.firm_flow.specs.inner.Push.{IsSent}
@@ -22,6 +23,18 @@ accept-requires-clause-few c =
       sources_length c.args.sources.now,
     )
 
+pub count_searches-requires : goal.count_searches-requires
+count_searches-requires c =
+    let cleared : SameButFlow c.args.net.now c.clear_flow.new.self =
+    ap without_flow c.clear_flow.ensures.clears ∙ cleared_twice c.args.net.now in
+    omega (
+      arith,
+      few_sources c.clear_flow.new.self (sources_of c.args.sources.now) c.args.sink c.clear_flow.ensures.net
+          (still_distinct c.args.net.now c.clear_flow.new.self (sources_of c.args.sources.now) c.args.sink cleared
+          c.requires.nodes),
+      sources_length c.args.sources.now,
+    )
+
 pub accept-requires-clause-clear : goal.accept-requires-clause-clear
 accept-requires-clause-clear c =
     subst (λ (n : Net). IsPlaced n [] c.args.sink.id.place 0) (sym c.clear_flow.ensures.clears)
@@ -30,6 +43,21 @@ accept-requires-clause-clear c =
 pub returns-in-Some-clause-same : goal.returns-in-Some-clause-same
 returns-in-Some-clause-same c =
     c.accept.ensures.same ∙ (ap without_flow c.clear_flow.ensures.clears ∙ cleared_twice c.args.net.now)
+
+pub returns-in-Some-clause-counts : goal.returns-in-Some-clause-counts
+returns-in-Some-clause-counts c =
+    let made : ℕ = c.count_searches.result in
+    let cleared : arc_count c.clear_flow.new.self ≡ arc_count c.args.net.now =
+    c.clear_flow.ensures.counts.counted_arcs in (
+      1 + made,
+      omega (arith, c.count_searches.ensures.few, c.in-Some.ensures.some),
+      c.searches_add_up.ensures.more c.args.scratch.now c.accept.new.scratch c.count_searches.new.scratch 1 made
+          (arc_count c.args.net.now)
+          (subst (λ (n : ℕ). HasSearched c.args.scratch.now c.accept.new.scratch 1 n) cleared
+          c.in-Some.ensures.counts)
+          (subst (λ (n : ℕ). HasSearched c.accept.new.scratch c.count_searches.new.scratch made n)
+          (c.accept.ensures.arcs ∙ cleared) c.count_searches.ensures.counts),
+    )
 
 pub returns-clause-same : goal.returns-clause-same
 returns-clause-same c =

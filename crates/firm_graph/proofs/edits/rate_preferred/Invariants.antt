@@ -2,7 +2,7 @@ use Rattle.std.proofs.Common.{◌≡◌, ℕ, List, ◌++◌, length}
 use Rattle.firm_net.specs.Net.{Net, IsNet}
 use Rattle.firm_net.specs.declared.row.NodeId.{NodeId}
 use Rattle.firm_net.specs.Edits.{Span}
-use Rattle.firm_graph.specs.Steps.{Holds, mixed_spans}
+use Rattle.firm_graph.specs.inner.Steps.{Holds, mixed_spans}
 use Rattle.firm_graph.specs.Graph.{preferred_spans}
 use Rattle.firm_graph.proofs.edits.rate_preferred.Given as goal
 

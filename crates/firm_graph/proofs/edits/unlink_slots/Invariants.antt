@@ -2,7 +2,7 @@ use Rattle.std.proofs.Common.{ℕ, List, ◌++◌, drop}
 use Rattle.firm_net.specs.Net.{IsNet}
 use Rattle.firm_net.specs.declared.row.NodeId.{NodeId}
 use Rattle.firm_net.specs.Edits.{Span}
-use Rattle.firm_graph.specs.Steps.{Holds}
+use Rattle.firm_graph.specs.inner.Steps.{Holds}
 use Rattle.firm_graph.specs.Graph.{slot_spans}
 use Rattle.firm_graph.proofs.edits.unlink_slots.Given as goal
 

@@ -1,7 +1,7 @@
 use Rattle.std.proofs.Common.{◌≡◌, ℕ, true, false, refl, sym, ◌∙◌, subst}
 use Rattle.firm_rules.specs.Book.{TenantRows, is_on}
 use Rattle.firm_graph.specs.Graph.{Mirrors}
-use Rattle.firm_graph.specs.Steps.{moved, task_at}
+use Rattle.firm_graph.specs.inner.Steps.{moved, task_at}
 use Rattle.firm_graph.proofs.Firsts.{throw-no, forgotten-at}
 use Rattle.firm_graph.proofs.Turns.{evict-next}
 use Rattle.firm_graph.proofs.moves.evict_task.Goals as goal

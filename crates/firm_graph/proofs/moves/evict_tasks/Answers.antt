@@ -1,7 +1,7 @@
 use Rattle.std.proofs.Common.{◌≤◌, length, arith, ap, ◌∙◌, subst}
 use Rattle.firm_rules.specs.Book.{TenantRows}
 use Rattle.firm_graph.specs.Graph.{Mirrors}
-use Rattle.firm_graph.specs.Steps.{moved, thrown_out_first}
+use Rattle.firm_graph.specs.inner.Steps.{moved, thrown_out_first}
 use Rattle.firm_graph.proofs.Firsts.{throw-end}
 use Rattle.firm_graph.proofs.moves.evict_tasks.Goals as goal
 

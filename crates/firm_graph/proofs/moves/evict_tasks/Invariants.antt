@@ -1,6 +1,6 @@
 use Rattle.std.proofs.Common.{◌≡◌}
 use Rattle.firm_graph.specs.Graph.{Graph, Mirrors}
-use Rattle.firm_graph.specs.Steps.{moved, forgetting_rows, thrown_out_first}
+use Rattle.firm_graph.specs.inner.Steps.{moved, forgetting_rows, thrown_out_first}
 use Rattle.firm_graph.proofs.moves.evict_tasks.Given as goal
 
 abbrev pub invariant-loop-place : goal.invariant-loop-place

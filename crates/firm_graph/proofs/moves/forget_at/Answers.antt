@@ -10,7 +10,7 @@ use Rattle.firm_rules.specs.declared.parts.Task.{Task}
 use Rattle.firm_graph.specs.declared.parts.TaskParts.{TaskParts}
 use Rattle.firm_graph.specs.Network.{away}
 use Rattle.firm_graph.specs.Graph.{Mirrors}
-use Rattle.firm_graph.specs.Steps.{refitted, with_forgetting_at, task_at, no_task}
+use Rattle.firm_graph.specs.inner.Steps.{refitted, with_forgetting_at, task_at, no_task}
 use Rattle.firm_graph.proofs.Additions.{read-at}
 use Rattle.firm_graph.proofs.Lookups.{position-is}
 use Rattle.firm_graph.proofs.Forgets.{forgot, forgot-holds, not-preferred}

@@ -3,7 +3,7 @@ use Rattle.firm_rules.specs.Book.{TenantRows}
 use Rattle.firm_rules.specs.declared.parts.Task.{Task}
 use Rattle.firm_graph.specs.declared.parts.TaskParts.{TaskParts}
 use Rattle.firm_graph.specs.Graph.{Mirrors}
-use Rattle.firm_graph.specs.Steps.{refitted, no_task}
+use Rattle.firm_graph.specs.inner.Steps.{refitted, no_task}
 use Rattle.firm_graph.proofs.Drops.{AllZip-at}
 use Rattle.firm_graph.proofs.Forgets.{forget-next, forget-end, node-said, left-unsaid}
 use Rattle.firm_graph.proofs.moves.forget_machine.Goals as goal

@@ -5,7 +5,7 @@ use Rattle.firm_rules.specs.Limits.{TenantLimits}
 use Rattle.firm_rules.specs.declared.parts.Job.{Job}
 use Rattle.firm_graph.specs.Graph.{weight_under}
 use Rattle.firm_graph.specs.Network.{away}
-use Rattle.firm_graph.specs.Steps.{task_at}
+use Rattle.firm_graph.specs.inner.Steps.{task_at}
 use Rattle.firm_graph.proofs.Drops.{wide_of, stay_of, wait_of, preferred-paired}
 use Rattle.firm_graph.proofs.Places.{Rates, task-placed, step-1, step-2, step-3, step-4, step-5, rated, rest_of}
 use Rattle.firm_graph.proofs.Turns.{leads-home}

@@ -5,7 +5,7 @@ use Rattle.firm_rules.specs.declared.parts.Job.{Job}
 use Rattle.firm_rules.specs.declared.parts.Task.{Task}
 use Rattle.firm_graph.specs.declared.parts.TaskParts.{TaskParts}
 use Rattle.firm_graph.specs.Graph.{Mirrors, weight_under}
-use Rattle.firm_graph.specs.Steps.{moved, with_task_at, task_at, no_task}
+use Rattle.firm_graph.specs.inner.Steps.{moved, with_task_at, task_at, no_task}
 use Rattle.firm_graph.proofs.Additions.{read-at}
 use Rattle.firm_graph.proofs.Places.{Rates}
 use Rattle.firm_graph.proofs.Stays.{IsHome, no-other, kept-whole, kept-but-wait, stay-read}

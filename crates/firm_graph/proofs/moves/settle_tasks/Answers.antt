@@ -4,7 +4,7 @@ use Rattle.firm_rules.specs.Book.{TenantRows}
 use Rattle.firm_rules.specs.declared.rounds.Choice.TheVariants.{Wait}
 use Rattle.firm_graph.specs.declared.parts.TaskParts.{TaskParts}
 use Rattle.firm_graph.specs.Graph.{Mirrors}
-use Rattle.firm_graph.specs.Steps.{moved}
+use Rattle.firm_graph.specs.inner.Steps.{moved}
 use Rattle.firm_graph.proofs.Firsts.{settle-end}
 use Rattle.firm_graph.proofs.Turns.{settle-next}
 use Rattle.firm_graph.proofs.moves.settle_tasks.Goals as goal

@@ -7,7 +7,7 @@ use Rattle.firm_rules.specs.declared.parts.Task.{Task}
 use Rattle.firm_rules.specs.declared.rounds.Choice.{Choice}
 use Rattle.firm_graph.specs.Parts.{MachineParts}
 use Rattle.firm_graph.specs.Graph.{home_node}
-use Rattle.firm_graph.specs.Steps.{task_at}
+use Rattle.firm_graph.specs.inner.Steps.{task_at}
 use Rattle.firm_graph.proofs.Turns.{stand-node}
 use Rattle.firm_graph.proofs.moves.stand_of.Goals as goal
 

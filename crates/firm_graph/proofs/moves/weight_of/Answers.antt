@@ -1,7 +1,7 @@
 use Rattle.std.proofs.Common.{◌≡◌, ap, sym, ◌∙◌}
 use Rattle.firm_rules.specs.declared.parts.Task.{Task}
 use Rattle.firm_graph.specs.Graph.{weight_under}
-use Rattle.firm_graph.specs.Steps.{task_at, no_task}
+use Rattle.firm_graph.specs.inner.Steps.{task_at, no_task}
 use Rattle.firm_graph.proofs.Additions.{weight-read, read-at}
 use Rattle.firm_graph.proofs.moves.weight_of.Goals as goal
 

@@ -1,8 +1,9 @@
-use Rattle.std.proofs.Common.{◌≡◌, ◌∙◌, ℕ, Bool, List, arith, refl, sym, ap, subst}
+use Rattle.std.proofs.Common.{◌≡◌, ◌+◌, ◌∙◌, ℕ, Bool, List, arith, refl, sym, ap, subst}
 use Rattle.std.specs.Prelude.{slice_index}
 use Rattle.firm_paths.specs.NetArcs.{arcs_of}
 use Rattle.firm_paths.specs.Paths.{IsTightPath}
 use Rattle.firm_paths.specs.Classes.{AreTogether, IsSplit, StaysInClass}
+use Rattle.firm_paths.specs.Credit.{AreFew, ArePaid, ends_of}
 use Rattle.firm_paths.specs.Workspace.{Workspace}
 use Rattle.firm_paths.specs.inner.Front.{Ground}
 use Rattle.firm_paths.proofs.ArcRows.{as_many_as_counted}
@@ -99,7 +100,18 @@ returns-in_default-found c =
     (subst (λ (z : ℕ). IsSplit (arcs_of net) price (slice_index of) (slice_index new) z to inside) start
     (subst
     (λ (z : ℕ). IsSplit (arcs_of net) price (slice_index of) (slice_index new) c.in-Some-Some.start.place z inside)
-    goal_at lost.1)) in (
+    goal_at lost.1)) in
+    let ends : List ℕ = ends_of (arcs_of net) in
+    let took : ℕ = c.find-found.new.self.forward.looks + c.find-found.new.self.backward.looks in
+    let few : AreFew ends from to took new =
+    subst (λ (z : ℕ). AreFew ends z to took new) start
+    (subst (λ (z : ℕ). AreFew ends c.in-Some-Some.start.place z took new) goal_at
+    c.in_default-found.ensures.few_lost) in
+    let paid : ArePaid ends from to took old.classes new =
+    subst (λ (z : List ℕ). ArePaid ends from to took z new) classes
+    (subst (λ (z : ℕ). ArePaid ends z to took of new) start
+    (subst (λ (z : ℕ). ArePaid ends c.in-Some-Some.start.place z took of new) goal_at
+    c.in_default-found.ensures.paid)) in (
       (
         refl,
         (λ _. tt),
@@ -121,7 +133,8 @@ returns-in_default-found c =
                 c.find-found.ensures.few,
                 as_many_as_counted net,
               );
-            }),
+            })
+            took (omega (arith, looks, c.saturating_add-scratch-inside-2.ensures)) few paid,
       ),
       record { rests = tt; path = tt; within = tt },
     )

@@ -16,7 +16,7 @@ returns-then-not-prefers_place g c =
           (lt-ltb 0 (length task.preferred) some)
           (sym w.prefers_place.ensures
           ∙ not-true w.prefers_place.result (sym w.value-is ∙ c.if-not-prefers_place.true))
-          (ap (λ (home : Option ℕ). runs_at home c.args.place) (sym c.home_of.ensures) ∙ sym c.is_home.ensures)))
+          (sym c.is_home.ensures)))
       | else-len-gt0 w ↦ absurd (true≢false
           (sym c.if-not-prefers_place.true ∙ w.value-is ∙ le-ltb 0 c.len.result w.if-len-gt0.false))
     ]

@@ -1,4 +1,4 @@
--- `allocate`: the heap's memory becomes so many empty places, and its right to be given back goes with them.
+-- `allocate`: the heap's memory becomes empty places, and its right to be given back goes with them.
 use lib.Dec.{lit<}
 use lib.ListN.{replicate, length-replicate}
 use mathlib.Core.Bool.{true, false}

@@ -14,6 +14,7 @@ use Rattle.firm_canon.specs.declared.choosing.Choosing.{Choosing}
 use Rattle.firm_canon.proofs.Counts.{parted_le}
 use Rattle.firm_canon.proofs.Choices.{chose_own, no_stay_home, sends_one, shut_own}
 use Rattle.firm_canon.proofs.States.{goes_both, goes_within, kept_on, still_on, next_on, one_of_two}
+use Rattle.firm_canon.proofs.Looks.{looks_both, looks_within}
 use Rattle.firm_canon.proofs.choosing.Choosing.choose.Goals as goal
 
 none_of : (o : Option ℕ) → ((x : ℕ) → o ≡ Some x → ⊥) → o ≡ None
@@ -96,3 +97,13 @@ returns-clause-goes_on c =
     goes_both s now c.choose_other-2.new.self 1 _ _ _ _ _ lost.goes_on c.choose_other-2.ensures.goes_on
     (omega (arith, ap (λ (z : Case). length z.slots) lost.goes_on.same.case.case))
     (omega (arith, same, few, places))
+
+pub returns-then-reach_own-clause-looked : goal.returns-then-reach_own-clause-looked
+returns-then-reach_own-clause-looked c =
+    looks_within c.args.self.now c.reach_own.new.self 1 2 c.if-reach_own.ensures.looked (omega arith)
+
+pub returns-clause-looked : goal.returns-clause-looked
+returns-clause-looked c =
+    let lost = c.if-reach_own.ensures in
+    looks_both c.args.self.now c.reach_own.new.self c.choose_other-2.new.self 0 2 2 lost.goes_on.same lost.looked
+    c.choose_other-2.ensures.looked (omega arith)

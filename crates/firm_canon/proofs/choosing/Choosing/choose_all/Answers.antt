@@ -8,9 +8,11 @@ use Rattle.firm_graph.specs.Network.{demand}
 use Rattle.firm_canon.specs.inner.Classes.{HasSought, cut_count}
 use Rattle.firm_canon.specs.inner.Ways.{preferred_before}
 use Rattle.firm_canon.specs.inner.State.{prefix, view}
+use Rattle.firm_canon.specs.inner.Looks.{LooksOn}
 use Rattle.firm_canon.specs.declared.choosing.Choosing.{Choosing}
 use Rattle.firm_canon.proofs.Counts.{none_sought, preferred_next, sought_since}
 use Rattle.firm_canon.proofs.Graphs.{same_self, same_on, same_rows, same_machines}
+use Rattle.firm_canon.proofs.Looks.{looks_both, looks_self}
 use Rattle.firm_canon.proofs.choosing.Choosing.choose_all.Goals as goal
 
 pub loop-task-init : goal.loop-task-init
@@ -22,6 +24,7 @@ loop-task-init c =
       scratch = refl;
       list = refl;
       sought = none_sought s.scratch.now _ _ _ _;
+      looked = looks_self s 0;
       ready = c.requires.ready;
       so_far = omega (arith, c.requires.none, s.chosen.now.ok.0);
       count = c.requires.none;
@@ -53,6 +56,8 @@ loop-task-preserved c =
             ap (λ (k : Case). length (demand k (length (prefix c.loop-task.self))).preferred) kept.same.case.case,
             ap (λ (n : ℕ). length (demand (view_of old).case n).preferred) kept.so_far,
           ));
+      looked = looks_both s c.loop-task.self c.choose_next.new.self (2 * c.loop-task.task) 2
+          (2 * (c.loop-task.task + 1)) kept.same kept.looked next.looked (omega arith);
       ready = next.ready;
       so_far = omega (arith, next.more, kept.so_far);
       count = omega (arith, next.len, kept.count);
@@ -71,3 +76,8 @@ returns-clause-sought c =
 pub returns-clause-all : goal.returns-clause-all
 returns-clause-all c =
     omega (arith, c.loop-task.invariant.so_far, c.loop-task-test.false, c.loop-task.auto.task-end)
+
+pub returns-clause-looked : goal.returns-clause-looked
+returns-clause-looked c =
+    let done : c.loop-task.task ≡ c.args.tasks = omega (arith, c.loop-task-test.false, c.loop-task.auto.task-end) in
+    subst (λ (n : ℕ). LooksOn c.args.self.now c.loop-task.self (2 * n)) done c.loop-task.invariant.looked

@@ -7,6 +7,7 @@ use Rattle.firm_canon.specs.inner.Graphs.{IsSameGraph}
 use Rattle.firm_canon.specs.inner.Classes.{HasSought, cut_count}
 use Rattle.firm_canon.specs.inner.State.{IsReady, prefix, view}
 use Rattle.firm_canon.specs.inner.Ways.{preferred_before}
+use Rattle.firm_canon.specs.inner.Looks.{LooksOn}
 use Rattle.firm_canon.proofs.choosing.Choosing.choose_all.Given as goal
 
 abbrev pub invariant-loop-task : goal.invariant-loop-task
@@ -20,6 +21,7 @@ invariant-loop-task l =
       sought : HasSought l.fn.self.scratch.now l.self.scratch.now (l.task * (length old.rows.machines + 3))
           (2 * l.task + preferred_before (view_of old).case l.task) (arena_arcs old.rows)
           (cut_count (view l.fn.self) l.fn.self.scratch.now) (cut_count (view l.self) l.self.scratch.now);
+      looked : LooksOn l.fn.self l.self (2 * l.task);
       ready : IsReady l.self;
       so_far : length (prefix l.self) ≡ l.task;
       count : vec_len l.self.chosen.now ≡ l.task;

@@ -22,6 +22,7 @@ use Rattle.firm_canon.proofs.Choices.{chose_own}
 use Rattle.firm_canon.proofs.Ends.{chosen_found, chosen_wait, not_left, same_view}
 use Rattle.firm_canon.proofs.Passes.{passed_on}
 use Rattle.firm_canon.proofs.States.{goes_both, goes_within, kept_on, still_on, still_back, next_on}
+use Rattle.firm_canon.proofs.Looks.{looks_both, looks_within}
 use Rattle.firm_canon.proofs.choosing.Choosing.choose_from.Goals as goal
 
 -- where the stretch begins that is tried by the hub
@@ -195,3 +196,12 @@ returns-clause-chosen c =
           sent.goes_on.same.case.arc,
       ap (λ z. flows (view new) (Stay (length z.now.items))) sent.goes_on.chosen,
     ))
+
+pub returns-then-not-hub-clause-looked : goal.returns-then-not-hub-clause-looked
+returns-then-not-hub-clause-looked c =
+    looks_within c.args.self.now c.find_place.new.self 0 1 c.in_default.ensures.looked_none (omega arith)
+
+pub returns-clause-looked : goal.returns-clause-looked
+returns-clause-looked c =
+    looks_both c.args.self.now c.find_place.new.self c.send.new.self 0 1 1 c.in_default.ensures.goes_on_none.same
+    c.in_default.ensures.looked_none c.if-not-send.ensures.looked (omega arith)

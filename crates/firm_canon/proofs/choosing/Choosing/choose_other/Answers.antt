@@ -20,7 +20,9 @@ use Rattle.firm_canon.proofs.Choices.{sends_one}
 use Rattle.firm_canon.proofs.Spent.{spent_beside}
 use Rattle.firm_canon.proofs.Passes.{passed_on, passed_all, shut_on}
 use Rattle.firm_canon.proofs.Ends.{best_back, chosen_found, same_view}
+use Rattle.firm_canon.proofs.Graphs.{same_on}
 use Rattle.firm_canon.proofs.States.{goes_both, goes_marked, kept_on, still_on, still_back, next_on, one_of_two}
+use Rattle.firm_canon.proofs.Looks.{looks_both, looks_within, one_few}
 use Rattle.firm_canon.proofs.choosing.Choosing.choose_other.Goals as goal
 
 -- the state with its mark moved
@@ -207,3 +209,20 @@ returns-clause-goes_on c =
       ap (λ (z : Case). length z.slots) to_three.same.case.case,
     ))
     (omega (arith, charged, below_all places first))
+
+pub returns-in-Some-clause-looked : goal.returns-in-Some-clause-looked
+returns-in-Some-clause-looked c =
+    looks_within c.args.self.now c.find_place.new.self 1 2 c.in-Some.ensures.looked (omega arith)
+
+pub returns-clause-looked : goal.returns-clause-looked
+returns-clause-looked c =
+    let s : Choosing = c.args.self.now in
+    let two : Choosing = c.find_place.new.self in
+    let three : Choosing = c.reach_hub-hub.new.self in
+    let find = c.in_default.ensures in
+    let hub = c.reach_hub-hub.ensures in
+    looks_both s three c.choose_from.new.self 1 1 2
+    (same_on s.graph.now two.graph.now three.graph.now find.goes_on_none.same hub.goes_on.same)
+    (looks_both s two three 0 (one_if c.reach_hub-hub.result) 1 find.goes_on_none.same find.looked_none hub.looked
+    (omega (arith, one_few c.reach_hub-hub.result)))
+    c.choose_from.ensures.looked (omega arith)

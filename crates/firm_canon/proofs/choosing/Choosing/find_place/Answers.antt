@@ -17,6 +17,7 @@ use Rattle.firm_canon.proofs.Finds.{found_none, found_one, tried_within}
 use Rattle.firm_canon.proofs.Passes.{passed_on, passed_any, passed_more}
 use Rattle.firm_canon.proofs.Ends.{same_view}
 use Rattle.firm_canon.proofs.States.{goes_both, goes_within, kept_back, still_back}
+use Rattle.firm_canon.proofs.Looks.{looks_both}
 use Rattle.firm_canon.proofs.choosing.Choosing.find_place.Goals as goal
 
 pub loop-machine-preserved-in_default : goal.loop-machine-preserved-in_default
@@ -42,6 +43,7 @@ loop-machine-preserved-in_default c =
       still = inv.still;
       goes = goes_within s t _ _ _ _ inv.goes (omega (arith, on.least))
           (omega (arith, below_on places m next (omega (arith, on.least))));
+      looked = inv.looked;
       from = omega (arith, inv.from, on.least);
       end = ⊎_elim (λ (a : next ≤ m + 1). omega (arith, a, c.loop-machine-test.true))
           (λ (b : next ≤ c.args.stretch.behind). omega (arith, b, c.requires.stretch.1)) on.most;
@@ -75,6 +77,7 @@ loop-machine-preserved c =
             below_on places (m + 1) next on.least,
             below_on places c.args.stretch.from m inv.from,
           ));
+      looked = looks_both s t u 0 0 0 inv.goes.same inv.looked lost.looked (omega arith);
       from = omega (arith, inv.from, on.least);
       end = ⊎_elim (λ (a : next ≤ m + 1). omega (arith, a, c.loop-machine-test.true))
           (λ (b : next ≤ c.args.stretch.behind). omega (arith, b, c.requires.stretch.1)) on.most;
@@ -130,3 +133,9 @@ returns-clause-goes_on_none c =
     let inv = c.loop-machine.invariant in
     goes_within c.args.self.now c.loop-machine.self _ _ _ _ inv.goes (omega (arith, inv.end))
     (omega (arith, below_on c.args.wishes.now.places.items c.loop-machine.machine c.args.stretch.end inv.end))
+
+pub returns-then-try_way-clause-looked : goal.returns-then-try_way-clause-looked
+returns-then-try_way-clause-looked c =
+    let inv = c.loop-machine.invariant in
+    looks_both c.args.self.now c.loop-machine.self c.try_way.new.self 0 1 1 inv.goes.same inv.looked
+    c.if-try_way.ensures.looked (omega arith)

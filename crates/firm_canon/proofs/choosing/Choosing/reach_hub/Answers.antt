@@ -9,6 +9,7 @@ use Rattle.firm_canon.proofs.Spent.{closed_beside}
 use Rattle.firm_canon.proofs.Sealed.{wide_ends}
 use Rattle.firm_canon.proofs.Ranks.{blocked_most}
 use Rattle.firm_canon.proofs.States.{lasting_back, row_there}
+use Rattle.firm_canon.proofs.Looks.{looks_self}
 use Rattle.firm_canon.proofs.choosing.Choosing.reach_hub.Goals as goal
 
 pub returns-then-is_at_hub-clause-joined : goal.returns-then-is_at_hub-clause-joined
@@ -59,3 +60,6 @@ returns-clause-closed c e k a b =
     (lasting_back s c.send.new.self 1 1 c.send.ensures.goes_on (c.send.ensures.unchanged e))
     (Wide (length (prefix s))) c.wide-wide.result c.requires.next c.wide-wide.ensures (c.send.ensures.blocked e))
     (c.if-is_at_hub.ensures.no refl)
+
+pub returns-then-is_at_hub-clause-looked : goal.returns-then-is_at_hub-clause-looked
+returns-then-is_at_hub-clause-looked c = looks_self c.args.self.now 1

@@ -14,6 +14,7 @@ use Rattle.firm_canon.proofs.Sealed.{stay_leads, stay_leaves}
 use Rattle.firm_canon.proofs.Ranks.{blocked_most}
 use Rattle.firm_canon.proofs.Opens.{shut_off, stay_way}
 use Rattle.firm_canon.proofs.States.{goes_within, goes_own, lasting_back}
+use Rattle.firm_canon.proofs.Looks.{looks_self}
 use Rattle.firm_canon.proofs.choosing.Choosing.reach_own.Goals as goal
 
 pub seek_own-requires-clause-aside : goal.seek_own-requires-clause-aside
@@ -106,3 +107,6 @@ returns-clause-stopped c e own home =
     c.stay-stay.result own 0 (Stay (length (prefix s)))
     (stay_way (view s) (price s) (prefix s) c.requires.ready.keeps c.requires.next own home
     (c.if-is_at_home.ensures.no refl)) c.stay-stay.ensures (c.send.ensures.blocked e))
+
+pub returns-then-is_at_home-clause-looked : goal.returns-then-is_at_home-clause-looked
+returns-then-is_at_home-clause-looked c = looks_self c.args.self.now 1

@@ -15,6 +15,7 @@ use Rattle.firm_canon.specs.declared.choosing.Choosing.{Choosing}
 use Rattle.firm_canon.proofs.Tries.{there_at}
 use Rattle.firm_canon.proofs.Sealed.{hub_loose, hub_lost, hub_leads, hub_cut, idle_none}
 use Rattle.firm_canon.proofs.States.{goes_self, lasting_back}
+use Rattle.firm_canon.proofs.Looks.{looks_self}
 use Rattle.firm_canon.proofs.choosing.Choosing.seek_hub.Goals as goal
 
 pub is_tight_arc-requires-clause-there : goal.is_tight_arc-requires-clause-there
@@ -89,3 +90,6 @@ returns-clause-most c e =
     ⊎ ((row : Row) → row_at s.graph.now.net c.wide-arc.result ≡ Some row
     → IsSealedAt (view s) (price s) (prefix s) row.head.id.place z.id.place)) c.sink-sink.ensures.value
     (c.seek.ensures.lost e))
+
+pub returns-then-not-is_tight_arc-clause-looked : goal.returns-then-not-is_tight_arc-clause-looked
+returns-then-not-is_tight_arc-clause-looked c = looks_self c.args.self.now 0

@@ -16,6 +16,7 @@ use Rattle.firm_canon.proofs.Tries.{there_at}
 use Rattle.firm_canon.proofs.Choices.{through_held}
 use Rattle.firm_canon.proofs.Sealed.{machine_lost, machine_leads, machine_cut, wide_full, idle_few}
 use Rattle.firm_canon.proofs.States.{goes_self, lasting_back}
+use Rattle.firm_canon.proofs.Looks.{looks_self}
 use Rattle.firm_canon.proofs.choosing.Choosing.seek_machine.Goals as goal
 
 pub returns-then-has_surplus-clause-goes_on : goal.returns-then-has_surplus-clause-goes_on
@@ -104,3 +105,6 @@ returns-clause-spent c e =
     ⊎ ((row : Row) → row_at s.graph.now.net c.through_arc-arc.result ≡ Some row
     → IsSealedAt (view s) (price s) (prefix s) row.head.id.place z.id.place)) c.hub-hub.ensures.value
     (c.seek.ensures.lost e))
+
+pub returns-then-has_surplus-clause-looked : goal.returns-then-has_surplus-clause-looked
+returns-then-has_surplus-clause-looked c = looks_self c.args.self.now 1

@@ -11,6 +11,7 @@ use Rattle.firm_canon.specs.declared.choosing.Choosing.{Choosing}
 use Rattle.firm_canon.proofs.Tries.{there_at}
 use Rattle.firm_canon.proofs.Sealed.{own_loose, own_lost, own_leads, own_cut, idle_none}
 use Rattle.firm_canon.proofs.States.{goes_self, lasting_back}
+use Rattle.firm_canon.proofs.Looks.{looks_self}
 use Rattle.firm_canon.proofs.choosing.Choosing.seek_own.Goals as goal
 
 pub is_tight_arc-requires-clause-there : goal.is_tight_arc-requires-clause-there
@@ -97,3 +98,6 @@ returns-clause-most c e =
     (lasting_back s c.seek.new.self 1 _ c.seek.ensures.goes_on (c.seek.ensures.unchanged e))
     c.requires.home.0 c.own_way.result.0 c.stay-arc.result c.own_way.result.1 c.stay-arc.ensures
     c.requires.home.1 c.requires.aside c.requires.stay c.own_way.ensures (c.seek.ensures.lost e)
+
+pub returns-then-not-is_tight_arc-clause-looked : goal.returns-then-not-is_tight_arc-clause-looked
+returns-then-not-is_tight_arc-clause-looked c = looks_self c.args.self.now 0

@@ -3,6 +3,7 @@ use Rattle.firm_canon.specs.inner.State.{price}
 use Rattle.firm_canon.specs.declared.choosing.Choosing.{Choosing}
 use Rattle.firm_canon.proofs.States.{goes_self, goes_sent, others_after, blocked_after, joined_after, parted_after}
 use Rattle.firm_canon.proofs.States.{row_there}
+use Rattle.firm_canon.proofs.Looks.{looks_self, looks_sent}
 use Rattle.firm_canon.proofs.choosing.Choosing.send.Goals as goal
 
 pub returns-then-not-is_open-clause-goes_on : goal.returns-then-not-is_open-clause-goes_on
@@ -48,3 +49,12 @@ returns-clause-parted c =
     parted_after c.args.self.now.graph.now c.turn.new.graph (price c.args.self.now) c.args.self.now.scratch.now
     c.turn.new.scratch c.args.arc c.turn.result c.turn.ensures.searched c.turn.ensures.won c.turn.ensures.unchanged
     c.requires.there
+
+pub returns-then-not-is_open-clause-looked : goal.returns-then-not-is_open-clause-looked
+returns-then-not-is_open-clause-looked c = looks_self c.args.self.now 0
+
+pub returns-clause-looked : goal.returns-clause-looked
+returns-clause-looked c =
+    let row = row_there _ c.requires.there in
+    looks_sent c.args.self.now c.requires.ready c.turn.new.scratch c.args.arc row.0 row.1 c.turn.result
+    (c.turn.ensures.searched row.0 row.1) c.arcs_are_counted.ensures

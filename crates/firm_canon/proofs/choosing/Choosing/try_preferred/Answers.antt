@@ -12,6 +12,7 @@ use Rattle.firm_canon.proofs.Sealed.{idle_none}
 use Rattle.firm_canon.proofs.Ranks.{blocked_most}
 use Rattle.firm_canon.proofs.Opens.{shut_off, prefer_way}
 use Rattle.firm_canon.proofs.States.{goes_self, lasting_back}
+use Rattle.firm_canon.proofs.Looks.{looks_self}
 use Rattle.firm_canon.proofs.choosing.Choosing.try_preferred.Goals as goal
 
 pub returns-then-is_preferring-clause-goes_on : goal.returns-then-is_preferring-clause-goes_on
@@ -58,3 +59,6 @@ returns-clause-shut c e =
     (prefer_way (view s) (price s) (prefix s) c.requires.ready.keeps c.requires.next _ c.args.number c.requires.number
     refl (c.if-is_preferring.ensures.no refl))
     c.prefer-arc.ensures (c.send.ensures.blocked e)
+
+pub returns-then-is_preferring-clause-looked : goal.returns-then-is_preferring-clause-looked
+returns-then-is_preferring-clause-looked c = looks_self c.args.self.now 1

@@ -2,7 +2,7 @@ use Rattle.std.proofs.Common.{◌≡◌, ◌+◌, ℕ, arith, ap, subst, sym, �
 use Rattle.firm_rules.specs.Limits.{TenantLimits}
 use Rattle.firm_net.specs.Edits.{IsEdit}
 use Rattle.firm_graph.specs.Graph.{Graph, Mirrors, slot_spans}
-use Rattle.firm_graph.specs.Inside.{graph_of}
+use Rattle.firm_graph.specs.inner.Inside.{graph_of}
 use Rattle.firm_graph.specs.Parts.{MachineParts}
 use Rattle.firm_graph.proofs.Found.{hub-there, sink-there, fresh-other}
 use Rattle.firm_graph.proofs.Additions.{machine-added, machine_added, room-left}

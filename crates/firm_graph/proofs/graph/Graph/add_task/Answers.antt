@@ -11,7 +11,7 @@ use Rattle.firm_rules.specs.Book.{TenantRows, machine_names}
 use Rattle.firm_rules.specs.Limits.{TenantLimits}
 use Rattle.firm_graph.specs.Parts.{MachineParts}
 use Rattle.firm_graph.specs.Graph.{Graph, Mirrors, machine_nodes, node_under, preferred_spans}
-use Rattle.firm_graph.specs.Inside.{graph_of}
+use Rattle.firm_graph.specs.inner.Inside.{graph_of}
 use Rattle.firm_graph.specs.declared.parts.TaskParts.{TaskParts}
 use Rattle.firm_graph.specs.declared.parts.JobParts.{JobParts}
 use Rattle.firm_graph.proofs.Found.{hub-there, machines-there, fresh-other}

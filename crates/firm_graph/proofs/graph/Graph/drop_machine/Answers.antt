@@ -15,8 +15,8 @@ use Rattle.firm_graph.specs.Parts.{MachineParts}
 use Rattle.firm_graph.specs.declared.parts.MachineIds.TheInside.{Inside}
 use Rattle.firm_graph.specs.declared.parts.TaskParts.{TaskParts}
 use Rattle.firm_graph.specs.Graph.{Graph, Mirrors, graph_nodes, graph_spans, slot_spans}
-use Rattle.firm_graph.specs.Steps.{Holds, refitted, forgetting_rows}
-use Rattle.firm_graph.specs.Inside.{graph_of}
+use Rattle.firm_graph.specs.inner.Steps.{Holds, refitted, forgetting_rows}
+use Rattle.firm_graph.specs.inner.Inside.{graph_of}
 use Rattle.firm_graph.proofs.Drops.{IsFree}
 use Rattle.firm_graph.proofs.Firsts.{all-out, all-loose}
 use Rattle.firm_graph.proofs.Machines.{machine-unlinked, machine-free, machine-dropped, machine_dropped}

@@ -2,7 +2,7 @@ use Rattle.std.proofs.Common.{subst}
 use Rattle.firm_graph.specs.Graph.{Graph, IsGraph}
 use Rattle.firm_graph.specs.View.{Shows}
 use Rattle.firm_graph.specs.Ids.{view_of}
-use Rattle.firm_graph.specs.Inside.{graph_of}
+use Rattle.firm_graph.specs.inner.Inside.{graph_of}
 use Rattle.firm_graph.proofs.Reflows.{reflowed_graph, set-same}
 use Rattle.firm_graph.proofs.Shown.{graph-shows}
 use Rattle.firm_graph.proofs.graph.Graph.hold.Goals as goal

@@ -9,9 +9,9 @@ use Rattle.firm_paths.specs.NetArcs.{arcs_of}
 use Rattle.firm_flow.specs.Flow.{carried}
 use Rattle.firm_flow.specs.NetFlow.{places}
 use Rattle.firm_graph.specs.Graph.{Graph, task_nodes}
-use Rattle.firm_graph.specs.Parts.{Lineup}
+use Rattle.firm_graph.specs.inner.Tables.{Lineup}
 use Rattle.firm_graph.specs.declared.parts.TaskParts.{TaskParts}
-use Rattle.firm_graph.specs.Inside.{graph_of}
+use Rattle.firm_graph.specs.inner.Inside.{graph_of}
 use Rattle.firm_graph.proofs.Cuts.{no-cut, distinct}
 use Rattle.firm_graph.proofs.Lineups.{lined-up, waits-there}
 use Rattle.firm_graph.proofs.Reflows.{reflowed_graph}

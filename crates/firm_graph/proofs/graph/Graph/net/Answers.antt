@@ -2,7 +2,7 @@ use Rattle.std.proofs.Common.{subst}
 use Rattle.firm_graph.specs.Graph.{Graph}
 use Rattle.firm_graph.specs.View.{Shows}
 use Rattle.firm_graph.specs.Ids.{view_of}
-use Rattle.firm_graph.specs.Inside.{graph_of}
+use Rattle.firm_graph.specs.inner.Inside.{graph_of}
 use Rattle.firm_net.specs.Net.{CountsAre}
 use Rattle.firm_rules.specs.ArenaUse.{arena_nodes, arena_arcs}
 use Rattle.firm_graph.proofs.Totals.{nodes-counted, arcs-counted}

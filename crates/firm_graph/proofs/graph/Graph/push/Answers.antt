@@ -1,5 +1,5 @@
 use Rattle.firm_graph.specs.Graph.{IsGraph}
-use Rattle.firm_graph.specs.Inside.{graph_of}
+use Rattle.firm_graph.specs.inner.Inside.{graph_of}
 use Rattle.firm_graph.proofs.Reflows.{reflowed_graph}
 use Rattle.firm_graph.proofs.Shown.{graph-shows}
 use Rattle.firm_graph.proofs.graph.Graph.push.Goals as goal

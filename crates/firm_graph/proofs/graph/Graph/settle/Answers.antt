@@ -7,7 +7,7 @@ use Rattle.firm_rules.specs.Book.{TenantRows}
 use Rattle.firm_rules.specs.declared.parts.Machine.{Machine}
 use Rattle.firm_rules.specs.declared.rounds.Choice.{Choice}
 use Rattle.firm_graph.specs.Graph.{Graph}
-use Rattle.firm_graph.specs.Inside.{graph_of}
+use Rattle.firm_graph.specs.inner.Inside.{graph_of}
 use Rattle.firm_graph.proofs.graph.Graph.settle.Goals as goal
 
 one-each : (rows : TenantRows) (choices : List Choice) → IsLegal (case_of rows) choices

@@ -2,7 +2,7 @@ use Rattle.std.proofs.Common.{◌≡◌, map, sym, subst, ◌∙◌}
 use Rattle.firm_graph.specs.Graph.{Graph}
 use Rattle.firm_graph.specs.Network.{task_nodes}
 use Rattle.firm_graph.specs.Ids.{view_of}
-use Rattle.firm_graph.specs.Inside.{graph_of}
+use Rattle.firm_graph.specs.inner.Inside.{graph_of}
 use Rattle.firm_graph.proofs.Shown.{sources-named}
 use Rattle.firm_graph.proofs.graph.Graph.sources.Goals as goal
 

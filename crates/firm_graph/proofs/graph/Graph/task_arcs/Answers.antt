@@ -1,7 +1,7 @@
 use Rattle.std.proofs.Common.{◌≡◌, ◌<◌, length, sym, subst}
 use Rattle.firm_graph.specs.Graph.{Graph}
 use Rattle.firm_graph.specs.Ids.{view_of}
-use Rattle.firm_graph.specs.Inside.{graph_of}
+use Rattle.firm_graph.specs.inner.Inside.{graph_of}
 use Rattle.firm_graph.specs.Network.{demand}
 use Rattle.firm_graph.proofs.Shown.{preferences-counted}
 use Rattle.firm_graph.proofs.graph.Graph.task_arcs.Goals as goal

@@ -1,6 +1,6 @@
 use Rattle.std.proofs.Common.{◌+◌, ◌<◌, ◌++◌, ◌∷◌, [], List, length, arith, ap, ◌∙◌}
 use Rattle.firm_net.specs.declared.row.ArcId.{ArcId}
-use Rattle.firm_graph.specs.Parts.{arcs_in}
+use Rattle.firm_graph.specs.inner.Tables.{arcs_in}
 use Rattle.firm_graph.proofs.Fronts.{are-front, arcs-padded, front-added, added-counted}
 use Rattle.firm_graph.proofs.preferred.PreferredArcs.add.Goals as goal
 

@@ -3,7 +3,7 @@ use Rattle.std.specs.List.{remove}
 use Rattle.std.proofs.lemmas.Slice.{put_mid-rotated}
 use borrow.Rule.Slice.PartMut.{put_mid}
 use Rattle.firm_net.specs.declared.row.ArcId.{ArcId}
-use Rattle.firm_graph.specs.Parts.{arcs_in, padded}
+use Rattle.firm_graph.specs.inner.Tables.{arcs_in, padded}
 use Rattle.firm_graph.proofs.Fronts.{are-front, arcs-padded, front-length, front-removed, removed-counted}
 use Rattle.firm_graph.proofs.preferred.PreferredArcs.remove.Goals as goal
 

@@ -12,6 +12,7 @@ invariant-loop-end l = record {
   going : AreGoing
       (record { net = l.net; price = slice_index l.prices.prices; class = slice_index l.fn.self.of.items })
       (tables_of l.self.forward) (tables_of l.self.backward);
+  even : l.self.forward.looks ≡ l.self.backward.looks;
   kept_of : l.self.of ≡ l.fn.self.of;
   kept_last : l.self.last ≡ l.fn.self.last;
   kept_forward : l.self.forward.start ≡ l.fn.self.forward.start;

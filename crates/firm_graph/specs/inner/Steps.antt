@@ -1,4 +1,4 @@
--- Rows and graphs on the way from one to the next. No public clause cites this module.
+-- Rows and graphs on the way from one to the next.
 use Rattle.std.specs.Prelude.{◌≡◌, ℕ, zero, suc, ◌+◌, ◌<◌, ◌≤◌, List, [], ◌∷◌, length, map, slice_index_or, Option}
 use Rattle.std.specs.Prelude.{None}
 use Rattle.std.specs.Prelude.{is_some, if◌then◌else◌}

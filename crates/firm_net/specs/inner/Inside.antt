@@ -1,4 +1,4 @@
--- How a `Net` keeps what a contract sees of it. No public clause cites this module.
+-- How a `Net` keeps what a contract sees of it.
 use Rattle.std.specs.Prelude.{◌≡◌, ◌+◌, IsTrue}
 use Rattle.firm_arena.specs.Arena.{changed_all}
 use Rattle.firm_net.specs.Net.{Net, IsNet}

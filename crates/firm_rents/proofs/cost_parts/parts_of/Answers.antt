@@ -6,7 +6,7 @@ use Rattle.firm_rules.specs.Placement.{Demand}
 use Rattle.firm_rents.specs.Rents.{choice_at, task_at}
 use Rattle.firm_rents.specs.CostParts.{move_cost, part, preemption_cost, remote_cost, wait_cost}
 use Rattle.firm_rents.proofs.CostParts.{part_more, parts_sum}
-use Rattle.firm_rents.proofs.parts.parts_of.Goals as goal
+use Rattle.firm_rents.proofs.cost_parts.parts_of.Goals as goal
 
 pub loop-task-preserved : goal.loop-task-preserved
 loop-task-preserved c =
