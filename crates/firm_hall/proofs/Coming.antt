@@ -1,10 +1,8 @@
 -- A round that comes back leaves what was told.
 use Rattle.std.proofs.Common.{◌≡◌, ℕ, ◌<◌, List, [], ◌∷◌, ◌++◌, length, set, get_or, refl, sym, ap, ◌∙◌, subst, arith}
-use Rattle.std.specs.Prelude.{Bool, map, Option, Some, None, true}
-use mathlib.Core.Logic.{dite}
-use native.Mathlib.Decide.{ℕ_discrete}
+use Rattle.std.specs.Prelude.{map, Option, Some, None, true}
 use Rattle.std.specs.List.{flat_map}
-use Rattle.std.proofs.lemmas.List.{get_or_default, set-get_or, length-set, get_or-set_same, get_or-set_other}
+use Rattle.std.proofs.lemmas.List.{get_or_default, set-get_or}
 use Rattle.std.proofs.lemmas.Bool.{eqb-true}
 use Rattle.firm_rules.specs.Book.{Book}
 use Rattle.firm_rules.specs.declared.commands.Command.TheVariants.{Round}
@@ -17,18 +15,18 @@ use Rattle.firm_rounds.specs.Rounds.{weigh}
 use Rattle.firm_rounds.specs.Passes.{QueueId}
 use Rattle.firm_table.specs.inner.Line.{State, state_is, tenants_are}
 use Rattle.firm_hall.specs.Desks.{DeskIs, IsStep}
-use Rattle.firm_hall.specs.inner.Held.{FirstIsFor, FirstIsKnown, FirstWaits, NoneWaits, OneWaits, filled, held_text}
+use Rattle.firm_hall.specs.inner.Held.{FirstIsFor, OneWaits, filled, held_text}
 use Rattle.firm_hall.specs.inner.Held.{waits_for}
 use Rattle.firm_hall.specs.inner.Held.{HeldIs, held_is}
-use Rattle.firm_hall.specs.inner.Seats.{IsSeated, IsBack, IsAway, IsTurned}
+use Rattle.firm_hall.specs.inner.Seats.{IsSeated, IsAway, IsTurned}
 use Rattle.firm_hall.specs.inner.Serving.{book_at, asked_at, seat_counts, AreSeats, IsPlaced, ArePlaced}
-use Rattle.firm_hall.specs.inner.Serving.{SeatIs, Tells, TellsParts, IsBackAt}
+use Rattle.firm_hall.specs.inner.Serving.{SeatIs, Tells, TellsParts}
 use Rattle.firm_hall.specs.inner.Serving.{ServingIs, Stands, Follows, IsOpen, Keeps, serving_is}
 use Rattle.firm_hall.specs.declared.seats.Seat.{Seat}
 use Rattle.firm_hall.specs.declared.seats.Seat.TheVariants.{Home, Away, Empty, Gone}
 use Rattle.firm_hall.specs.declared.held.HeldAnswer.{HeldAnswer}
 use Rattle.firm_hall.specs.declared.held.HeldAnswer.TheVariants.{Known, Waiting}
-use Rattle.firm_hall.proofs.HeldAnswers.{is_place, with_mark, answers_filled, placed_filled, first_filled}
+use Rattle.firm_hall.proofs.HeldAnswers.{with_mark, answers_filled, placed_filled}
 use Rattle.firm_hall.proofs.HeldAnswers.{length_filled}
 use Rattle.firm_hall.proofs.Seating.{here_is, seats_back, books_back, counts_back, asked_back}
 
@@ -113,63 +111,6 @@ seated queue place answers (Away asked) is = tt
 seated queue place answers (Empty empty) is = tt
 seated queue place answers Gone is = absurd is
 
-pub seated_at : (queue : QueueId) (place : ℕ) (answers : List HeldAnswer) (seats : List Seat) (before default : Seat)
-    → AreSeats queue answers seats → place < most_places
-    → before ≡ get_or seats place default → IsSeated before
-seated_at queue place answers seats before default are low at =
-    subst IsSeated (sym at) (seated queue place answers (get_or seats place default) (are.each place default low))
-
--- no round is away from a place where one came back, nor from others where none was
-pub back_set : (seats : List Seat) (place : ℕ) (put : Seat) → length seats ≡ most_places → IsBack put
-    → IsBackAt place (set seats place put)
-back_set seats place put long back default low =
-    let low' : place < length seats = omega (arith, long) in
-    subst IsBack (sym (get_or-set_same seats place put default low')) back
-
-pub back_here : (seats : List Seat) (place : ℕ) (seat default : Seat) → length seats ≡ most_places
-    → seat ≡ get_or seats place default → IsBack seat → IsBackAt place seats
-back_here seats place seat default long at back =
-    subst (IsBackAt place) (ap (set seats place) at ∙ set-get_or seats place default)
-    (back_set seats place seat long back)
-
-pub back_others : (seats : List Seat) (place other : ℕ) (put : Seat) → length seats ≡ most_places → IsBack put
-    → IsBackAt other seats → IsBackAt other (set seats place put)
-back_others seats place other put long is back default low = dite (ℕ_discrete other place)
-    (λ same. subst (λ (j : ℕ). IsBack (get_or (set seats place put) j default)) (sym same)
-    (back_set seats place put long is default (subst (λ (j : ℕ). j < most_places) same low)))
-    (λ differ. subst IsBack (sym (get_or-set_other seats place other put default differ)) (back default low))
-
--- what the first answer is, once its round came back
-first_not : {X : Type 0} (place : ℕ) (answers : List HeldAnswer) → NoneWaits place answers → FirstIsFor place answers
-    → X
-first_not place [] none here = absurd here
-first_not place (answer ∷ rest) none here = cc
-
-first_back : (queue : QueueId) (place : ℕ) (answers : List HeldAnswer) (before last : Seat) (reply : Option Reply)
-    → SeatIs queue place answers before
-    → IsTurned before last reply → IsBack last → FirstIsFor place answers → FirstIsKnown (filled_if place reply answers)
-first_back queue place answers (Home old) last None is turn back here = first_not place answers is.2 here
-first_back queue place answers (Home old) last (Some reply) is turn back here = absurd turn
-first_back queue place answers (Away asked) last None is turn back here = absurd (subst IsBack turn back)
-first_back queue place answers (Away asked) last (Some reply) is turn back here = first_filled place reply answers here
-first_back queue place answers (Empty old) last None is turn back here = first_not place answers is.2 here
-first_back queue place answers (Empty old) last (Some reply) is turn back here = absurd turn
-first_back queue place answers Gone last reply is turn back here = absurd is
-
-pub first_comes : (queue : QueueId) (place : ℕ) (answers later : List HeldAnswer) (seats : List Seat)
-    (before last default : Seat) (reply : Option Reply) → AreSeats queue answers seats
-    → place < most_places → before ≡ get_or seats place default → later ≡ filled_if place reply answers
-    → IsTurned before last reply → IsBack last → FirstIsFor place answers → FirstIsKnown later
-first_comes queue place answers later seats before last default reply are low at filled_is turn back here =
-    subst FirstIsKnown (sym filled_is)
-    (first_back queue place answers before last reply
-    (subst (SeatIs queue place answers) (sym at) (are.each place default low)) turn back here)
-
-pub first_waits : (place : ℕ) (answers : List HeldAnswer) → FirstIsFor place answers → FirstWaits answers
-first_waits place [] here = absurd here
-first_waits place (Waiting at name asked ∷ rest) here = tt
-first_waits place (Known answer ∷ rest) here = cc
-
 waits_low : (place : ℕ) (answer : HeldAnswer) → waits_for place answer ≡ true → IsPlaced answer → place < most_places
 waits_low place (Known answer) here is = cc
 waits_low place (Waiting at name asked) here is = subst (λ (p : ℕ). p < most_places) (eqb-true at place here) is
@@ -179,21 +120,6 @@ pub first_low : (place : ℕ) (answers : List HeldAnswer) → FirstIsFor place a
     → place < most_places
 first_low place [] here placed = absurd here
 first_low place (answer ∷ rest) here placed = waits_low place answer here placed.0
-
--- whose round is away
-away_there : (queue : QueueId) (place : ℕ) (answers : List HeldAnswer) (seat : Seat) → SeatIs queue place answers seat
-    → FirstIsFor place answers → IsAway seat
-away_there queue place answers (Home desk) is here = first_not place answers is.2 here
-away_there queue place answers (Away asked) is here = tt
-away_there queue place answers (Empty empty) is here = first_not place answers is.2 here
-away_there queue place answers Gone is here = absurd is
-
-pub first_away : (queue : QueueId) (place : ℕ) (answers : List HeldAnswer) (seats : List Seat) (before default : Seat)
-    → AreSeats queue answers seats → place < most_places → before ≡ get_or seats place default
-    → FirstIsFor place answers → IsAway before
-first_away queue place answers seats before default are low at here =
-    away_there queue place answers before
-    (subst (SeatIs queue place answers) (sym at) (are.each place default low)) here
 
 -- an answer waits for a round that is away
 one_there : (queue : QueueId) (place : ℕ) (answers : List HeldAnswer) (seat : Seat) → SeatIs queue place answers seat
@@ -247,9 +173,6 @@ stayed_away seats place before last default at same =
     ap (set seats place) (same ∙ at) ∙ set-get_or seats place default
 
 -- one change behind another
-pub follows_self : {old : ServingIs} → Follows old old
-follows_self = record { same_hall = refl; fewer = omega arith }
-
 pub follows_then : {old between new : ServingIs} → Follows old between → Follows between new → Follows old new
 follows_then first second =
     record { same_hall = second.same_hall ∙ first.same_hall; fewer = omega (arith, first.fewer, second.fewer) }

@@ -69,10 +69,6 @@ pub known_waits : (place : ℕ) (answer : HeldAnswer) (rest : List HeldAnswer) �
 known_waits place (Waiting at name asked) rest known = absurd known
 known_waits place (Known answer) rest known = refl
 
-pub one_pop : (place : ℕ) (asked : DeskIs) (answer : HeldAnswer) (rest : List HeldAnswer) → FirstIsKnown (answer ∷ rest)
-    → OneWaits place asked (answer ∷ rest) → OneWaits place asked rest
-one_pop place asked answer rest known one = rw (known_waits place answer rest known) at one
-
 -- what waited for the place is known
 pub none_filled : (place : ℕ) (asked : DeskIs) (reply : Reply) (answers : List HeldAnswer)
     → OneWaits place asked answers
@@ -149,12 +145,6 @@ filled_at place reply (answer ∷ rest) zero default none low here = rw here ref
 filled_at place reply (answer ∷ rest) (suc at) default none low here =
     rw none.0 (ap (λ (xs : List HeldAnswer). answer ∷ xs)
     (filled_at place reply rest at default none.1 (omega arith) here))
-
-pub filled_nowhere : (place : ℕ) (reply : Reply) (answers : List HeldAnswer) → NoneWaits place answers
-    → filled place reply answers ≡ answers
-filled_nowhere place reply [] none = refl
-filled_nowhere place reply (answer ∷ rest) none =
-    rw none.0 (ap (λ (xs : List HeldAnswer). answer ∷ xs) (filled_nowhere place reply rest none.1))
 
 none_more : (place : ℕ) (answers : List HeldAnswer) (at : ℕ) (default : HeldAnswer) → NoneWaits place (take at answers)
     → at < length answers

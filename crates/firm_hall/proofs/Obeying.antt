@@ -230,8 +230,3 @@ retirement_told one_more answered roster register seats after answers output nam
 pub left_place : (found : Option ℕ) (at : ℕ) → Ok at ≡ ok_or {E = OperatorRefusal} found NoSuchTenant → found ≡ Some at
 left_place None at e = absurd (cc)
 left_place (Some place) at e = cc
-
-pub left_nowhere : (found : Option ℕ) (refusal : OperatorRefusal) → Err refusal ≡ ok_or found NoSuchTenant
-    → (found ≡ None) × (refusal ≡ NoSuchTenant)
-left_nowhere None refusal e = (refl, cc)
-left_nowhere (Some place) refusal e = absurd (cc)

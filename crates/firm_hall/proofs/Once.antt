@@ -8,7 +8,7 @@ use Rattle.firm_rounds.specs.Rounds.{weigh, ticket, share, numbered, is_at}
 use Rattle.firm_rounds.specs.Turning.{weigh-append}
 use Rattle.firm_hall.specs.Desks.{DeskIs, PlaceIs}
 use Rattle.firm_hall.specs.Closed.{asked_weight, left_weight, is_ticket}
-use Rattle.firm_hall.specs.Gathered.{of_place, is_place}
+use Rattle.firm_hall.specs.inner.Gathered.{of_place, is_place}
 
 -- one ticket more of a place
 one_more : (t : Ticket) (p n : ℕ)

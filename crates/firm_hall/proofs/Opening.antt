@@ -3,14 +3,13 @@ use Rattle.std.proofs.Common.{◌≡◌, ℕ, zero, suc, ◌+◌, ◌-◌, ◌<�
 use Rattle.std.proofs.Common.{drop, take, map}
 use Rattle.std.proofs.Common.{add-one, ⊎_elim, refl, sym, ap, ◌∙◌, arith, length-append}
 use Rattle.std.specs.Prelude.{slice_get}
-use Rattle.std.proofs.lemmas.List.{get_or_append_left, get_or_push, get_or-drop, append_assoc, append-nil, drop_more}
+use Rattle.std.proofs.lemmas.List.{get_or_append_left, get_or_push, get_or-drop, append_assoc, drop_more}
 use Rattle.std.proofs.lemmas.List.{drop_all, take_all, take-append-le, drop-append-le, map-append}
-use Rattle.std.proofs.lemmas.List.Elements.{All-append}
 use Rattle.std.proofs.lemmas.Option.{slice_get_within, get_or_from_slice_get}
 use Rattle.std.proofs.lemmas.Bool.{cases_lt}
 use Rattle.firm_rules.specs.Book.{Book, opening_book}
 use Rattle.firm_text.specs.Rosters.{RosterRow}
-use Rattle.firm_rounds.specs.Passes.{QueueId, PutIs, PopIs, put_is, pop_is, new_puts, new_pops}
+use Rattle.firm_rounds.specs.Passes.{QueueId, PutIs, put_is, new_puts}
 use Rattle.firm_hall.specs.Desks.{DeskIs, desk_is, PlaceIs, place_is}
 use Rattle.firm_hall.specs.Opening.{opening_desks, unused_places}
 
@@ -72,13 +71,6 @@ opens_next id at roster tenant desks grown all desk row pushed is before =
     ∙ (ap (λ (ys : List DeskIs). desks ++ ys)
     (ap (λ (d : DeskIs). d ∷ rest) is ∙ sym (desks_from id at roster tenant row)) ∙ before))
 
--- all desks are opened
-pub opens_all : (id : QueueId) (at : ℕ) (roster : List RosterRow) (desks all : List DeskIs) → length roster ≤ at
-    → desks ++ opening_desks id at (drop at roster) ≡ all → desks ≡ all
-opens_all id at roster desks all past before =
-    sym (append-nil desks)
-    ∙ (ap (λ (rows : List RosterRow). desks ++ opening_desks id at rows) (sym (drop_all at roster past)) ∙ before)
-
 -- what holds of the next pass
 pub next_desk : (id : QueueId) (passes : List PutIs) (count at : ℕ) (rest : List PutIs) (pass : PutIs) (desk : DeskIs)
     (book : Book)
@@ -93,16 +85,6 @@ pub desks_of : (id : QueueId) (place : ℕ) (roster : List RosterRow)
 desks_of id place [] k d low = absurd (omega arith)
 desks_of id place (tenant ∷ rest) zero d low = refl
 desks_of id place (tenant ∷ rest) (suc k) d low = desks_of id (suc place) rest k d (omega arith)
-
-pub passes_of : (id : QueueId) (n : ℕ) → All (λ (p : PopIs). p.queue ≡ id) (new_pops id n)
-passes_of id zero = λ k d low. absurd (omega arith)
-passes_of id (suc n) =
-    let P : PopIs → Type 0 = λ (p : PopIs). p.queue ≡ id in
-    All-append P (new_pops id n) (pop_is id [] ∷ []) (passes_of id n) (one P (pop_is id []) refl)
-  where
-    one : {A : Type 0} (P : A → Type 0) (x : A) → P x → All P (x ∷ [])
-    one P x p zero d low = p
-    one P x p (suc k) d low = absurd (omega arith)
 
 -- the passes of the first places
 pub puts_front : (id : QueueId) (n m : ℕ) → n ≤ m → take n (new_puts id m) ≡ new_puts id n

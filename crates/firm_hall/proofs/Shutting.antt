@@ -10,7 +10,7 @@ use Rattle.firm_rounds.specs.Closed.{got_weight, Settled}
 use Rattle.firm_rounds.specs.Turning.{turned, turned_at, turned_set, weigh-append, weigh_more}
 use Rattle.firm_hall.specs.Desks.{DeskIs, PlaceIs}
 use Rattle.firm_hall.specs.Closed.{taken_count, IsClosed}
-use Rattle.firm_hall.specs.Gathered.{Gave, IsGathered}
+use Rattle.firm_hall.specs.inner.Gathered.{Gave, IsGathered}
 use Rattle.firm_hall.proofs.Once.{asked_once, left_once}
 
 pub one_given : (f : Share → ℕ) (v n : ClosingIs) (x : Share) → n ≡ closing_is v.id (v.shares ++ x ∷ [])

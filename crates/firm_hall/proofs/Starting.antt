@@ -23,7 +23,7 @@ use Rattle.firm_hall.specs.declared.seats.Seat.{Seat}
 use Rattle.firm_hall.specs.declared.seats.Seat.TheVariants.{Home, Away, Empty, Gone}
 use Rattle.firm_hall.specs.declared.held.HeldAnswer.{HeldAnswer}
 
--- the seats before the first line, from this place on: so many empty ones behind those of the roster's tenants
+-- the seats before the first line, from this place on: those of the roster's tenants, then a number of empty ones
 abbrev pub opening_seats : QueueId → ℕ → List RosterRow → ℕ → List Seat
 opening_seats id at roster more =
     map Home (opening_desks id at roster) ++ map Empty (unused_places id (at + length roster) more)

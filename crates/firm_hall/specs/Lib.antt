@@ -3,7 +3,6 @@ pub mod Polls
 pub mod Admissions
 pub mod Opening
 pub mod Closed
-pub mod Gathered
 pub mod Faults
 pub mod Counts
 pub mod inner

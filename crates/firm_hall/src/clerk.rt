@@ -16,10 +16,11 @@ use crate::empty::EmptyDesk;
 use crate::ending::Ended;
 use crate::serving::Serving;
 use crate::setting::Setting;
-use crate::workers::rest;
+use crossbeam_utils::sync::Key;
 use firm_table::{Clerk, ServeFault};
 use firm_text::{Line, PLACES, Sink, Source};
 use std::alloc::AllocError;
+use std::hint::spin_loop;
 use std::sync::Wait;
 
 // How often the clerk looks for a missing answer in vain before it sleeps until there is one, or input: for some ten
@@ -109,6 +110,7 @@ impl<'h, R: Wait> Clerk for HallClerk<'h, R> {
         let rt = self.setting.rt;
         let answers = self.setting.hall.answers();
         let mut looks = 0u32;
+        self.setting.hall.bell().ring();
         for _ in rt.forever() {
             // Whatever this look misses, answer or input, arrives after the announcement and so ends the sleep.
             let announced = (LOOKS_BEFORE_SLEEP <= looks).then(|| answers.prepare_wait());
@@ -123,6 +125,16 @@ impl<'h, R: Wait> Clerk for HallClerk<'h, R> {
     }
 
     fn finish<W: Sink>(&mut self, writer: &mut W) -> Result<(), ServeFault> {
-        self.serving.finish(self.setting.rt, writer)
+        self.serving.finish(&self.setting, writer)
     }
+}
+
+// Sleeps if a sleep was announced. Returns the number of looks in vain since the last sleep.
+fn rest<R: Wait>(rt: &R, announced: Option<Key<'_>>, looks: u32) -> u32 {
+    let Some(key) = announced else {
+        spin_loop();
+        return looks.saturating_add(1);
+    };
+    key.wait(rt);
+    0
 }

@@ -6,7 +6,7 @@ ghost use Rattle.firm_rounds.specs.Passes.{spent_pop};
 ghost use Rattle.firm_rounds.specs.Closed.{got_weight};
 ghost use Rattle.firm_hall.specs.Desks.{spent_desk, spent_place};
 ghost use Rattle.firm_hall.specs.Closed.{IsClosed, taken_count};
-ghost use Rattle.firm_hall.specs.Gathered.{Gave, IsGathered};
+ghost use Rattle.firm_hall.specs.inner.Gathered.{Gave, IsGathered};
 ghost use Rattle.firm_hall.specs.Faults.{IsCloseFault};
 
 use crate::desks::Desk;

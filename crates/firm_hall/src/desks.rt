@@ -15,8 +15,12 @@ use firm_rules::{Command, Limits, Reply};
 use firm_tenant::{Tenant, steps_count_once};
 use firm_tray::{AskSide, Polled, Solved, Tray};
 use std::alloc::{AllocError, Global};
+use std::hint::spin_loop;
 use std::marker::Model;
 use std::sync::Wait;
+
+// How often a round that is away is looked for before a worker is woken for those that wait: for some microseconds.
+const LOOKS_BEFORE_RING: u32 = 256;
 
 /// A tenant at home, owned by the desk's holder. Contracts see its hall, its place, how many rounds all tenants of the
 /// place asked, how often the place was given, and the tenant's book.
@@ -104,6 +108,24 @@ impl Desk {
             (λ back. IsRefused self back.1 back.0) }
         ensures left { OnOk result (self.book.given < self.book.rows.limits.life) }
     {
+        let asked = self.ask_unrung(rt, alloc, hall);
+        hall.bell().ring();
+        asked
+    }
+
+    // The same for one that asks for more before it waits: it rings then.
+    pub(crate) fn ask_unrung<R: Wait>(
+        self,
+        rt: &R,
+        alloc: Global,
+        hall: &Hall,
+    ) -> Result<Asked, (Desk, Reply)>
+        requires { self.queue ≡ hall.now.id }
+        ensures asked { MatchResult result
+            (λ asked. asked ≡ desk_is self.queue self.place (self.put + 1) self.admissions self.book)
+            (λ back. IsRefused self back.1 back.0) }
+        ensures left { OnOk result (self.book.given < self.book.rows.limits.life) }
+    {
         let Desk {
             mut tenant,
             mut place,
@@ -167,6 +189,21 @@ impl Asked {
             ),
             Polled::Not(side) => AskedPoll::Not(Asked { side, place }),
         }
+    }
+
+    // The same, after some looks, or else the same token.
+    pub(crate) fn look_awhile(self) -> AskedPoll
+        ensures { IsPolled self result }
+    {
+        let mut asked = self;
+        for _ in 0..LOOKS_BEFORE_RING {
+            match asked.poll() {
+                AskedPoll::Not(same) => asked = same,
+                back => return back,
+            }
+            spin_loop();
+        }
+        AskedPoll::Not(asked)
     }
 
     /// The desk with the round's reply, once the round is answered. It takes no memory.

@@ -6,12 +6,13 @@ ghost use Rattle.firm_text.specs.Rosters.{most_places};
 ghost use Rattle.firm_hall.specs.Desks.{place_is};
 ghost use Rattle.firm_hall.specs.Opening.{opening_desks, unused_places};
 
+use crate::bell::Bell;
 use crate::desks::Desk;
 use crate::empty::EmptyDesk;
 use crate::places::Place;
-use crate::workers::{LOOKS_BEFORE_SLEEP, WorkerPass};
+use crate::workers::WorkerPass;
 use crossbeam_utils::CachePadded;
-use crossbeam_utils::sync::{EventCount, Key};
+use crossbeam_utils::sync::EventCount;
 use firm_rounds::{Job, PopPass, PutPass, Queue};
 use firm_text::{PLACES, Roster};
 use std::alloc::{AllocError, Global};
@@ -25,8 +26,8 @@ pub struct Hall {
     queue: Queue,
     // 1 once the hall is shut. Each worker reads it at every turn, so nothing else lies on its cache line.
     stop: CachePadded<AtomicU64>,
-    // Notified of each round that is put, and once the hall is shut. Workers without a round sleep on it.
-    work: CachePadded<EventCount>,
+    // Workers without a round sleep until it rings.
+    bell: Bell,
     // Notified of each round that is solved. The clerk sleeps on it, for an answer or for input.
     answers: Arc<EventCount, Global>,
 }
@@ -66,17 +67,15 @@ impl Hall {
     /// Tells the workers to end once the queue is empty. It takes no memory.
     pub fn shut(&self) {
         self.stop.store(1, Ordering::SeqCst);
-        self.work.notify_all();
+        self.bell.call_all();
     }
 
     pub(crate) fn is_shut(&self) -> bool {
         self.stop.load(Ordering::SeqCst) == 1
     }
 
-    // After enough looks in vain a worker announces its sleep and looks once more. A round put after that look, or a
-    // shut after that read, follows the announcement, so its notification ends the sleep.
-    pub(crate) fn announce(&self, looks: u32) -> Option<Key<'_>> {
-        (LOOKS_BEFORE_SLEEP <= looks).then(|| self.work.prepare_wait())
+    pub(crate) fn bell(&self) -> &Bell {
+        &self.bell
     }
 
     // What is notified of each round that is solved.
@@ -84,14 +83,16 @@ impl Hall {
         &self.answers
     }
 
+    // Puts a round. Where others wait or are solved, a worker may be woken only once the bell rings.
     pub(crate) fn put<R: Wait>(&self, rt: &R, pass: &mut PutPass, job: Job)
         requires of { pass.old.queue ≡ self.now.id }
         requires next { job.ticket ≡ ticket pass.old.place (pass.old.put + 1) }
         requires room { pass.old.put < 2 ^ 55 }
         ensures { pass.new ≡ put_is pass.old.queue pass.old.place (pass.old.put + 1) }
     {
+        let older = self.bell.expect();
         self.queue.put(rt, pass, job);
-        self.work.notify_one();
+        self.bell.came(older);
     }
 
     pub(crate) fn pop<R: Wait>(&self, rt: &R, pass: &mut PopPass) -> Option<Job>
@@ -99,7 +100,9 @@ impl Hall {
         ensures { MatchOption result (pass.new ≡ pass.old)
             (λ job. pass.new ≡ pop_is pass.old.queue (pass.old.got ++ job.ticket ∷ [])) }
     {
-        self.queue.pop(rt, pass)
+        let job = self.queue.pop(rt, pass)?;
+        self.bell.took();
+        Some(job)
     }
 
     // How many desks there are, and how many workers.
@@ -144,7 +147,7 @@ fn open_hall(
     let hall = Hall {
         queue,
         stop: CachePadded::new(AtomicU64::new(0)),
-        work: CachePadded::new(EventCount::new()),
+        bell: Bell::new(workers),
         answers,
     };
     Ok((hall, desks, passes, empty))

@@ -1,6 +1,7 @@
 //! The hall: desks at which tenants answer, and workers that solve their rounds.
 #![tactic(auto)]
 
+mod bell;
 mod clerk;
 mod close;
 mod desks;

@@ -1,5 +1,6 @@
 //! What stands at a tenant's place while the hall serves.
 ghost use Rattle.std.specs.Prelude.{◌≡◌, MatchBool, Some};
+ghost use Rattle.firm_hall.specs.Desks.{IsStep};
 ghost use Rattle.firm_hall.specs.inner.Seats.{IsSeated, IsBack, IsAway, IsHome, IsHomeOf, IsFree, IsTurned};
 ghost use Rattle.firm_hall.specs.inner.Seats.{IsAdmitted, IsRetired, IsTaken, IsTakenAt};
 ghost use Rattle.firm_rules.specs.declared.commands.Command.TheVariants.{Round};
@@ -41,7 +42,7 @@ impl Seat {
     }
 
     // Waits for the round that is away: its desk is home again, and its reply is known.
-    pub(crate) fn come_home<R: Wait>(&mut self, rt: &R) -> Reply
+    pub(crate) fn come_home<R: Wait>(&mut self, setting: &Setting<'_, R>) -> Reply
         requires { IsAway self.old }
         ensures turned { IsTurned self.old self.new (Some result) }
         ensures back { IsBack self.new }
@@ -49,7 +50,7 @@ impl Seat {
         let Seat::Away(asked) = mem::replace(self, Seat::Gone) else {
             unreachable!()
         };
-        let (desk, reply) = asked.wait(rt);
+        let (desk, reply) = wait(setting, asked);
         let _gone = mem::replace(self, Seat::Home(desk));
         reply
     }
@@ -145,7 +146,7 @@ fn ask<R: Wait>(
     requires { desk.queue ≡ setting.now.hall.now.id }
     ensures { IsTaken desk place name Round result.0 result.1 }
 {
-    match desk.ask(setting.rt, setting.alloc, setting.hall) {
+    match desk.ask_unrung(setting.rt, setting.alloc, setting.hall) {
         Ok(asked) => {
             let answer = HeldAnswer::Waiting(place, name, Snapshot::of(&asked));
             (Seat::Away(asked), answer)
@@ -154,5 +155,18 @@ fn ask<R: Wait>(
             Seat::Home(desk),
             HeldAnswer::Known(LineAnswer::Replied(name, reply)),
         ),
+    }
+}
+
+// The desk with the reply to its round. While the round is away, a worker is woken if one is owed.
+fn wait<R: Wait>(setting: &Setting<'_, R>, asked: Asked) -> (Desk, Reply)
+    ensures { IsStep asked Round result.1 result.0 }
+{
+    match asked.look_awhile() {
+        AskedPoll::Back(desk, reply) => (desk, reply),
+        AskedPoll::Not(asked) => {
+            setting.hall.bell().ring();
+            asked.wait(setting.rt)
+        }
     }
 }

@@ -100,7 +100,7 @@ impl Serving {
         ensures open { IsOpen setting.now.hall.now.id self.new }
     {
         self.take_line(setting, line);
-        self.make_room(setting.rt, writer)
+        self.make_room(setting, writer)
     }
 
     // Takes a line, whose answer is held then.
@@ -118,7 +118,7 @@ impl Serving {
             Line::For(name, command) => match self.register.place_of(name) {
                 None => self.held.push(HeldAnswer::Known(LineAnswer::UnknownTenant)),
                 Some(place) => {
-                    self.come_home(setting.rt, place);
+                    self.come_home(setting, place);
                     self.command(setting, place, name, command);
                 }
             },
@@ -167,7 +167,7 @@ impl Serving {
     }
 
     // Waits until the first answer that is held is known.
-    fn first_comes_home<R: Wait>(&mut self, rt: &R)
+    fn first_comes_home<R: Wait>(&mut self, setting: &Setting<'_, R>)
         requires { 0 < length self.old.answers }
         ensures follows { Follows self.old self.new }
         ensures keeps { Keeps self.old self.new }
@@ -176,7 +176,7 @@ impl Serving {
         match self.held.first() {
             First::Missing => unreachable!(),
             First::Ready => {}
-            First::Waits(place) => self.come_home(rt, place),
+            First::Waits(place) => self.come_home(setting, place),
         }
     }
 
@@ -217,7 +217,11 @@ impl Serving {
     }
 
     // Where 1,024 answers are held, waits for the first and writes all that are known then.
-    fn make_room<R: Wait, W: Sink>(&mut self, rt: &R, writer: &mut W) -> Result<(), ServeFault>
+    fn make_room<R: Wait, W: Sink>(
+        &mut self,
+        setting: &Setting<'_, R>,
+        writer: &mut W,
+    ) -> Result<(), ServeFault>
         requires { W.write_failed writer.old ≡ false }
         ensures told { OnOk result (Passes self.old self.new (W.written writer.old) (W.written writer.new)) }
         ensures begins { Begins self.old (W.written writer.old) (W.written writer.new) }
@@ -228,7 +232,7 @@ impl Serving {
         if !self.held.is_full() {
             return Ok(());
         }
-        self.first_comes_home(rt);
+        self.first_comes_home(setting);
         let Ok(()) = self.put_first() else {
             return Err(ServeFault::Memory);
         };
@@ -261,7 +265,7 @@ impl Serving {
     /// Waits for all rounds that are away, and writes all answers.
     pub(crate) fn finish<R: Wait, W: Sink>(
         &mut self,
-        rt: &R,
+        setting: &Setting<'_, R>,
         writer: &mut W,
     ) -> Result<(), ServeFault>
         requires { W.write_failed writer.old ≡ false }
@@ -272,7 +276,7 @@ impl Serving {
         ensures well { OnOk result (W.write_failed writer.new ≡ false) }
         ensures follows { Follows self.old self.new }
     {
-        self.all_come_home(rt);
+        self.all_come_home(setting);
         let Ok(()) = self.put_all() else {
             return Err(ServeFault::Memory);
         };

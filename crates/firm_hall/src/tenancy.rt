@@ -31,7 +31,7 @@ impl Serving {
         answers_add_up();
         match request {
             OperatorLine::Admit(name, limits) => self.admit(setting.alloc, name, limits),
-            OperatorLine::Retire(name) => self.retire(setting.rt, name),
+            OperatorLine::Retire(name) => self.retire(setting, name),
             OperatorLine::Faulty(refusal) => OperatorReply::Refused(refusal),
         }
     }
@@ -55,7 +55,7 @@ impl Serving {
     }
 
     // Retires a tenant, once no round of it is away.
-    fn retire<R: Wait>(&mut self, rt: &R, name: Name) -> OperatorReply
+    fn retire<R: Wait>(&mut self, setting: &Setting<'_, R>, name: Name) -> OperatorReply
         ensures obeys { Obeys self.old self.new (Retire name) result }
         ensures follows { Follows self.old self.new }
     {
@@ -64,7 +64,7 @@ impl Serving {
         let Some(place) = self.register.place_of(name) else {
             return OperatorReply::Refused(OperatorRefusal::NoSuchTenant);
         };
-        self.come_home(rt, place);
+        self.come_home(setting, place);
         self.leave(place, name);
         OperatorReply::Retired(name)
     }
@@ -86,7 +86,7 @@ impl Serving {
     }
 
     // The round that is away from the place comes back, if one is; the answer that waited for it is known then.
-    pub(crate) fn come_home<R: Wait>(&mut self, rt: &R, place: usize)
+    pub(crate) fn come_home<R: Wait>(&mut self, setting: &Setting<'_, R>, place: usize)
         requires { place < most_places }
         ensures follows { Follows self.old self.new }
         ensures keeps { Keeps self.old self.new }
@@ -98,7 +98,7 @@ impl Serving {
         if self.seats[place].is_back() {
             return;
         }
-        let reply = self.seats[place].come_home(rt);
+        let reply = self.seats[place].come_home(setting);
         self.held.fill(place, reply);
     }
 
@@ -117,13 +117,13 @@ impl Serving {
     }
 
     // Waits for all rounds that are away.
-    pub(crate) fn all_come_home<R: Wait>(&mut self, rt: &R)
+    pub(crate) fn all_come_home<R: Wait>(&mut self, setting: &Setting<'_, R>)
         ensures follows { Follows self.old self.new }
         ensures keeps { Keeps self.old self.new }
         ensures back { AllBack self.new.seats }
     {
         for place in 0..PLACES {
-            self.come_home(rt, place);
+            self.come_home(setting, place);
         }
     }
 }

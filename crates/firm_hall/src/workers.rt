@@ -4,18 +4,14 @@ ghost use Rattle.firm_rules.specs.declared.tickets.Ticket.{Ticket};
 ghost use Rattle.firm_rounds.specs.Passes.{closing_is, spent_pop};
 ghost use Rattle.firm_rounds.specs.Rounds.{share};
 
+use crate::bell::Rest;
 use crate::halls::Hall;
-use crossbeam_utils::sync::Key;
 use firm_rounds::{Closing, PopPass, Queue};
 use firm_rules::Ticket;
 use std::alloc::Global;
 use std::hint::spin_loop;
 use std::marker::Model;
 use std::sync::Wait;
-
-// How often a worker looks for a round in vain before it sleeps: for some microseconds, since there may be eight.
-// Nobody yields: on a busy machine one yield takes longer than all looks and the sleep.
-pub(crate) const LOOKS_BEFORE_SLEEP: u32 = 64;
 
 /// What a worker does between taking a round and solving it.
 pub trait Gate {
@@ -96,8 +92,8 @@ impl Report {
 }
 
 /// Solves the rounds that it gets from the queue, each after it passed the gate. It ends once it has read the stop word
-/// as set and then found the queue empty. Where it finds nothing otherwise it looks again, and after 64 looks in vain
-/// it sleeps until a round is put or the hall is shut. The allocator is for the lists in replies.
+/// as set and then found the queue empty. Where it finds nothing otherwise it looks again, and after some looks in
+/// vain it sleeps until it is woken for a round or the hall is shut. The allocator is for the lists in replies.
 pub fn worker<R: Wait, G: Gate>(
     rt: &R,
     alloc: Global,
@@ -111,30 +107,38 @@ pub fn worker<R: Wait, G: Gate>(
 {
     let WorkerPass { mut taken } = pass;
     let mut looks = 0;
+    let mut was_woken = false;
     for _ in rt.forever() {
-        let announced = hall.announce(looks);
+        let rest = hall.bell().announce(looks);
         let is_shut = hall.is_shut();
         match hall.pop(rt, &mut taken) {
             Some(job) => {
-                drop(announced);
+                drop(rest);
+                if was_woken {
+                    hall.bell().call();
+                }
                 gate.pass(job.ticket());
                 let _spent = job.finish(alloc);
                 hall.answers().notify_one();
                 looks = 0;
+                was_woken = false;
             }
             None if is_shut => return Report { taken },
-            None => looks = rest(rt, announced, looks),
+            None => {
+                was_woken = rest.is_some();
+                looks = rest_or_look(rt, rest, looks);
+            }
         }
     }
     unreachable!()
 }
 
-// Sleeps if a sleep was announced. Returns the number of looks in vain since the last sleep.
-pub(crate) fn rest<R: Wait>(rt: &R, announced: Option<Key<'_>>, looks: u32) -> u32 {
-    let Some(key) = announced else {
+// Sleeps if a rest was announced. Returns the number of looks in vain since the last sleep.
+fn rest_or_look<R: Wait>(rt: &R, rest: Option<Rest<'_>>, looks: u32) -> u32 {
+    let Some(rest) = rest else {
         spin_loop();
         return looks.saturating_add(1);
     };
-    key.wait(rt);
+    rest.sleep(rt);
     0
 }

@@ -1,5 +1,5 @@
 -- The shares that the keeping seat has while passes are cut.
-use Rattle.std.proofs.Common.{◌≡◌, ℕ, zero, suc, ◌+◌, ◌-◌, ◌<◌, List, [], ◌∷◌, ◌++◌, sym, refl, ap, ◌∙◌, arith}
+use Rattle.std.proofs.Common.{◌≡◌, ℕ, zero, suc, ◌+◌, ◌-◌, ◌<◌, List, [], ◌∷◌, ◌++◌, sym, ap, ◌∙◌, arith}
 use Rattle.firm_rounds.specs.declared.protocol.Share.{Share}
 use Rattle.firm_rounds.specs.declared.protocol.Sight.{Sight}
 use Rattle.firm_rounds.specs.Rounds.{share, sight, beyond, fresh, grown, grown_to, held_from, without_second, second}
@@ -26,12 +26,6 @@ held_cut v k n e low =
     let a : v.all ≡ n + 1 = ap (λ (x : Sight). x.all) e in
     ap cut_off e ∙ (ap (λ (xs : List Share). sight (n + 1) (second (share beyond 0 [] ∷ xs))) (held_shares k n low)
     ∙ ap (λ (j : ℕ). sight j (share k 0 [] ∷ [])) (sym a))
-
-pub held_all : (n : ℕ) → grown_to n ≡ held_from 0 n
-held_all n = let same : n ≡ n - 0 = omega arith in ap (λ (j : ℕ). sight (n + 1) (share beyond 0 [] ∷ fresh 0 j)) same
-
-pub held_end : (n : ℕ) → held_from n n ≡ sight (n + 1) (share beyond 0 [] ∷ [])
-held_end n = let same : n - n ≡ 0 = omega arith in ap (λ (j : ℕ). sight (n + 1) (share beyond 0 [] ∷ fresh n j)) same
 
 pub grown_on : (v : Sight) (k c : ℕ) → v ≡ grown_to (k + c) → grown v ≡ grown_to (k + (c + 1))
 grown_on v k c e =

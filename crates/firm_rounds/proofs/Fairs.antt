@@ -1,14 +1,13 @@
 -- Each step keeps the rule of the round queue.
-use Rattle.std.proofs.Common.{◌≡◌, ◌≢◌, ℕ, zero, suc, ◌+◌, ◌-◌, ◌<◌, ◌≤◌, ◌==◌, cond, nat_lt, ◌*◌, ◌^◌, true, false}
-use Rattle.std.proofs.Common.{List, [], ◌∷◌, ◌++◌, map, length, set, sym, refl, ap, ◌∙◌, subst, arith, length-append}
-use Rattle.std.proofs.Common.{⊎_elim, add-one, ne_eqb, eqb}
+use Rattle.std.proofs.Common.{◌≡◌, ◌≢◌, ℕ, zero, suc, ◌+◌, ◌-◌, ◌<◌, ◌≤◌, cond, ◌^◌}
+use Rattle.std.proofs.Common.{List, [], ◌∷◌, ◌++◌, length, set, sym, refl, ap, ◌∙◌, subst, arith, length-append}
+use Rattle.std.proofs.Common.{⊎_elim, add-one, ne_eqb}
 use Rattle.std.proofs.lemmas.List.{map-append}
 use Rattle.std.proofs.lemmas.Bool.Decides.{nat_tests}
-use Rattle.std.proofs.lemmas.Bool.{lt-ltb, le-ltb}
-use Rattle.firm_rounds.proofs.Caps.{cap_here, cap_after, within_here, caps_cover}
+use Rattle.firm_rounds.proofs.Caps.{cap_after, within_here, caps_cover}
 use mathlib.Core.Logic.{dite}
 use native.Mathlib.Decide.{ℕ_discrete}
-use mathlib.Core.Option.{some, some-injective, some-ne-none}
+use mathlib.Core.Option.{some}
 use lib.ListN.{get_elem?}
 use Rattle.crossbeam_queue.specs.Fifo.{Pushes, Pops, Forks, Merges, Learns}
 use Rattle.crossbeam_queue.proofs.Lists.{at_set, at_snoc}
@@ -17,11 +16,11 @@ use Rattle.firm_rounds.specs.declared.protocol.JobParts.{JobParts}
 use Rattle.firm_rounds.specs.declared.protocol.Share.{Share}
 use Rattle.firm_rounds.specs.declared.protocol.Sight.{Sight}
 use Rattle.firm_rounds.specs.Rounds.{weigh, total, count, tickets, ticket, share, sight, numbered, put_by, got_by}
-use Rattle.firm_rounds.specs.Rounds.{is_at, beyond, cap, excess, FewGot, Fair, opening, fresh, grown_to, nothing, grown}
-use Rattle.firm_rounds.specs.Rounds.{left_over, cut_off, ended, joined, without_second, second, one_more, after_put}
+use Rattle.firm_rounds.specs.Rounds.{is_at, beyond, cap, excess, FewGot, Fair, fresh, grown_to, nothing, grown}
+use Rattle.firm_rounds.specs.Rounds.{left_over, cut_off, ended, joined, without_second, second, after_put}
 use Rattle.firm_rounds.specs.Rounds.{got_more, after_pop, Holds, IsOf, share_of}
 use Rattle.firm_rounds.specs.Turning.{weigh-append}
-use Rattle.firm_rounds.proofs.Weighs.{weigh-set, weigh-at, weigh_none, total_one, other_none}
+use Rattle.firm_rounds.proofs.Weighs.{weigh-set, weigh-at, total_one, other_none}
 
 -- every seat with a share knows how many there are
 abbrev Agree : ℕ → List Sight → Type 0
@@ -166,39 +165,13 @@ ends id v whole some_share items views fair at =
       )),
     )
 
-one_agrees : (id : ℕ) (v : Sight) → get_elem? (opening ∷ []) id ≡ some v → v.all ≡ 1
-one_agrees zero v at = sym (ap (λ (x : Sight). x.all) (some-injective opening v at))
-one_agrees (suc id) v at = absurd (some-ne-none v (sym at))
-
 beyond_all : (p : ℕ) → p < beyond → is_at p (share beyond 0 []) ≡ 0
 beyond_all p low = let ne : p ≢ beyond = λ e. omega arith in ap (λ b. cond b 1 0) (ne_eqb p beyond ne)
-
-pub begins : Fair [] (opening ∷ [])
-begins = record {
-  all = 1;
-  agree = λ id v at s. one_agrees id v at;
-  counted = refl;
-  balanced = λ h. refl;
-  placed = λ p low. omega (arith, beyond_all p low);
-  within = refl;
-  capped = omega arith;
-  few = omega arith;
-}
 
 -- places
 fresh_wide : (from n : ℕ) → length (fresh from n) ≡ n
 fresh_wide from zero = refl
 fresh_wide from (suc n) = omega (arith, length-append (fresh from n) (share (from + n) 0 [] ∷ []), fresh_wide from n)
-
-fresh_put : (from n : ℕ) (h : Ticket → ℕ) → weigh (put_by h) (fresh from n) ≡ 0
-fresh_put from zero h = refl
-fresh_put from (suc n) h =
-    omega (arith, weigh-append (put_by h) (fresh from n) (share (from + n) 0 [] ∷ []), fresh_put from n h)
-
-fresh_got : (from n : ℕ) (h : Ticket → ℕ) → weigh (got_by h) (fresh from n) ≡ 0
-fresh_got from zero h = refl
-fresh_got from (suc n) h =
-    omega (arith, weigh-append (got_by h) (fresh from n) (share (from + n) 0 [] ∷ []), fresh_got from n h)
 
 -- a place outside is in no share
 fresh_out : (from n p : ℕ) → from + n ≤ p → weigh (is_at p) (fresh from n) ≡ 0
@@ -426,9 +399,6 @@ counts t all p n got v w e s few same =
     let few' : FewGot (after_pop t (sight all (share p 0 got ∷ []))) = subst FewGot whole few in
     subst (λ (u : Sight). Counts (n + 1) u) (sym whole) (counts_here t all p n got few' same)
 
-got_more_wide' : (t : Ticket) (xs : List Share) → length (got_more t xs) ≡ length xs
-got_more_wide' t xs = got_more_wide t xs
-
 -- what a pop by the seat with every share changes
 pub pop_changes : (t : Ticket) (v w : Sight) → 0 < length v.shares → w ≡ after_pop t v
     → (w.all ≡ v.all) × (length w.shares ≡ length v.shares)
@@ -446,10 +416,6 @@ pop_changes t v w s e = (
     ap (λ (u : Sight). weigh (got_by h) u.shares) e ∙ got_more_got t v.shares h s,
   ),
 )
-
-weigh_ones : (xs : List Ticket) → weigh (λ (t : Ticket). 1) xs ≡ length xs
-weigh_ones [] = refl
-weigh_ones (x ∷ xs) = omega (arith, weigh_ones xs)
 
 tickets_wide : (items : List JobParts) → weigh (λ (t : Ticket). 1) (tickets items) ≡ length items
 tickets_wide [] = refl

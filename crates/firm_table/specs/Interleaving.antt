@@ -175,7 +175,7 @@ queue_more NoMemory = []
 queue_more Retired = []
 queue_more NotNow = []
 
--- the next ticket of a place, whoever has it
+-- the next ticket of a place, of any tenant there
 abbrev pub next_ticket : ℕ → Seat → Ticket
 next_ticket place seat = record { place = place; number = seat.rounds + 1 }
 

@@ -4,7 +4,7 @@ use Rattle.std.proofs.Math.Nat.{mul-le-mul_right}
 use Rattle.firm_canon.specs.Counts.{HasSearchedUpTo}
 use Rattle.firm_paths.specs.Workspace.{Workspace, HasCounted}
 use Rattle.firm_rules.specs.ArenaUse.{arena_arcs}
-use Rattle.firm_tenant.specs.Pools.{Pool, HasBegunOnce}
+use Rattle.firm_tenant.specs.inner.Pools.{Pool, HasBegunOnce}
 
 -- a count that begins, and then the searches of a choice
 pub begun_once : (old new : Pool) (begun : Workspace)

@@ -1,5 +1,4 @@
 pub mod Step
 pub mod Alone
 pub mod Laws
-pub mod Parts
-pub mod Pools
+pub mod inner

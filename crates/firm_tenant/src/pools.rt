@@ -4,8 +4,8 @@ ghost use Rattle.firm_paths.specs.NetArcs.{limits_of};
 ghost use Rattle.firm_rules.specs.Placement.{is_legal};
 ghost use Rattle.firm_rules.specs.Round.{case_of, round_placement};
 ghost use Rattle.firm_tenant.specs.Step.{effect, counts_of, is_memory_outcome};
-ghost use Rattle.firm_tenant.specs.Parts.{outcome_of, plain_or};
-ghost use Rattle.firm_tenant.specs.Pools.{book_of, IsOpeningPool, placed_in, HasBegunOnce, HasCountedFor};
+ghost use Rattle.firm_tenant.specs.inner.Outcomes.{outcome_of, plain_or};
+ghost use Rattle.firm_tenant.specs.inner.Pools.{book_of, IsOpeningPool, placed_in, HasBegunOnce, HasCountedFor};
 
 use circular_buffer::HeapCircularBuffer;
 use firm_canon::first_best;
@@ -13,13 +13,11 @@ use firm_graph::{Graph, GraphRefusal};
 use firm_net::Net;
 use firm_paths::{Prices, Scratch};
 use firm_rules::{
-    Choice, Command, Limits, Name, Outcome, Preferred, RecentCosts, Refusal, Rows, Slots, Weight,
-    changes_of, cost_of, legality_is_judged, the_round_is_the_first, use_of,
+    Choice, Command, Limits, MOST_COSTS, Name, Outcome, Preferred, RecentCosts, Refusal, Rows,
+    Slots, Weight, changes_of, cost_of, legality_is_judged, the_round_is_the_first, use_of,
 };
 use std::alloc::{AllocError, Global};
 use std::marker::Model;
-
-const MOST_COSTS: usize = 8;
 
 /// The rows of a tenant with their net, and the costs of the last rounds.
 #[derive(Drop)]
@@ -32,7 +30,7 @@ pub(crate) struct Pool {
 
 impl Model for Pool {
     ghost use Rattle.std.specs.Prelude.{◌≡◌};
-    ghost use Rattle.firm_tenant.specs.Pools.{Pool as PoolRows, IsMadeFor};
+    ghost use Rattle.firm_tenant.specs.inner.Pools.{Pool as PoolRows, IsMadeFor};
 
     ghost Value = { PoolRows };
 

@@ -20,7 +20,7 @@ pub struct Tenant {
 impl Model for Tenant {
     ghost use Rattle.std.specs.Prelude.{◌≤◌};
     ghost use Rattle.firm_rules.specs.Book.{Book};
-    ghost use Rattle.firm_tenant.specs.Pools.{book_of};
+    ghost use Rattle.firm_tenant.specs.inner.Pools.{book_of};
 
     ghost Value = { Book };
 
@@ -53,10 +53,11 @@ impl Tenant {
                 outcome: Outcome::Refused(Refusal::Worn),
             };
         }
+        let outcome = self.pool.answer(alloc, command);
         self.given += 1;
         Reply {
             number: self.given,
-            outcome: self.pool.answer(alloc, command),
+            outcome,
         }
     }
 

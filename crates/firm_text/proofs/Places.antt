@@ -163,7 +163,7 @@ within_of before name at after admission =
     ∙ length-set before at (occupied name (admissions_at before at + 1)) in
     omega (arith, free.within)
 
--- the first places, as far as so many tenants have theirs
+-- the places once the first tenants, `count` in number, have theirs
 abbrev pub places_to : ℕ → List RosterRow → List Entry
 places_to count tenants =
     map (λ (tenant : RosterRow). occupied tenant.0 1) (take count tenants) ++ replicate (most_places - count) (vacant 0)

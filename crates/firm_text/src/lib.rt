@@ -1,7 +1,6 @@
 //! The formats of the service: what its input lines mean, what its replies read as, and which tenants a roster admits.
 #![tactic(auto)]
 
-mod admission;
 mod bytes;
 mod commands;
 mod cutter;
@@ -16,11 +15,11 @@ mod reading;
 mod records;
 mod registers;
 mod replies;
+mod roster_text;
 mod rosters;
-mod rows;
+mod row_fields;
 mod words;
 
-pub use admission::roster;
 pub use bytes::Bytes;
 pub use cutter::{Cutter, Fed};
 pub use devices::{Failed, Sink, Source, write_all};
@@ -31,4 +30,5 @@ pub use operator::{OperatorLine, OperatorRefusal, OperatorReply};
 pub use reading::line;
 pub use registers::{MOST_ADMISSIONS, PLACES, Register};
 pub use replies::{put_operator_reply, put_reply, reply_text};
+pub use roster_text::{LONGEST_ROSTER, roster};
 pub use rosters::Roster;

@@ -5,11 +5,11 @@ ghost use Rattle.firm_text.specs.Lines.{words};
 ghost use Rattle.firm_text.specs.OperatorLines.{admit_line, operator_line_of, operator_verb, retire_line, row_refusal};
 ghost use Rattle.firm_text.specs.OperatorLines.{row_told};
 
-use crate::admission::told_tenant;
 use crate::commands::is_word;
 use crate::faults::RosterFault;
 use crate::operator::{OperatorLine, OperatorRefusal};
-use crate::rows::row_fields;
+use crate::roster_text::told_tenant;
+use crate::row_fields::row_fields;
 use crate::words::{next_word, only_word};
 use firm_rules::{Limits, Name};
 

@@ -1,6 +1,6 @@
 //! The text of a reply.
 
-ghost use Rattle.std.specs.Prelude.{◌≡◌, ◌∷◌, ◌++◌, [], IfOk, OnOk, codes, map};
+ghost use Rattle.std.specs.Prelude.{◌≡◌, ◌≤◌, ◌∷◌, ◌++◌, [], IfOk, OnOk, codes, map};
 ghost use Rattle.std.specs.List.{flat_map};
 ghost use Rattle.std.specs.Io.{StartsWith};
 ghost use Rattle.std.specs.Fmt.{decimal, signed_decimal};
@@ -205,6 +205,7 @@ fn put_three(
 
 /// Adds a word, and the space before it.
 #[tactic(auto, using(crate::proofs::Puts::kept_trans))]
+#[inline(always)]
 fn put(text: &mut Vec<u8>, word: &[u8]) -> Result<(), AllocError>
     ensures kept { StartsWith text.new.items text.old.items }
     ensures added { OnOk result (text.new.items ≡ text.old.items ++ flat_map spaced (word.now ∷ [])) }
@@ -215,6 +216,7 @@ fn put(text: &mut Vec<u8>, word: &[u8]) -> Result<(), AllocError>
 
 /// Adds a number, and the space before it.
 #[tactic(auto, using(crate::proofs::Puts::kept_trans))]
+#[inline(always)]
 fn put_number(text: &mut Vec<u8>, number: u64) -> Result<(), AllocError>
     ensures kept { StartsWith text.new.items text.old.items }
     ensures added { OnOk result (text.new.items ≡ text.old.items ++ flat_map spaced (decimal number ∷ [])) }
@@ -223,13 +225,28 @@ fn put_number(text: &mut Vec<u8>, number: u64) -> Result<(), AllocError>
     put_digits(text, number)
 }
 
-// Most numbers of a reply have one digit, which needs no buffer.
+// Most numbers of a reply have one digit or two, which need no buffer.
+#[inline(always)]
 fn put_digits(text: &mut Vec<u8>, number: u64) -> Result<(), AllocError>
     ensures kept { StartsWith text.new.items text.old.items }
     ensures added { OnOk result (text.new.items ≡ text.old.items ++ decimal number) }
 {
     if number < 10 {
         text.push(b'0' + number as u8)?;
+        return Ok(());
+    }
+    put_more_digits(text, number)
+}
+
+#[inline(never)]
+fn put_more_digits(text: &mut Vec<u8>, number: u64) -> Result<(), AllocError>
+    requires { 10 ≤ number }
+    ensures kept { StartsWith text.new.items text.old.items }
+    ensures added { OnOk result (text.new.items ≡ text.old.items ++ decimal number) }
+{
+    if number < 100 {
+        text.push(b'0' + (number / 10) as u8)?;
+        text.push(b'0' + (number % 10) as u8)?;
         return Ok(());
     }
     put_many_digits(text, number)
@@ -255,6 +272,7 @@ fn put_cost(text: &mut Vec<u8>, cost: i64) -> Result<(), AllocError>
 
 /// Adds a label, which has a space at each end, and a number.
 #[tactic(auto, using(crate::proofs::Puts::kept_trans))]
+#[inline(always)]
 fn put_labelled(text: &mut Vec<u8>, label: &[u8], number: u64) -> Result<(), AllocError>
     ensures kept { StartsWith text.new.items text.old.items }
     ensures added { OnOk result (text.new.items ≡ text.old.items ++ label.now ++ decimal number) }

@@ -1,11 +1,11 @@
 -- Each step keeps the law of a tray.
-use Rattle.std.proofs.Common.{◌≡◌, ℕ, zero, suc, ◌==◌, List, [], ◌∷◌, get_or, set, ◌++◌, Option, Some, None, sym, refl}
+use Rattle.std.proofs.Common.{◌≡◌, ℕ, zero, suc, ◌==◌, List, [], ◌∷◌, get_or, Option, Some, None, sym, refl}
 use Rattle.std.proofs.Common.{ap, ◌∙◌, subst}
 use mathlib.Core.Option.{some, some-injective, some-ne-none}
 use lib.ListN.{get_elem?}
 use prog.Atomic.{either}
-use Rattle.atomic_table.specs.Table.{State, Me, Act, keeps, takes, gives, step, Valid, stepped, carried_after, Allows}
-use Rattle.atomic_table.specs.Table.{Splits, rest}
+use Rattle.atomic_table.specs.Table.{Act, keeps, takes, gives, step, Valid, stepped, carried_after, Allows}
+use Rattle.atomic_table.specs.Table.{rest}
 use Rattle.firm_rules.specs.Book.{Book}
 use Rattle.firm_tray.specs.declared.protocol.Stage.{Stage}
 use Rattle.firm_tray.specs.declared.protocol.Stage.TheVariants.{Opening, Holding, Open, Spent, Asked, Taken}
@@ -86,26 +86,6 @@ sees b zero gone fair at = let e : Spent ≡ Asked = stage_in _ _ at in cc
 sees b (suc zero) gone fair at = let e : Taken ≡ Asked = stage_in _ _ at in cc
 sees b (suc (suc id)) gone fair at = nowhere _ at
 
-cuts : (b : Book) (id : ℕ) (p : Phase) → IsFair b p → Stands b id p Holding
-    → Keeps b (record {
-      words = (state_of b p).words;
-      homes = (state_of b p).homes;
-      views = set (state_of b p).views id (sight Open b) ++ sight Asked b ∷ [];
-    })
-cuts b zero fresh fair at = let e : Opening ≡ Holding = stage_in _ _ at in cc
-cuts b (suc id) fresh fair at = nowhere _ at
-cuts b zero dealt fair at = (waiting, refl, tt)
-cuts b (suc id) dealt fair at = nowhere _ at
-cuts b zero waiting fair at = let e : Open ≡ Holding = stage_in _ _ at in cc
-cuts b (suc zero) waiting fair at = let e : Asked ≡ Holding = stage_in _ _ at in cc
-cuts b (suc (suc id)) waiting fair at = nowhere _ at
-cuts b zero (answered x) fair at = let e : Spent ≡ Holding = stage_in _ _ at in cc
-cuts b (suc zero) (answered x) fair at = let e : Asked ≡ Holding = stage_in _ _ at in cc
-cuts b (suc (suc id)) (answered x) fair at = nowhere _ at
-cuts b zero gone fair at = let e : Spent ≡ Holding = stage_in _ _ at in cc
-cuts b (suc zero) gone fair at = let e : Taken ≡ Holding = stage_in _ _ at in cc
-cuts b (suc (suc id)) gone fair at = nowhere _ at
-
 pub deals_allowed : (b : Book) (slots id : ℕ)
     → Allows (Keeps b) slots id (sight Opening b, []) 0 (λ n. n)
     (takes_slot (step slots 0 0 0 mathlib.Core.Option.none) (sight Opening b, []))
@@ -125,16 +105,6 @@ sees_allowed b slots id =
     by_phase b slots id (sight Asked b, []) (λ n. either (n == 1) 2 n)
     (λ n m. looks (step slots 0 1 2 mathlib.Core.Option.none) (sight Asked b, []) n m) (sees b id)
 
-pub cuts_allowed : (b : Book) (id : ℕ) → Splits (Keeps b) id (sight Holding b) (sight Open b) (sight Asked b)
-cuts_allowed b id s k at =
-    let P : Tray → Type 0 =
-    λ (s : Tray). Keeps b (record {
-      words = s.words;
-      homes = s.homes;
-      views = set s.views id (sight Open b) ++ sight Asked b ∷ [];
-    }) in
-    subst P (sym k.1) (cuts b id k.0 k.2 (ap (λ (t : Tray). get_elem? t.views id) (sym k.1) ∙ at))
-
 -- the same where the key and the seat are known to be those
 pub deals_as : (b key : Book) (me : Hand) (slots id : ℕ) → key ≡ b → me ≡ (sight Opening b, [])
     → Allows (Keeps key) slots id me 0 (λ n. n) (takes_slot (step slots 0 0 0 mathlib.Core.Option.none) me)
@@ -148,10 +118,6 @@ fills_as b key me x slots id k e r = rw (k, e) (fills_allowed b x slots id r)
 pub sees_as : (b key : Book) (me : Hand) (slots id : ℕ) → key ≡ b → me ≡ (sight Asked b, [])
     → Allows (Keeps key) slots id me 0 (λ n. either (n == 1) 2 n) (looks (step slots 0 1 2 mathlib.Core.Option.none) me)
 sees_as b key me slots id k e = rw (k, e) (sees_allowed b slots id)
-
-pub cuts_as : (b key : Book) (v : Sight) (id : ℕ) → key ≡ b → v ≡ sight Holding b
-    → Splits (Keeps key) id v (sight Open v.book) (sight Asked v.book)
-cuts_as b key v id k e = rw (k, e) (cuts_allowed b id)
 
 one_carried : (y : Option Solved) (v : Sight) (m : Hand) → m ≡ (v, (0, y) ∷ []) → m.1 ≡ (0, y) ∷ rest m.1
 one_carried y v m e = rw e refl

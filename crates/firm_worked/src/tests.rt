@@ -11,7 +11,7 @@ mod rows;
 mod stays;
 
 use firm_hall::{Open, serve};
-use firm_table::{ServeFault, serve_one};
+use firm_table::{MOST_INPUT, ServeFault, serve_one};
 use firm_text::{Failed, Roster, Sink, Source, roster};
 use std::alloc::{AllocError, Global};
 use std::sync::Wait;
@@ -20,8 +20,7 @@ use std::thread::Threads;
 
 const HEADING: &[u8] = b"tenant,nodes,arcs,life,spread,churn\n";
 
-/// The most bytes that a service takes.
-const MOST: u64 = 4_294_967_296;
+const MOST: u64 = MOST_INPUT;
 
 /// A way of serving.
 #[derive(Clone, Copy, Debug, PartialEq, Eq)]
@@ -49,7 +48,7 @@ fn roster_of(alloc: Global, records: &str) -> Result<Roster, Fail> {
     roster(alloc, &text).map_err(|_| Fail::from("a roster"))
 }
 
-/// How a service with so many workers ends.
+/// How a service with `workers` workers ends.
 fn serve_with<S: Source, W: Sink, R: Threads + Wait + Sync>(
     rt: &R,
     alloc: Global,

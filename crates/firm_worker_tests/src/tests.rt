@@ -19,6 +19,7 @@ mod wakes;
 use firm_hall::{Asked, Desk, EmptyDesk, Hall, WorkerPass};
 use firm_rounds::Job;
 use firm_rules::{Outcome, Reply};
+use firm_table::MOST_INPUT;
 use firm_text::{Roster, roster};
 use std::alloc::Global;
 use std::process::Abort;
@@ -26,8 +27,7 @@ use std::sync::Wait;
 
 const HEADING: &str = "tenant,nodes,arcs,life,spread,churn\n";
 
-/// The most bytes that a service takes.
-const MOST: u64 = 4_294_967_296;
+const MOST: u64 = MOST_INPUT;
 
 const TWO: &str = "alpha,9,24,100,1,2\nbeta,8,30,100,0,3";
 

@@ -36,9 +36,8 @@ impl Write for Full {
     }
 }
 
-/// A reader and writer one of whose calls, the first of which is call 0, fails with an error of this kind, and whose
-/// other
-/// calls each move one byte.
+/// A reader and writer one of whose calls, counted from 0, fails with an error of this kind; each other call moves one
+/// byte.
 #[derive(Drop)]
 struct FailsAt {
     failing: u64,

@@ -32,7 +32,7 @@ seat_of occupant rounds admissions = record { station = station_at occupant; rou
 abbrev pub rounds_of : ℕ → ℕ
 rounds_of tenants = tenants * 2 ^ 40
 
--- a tenant was given no more commands than its life has, so many rounds that are on their way among them; and its place
+-- a tenant was given no more commands than its life has, `more` rounds that are on their way among them; and its place
 -- has queued no more rounds than that, beside those that the tenants before it may have queued
 pub record IsWithin (book : Book) (more rounds admissions : ℕ) : Type 0 where
   pub life : book.rows.limits.life ≤ 2 ^ 40

@@ -18,7 +18,7 @@ const INPUT: &[u8] = b"alpha machine m1 2\nalpha job j 5\nalpha task j a\nalpha 
 const OUTPUT: &[u8] =
     b"alpha 1 ok\nalpha 2 ok\nalpha 3 ok\nalpha 4 ok machines 1 jobs 1 tasks 1 running 0 nodes 5 of 6 arcs 7 of 11\n";
 
-/// Takes a few bytes a call, so many in all, and then fails; it may fail its flush.
+/// Takes a few bytes a call, `room` in all, and then fails; it may fail its flush.
 #[derive(Drop)]
 struct Choking {
     taken: Vec<u8>,
@@ -65,7 +65,7 @@ impl Sink for Choking {
     }
 }
 
-/// How the service ends where the reader gives so many bytes, `piece` a call, and then fails.
+/// How the service ends where the reader gives `count` bytes, `piece` a call, and then fails.
 fn serve_until_read_fails<R: Threads + Wait + Sync>(
     rt: &R,
     alloc: Global,
@@ -81,7 +81,7 @@ fn serve_until_read_fails<R: Threads + Wait + Sync>(
     Ok((writer.taken, ended))
 }
 
-/// How the service ends where the writer takes so many bytes, `piece` a call, and then fails.
+/// How the service ends where the writer takes `room` bytes, `piece` a call, and then fails.
 fn serve_until_write_fails<R: Threads + Wait + Sync>(
     rt: &R,
     alloc: Global,
@@ -97,7 +97,7 @@ fn serve_until_write_fails<R: Threads + Wait + Sync>(
     Ok((writer.taken, ended))
 }
 
-/// The answers to the lines that end within so many bytes of the input.
+/// The answers to the lines that end within the first `count` bytes of the input.
 fn answers_within(count: usize) -> &'static [u8] {
     let lines = INPUT
         .iter()
@@ -110,7 +110,7 @@ fn answers_within(count: usize) -> &'static [u8] {
     }
 }
 
-/// Whether the service stops at a failed read after so many bytes, with the answers to all lines before it.
+/// Whether the service stops at a failed read after `count` bytes, with the answers to all lines before it.
 fn stops_at_read<R: Threads + Wait + Sync>(
     rt: &R,
     alloc: Global,
@@ -122,7 +122,7 @@ fn stops_at_read<R: Threads + Wait + Sync>(
     Ok(ended == Err(ServeFault::Read) && written.as_slice() == answers_within(count))
 }
 
-/// Whether the service stops at a failed write after so many bytes, all of which were written.
+/// Whether the service stops at a failed write after `room` bytes, all of which were written.
 fn stops_at_write<R: Threads + Wait + Sync>(
     rt: &R,
     alloc: Global,

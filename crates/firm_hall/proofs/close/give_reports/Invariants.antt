@@ -1,7 +1,7 @@
 use Rattle.std.proofs.Common.{◌≡◌, take}
 use Rattle.firm_rounds.specs.Passes.{spent_pop}
 use Rattle.firm_rounds.specs.Turning.{turned}
-use Rattle.firm_hall.specs.Gathered.{Gave}
+use Rattle.firm_hall.specs.inner.Gathered.{Gave}
 use Rattle.firm_hall.proofs.close.give_reports.Given as goal
 
 abbrev pub invariant-loop-i : goal.invariant-loop-i

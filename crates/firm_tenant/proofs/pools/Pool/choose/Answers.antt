@@ -3,7 +3,7 @@ use Rattle.firm_rules.specs.declared.rounds.Choice.{Choice}
 use Rattle.firm_rules.specs.Placement.{Case, is_legal}
 use Rattle.firm_rules.specs.Round.{case_of, round_placement}
 use Rattle.std.proofs.lemmas.Result.{IfOk-weaker}
-use Rattle.firm_tenant.specs.Pools.{Pool, HasBegunOnce}
+use Rattle.firm_tenant.specs.inner.Pools.{Pool, HasBegunOnce}
 use Rattle.firm_tenant.proofs.Counted.{begun_once}
 use Rattle.firm_tenant.proofs.pools.Pool.choose.Goals as goal
 

@@ -9,7 +9,7 @@ use Rattle.firm_rules.specs.declared.rounds.Change.{Change}
 use Rattle.firm_rules.specs.declared.rounds.Choice.{Choice}
 use Rattle.firm_rules.specs.declared.replies.Outcome.{Outcome}
 use Rattle.firm_rules.specs.declared.replies.Outcome.TheVariants.{Round}
-use Rattle.firm_tenant.specs.Pools.{Pool, placed_in}
+use Rattle.firm_tenant.specs.inner.Pools.{Pool, placed_in}
 use Rattle.firm_tenant.proofs.pools.Pool.place.Goals as goal
 
 -- what a placement comes to, from its parts

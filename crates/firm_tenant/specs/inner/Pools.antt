@@ -28,7 +28,7 @@ pub record IsOpeningPool (limits : TenantLimits) (pool : Pool) : Type 0 where
   pub asked : pool.asked ≡ 0
   pub counts : (pool.workspace.begins ≡ 0) × (pool.workspace.searches ≡ 0) × (pool.workspace.looks ≡ 0)
 
--- the book of a tenant with this pool that was given so many commands
+-- the book of a tenant with this pool that was given `given` commands
 abbrev pub book_of : Pool → ℕ → Book
 book_of pool given = record { rows = pool.rows; costs = pool.costs; given = given }
 
@@ -40,7 +40,7 @@ placed_in pool placement =
       record pool { rows = rows_after pool.rows placement; costs = with_cost pool.costs cost },
     )
 
--- room for a net of so many nodes and arcs is room for the net of a tenant with these limits
+-- room for that number of nodes and arcs is room for the net of a tenant with these limits
 abbrev pub IsMadeFor : ℕ × ℕ → TenantLimits → Type 0
 IsMadeFor room limits = room ≡ (limits.nodes, limits.arcs)
 

@@ -1,4 +1,4 @@
--- Parts of a step, as the code takes them.
+-- The outcome of a command or of a row, as the code of a step takes it.
 use Rattle.std.specs.Prelude.{Result, Ok, Err}
 use Rattle.firm_graph.specs.declared.parts.GraphRefusal.{GraphRefusal}
 use Rattle.firm_graph.specs.declared.parts.GraphRefusal.TheVariants.{Nodes, Arcs, Memory as NoMemory}

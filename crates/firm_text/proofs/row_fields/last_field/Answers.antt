@@ -3,7 +3,7 @@ use Rattle.std.specs.Prelude.{MatchOption}
 use Rattle.std.specs.List.{slice_split}
 use Rattle.firm_text.specs.OperatorLines.{is_comma}
 use Rattle.firm_text.proofs.Commas.{some_piece}
-use Rattle.firm_text.proofs.rows.last_field.Goals as goal
+use Rattle.firm_text.proofs.row_fields.last_field.Goals as goal
 
 pub returns-in_default-Some : goal.returns-in_default-Some
 returns-in_default-Some c =

@@ -2,7 +2,7 @@ use Rattle.std.proofs.Common.{◌≡◌, List, ℕ, take, drop, arith}
 use Rattle.std.specs.List.{position_or_len}
 use Rattle.firm_text.specs.OperatorLines.{is_comma}
 use Rattle.firm_text.proofs.Commas.{cut-last, cut-more}
-use Rattle.firm_text.proofs.rows.first_field.Goals as goal
+use Rattle.firm_text.proofs.row_fields.first_field.Goals as goal
 
 pub returns-in-empty : goal.returns-in-empty
 returns-in-empty c =

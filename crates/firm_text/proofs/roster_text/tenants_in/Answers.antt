@@ -4,7 +4,7 @@ use Rattle.csv.specs.Records.{fields_of}
 use Rattle.firm_text.specs.Rosters.{NamesDiffer, is_taken, tenants_of}
 use Rattle.firm_text.proofs.Differ.{names_differ_push}
 use Rattle.firm_text.proofs.Judged.{tenants_of_next}
-use Rattle.firm_text.proofs.admission.tenants_in.Goals as goal
+use Rattle.firm_text.proofs.roster_text.tenants_in.Goals as goal
 
 pub loop-row-preserved : goal.loop-row-preserved
 loop-row-preserved c =

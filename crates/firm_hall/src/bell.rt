@@ -1,0 +1,127 @@
+//! How workers are woken for the rounds that are put.
+use crossbeam_utils::CachePadded;
+use crossbeam_utils::sync::{EventCount, Key};
+use std::sync::Wait;
+use std::sync::atomic::{AtomicU64, Ordering};
+
+// How often a worker looks for a round in vain before it rests. The last one awake looks for some microseconds, since
+// each wake in a stream of small rounds costs as much. Nobody yields: on a busy machine one yield takes longer than all
+// looks and the sleep.
+const LOOKS_BEFORE_REST: u32 = 16;
+
+const LOOKS_OF_LAST: u32 = 512;
+
+// How many rounds may wait, in the queue's room for 8, before each further one wakes a worker.
+const MOST_UNCALLED: u64 = 4;
+
+/// Wakes workers. A round wakes one at once only where all rest; else the thread that put it goes on, and wakes one
+/// when it rings, if a round is still waiting then.
+#[derive(Drop)]
+pub(crate) struct Bell {
+    workers: u64,
+    // Workers without a round sleep on it.
+    work: CachePadded<EventCount>,
+    // How many workers rest. Each of the others looks into the queue once more.
+    resting: CachePadded<AtomicU64>,
+    // How many rounds wait in the queue, or are about to be put.
+    waiting: CachePadded<AtomicU64>,
+    // 1 where a round was put and no worker was woken for it.
+    owes: CachePadded<AtomicU64>,
+}
+
+/// A rest that is announced. Drop it to cancel the rest.
+pub(crate) struct Rest<'b> {
+    bell: &'b Bell,
+    key: Key<'b>,
+}
+
+impl Bell {
+    pub(crate) fn new(workers: usize) -> Bell {
+        Bell {
+            workers: workers as u64,
+            work: CachePadded::new(EventCount::new()),
+            resting: CachePadded::new(AtomicU64::new(0)),
+            waiting: CachePadded::new(AtomicU64::new(0)),
+            owes: CachePadded::new(AtomicU64::new(0)),
+        }
+    }
+
+    /// Called before a round is put. Returns how many wait already.
+    pub(crate) fn expect(&self) -> u64 {
+        self.waiting.fetch_add(1, Ordering::SeqCst)
+    }
+
+    /// Called once the round is put, with the number that waited before it. A worker that is not counted as resting
+    /// looks into the queue after that, so a round without a wake is found all the same.
+    pub(crate) fn came(&self, older: u64) {
+        if self.all_rest() || MOST_UNCALLED <= older {
+            self.work.notify_one();
+        } else {
+            self.owes.store(1, Ordering::SeqCst);
+        }
+    }
+
+    /// Called once a round was taken.
+    pub(crate) fn took(&self) {
+        self.waiting.fetch_sub(1, Ordering::SeqCst);
+    }
+
+    /// Wakes a worker if one is owed and a round waits.
+    pub(crate) fn ring(&self) {
+        if self.owes.swap(0, Ordering::SeqCst) == 1 {
+            self.call();
+        }
+    }
+
+    /// Wakes a worker if a round waits. A worker that took a round right after its sleep does so, since one wake may
+    /// stand for several rounds.
+    pub(crate) fn call(&self) {
+        if self.waiting.load(Ordering::SeqCst) != 0 {
+            self.work.notify_one();
+        }
+    }
+
+    /// Wakes all workers.
+    pub(crate) fn call_all(&self) {
+        self.work.notify_all();
+    }
+
+    /// After enough looks in vain, the announcement of a rest, with one look more to come. A round that is put after
+    /// that look, or a shut after that read, follows the announcement, so its notification ends the sleep.
+    pub(crate) fn announce(&self, looks: u32) -> Option<Rest<'_>> {
+        if looks < LOOKS_BEFORE_REST || looks < LOOKS_OF_LAST && self.others_rest() {
+            return None;
+        }
+        self.resting.fetch_add(1, Ordering::SeqCst);
+        Some(Rest {
+            bell: self,
+            key: self.work.prepare_wait(),
+        })
+    }
+
+    fn all_rest(&self) -> bool {
+        self.resting.load(Ordering::SeqCst) == self.workers
+    }
+
+    // The same for all but the one that asks.
+    fn others_rest(&self) -> bool {
+        self.workers <= self.resting.load(Ordering::SeqCst).saturating_add(1)
+    }
+}
+
+impl Rest<'_> {
+    /// Sleeps until a notification after the announcement.
+    pub(crate) fn sleep<R: Wait>(self, rt: &R) {
+        let Rest { bell, key } = self;
+        key.wait(rt);
+        bell.resting.fetch_sub(1, Ordering::SeqCst);
+    }
+}
+
+impl Drop for Rest<'_> {
+    fn drop(self) {
+        let Self { bell, key } = self;
+        drop(key);
+        bell.resting.fetch_sub(1, Ordering::SeqCst);
+    }
+}
