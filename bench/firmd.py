@@ -125,7 +125,7 @@ def add_rows(pipes: Pipes) -> None:
 
 
 def receive(pipes: Pipes, count: int) -> bytes:
-    """Reads so many replies; the last bytes."""
+    """Reads this number of replies; returns the last bytes."""
     last = b""
     while count > 0:
         chunk = os.read(pipes.read, 1 << 20)

@@ -21,9 +21,7 @@ from collections import defaultdict
 from pathlib import Path
 from typing import NamedTuple
 
-sys.path.insert(0, str(Path(__file__).resolve().parent.parent / "tests"))
-
-from harness.checks import CannotRun, run_script
+from shared import CannotRun, run_script
 
 PAUSE = 0.2
 TICKS = os.sysconf("SC_CLK_TCK")

@@ -7,8 +7,7 @@ from dataclasses import asdict, dataclass
 from pathlib import Path
 from typing import Any, Iterable, TextIO, TypeVar
 
-from harness.checks import CannotRun
-from harness.program import ROOT
+from shared import ROOT, CannotRun
 
 FOLDER = ROOT / "out" / "bench"
 ROUNDS = "rounds.jsonl"

@@ -16,16 +16,12 @@ import re
 import resource
 import shutil
 import subprocess
-import sys
 import tempfile
 from dataclasses import dataclass
 from pathlib import Path
 from typing import NamedTuple
 
-sys.path.insert(0, str(Path(__file__).resolve().parent.parent / "tests"))
-
-from harness.checks import CannotRun, require, run_script
-from harness.program import BUILT, program_file
+from shared import BUILT, CannotRun, program_file, require, run_script
 
 ROSTER = "tenant,nodes,arcs,life,spread,churn\nt,4096,65536,1099511627776,1,2\n"
 TIME = "/usr/bin/time"

@@ -15,7 +15,6 @@ import argparse
 import os
 import select
 import subprocess
-import sys
 import tempfile
 import time
 from dataclasses import dataclass
@@ -23,10 +22,7 @@ from pathlib import Path
 from statistics import median
 from typing import NamedTuple, Sequence
 
-sys.path.insert(0, str(Path(__file__).resolve().parent.parent / "tests"))
-
-from harness.checks import run_script
-from harness.program import BUILT, opened, program_file
+from shared import BUILT, opened, program_file, run_script
 
 ROSTER = "tenant,nodes,arcs,life,spread,churn\nt,4096,65536,1099511627776,1,2\n"
 LIMIT_SECONDS = 2

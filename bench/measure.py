@@ -11,10 +11,7 @@ from pathlib import Path
 from statistics import median
 from typing import NamedTuple
 
-from harness.checks import CannotRun, compile_source, require
-from harness.kinds import TENANT, Stream
-from harness.program import Roster, run
-from harness.rows import hear, hear_round, network, open_rows
+from shared import TENANT, CannotRun, Roster, Stream, compile_source, hear, hear_round, network, open_rows, require, run
 
 HERE = Path(__file__).resolve().parent
 LONG = 45  # seconds after which a stream is not run again
@@ -77,38 +74,44 @@ class Served:
             return output.read().splitlines(), used.ru_utime + used.ru_stime
 
 
-def run_repeatedly(program: str, stream: Stream, repeats: int) -> Measured:
-    """Runs a stream part by part.
+def pair_of(served: Served, lines: list[str]) -> tuple[list[str], float]:
+    """The replies to these lines and a round, and its time: that of the run, less that of one without the round."""
+    _, before = served.run(lines)
+    replies, behind = served.run([*lines, ROUND])
+    return replies, behind - before
 
-    A round's time is that of a run to the round's end, less that of the run to the line before it, made right before:
-    the middle of some such pairs; of more where they are short, of fewer where they take long.
+
+def run_repeatedly(programs: list[str], stream: Stream, repeats: int) -> list[Measured]:
+    """Runs a stream part by part, by each program in turn.
+
+    A round's time is the middle of some pairs of runs, to the round's end and to the line before it; of more pairs
+    where they are short, of fewer where they take long.
     """
-    served, begun, measured = Served(program, stream.roster), time.monotonic(), Measured([], [])
+    services = [Served(program, stream.roster) for program in programs]
+    begun, measured = time.monotonic(), [Measured([], []) for _ in programs]
     lines: list[str] = []
     for part in stream.parts:
         lines += part
-        found: list[float] = []
         started = time.monotonic()
-        while len(found) < repeats or time.monotonic() - started < SHORT:
-            _, before = served.run(lines)
-            replies, behind = served.run([*lines, ROUND])
-            found.append(behind - before)
-            if time.monotonic() - begun > LONG:
+        turns: list[list[tuple[list[str], float]]] = []
+        while len(turns) < repeats or time.monotonic() - started < SHORT * len(programs):
+            turns.append([pair_of(served, lines) for served in services])
+            if time.monotonic() - begun > LONG * len(programs):
                 break
         lines.append(ROUND)
-        measured.seconds.append(median(found))
-        measured.replies.append(replies[-len(part) - 1 :])
+        for place, each in enumerate(measured):
+            each.seconds.append(median(turn[place][1] for turn in turns))
+            each.replies.append(turns[-1][place][0][-len(part) - 1 :])
     return measured
 
 
 def run_stream(program: str, other: str | None, stream: Stream, repeats: int) -> list[Round]:
     """The rounds of a stream, with their times; those of the other program, if there is one, must be the same."""
-    measured = run_repeatedly(program, stream, repeats)
+    measured, *beside = run_repeatedly([program, *([other] if other else [])], stream, repeats)
     others: list[float | None] = [None] * len(measured.seconds)
-    if other:
-        beside = run_repeatedly(other, stream, repeats)
-        require(beside.replies == measured.replies, "the two programs gave two outputs")
-        others = [*beside.seconds]
+    if beside:
+        require(beside[0].replies == measured.replies, "the two programs gave two outputs")
+        others = [*beside[0].seconds]
     tenant, rounds = open_rows(stream.roster), []
     for lines, replies, seconds, other_seconds in zip(stream.parts, measured.replies, measured.seconds, others):
         for line, reply in zip(lines, replies):

@@ -12,14 +12,9 @@ contract, and Proof searches for what no answer says.
 from __future__ import annotations
 
 import argparse
-import sys
-from pathlib import Path
 from typing import NamedTuple
 
-sys.path.insert(0, str(Path(__file__).resolve().parent.parent / "tests"))
-
-from harness.checks import CannotRun, run_script
-from harness.program import ROOT
+from shared import ROOT, CannotRun, run_script
 
 
 class Module(NamedTuple):

@@ -10,18 +10,14 @@ where a picture's records are missing, and nothing is written.
 from __future__ import annotations
 
 import argparse
-import sys
 from dataclasses import dataclass
 from pathlib import Path
 from typing import Callable, Iterable, Iterator, NamedTuple
 
-sys.path.insert(0, str(Path(__file__).resolve().parent.parent / "tests"))
-
 import kept
 import svg
-from harness.checks import CannotRun, run_script
-from harness.program import ROOT
 from kept import RateRecord, RoundRecord
+from shared import ROOT, CannotRun, run_script
 
 WIDTH = 720
 NAMES = 76  # the width of the names at the left

@@ -16,17 +16,12 @@ import sys
 import tempfile
 from dataclasses import dataclass
 from itertools import product
-from pathlib import Path
 from typing import Callable, Iterable, TextIO
 
-sys.path.insert(0, str(Path(__file__).resolve().parent.parent / "tests"))
-
 import kept
-from harness import kinds
-from harness.checks import CannotRun, Missed, require, run_script
-from harness.program import BUILT, built, program_file
 from kept import RoundRecord
 from measure import build_lemon, read_counts, run_stream, solve
+from shared import BUILT, CannotRun, Missed, built, kinds, program_file, require, run_script
 
 SIZES = "100x20,500x100,2000x500,3000x1000"
 

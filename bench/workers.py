@@ -16,20 +16,15 @@ import argparse
 import os
 import resource
 import subprocess
-import sys
 import tempfile
 import time
 from dataclasses import dataclass
 from pathlib import Path
 from typing import NamedTuple
 
-sys.path.insert(0, str(Path(__file__).resolve().parent.parent / "tests"))
-
 import kept
-from harness.checks import run_script
-from harness.kinds import read_size
-from harness.program import BUILT, built, program_file
 from kept import RateRecord
+from shared import BUILT, built, program_file, read_size, run_script
 
 HEADING = "tenant,nodes,arcs,life,spread,churn\n"
 TABLE = """\

@@ -32,18 +32,11 @@ from pathlib import Path
 from typing import Any, TypeVar
 
 from harness.checks import Check, Missed, Skipped, count_ends, passes, print_skipped, require, run_script
+from harness.deployed import ID, SERVICE, Books, Status, serve_view
 from harness.program import ROOT, add_program
 
-SERVICE = ROOT / "service"
 AGENT = [sys.executable, str(SERVICE / "firm-agent")]
 SSHD = shutil.which("sshd", path=f"{os.environ['PATH']}:/usr/sbin")
-sys.path.insert(0, str(SERVICE))
-
-from firm_service.books import Books  # noqa: E402 (found by the line before)
-from firm_service.observers import Status  # noqa: E402
-from firm_service.state import ID  # noqa: E402
-from firm_service.view import serve_view  # noqa: E402
-
 Result = TypeVar("Result")
 LIMIT_SECONDS = 60.0  # for anything that is waited for
 SOON_SECONDS = 0.3  # in which something that must not happen would have happened
@@ -282,7 +275,7 @@ def command(text: str) -> str:
 
 
 def start_to_done() -> None:
-    """A start runs the command, its end is told to firm, and nothing is left."""
+    """A start runs the command, its end is reported to firm, and nothing is left."""
     with Case(
         "", a=command(WAITS_FOR_GO + '; echo "$FIRM_TENANT $FIRM_JOB"; echo to-stderr >&2'), b=command("true")
     ) as case:
@@ -677,7 +670,7 @@ def machine_given_up() -> None:
 
 
 def firmd_restarts() -> None:
-    """While firmd is away what runs goes on; what ended meanwhile is told to it when it is back."""
+    """While firmd is away what runs goes on; what ended meanwhile is reported when it is back."""
     with Case("", a=command(WAITS_FOR_GO), b=command(WAITS_FOR_GO)) as case:
         case.start("--until-empty")
         case.firmd.round("start a m1 start b m1")
@@ -751,7 +744,7 @@ def retired_tenant() -> None:
 
 
 def commands_to_come() -> None:
-    """A task without a command waits for one, told once; a faulty new table is told, and the old one stands."""
+    """A task without a command waits for one, reported once; so is a faulty new table, and the old one stands."""
     with Case("", a=command(WAITS_FOR_GO)) as case:
         case.firmd.say("task j b")
         case.start("--until-empty")

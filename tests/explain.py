@@ -547,7 +547,7 @@ def refused_memory(options: Options) -> None:
 
 
 def ends_at(whole: bytes, size: int) -> bytes:
-    """What is written in all if the output fails once behind so many bytes, or in the line that they begin.
+    """All that is written if the output fails once after this number of bytes, or in the line that they begin.
 
     After a reply that can't be written there is nothing; after a reason there are replies without reasons.
     """

@@ -36,18 +36,12 @@ from typing import Any, TypeVar
 import firmd
 from harness import program, service
 from harness.checks import Check, Missed, Skipped, count_ends, passes, print_skipped, require, run_script
+from harness.deployed import LONGEST_WAIT, MOST_CLIENTS, MOST_UNREAD, SERVICE, Book, Books, Status
+from harness.deployed import gets_reply, roster, serve_view
 from harness.program import ROOT
 from harness.small_streams import random_bad_roster, random_stream, with_noise
 
-sys.path.insert(0, str(ROOT / "service"))
-
-from firm_service import roster  # noqa: E402
-from firm_service.books import LONGEST_WAIT, Book, Books  # noqa: E402
-from firm_service.lines import gets_reply  # noqa: E402
-from firm_service.observers import Status  # noqa: E402
-from firm_service.view import MOST_CLIENTS, MOST_UNREAD, serve_view  # noqa: E402
-
-FIRMCTL = ROOT / "service" / "firmctl"
+FIRMCTL = SERVICE / "firmctl"
 EXPLAIN = program.built("firm_explain")
 BROWSER_SECONDS, BROWSER_TRIES = 30, 3  # headless Chromium hangs once in some fifty starts, whatever it is to show
 ROSTER = b"tenant,nodes,arcs,life,spread,churn\nalpha,12,40,100,1,2\nbeta,8,30,5,0,3\n"
@@ -298,7 +292,7 @@ def books_of_long_waits() -> None:
 
 
 def books_of_foreign_replies() -> None:
-    """A reply that belongs to no tenant is told, and not passed over."""
+    """A reply that belongs to no tenant is reported, and not passed over."""
     books = Books()
     books.start(ROSTER)
     try:
@@ -365,6 +359,7 @@ def rosters_are_judged(rosters: range, built: str) -> None:
         (heading + b"".join(rows[:64]), None),
         (heading + b"".join(rows), "count"),
         (heading, "count"),
+        (b"\xef\xbb\xbf" + ROSTER, None),
         (ROSTER.replace(b",40,", b",0000000000040,"), None),
         (ROSTER.replace(b",40,", b",00000000000040,"), "number"),
     ]:
@@ -378,7 +373,6 @@ def rosters_are_judged(rosters: range, built: str) -> None:
         b'"' * 65_000,
         b"," * 65_536,
         b'"tenant,nodes',
-        b"\xef\xbb\xbf" + ROSTER,
         ROSTER + b"\x00",
     ]
     for text in [

@@ -31,12 +31,8 @@ from pathlib import Path
 
 from harness import program, service
 from harness.checks import Skipped, count_ends, passes, print_skipped, require, run_script
+from harness.deployed import SERVICE, Books
 from harness.small_streams import Stream, random_stream
-
-SERVICE = program.ROOT / "service"
-sys.path.insert(0, str(SERVICE))
-
-from firm_service.books import Books  # noqa: E402
 
 NO_LIMITS = service.Limits(2, 0, 1, 0, 0)
 FIRMD = [sys.executable, str(SERVICE / "firmd")]
@@ -297,7 +293,7 @@ def expected_note(line: bytes, is_bound: bool, tenant: str) -> bytes | None:
 
 
 def converse(tenant: Tenant, client: Client, is_bound: bool, draw: random.Random, count: int) -> None:
-    """Sends so many lines in bursts that are cut anywhere, and asks of each reply that it is for its line."""
+    """Sends a number of lines in bursts that are cut anywhere; each reply must be for its line."""
     nobody = service.Service({})
     while count > 0:
         lines = tenant.lines(min(count, draw.choice([1, 1, 2, 5, 20])))

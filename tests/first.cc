@@ -50,7 +50,7 @@ struct Book {
     }
 };
 
-// The least cost of placing the tasks from `first` on, with so many tasks on each machine already.
+// The least cost of placing the tasks from `first` on, with these numbers of tasks on the machines already.
 static Number least(const Book& book, int first, const std::vector<int>& load) {
     Graph graph;
     Graph::ArcMap<Number> capacity(graph), cost(graph);

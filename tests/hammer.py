@@ -54,7 +54,8 @@ def constant(file: str, name: str, old: str, new: str) -> Edit:
 
 NO_LOOKS = [
     constant("firm_tray/src/sides.rt", "LOOKS_BEFORE_SLEEP: u32", "1_024", "0"),
-    constant("firm_hall/src/workers.rt", "LOOKS_BEFORE_SLEEP: u32", "64", "0"),
+    constant("firm_hall/src/bell.rt", "LOOKS_BEFORE_REST: u32", "16", "0"),
+    constant("firm_hall/src/bell.rt", "LOOKS_OF_LAST: u32", "512", "0"),
     constant("firm_hall/src/clerk.rt", "LOOKS_BEFORE_SLEEP: u32", "1_024", "0"),
     constant("firm_rounds/src/queue.rt", "TRIES_BEFORE_SLEEP: u32", "64", "0"),
 ]
@@ -91,8 +92,8 @@ COUNTS = [
 
 NO_NOTIFICATION = Edit(
     "firm_hall/src/halls.rt",
-    "self.queue.put(rt, pass, job);\n        self.work.notify_one();",
-    "self.queue.put(rt, pass, job);",
+    "self.queue.put(rt, pass, job);\n        self.bell.came(older);",
+    "self.queue.put(rt, pass, job);\n        let _ = older;",
 )
 
 
@@ -121,7 +122,7 @@ def apply(edits: list[Edit], folder: Path) -> None:
 
 
 def run_tests(edits: list[Edit], seconds: int, only: str = "") -> Ended:
-    """The tests of the crate so edited, or those whose names have these words, with so many seconds for each."""
+    """The tests of the crate so edited, or those whose names have these words, with this number of seconds for each."""
     with tempfile.TemporaryDirectory(prefix="firm-hammer-") as name:
         folder = Path(name)
         copy_to(folder)

@@ -63,6 +63,16 @@ def add(word: str, number: int) -> Act:
     return lambda words: words.update({word: words[word] + number})
 
 
+def fetch_add(word: str, number: int) -> Act:
+    """Adds; the number before."""
+
+    def act(words: Words) -> int:
+        words[word] += number
+        return words[word] - number
+
+    return act
+
+
 def exchange(word: str, old: int, new: int) -> Act:
     """Stores the new value if the old one is there; whether it was."""
 
@@ -300,40 +310,77 @@ def change(form: str, *acts: Act) -> Steps:
         yield from notify(form)
 
 
-# The workers of a hall, which sleep until a round is put or the hall is shut.
+# The workers of a hall, which rest until they are woken for a round or the hall is shut.
 
 EARLY_STOP = "the stop word is read before the announcement"
 LATE_STOP = "the stop word is read behind the look"
 SHUT_WAKES_ONE = "a shut that wakes one"
+NO_RING = "callers that never ring"
+ALONE = "a worker that was woken and calls nobody"
+NO_CALL = "a first round that wakes nobody"
 
 
-def worker(form: str, leaves: bool) -> Steps:
+def call(form: str) -> Steps:
+    """Wakes a worker if a round waits."""
+    if (yield load("waiting")):
+        yield from notify(form)
+
+
+def worker(form: str, leaves: bool, was_woken: bool = False) -> Steps:
     """A look without an announcement. A worker with a round stands in its gate: for ever, or until it leaves."""
-    again = begin(worker, form, leaves)
     if (yield pop("queue")):
-        return again if leaves else None
-    return begin(announced_worker, form, again)
+        yield add("waiting", -1)
+        if was_woken and form != ALONE:
+            yield from call(form)
+        return begin(worker, form, leaves) if leaves else None
+    return begin(announced_worker, form, leaves)
 
 
-def announced_worker(form: str, again: Thread) -> Steps:
+def announced_worker(form: str, leaves: bool) -> Steps:
     is_shut = (yield load("stop")) if form == EARLY_STOP else 0
+    yield add("resting", 1)
     key = yield from announce()
     if form == NO_LOOK:
-        return begin(waiting, form, key, again)
-    is_shut = is_shut if form == EARLY_STOP else (yield load("stop"))
+        return begin(waiting, form, key, begin(rested_worker, form, leaves))
+    is_shut = (yield load("stop")) if leaves and form != EARLY_STOP else is_shut
     has_round = yield pop("queue")
     if form == LATE_STOP:
         is_shut = yield load("stop")
     if not has_round and not is_shut:
-        return begin(waiting, form, key, again)
+        return begin(waiting, form, key, begin(rested_worker, form, leaves))
+    if has_round:
+        yield add("waiting", -1)
     yield from cancel()
-    leaves = again.arguments[1]
-    return again if has_round and leaves else None
+    yield add("resting", -1)
+    return begin(worker, form, leaves) if has_round and leaves else None
 
 
-def caller(form: str, puts: int) -> Steps:
-    yield from change(form, add("queue", 1))
-    return begin(caller, form, puts - 1) if puts > 1 else None
+def rested_worker(form: str, leaves: bool) -> Steps:
+    yield add("resting", -1)
+    return begin(worker, form, leaves, True)
+
+
+def caller(form: str, workers: int, most: int, puts: int, first: int) -> Steps:
+    """Puts rounds, and rings behind the last, before it waits or reads. Up to `most` may wait without a wake."""
+    if form == EARLY_NOTIFICATION:
+        yield from put_is_heard(form, workers, most, 0)
+    older = yield fetch_add("waiting", 1)
+    yield add("queue", 1)
+    if form != EARLY_NOTIFICATION:
+        yield from put_is_heard(form, workers, most, older)
+    if first < puts:
+        return begin(caller, form, workers, most, puts, first + 1)
+    if form != NO_RING and (yield exchange("owes", 1, 0)):
+        yield from call(form)
+    return None
+
+
+def put_is_heard(form: str, workers: int, most: int, older: int) -> Steps:
+    """Wakes a worker where all rest or many rounds wait; else one is owed."""
+    if ((yield load("resting")) == workers and form != NO_CALL) or most <= older:
+        yield from notify(form)
+    elif form != NO_CALL:
+        yield store("owes", 1)
 
 
 def shutter(form: str) -> Steps:
@@ -343,12 +390,13 @@ def shutter(form: str) -> Steps:
     yield from notify(form, takes_all=form != SHUT_WAKES_ONE)
 
 
-def hall(form: str, workers: int, puts: tuple[int, ...], leaves: bool) -> Model:
+def hall(form: str, workers: int, puts: tuple[int, ...], leaves: bool, most: int = 4) -> Model:
     """Workers, and a caller for each number of puts. The hall is shut at the end where workers leave their gates."""
-    threads = [begin(worker, form, leaves)] * workers + [begin(caller, form, count) for count in puts]
+    threads = [begin(worker, form, leaves)] * workers
+    threads += [begin(caller, form, workers, most, count, 1) for count in puts]
     threads += [begin(shutter, form)] * leaves
     return Model(
-        {"queue": 0, "stop": 0, **event_count()},
+        {"queue": 0, "waiting": 0, "owes": 0, "resting": 0, "stop": 0, **event_count()},
         threads,
         lambda words, *_: words["queue"] or words["stop"],
         lambda words: leaves and words["queue"],
@@ -520,12 +568,14 @@ class Subject(NamedTuple):
 
 SUBJECTS = [
     Subject(
-        "workers that sleep until a round is put",
+        "workers that rest until they are woken for a round",
         hall,
         [
-            *((workers, puts, False) for workers in (2, 3) for puts in ((2,), (1, 1), (3,), (2, 1))),
-            *((2, puts, True) for puts in ((2,), (1, 1), (3,), (2, 1))),
-            *((3, puts, True) for puts in ((2,), (1, 1), (3,))),
+            *((2, puts, False) for puts in ((1,), (2,), (3,), (1, 1))),
+            (3, (2,), False),
+            *((2, puts, False, 1) for puts in ((2,), (3,))),
+            *((workers, (1,), True) for workers in (1, 2, 3)),
+            (2, (2,), True),
         ],
         {
             NO_LOOK: (2, (2,), False),
@@ -535,6 +585,9 @@ SUBJECTS = [
             EARLY_STOP: (2, (2,), True),
             LATE_STOP: (2, (2,), True),
             SHUT_WAKES_ONE: (2, (2,), True),
+            NO_CALL: (2, (2,), False),
+            NO_RING: (2, (2,), False),
+            ALONE: (3, (3,), False),
         },
     ),
     Subject(

@@ -199,7 +199,7 @@ def faults_that_nobody_reads(built: str, folder: Path) -> None:
 
 
 def rosters(built: str, folder: Path) -> None:
-    """A roster at fault is told, with status 3, and nothing is read or written; others are served, also the longest."""
+    """A faulty roster gives status 3, and nothing is read or written; others are served, even the longest."""
     path = folder / "roster.csv"
     for text, fault in FAULTY_ROSTERS:
         path.write_bytes(text)

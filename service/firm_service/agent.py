@@ -273,7 +273,7 @@ class Agent:
             self.controls[run.number].write(b"end\n")
 
     def try_start(self, key: Key, task: Task) -> bool:
-        """Starts a task where it can be; a reason against it is told once."""
+        """Starts a task if it can be started; reports a reason against it once."""
         machine, work = self.table.machine(task.machine or ""), self.table.work(task.job, key.task)
         if machine is None or machine.gone:
             why = f"the table {'has no machine' if machine is None else 'gives up the machine'} {task.machine}"

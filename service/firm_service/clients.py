@@ -20,7 +20,7 @@ from .faults import Exit, Fault, reason, say
 from .observers import Status
 
 PIECE_BYTES = 65_536  # read at a time of one client
-KEPT_BYTES = lines.MOST_BYTES + 2  # of a line: so many are too long for firm, with a CR as their last or without
+KEPT_BYTES = lines.MOST_BYTES + 2  # of a line: one as long is too long for firm, with a CR at its end or without
 LINES_AHEAD = 8_192  # of a client without replies: it is not read further until fewer are
 HIGH_WATER = 262_144  # bytes of replies that a client has not read: no further line of its is read until fewer are
 LINGER_SECONDS = 60.0  # for which a client that is closed may still read
@@ -93,7 +93,7 @@ class Clients:
         self.taker = taker
         self.limits = limits
         self.connected: set[Client] = set()
-        self.buffer = bytearray(PIECE_BYTES)  # of whoever reads: nothing stays in it
+        self.buffer = bytearray(PIECE_BYTES)  # of all clients: nothing stays in it
 
     def unread_bytes(self) -> int:
         return sum(client.transport.get_write_buffer_size() for client in self.connected)

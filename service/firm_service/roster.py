@@ -2,6 +2,7 @@
 
 from __future__ import annotations
 
+import codecs
 import csv
 import io
 import re
@@ -74,8 +75,8 @@ class Record:
 
 
 def records_of(data: bytes) -> Iterator[Record]:
-    """The records that are not empty lines; each byte is a character."""
-    reader = csv.reader(io.StringIO(data.decode("latin-1"), newline=""))
+    """The records that are not empty lines, behind a byte order mark if there is one; each byte is a character."""
+    reader = csv.reader(io.StringIO(data.removeprefix(codecs.BOM_UTF8).decode("latin-1"), newline=""))
     line = 1
     for fields in reader:
         if fields:
@@ -125,9 +126,6 @@ def faults_of(data: bytes) -> Iterator[Fault]:
     if len(data) > MOST_BYTES:
         yield Fault(1, "row", "length", f"more than {MOST_BYTES:,} bytes", "a roster has no more")
         return
-    if data.startswith(b"\xef\xbb\xbf"):
-        yield Fault(1, "header", "heading", "\ufeff", "a byte order mark stands first; save the file without one")
-        data = data[3:]
     records = records_of(data)
     heading = next(records, None)
     if heading is None:

@@ -290,7 +290,7 @@ class Stream:
         self.status.lines += len(replies)
 
     def _keep_refused(self, share: Share, replies: list[bytes]) -> None:
-        """Memory may be there in a replay, so it must know. This waits for the disk: it hardly ever comes to that."""
+        """Memory may be there in a replay, so it must know. This waits for the disk, which is seldom needed."""
         if share.piece is not None:
             raise Fault(Exit.REPLAY, "memory was refused to the replay; start it again where there is more")
         place = placed(share)

@@ -1,0 +1,31 @@
+"""The parts of service/ that checks use; the package is found here alone."""
+
+from __future__ import annotations
+
+import sys
+
+from harness.program import ROOT
+
+SERVICE = ROOT / "service"
+sys.path.insert(0, str(SERVICE))
+
+from firm_service import roster  # noqa: E402 (found by the line before)
+from firm_service.books import LONGEST_WAIT, Book, Books  # noqa: E402
+from firm_service.lines import gets_reply  # noqa: E402
+from firm_service.observers import Status  # noqa: E402
+from firm_service.state import ID  # noqa: E402
+from firm_service.view import MOST_CLIENTS, MOST_UNREAD, serve_view  # noqa: E402
+
+__all__ = [
+    "Book",
+    "Books",
+    "ID",
+    "LONGEST_WAIT",
+    "MOST_CLIENTS",
+    "MOST_UNREAD",
+    "SERVICE",
+    "Status",
+    "gets_reply",
+    "roster",
+    "serve_view",
+]
