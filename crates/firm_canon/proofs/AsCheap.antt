@@ -16,7 +16,7 @@ use Rattle.firm_rules.specs.Placement.{Case, IsLegal, placement_cost as cost}
 use Rattle.firm_graph.specs.declared.network.Node.{Node}
 use Rattle.firm_graph.specs.declared.network.Node.TheVariants.{Sink}
 use Rattle.firm_graph.specs.declared.network.Key.{Key}
-use Rattle.firm_graph.specs.declared.network.Key.TheVariants.{Through, Wide, Stay, Delay, Prefer}
+use Rattle.firm_graph.specs.declared.network.Key.TheVariants.{Through, Wide, Stay, Wait, Prefer}
 use Rattle.firm_graph.specs.Network.{network, task_nodes, IsSound, IsKeyOf}
 use Rattle.firm_graph.specs.View.{View, lows, flows, spot_of, named}
 use Rattle.firm_canon.specs.inner.Placed.{placed}
@@ -119,7 +119,7 @@ flow_before c p o most x flow =
         exit = λ k l. (omega arith, (at.exit k l).1);
         wides = λ i l. (omega (arith, low_grows c p o (Wide i), (at.wides i l).0), (at.wides i l).1);
         stays = λ i l. (omega (arith, low_grows c p o (Stay i), (at.stays i l).0), (at.stays i l).1);
-        delays = λ i l. (omega (arith, low_grows c p o (Delay i), (at.delays i l).0), (at.delays i l).1);
+        delays = λ i l. (omega (arith, low_grows c p o (Wait i), (at.delays i l).0), (at.delays i l).1);
         prefers = λ i k l m. (
           omega (arith, low_grows c p o (Prefer i k), (at.prefers i k l m).0),
           (at.prefers i k l m).1,

@@ -9,7 +9,7 @@ use Rattle.firm_rules.specs.declared.rounds.Choice.TheVariants.{On, Wait}
 use Rattle.firm_rules.specs.Placement.{Case, Demand, rank, runs_at, prefers}
 use Rattle.firm_graph.specs.declared.network.Node.{Node}
 use Rattle.firm_graph.specs.declared.network.Key.{Key}
-use Rattle.firm_graph.specs.declared.network.Key.TheVariants.{Through, Slot, Exit, Wide, Stay, Delay, Prefer}
+use Rattle.firm_graph.specs.declared.network.Key.TheVariants.{Through, Slot, Exit, Wide, Stay, Wait as WaitArc, Prefer}
 use Rattle.firm_graph.specs.Network.{demand, stay_head}
 use Rattle.firm_rules.specs.Placement.{IsPlace}
 use Rattle.firm_graph.specs.Network.{runs}
@@ -59,7 +59,7 @@ shut_same old new p j same e shut = record {
 
 -- bounds and sums of the next task's arcs
 pub sends_one : (v : View) (price : ℕ → ℕ) (p : List Choice) (i : ℕ) → Keeps v price p → i < length v.case.tasks
-    → flows v (Wide i) + flows v (Stay i) + flows v (Delay i) + aside v.case (flows v) i ≡ 1
+    → flows v (Wide i) + flows v (Stay i) + flows v (WaitArc i) + aside v.case (flows v) i ≡ 1
 sends_one v price p i keeps l = task_sends v.case (low_of v.case p) (flows v) i l keeps.stands.balanced
 
 -- an arc of a task carries one unit at most
@@ -69,7 +69,7 @@ IsOfTask c (Slot j k) = ⊥
 IsOfTask c (Exit k) = ⊥
 IsOfTask c (Wide i) = i < length c.tasks
 IsOfTask c (Stay i) = i < length c.tasks
-IsOfTask c (Delay i) = i < length c.tasks
+IsOfTask c (WaitArc i) = i < length c.tasks
 IsOfTask c (Prefer i k) = (i < length c.tasks) × (k < length (demand c i).preferred)
 
 pub unit_at_most : (v : View) (price : ℕ → ℕ) (p : List Choice) (key : Key) → Keeps v price p → IsOfTask v.case key
@@ -79,7 +79,7 @@ unit_at_most v price p (Slot j k) keeps l = absurd l
 unit_at_most v price p (Exit k) keeps l = absurd l
 unit_at_most v price p (Wide i) keeps l = omega (arith, sends_one v price p i keeps l)
 unit_at_most v price p (Stay i) keeps l = omega (arith, sends_one v price p i keeps l)
-unit_at_most v price p (Delay i) keeps l = omega (arith, sends_one v price p i keeps l)
+unit_at_most v price p (WaitArc i) keeps l = omega (arith, sends_one v price p i keeps l)
 unit_at_most v price p (Prefer i k) keeps l =
     ((parts (λ (a : Arc Node Key). (a.low ≤ a.flow) × (a.flow ≤ a.cap)) v.case (low_of v.case p) (flows v)
     keeps.stands.within).prefers i k l.0 l.1).1

@@ -8,7 +8,7 @@ use Rattle.std.proofs.Math.Nat.{mul-add}
 use Rattle.firm_rules.specs.ArenaUse.{arena_arcs, preference_count}
 use Rattle.firm_rules.specs.Placement.{Case, Demand, total}
 use Rattle.firm_rules.specs.Round.{case_of, demand_of, place_of}
-use Rattle.firm_rules.specs.declared.parts.Task.{Task}
+use Rattle.firm_rules.specs.declared.book.Task.{Task}
 use Rattle.firm_graph.specs.Network.{demand}
 use Rattle.firm_canon.proofs.Totals.{total_front, total_zero, total-le}
 use Rattle.std.proofs.lemmas.List.{length-map}
@@ -20,7 +20,7 @@ use Rattle.firm_graph.specs.declared.network.Node.TheVariants.{Sink, Hub, Machin
 use Rattle.firm_graph.specs.View.{View, spot_of}
 use Rattle.firm_paths.specs.Classes.{AreTogether, class_of}
 use Rattle.firm_canon.specs.inner.Classes.{AreRefined, HasSought, IsCut, cut_count, cuts_at, parted, one_if}
-use Rattle.firm_canon.specs.inner.Ways.{below, preferred_before}
+use Rattle.firm_canon.specs.inner.Approaches.{below, preferred_before}
 use Rattle.std.proofs.lemmas.List.Sums.{sum_by-cons}
 use Rattle.firm_graph.specs.Graph.{Graph}
 

@@ -11,7 +11,7 @@ use Rattle.firm_rules.specs.Placement.{Case}
 use Rattle.firm_graph.specs.declared.network.Node.{Node}
 use Rattle.firm_graph.specs.declared.network.Node.TheVariants.{Sink}
 use Rattle.firm_graph.specs.declared.network.Key.{Key}
-use Rattle.firm_graph.specs.declared.network.Key.TheVariants.{Through, Slot, Exit, Wide, Stay, Delay, Prefer}
+use Rattle.firm_graph.specs.declared.network.Key.TheVariants.{Through, Slot, Exit, Wide, Stay, Wait, Prefer}
 use Rattle.firm_graph.specs.Network.{network, task_nodes, arc}
 use Rattle.firm_graph.specs.View.{View, flows, spot_of}
 use Rattle.firm_canon.specs.inner.Choosing.{low_of, Keeps, best, IsAsCheap}
@@ -127,7 +127,7 @@ network_on P Q c low x more y lift h =
       exit = λ k l. lift (Exit k) _ _ _ _ (old.exit k l);
       wides = λ i l. lift (Wide i) _ _ _ _ (old.wides i l);
       stays = λ i l. lift (Stay i) _ _ _ _ (old.stays i l);
-      delays = λ i l. lift (Delay i) _ _ _ _ (old.delays i l);
+      delays = λ i l. lift (Wait i) _ _ _ _ (old.delays i l);
       prefers = λ i k l m. lift (Prefer i k) _ _ _ _ (old.prefers i k l m);
     })
 
@@ -151,6 +151,6 @@ closed_too c low x y price inside closed agrees =
       exit = λ k l. carry (Exit k) _ _ _ _ (old.exit k l) (same.exit k l);
       wides = λ i l. carry (Wide i) _ _ _ _ (old.wides i l) (same.wides i l);
       stays = λ i l. carry (Stay i) _ _ _ _ (old.stays i l) (same.stays i l);
-      delays = λ i l. carry (Delay i) _ _ _ _ (old.delays i l) (same.delays i l);
+      delays = λ i l. carry (Wait i) _ _ _ _ (old.delays i l) (same.delays i l);
       prefers = λ i k l m. carry (Prefer i k) _ _ _ _ (old.prefers i k l m) (same.prefers i k l m);
     })

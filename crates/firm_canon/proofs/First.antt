@@ -17,7 +17,7 @@ use Rattle.firm_rules.specs.Round.{IsRound}
 use Rattle.firm_graph.specs.declared.network.Node.{Node}
 use Rattle.firm_graph.specs.declared.network.Node.TheVariants.{Sink}
 use Rattle.firm_graph.specs.declared.network.Key.{Key}
-use Rattle.firm_graph.specs.declared.network.Key.TheVariants.{Through, Slot, Exit, Wide, Stay, Delay, Prefer}
+use Rattle.firm_graph.specs.declared.network.Key.TheVariants.{Through, Slot, Exit, Wide, Stay, Wait as WaitArc, Prefer}
 use Rattle.firm_graph.specs.Network.{demand, network, task_nodes}
 use Rattle.firm_canon.proofs.Totals.{total-le, total-add, total_at}
 use Rattle.firm_canon.specs.inner.Placed.{pick, wide, stay, waits, prefer, spot, guests, placed}
@@ -109,7 +109,7 @@ low-le c p r (Slot j k) = omega arith
 low-le c p r (Exit k) = omega arith
 low-le c p r (Wide i) = grows (wide (demand c i)) p r i (wide_none (demand c i))
 low-le c p r (Stay i) = grows (stay (demand c i).home) p r i (stay_none (demand c i).home)
-low-le c p r (Delay i) = grows waits p r i refl
+low-le c p r (WaitArc i) = grows waits p r i refl
 low-le c p r (Prefer i k) = grows (prefer (demand c i) k) p r i (prefer_none (demand c i) k)
 
 before_none : (m : ℕ) (ts : List Demand) (q : List Choice) → before m ts q [] ≡ false
@@ -244,7 +244,7 @@ extend c p o x price stands place within none higher =
             stays = λ i l. ((old_valid.stays i l).0, λ h. (old_valid.stays i l).1 (omega (arith, h, higher (Stay i))));
             delays = λ i l. (
               (old_valid.delays i l).0,
-              λ h. (old_valid.delays i l).1 (omega (arith, h, higher (Delay i))),
+              λ h. (old_valid.delays i l).1 (omega (arith, h, higher (WaitArc i))),
             );
             prefers = λ i k l m. (
               (old_valid.prefers i k l m).0,

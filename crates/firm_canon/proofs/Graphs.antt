@@ -9,7 +9,7 @@ use Rattle.firm_graph.specs.Ids.{node_id, arc_id, view_of}
 use Rattle.firm_graph.specs.declared.network.Node.{Node}
 use Rattle.firm_graph.specs.declared.network.Node.TheVariants.{Sink, Hub, Machine, Owner, Task}
 use Rattle.firm_graph.specs.declared.network.Key.{Key}
-use Rattle.firm_graph.specs.declared.network.Key.TheVariants.{Through, Slot, Exit, Wide, Stay, Delay, Prefer}
+use Rattle.firm_graph.specs.declared.network.Key.TheVariants.{Through, Slot, Exit, Wide, Stay, Wait, Prefer}
 use Rattle.firm_canon.specs.inner.Graphs.{IsSameGraph}
 
 pub same_self : (g : Graph) → IsSameGraph g g
@@ -28,7 +28,7 @@ at_key g net (Slot j k) = refl
 at_key g net (Exit k) = refl
 at_key g net (Wide i) = refl
 at_key g net (Stay i) = refl
-at_key g net (Delay i) = refl
+at_key g net (Wait i) = refl
 at_key g net (Prefer i k) = refl
 
 -- a graph whose net alone is another

@@ -10,7 +10,7 @@ use Rattle.firm_rules.specs.declared.rounds.Choice.{Choice}
 use Rattle.firm_rules.specs.declared.rounds.Choice.TheVariants.{On, Wait}
 use Rattle.firm_rules.specs.Placement.{Demand, runs_at, prefers}
 use Rattle.firm_graph.specs.declared.network.Key.{Key}
-use Rattle.firm_graph.specs.declared.network.Key.TheVariants.{Through, Slot, Exit, Wide, Stay, Delay, Prefer}
+use Rattle.firm_graph.specs.declared.network.Key.TheVariants.{Through, Slot, Exit, Wide, Stay, Wait as WaitArc, Prefer}
 use Rattle.firm_graph.specs.Network.{demand}
 use Rattle.firm_canon.specs.inner.Placed.{wide, stay, waits, near, number, prefer}
 use Rattle.firm_net.specs.Row.{Row}
@@ -133,20 +133,20 @@ none_near t n i k o e =
 -- the four kinds of choice
 pub held_wait : (v new : View) (price : ℕ → ℕ) (p : List Choice) (id : ArcId) → Keeps v price p
     → length p < length v.case.tasks → IsChosen v p Wait
-    → Shows new → IsSameCase v new → id ≡ v.arc (Delay (length p)) → IsHold v.net new.net id 1
+    → Shows new → IsSameCase v new → id ≡ v.arc (WaitArc (length p)) → IsHold v.net new.net id 1
     → Keeps new price (p ++ Wait ∷ [])
 held_wait v new price p id keeps l chosen shows same is held =
     let n : ℕ = length p in
     let t : Demand = demand v.case n in
-    kept_hold v new price p Wait (Delay n) id keeps l chosen shows same l is held (ap waits (pick_past p))
+    kept_hold v new price p Wait (WaitArc n) id keeps l chosen shows same l is held (ap waits (pick_past p))
     (cond_here n 1)
-    (λ k. elim k as (λ k. (k ≡ Delay n → ⊥) → added v.case p Wait k ≡ 0) [
+    (λ k. elim k as (λ k. (k ≡ WaitArc n → ⊥) → added v.case p Wait k ≡ 0) [
       | Through j ↦ λ ne. cond_zero (eqb 0 j) (wide t (Some Wait)) refl
       | Slot j i ↦ λ ne. refl
       | Exit i ↦ λ ne. refl
       | Wide i ↦ λ ne. cond_zero (eqb n i) (wide t (Some Wait)) refl
       | Stay i ↦ λ ne. cond_zero (eqb n i) (stay t.home (Some Wait)) (wait_stay t.home)
-      | Delay i ↦ λ ne. cond_other n i 1 (λ e. ne (ap Delay (sym e)))
+      | WaitArc i ↦ λ ne. cond_other n i 1 (λ e. ne (ap WaitArc (sym e)))
       | Prefer i k ↦ λ ne. none_near t n i k Wait refl
     ])
 
@@ -167,7 +167,7 @@ held_own v new price p o id keeps l chosen own shows same is held =
       | Exit i ↦ λ ne. refl
       | Wide i ↦ λ ne. cond_zero (eqb n i) (wide t (Some (On o))) (own_wide t o own)
       | Stay i ↦ λ ne. cond_other n i (stay t.home (Some (On o))) (λ e. ne (ap Stay (sym e)))
-      | Delay i ↦ λ ne. cond_zero (eqb n i) 0 refl
+      | WaitArc i ↦ λ ne. cond_zero (eqb n i) 0 refl
       | Prefer i k ↦ λ ne. none_near t n i k (On o) (own_near t o own)
     ])
 
@@ -191,7 +191,7 @@ held_near v new price p o id keeps l chosen other close shows same is held =
       | Exit i ↦ λ ne. refl
       | Wide i ↦ λ ne. cond_zero (eqb n i) (wide t (Some (On o))) (near_wide t o close)
       | Stay i ↦ λ ne. cond_zero (eqb n i) (stay t.home (Some (On o))) (other_stay t.home o other)
-      | Delay i ↦ λ ne. cond_zero (eqb n i) 0 refl
+      | WaitArc i ↦ λ ne. cond_zero (eqb n i) 0 refl
       | Prefer i k ↦ λ ne. ⊎_elim
           (λ (q : n ≡ i). cond_zero (eqb n i) (prefer t k (Some (On o)))
           (cond_other e k (near t (Some (On o))) (λ r. ne (ap₂ Prefer (sym q) (sym r)))))
@@ -217,7 +217,7 @@ held_other v mid new price p o id_one id_two low keeps l chosen other far shows 
       | Exit i ↦ λ a b. refl
       | Wide i ↦ λ a b. cond_other n i (wide t (Some (On o))) (λ e. a (ap Wide (sym e)))
       | Stay i ↦ λ a b. cond_zero (eqb n i) (stay t.home (Some (On o))) (other_stay t.home o other)
-      | Delay i ↦ λ a b. cond_zero (eqb n i) 0 refl
+      | WaitArc i ↦ λ a b. cond_zero (eqb n i) 0 refl
       | Prefer i k ↦ λ a b. none_near t n i k (On o) (far_near t o far)
     ])
 

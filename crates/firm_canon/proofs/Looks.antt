@@ -31,7 +31,7 @@ use Rattle.firm_graph.specs.View.{View, Shows, IsSameCase, flows, lows, named}
 use Rattle.firm_graph.specs.declared.network.Node.{Node}
 use Rattle.firm_graph.specs.declared.network.Node.TheVariants.{Sink, Hub, Machine, Owner, Task}
 use Rattle.firm_graph.specs.declared.network.Key.{Key}
-use Rattle.firm_graph.specs.declared.network.Key.TheVariants.{Through, Slot, Exit, Wide, Stay, Delay, Prefer}
+use Rattle.firm_graph.specs.declared.network.Key.TheVariants.{Through, Slot, Exit, Wide, Stay, Wait, Prefer}
 use Rattle.firm_canon.specs.Counts.{HasLookedUpTo, HasSearchedUpTo}
 use Rattle.firm_canon.specs.inner.Classes.{one_if}
 use Rattle.firm_canon.specs.inner.Looks.{HasLooked, LooksOn, arc_ends}
@@ -68,7 +68,7 @@ module _ {B : Type 0} (c : Case) (low x low' x' : Key → ℕ) (end : Arc Node K
   tasks_mapped i =
       both (same (Wide i) (Task i) Hub 1 _)
       (both (same (Stay i) (Task i) (stay_head (demand c i).home) _ 0)
-      (both (same (Delay i) (Task i) (Owner (demand c i).job) 1 _)
+      (both (same (Wait i) (Task i) (Owner (demand c i).job) 1 _)
       (gather_mapped end (λ (k : ℕ). prefer_arc c low x i k ∷ []) (λ (k : ℕ). prefer_arc c low' x' i k ∷ [])
       (count_at c i)
       (λ k. both (same (Prefer i k) (Task i) (Machine (preferred_at c i k)) 1 _) refl))))

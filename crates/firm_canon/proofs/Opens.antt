@@ -13,7 +13,7 @@ use Rattle.firm_rules.specs.Placement.{Demand, runs_at, prefers}
 use Rattle.firm_graph.specs.declared.network.Node.{Node}
 use Rattle.firm_graph.specs.declared.network.Node.TheVariants.{Hub, Machine, Task}
 use Rattle.firm_graph.specs.declared.network.Key.{Key}
-use Rattle.firm_graph.specs.declared.network.Key.TheVariants.{Through, Wide, Stay, Delay, Prefer}
+use Rattle.firm_graph.specs.declared.network.Key.TheVariants.{Through, Wide, Stay, Wait, Prefer}
 use Rattle.firm_graph.specs.Network.{network, demand, preferred_at, runs, stay_head, IsKeyOf}
 use Rattle.firm_graph.specs.View.{View, flows, spot_of}
 use Rattle.firm_canon.specs.inner.Placed.{pick, wide, prefer, guests, wide_at, aside}
@@ -205,7 +205,7 @@ module _ (v : View) (price : ℕ → ℕ) (p : List Choice) (keeps : Keeps v pri
         → IsRefused v price p class j)
         → IsOwnShut → ⊥
     never_left one others refused own =
-        let sends : flows v (Wide n) + flows v (Stay n) + flows v (Delay n) + aside v.case (flows v) n ≡ 1 =
+        let sends : flows v (Wide n) + flows v (Stay n) + flows v (Wait n) + aside v.case (flows v) n ≡ 1 =
         sends_one v price p n keeps next in
         let few : (j : ℕ) → j < length v.case.slots → flows v (Through j) ≤ guests v.case p j =
         λ j in_range. ⊎_elim

@@ -14,7 +14,7 @@ use Rattle.firm_graph.specs.Network.{runs}
 use Rattle.firm_graph.specs.declared.network.Node.{Node}
 use Rattle.firm_graph.specs.declared.network.Node.TheVariants.{Sink, Hub, Machine, Owner}
 use Rattle.firm_graph.specs.declared.network.Key.{Key}
-use Rattle.firm_graph.specs.declared.network.Key.TheVariants.{Through, Slot, Exit, Wide, Stay, Delay, Prefer}
+use Rattle.firm_graph.specs.declared.network.Key.TheVariants.{Through, Slot, Exit, Wide, Stay, Wait as WaitArc, Prefer}
 use Rattle.firm_graph.specs.Network.{gather, arc, slots_of, demand, machine_arcs, job_arcs, task_arcs}
 use Rattle.firm_graph.specs.Network.{network}
 use Rattle.firm_canon.specs.inner.Placed.{pick, stay, waits, placed}
@@ -152,6 +152,6 @@ within_placed c q low x sound legal above =
       );
       wides = λ i l. (above (Wide i), wide_le_one (demand c i) (pick q i));
       stays = λ i l. (above (Stay i), guest_le_load (demand c i).home (pick q i));
-      delays = λ i l. (above (Delay i), waits_le_one (pick q i));
+      delays = λ i l. (above (WaitArc i), waits_le_one (pick q i));
       prefers = λ i k l m. (above (Prefer i k), prefer_le_one (demand c i) k (pick q i));
     })

@@ -20,7 +20,7 @@ use Rattle.firm_graph.specs.Network.{runs}
 use Rattle.firm_graph.specs.declared.network.Node.{Node}
 use Rattle.firm_graph.specs.declared.network.Node.TheVariants.{Sink, Hub, Machine, Owner, Task}
 use Rattle.firm_graph.specs.declared.network.Key.{Key}
-use Rattle.firm_graph.specs.declared.network.Key.TheVariants.{Through, Slot, Exit, Wide, Stay, Delay, Prefer}
+use Rattle.firm_graph.specs.declared.network.Key.TheVariants.{Through, Slot, Exit, Wide, Stay, Wait as WaitArc, Prefer}
 use Rattle.firm_graph.specs.Network.{gather, arc, slots_of, demand, preferred_at, stay_head, machine_arcs}
 use Rattle.firm_graph.specs.Network.{job_arcs, task_arcs, network, task_nodes}
 use Rattle.firm_canon.proofs.Totals.{staircase, total_zero, total_same, total-add, total-mul, total_front}
@@ -199,7 +199,7 @@ stay_arc c low x i =
 
 abbrev pub delay_arc : Case → (Key → ℕ) → (Key → ℕ) → ℕ → Arc Node Key
 delay_arc c low x i =
-    arc low x (Delay i) (Task i) (Owner (demand c i).job) 1 ((demand c i).delay + leaving c (demand c i))
+    arc low x (WaitArc i) (Task i) (Owner (demand c i).job) 1 ((demand c i).delay + leaving c (demand c i))
 
 abbrev pub prefer_arc : Case → (Key → ℕ) → (Key → ℕ) → ℕ → ℕ → Arc Node Key
 prefer_arc c low x i k =

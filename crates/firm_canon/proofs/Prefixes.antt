@@ -12,7 +12,7 @@ use Rattle.firm_rules.specs.Placement.{Case, Demand, runs_at, prefers}
 use Rattle.firm_graph.specs.declared.network.Node.{Node}
 use Rattle.firm_graph.specs.declared.network.Node.TheVariants.{Sink}
 use Rattle.firm_graph.specs.declared.network.Key.{Key}
-use Rattle.firm_graph.specs.declared.network.Key.TheVariants.{Through, Slot, Exit, Wide, Stay, Delay, Prefer}
+use Rattle.firm_graph.specs.declared.network.Key.TheVariants.{Through, Slot, Exit, Wide, Stay, Wait as WaitArc, Prefer}
 use Rattle.firm_graph.specs.Network.{network, demand, task_nodes}
 use Rattle.firm_canon.specs.inner.Placed.{pick, wide, stay, waits, prefer, spot, guests}
 use Rattle.firm_canon.proofs.Nears.{wide_is, own_wide, near_wide, prefer_none}
@@ -32,7 +32,7 @@ added c p o (Slot j k) = 0
 added c p o (Exit k) = 0
 added c p o (Wide i) = cond (eqb (length p) i) (wide (demand c (length p)) (Some o)) 0
 added c p o (Stay i) = cond (eqb (length p) i) (stay (demand c (length p)).home (Some o)) 0
-added c p o (Delay i) = cond (eqb (length p) i) (waits (Some o)) 0
+added c p o (WaitArc i) = cond (eqb (length p) i) (waits (Some o)) 0
 added c p o (Prefer i k) = cond (eqb (length p) i) (prefer (demand c (length p)) k (Some o)) 0
 
 at_one : (F : ℕ → Option Choice → ℕ) (p : List Choice) (o : Choice) (i : ℕ) → F i None ≡ 0
@@ -107,7 +107,7 @@ lows_one c p o (Exit k) l = refl
 lows_one c p o (Wide i) l = at_one (λ (i : ℕ) (x : Option Choice). wide (demand c i) x) p o i (wide_none (demand c i))
 lows_one c p o (Stay i) l = at_one (λ (i : ℕ) (x : Option Choice). stay (demand c i).home x) p o i
     (stay_none (demand c i).home)
-lows_one c p o (Delay i) l = at_one (λ (i : ℕ) (x : Option Choice). waits x) p o i refl
+lows_one c p o (WaitArc i) l = at_one (λ (i : ℕ) (x : Option Choice). waits x) p o i refl
 lows_one c p o (Prefer i k) l = at_one (λ (i : ℕ) (x : Option Choice). prefer (demand c i) k x) p o i
     (prefer_none (demand c i) k)
 

@@ -12,7 +12,7 @@ use Rattle.firm_graph.specs.Network.{runs}
 use Rattle.firm_graph.specs.declared.network.Node.{Node}
 use Rattle.firm_graph.specs.declared.network.Node.TheVariants.{Sink, Hub, Machine, Owner, Task}
 use Rattle.firm_graph.specs.declared.network.Key.{Key}
-use Rattle.firm_graph.specs.declared.network.Key.TheVariants.{Through, Slot, Exit, Wide, Stay, Delay, Prefer}
+use Rattle.firm_graph.specs.declared.network.Key.TheVariants.{Through, Slot, Exit, Wide, Stay, Wait, Prefer}
 use Rattle.firm_graph.specs.Network.{slots_of, demand, preferred_at, stay_head, network, task_nodes}
 use Rattle.firm_canon.proofs.Totals.{total_zero, total_same, total-add, total-le, total-mul, total_at, total_tight}
 use Rattle.firm_canon.proofs.Totals.{staircase_least, tri_least, sum_gather}
@@ -71,12 +71,12 @@ none_aside w x i n none =
 
 -- a task sends out one unit
 pub task_sends : (c : Case) (low x : Key → ℕ) (e : ℕ) → e < length c.tasks
-    → Balanced (network c low x) (task_nodes c) Sink carried → x (Wide e) + x (Stay e) + x (Delay e) + aside c x e ≡ 1
+    → Balanced (network c low x) (task_nodes c) Sink carried → x (Wide e) + x (Stay e) + x (Wait e) + aside c x e ≡ 1
 task_sends c low x e l balanced =
     let m : ℕ = length c.slots in
     let t : ℕ = length c.tasks in
     let w : Node → ℕ = task_mark e in
-    let out : ℕ → ℕ = λ (i : ℕ). x (Wide i) + x (Stay i) + x (Delay i) + aside c x i in
+    let out : ℕ → ℕ = λ (i : ℕ). x (Wide i) + x (Stay i) + x (Wait i) + aside c x i in
     omega (
       arith,
       balanced w,
@@ -85,7 +85,7 @@ task_sends c low x e l balanced =
       total_zero (λ (j : ℕ). 0 * x (Through j) + total (λ k. 0 * x (Slot j k)) (slots_of c j)) m
           (λ j l. omega (arith, total_zero (λ (k : ℕ). 0 * x (Slot j k)) (slots_of c j) (λ k r. omega arith))),
       total_zero (λ (k : ℕ). 0 * x (Exit k)) c.jobs (λ k r. omega arith),
-      total_zero (λ (i : ℕ). 0 * x (Wide i) + task_mark e (stay_head (demand c i).home) * x (Stay i) + 0 * x (Delay i)
+      total_zero (λ (i : ℕ). 0 * x (Wide i) + task_mark e (stay_head (demand c i).home) * x (Stay i) + 0 * x (Wait i)
           + total (λ k. 0 * x (Prefer i k)) (count_at c i))
           t
           (λ i r. omega (
@@ -94,12 +94,12 @@ task_sends c low x e l balanced =
             none_aside (λ (k : ℕ). 0) x i (count_at c i) (λ k. refl),
           )),
       total_same (λ (i : ℕ). cond (eqb e i) 1 0 * x (Wide i) + cond (eqb e i) 1 0 * x (Stay i)
-          + cond (eqb e i) 1 0 * x (Delay i) + total (λ k. cond (eqb e i) 1 0 * x (Prefer i k)) (count_at c i))
+          + cond (eqb e i) 1 0 * x (Wait i) + total (λ k. cond (eqb e i) 1 0 * x (Prefer i k)) (count_at c i))
           (λ (i : ℕ). cond (eqb e i) (out i) 0) t
           (λ i r. omega (
             arith,
             total-mul (cond (eqb e i) 1 0) (λ (k : ℕ). x (Prefer i k)) (count_at c i),
-            (elim (eqb e i) as (λ b. cond b 1 0 * x (Wide i) + cond b 1 0 * x (Stay i) + cond b 1 0 * x (Delay i)
+            (elim (eqb e i) as (λ b. cond b 1 0 * x (Wide i) + cond b 1 0 * x (Stay i) + cond b 1 0 * x (Wait i)
                 + cond b 1 0 * aside c x i
                 ≡ cond b (out i) 0) [ true ↦ omega arith | false ↦ omega arith ]),
           )),
@@ -114,10 +114,10 @@ no_stay_by_hub None y h = omega arith
 no_stay_by_hub (Some k) y h = omega arith
 
 -- a weight that marks no task
-no_tails : (c : Case) (x : Key → ℕ) → total (λ i. 0 * x (Wide i) + 0 * x (Stay i) + 0 * x (Delay i)
+no_tails : (c : Case) (x : Key → ℕ) → total (λ i. 0 * x (Wide i) + 0 * x (Stay i) + 0 * x (Wait i)
     + total (λ k. 0 * x (Prefer i k)) (count_at c i)) (length c.tasks) ≡ 0
 no_tails c x =
-    total_zero (λ (i : ℕ). 0 * x (Wide i) + 0 * x (Stay i) + 0 * x (Delay i)
+    total_zero (λ (i : ℕ). 0 * x (Wide i) + 0 * x (Stay i) + 0 * x (Wait i)
     + total (λ k. 0 * x (Prefer i k)) (count_at c i)) (length c.tasks)
     (λ i r. omega (arith, none_aside (λ (k : ℕ). 0) x i (count_at c i) (λ k. refl)))
 
@@ -141,7 +141,7 @@ hub_passes c low x within balanced =
           (λ (j : ℕ). x (Through j)) m
           (λ j l. omega (arith, total_zero (λ (k : ℕ). 0 * x (Slot j k)) (slots_of c j) (λ k r. omega arith))),
       total_zero (λ (k : ℕ). 0 * x (Exit k)) c.jobs (λ k r. omega arith),
-      total_same (λ (i : ℕ). 1 * x (Wide i) + hub_mark (stay_head (demand c i).home) * x (Stay i) + 0 * x (Delay i)
+      total_same (λ (i : ℕ). 1 * x (Wide i) + hub_mark (stay_head (demand c i).home) * x (Stay i) + 0 * x (Wait i)
           + total (λ k. 0 * x (Prefer i k)) (count_at c i))
           (λ (i : ℕ). x (Wide i)) t
           (λ i r. omega (
@@ -191,7 +191,7 @@ machine_passes c low x e l balanced =
       total_at (λ (j : ℕ). total (λ k. x (Slot j k)) (slots_of c j)) m e l,
       total_zero (λ (k : ℕ). 0 * x (Exit k)) c.jobs (λ k r. omega arith),
       total_same (λ (i : ℕ). 0 * x (Wide i) + machine_mark e (stay_head (demand c i).home) * x (Stay i)
-          + 0 * x (Delay i)
+          + 0 * x (Wait i)
           + total (λ k. machine_mark e (Machine (preferred_at c i k)) * x (Prefer i k)) (count_at c i))
           (comes c x e) t (λ i r. omega arith),
       no_tails c x,
@@ -202,7 +202,7 @@ machine_passes c low x e l balanced =
 -- what comes to a job leaves it for the sink
 pub owner_passes : (c : Case) (low x : Key → ℕ) (e : ℕ) → e < c.jobs
     → Balanced (network c low x) (task_nodes c) Sink carried
-    → total (λ i. cond (eqb e (demand c i).job) (x (Delay i)) 0) (length c.tasks) ≡ x (Exit e)
+    → total (λ i. cond (eqb e (demand c i).job) (x (Wait i)) 0) (length c.tasks) ≡ x (Exit e)
 owner_passes c low x e l balanced =
     let m : ℕ = length c.slots in
     let t : ℕ = length c.tasks in
@@ -219,13 +219,13 @@ owner_passes c low x e l balanced =
           (λ k r. cond_times (eqb e k) (x (Exit k))),
       total_at (λ (k : ℕ). x (Exit k)) c.jobs e l,
       total_same (λ (i : ℕ). 0 * x (Wide i) + owner_mark e (stay_head (demand c i).home) * x (Stay i)
-          + cond (eqb e (demand c i).job) 1 0 * x (Delay i) + total (λ k. 0 * x (Prefer i k)) (count_at c i))
-          (λ (i : ℕ). cond (eqb e (demand c i).job) (x (Delay i)) 0) t
+          + cond (eqb e (demand c i).job) 1 0 * x (Wait i) + total (λ k. 0 * x (Prefer i k)) (count_at c i))
+          (λ (i : ℕ). cond (eqb e (demand c i).job) (x (Wait i)) 0) t
           (λ i r. omega (
             arith,
             unmarked_stay w (demand c i).home (x (Stay i)) refl (λ j. refl),
             none_aside (λ (k : ℕ). 0) x i (count_at c i) (λ k. refl),
-            cond_times (eqb e (demand c i).job) (x (Delay i)),
+            cond_times (eqb e (demand c i).job) (x (Wait i)),
           )),
       no_tails c x,
       sum_gather w (λ (i : ℕ). Task i ∷ []) t,
@@ -243,14 +243,14 @@ pub record IsHeld (c : Case) (p : List Choice) (x : Key → ℕ) : Type 0 where
   pub at_through : (j : ℕ) → j < length c.slots → guests c p j ≤ x (Through j)
   pub at_wide : (i : ℕ) → i < length c.tasks → wide_at c p i ≤ x (Wide i)
   pub at_stay : (i : ℕ) → i < length c.tasks → stay_at c p i ≤ x (Stay i)
-  pub at_delay : (i : ℕ) → i < length c.tasks → waits (pick p i) ≤ x (Delay i)
+  pub at_delay : (i : ℕ) → i < length c.tasks → waits (pick p i) ≤ x (Wait i)
   pub at_prefer : (i k : ℕ) → i < length c.tasks → k < count_at c i → prefer_at c p i k ≤ x (Prefer i k)
 
 -- so it carries what the placement asks of each task's arcs
 record IsOne (c : Case) (p : List Choice) (x : Key → ℕ) (i : ℕ) : Type 0 where
   pub wide : x (Wide i) ≡ wide_at c p i
   pub stay : x (Stay i) ≡ stay_at c p i
-  pub delay : x (Delay i) ≡ waits (pick p i)
+  pub delay : x (Wait i) ≡ waits (pick p i)
   pub prefers : (k : ℕ) → k < count_at c i → x (Prefer i k) ≡ prefer_at c p i k
 
 held_one : (c : Case) (p : List Choice) (low x : Key → ℕ) → length p ≡ length c.tasks → IsHeld c p x
@@ -260,13 +260,13 @@ held_one c p low x e held balanced i l =
     let one : wide_at c p i + stay_at c p i + waits (pick p i) + near_at c p i ≡ 1 =
     at_pick p i (λ o. wide (demand c i) o + stay (demand c i).home o + waits o + near (demand c i) o ≡ 1)
     (omega (arith, l, e)) (one_way (demand c i)) in
-    let sends : x (Wide i) + x (Stay i) + x (Delay i) + aside c x i ≡ 1 = task_sends c low x i l balanced in
+    let sends : x (Wide i) + x (Stay i) + x (Wait i) + aside c x i ≡ 1 = task_sends c low x i l balanced in
     let prefers_sum : total (prefer_at c p i) n ≡ near_at c p i = prefer_sum c p i (omega (arith, l, e)) in
     let more : total (prefer_at c p i) n ≤ aside c x i =
     total-le (prefer_at c p i) (λ (k : ℕ). x (Prefer i k)) n (λ k m. held.at_prefer i k l m) in
     let above_wide : wide_at c p i ≤ x (Wide i) = held.at_wide i l in
     let above_stay : stay_at c p i ≤ x (Stay i) = held.at_stay i l in
-    let above_delay : waits (pick p i) ≤ x (Delay i) = held.at_delay i l in
+    let above_delay : waits (pick p i) ≤ x (Wait i) = held.at_delay i l in
     record {
       wide = omega (arith, one, sends, prefers_sum, more, above_wide, above_stay, above_delay);
       stay = omega (arith, one, sends, prefers_sum, more, above_wide, above_stay, above_delay);
@@ -288,7 +288,7 @@ read c p low x e places held within balanced =
     let is_one : (i : ℕ) → i < t → IsOne c p x i = λ i l. held_one c p low x e held balanced i l in
     let is_wide : (i : ℕ) → i < t → x (Wide i) ≡ wide_at c p i = λ i l. (is_one i l).wide in
     let is_stay : (i : ℕ) → i < t → x (Stay i) ≡ stay_at c p i = λ i l. (is_one i l).stay in
-    let waits_is : (i : ℕ) → i < t → x (Delay i) ≡ waits (pick p i) = λ i l. (is_one i l).delay in
+    let waits_is : (i : ℕ) → i < t → x (Wait i) ≡ waits (pick p i) = λ i l. (is_one i l).delay in
     let is_prefer : (i k : ℕ) → i < t → k < count_at c i → x (Prefer i k) ≡ prefer_at c p i k =
     λ i k l m. (is_one i l).prefers k m in
     let wides : total (wide_at c p) t ≡ total (guests c p) m =
@@ -343,7 +343,7 @@ read c p low x e places held within balanced =
           (λ k r. units j k l r) (is_load j l),
     )) in
     let task : ℕ → ℕ = λ (i : ℕ). by_hub c (demand c i) * x (Wide i) + 0 * x (Stay i)
-    + ((demand c i).delay + leaving c (demand c i)) * x (Delay i)
+    + ((demand c i).delay + leaving c (demand c i)) * x (Wait i)
     + total (λ k. leaving c (demand c i) * x (Prefer i k)) (count_at c i) in
     let tasks : total task t ≡ tasks_cost c c.tasks p =
     total_same task (λ (i : ℕ). task_arcs_cost c (demand c i) (pick p i)) t

@@ -16,7 +16,7 @@ use Rattle.firm_paths.specs.Classes.{LeadsUp, class_of}
 use Rattle.firm_graph.specs.declared.network.Node.{Node}
 use Rattle.firm_graph.specs.declared.network.Node.TheVariants.{Sink, Hub, Machine, Owner, Task}
 use Rattle.firm_graph.specs.declared.network.Key.{Key}
-use Rattle.firm_graph.specs.declared.network.Key.TheVariants.{Through, Exit, Wide, Stay, Delay}
+use Rattle.firm_graph.specs.declared.network.Key.TheVariants.{Through, Exit, Wide, Stay, Wait}
 use Rattle.firm_graph.specs.Network.{network, demand, stay_head, IsKeyOf}
 use Rattle.firm_graph.specs.View.{View, flows, low_of_row, flow_of_row, named, spot_of}
 use Rattle.firm_canon.specs.inner.Placed.{wide, stay, waits, guests, aside}
@@ -72,15 +72,15 @@ module _ (v : View) (price : ℕ → ℕ) (p : List Choice) (keeps : Keeps v pri
   free_wide : low (Wide n) ≡ 0
   free_wide = ap (wide (demand v.case n)) (pick_past p) ∙ wide_none (demand v.case n)
 
-  free_delay : low (Delay n) ≡ 0
+  free_delay : low (Wait n) ≡ 0
   free_delay = ap waits (pick_past p)
 
   -- the arc of a job with a task that waits is neither empty nor full
-  exit_in_between : flows v (Delay n) ≡ 1 → (1 ≤ flows v (Exit job)) × (flows v (Exit job) < v.case.limit)
+  exit_in_between : flows v (Wait n) ≡ 1 → (1 ≤ flows v (Exit job)) × (flows v (Exit job) < v.case.limit)
   exit_in_between waits_now =
       let c : Case = v.case in
       let t : ℕ = length c.tasks in
-      let f : ℕ → ℕ = λ (i : ℕ). cond (eqb job (demand c i).job) (flows v (Delay i)) 0 in
+      let f : ℕ → ℕ = λ (i : ℕ). cond (eqb job (demand c i).job) (flows v (Wait i)) 0 in
       let bounds = parts (λ (a : Arc Node Key). (a.low ≤ a.flow) × (a.flow ≤ a.cap)) c low (flows v)
       keeps.stands.within in
       let passes : total f t ≡ flows v (Exit job) =
@@ -89,7 +89,7 @@ module _ (v : View) (price : ℕ → ℕ) (p : List Choice) (keeps : Keeps v pri
           arith,
           passes,
           term-le-total f t n next,
-          cond-true {A = ℕ} (eqb job job) (flows v (Delay n)) 0 (eq-eqb job job refl),
+          cond-true {A = ℕ} (eqb job job) (flows v (Wait n)) 0 (eq-eqb job job refl),
           waits_now,
         ),
         omega (
@@ -97,11 +97,11 @@ module _ (v : View) (price : ℕ → ℕ) (p : List Choice) (keeps : Keeps v pri
           passes,
           keeps.roomy,
           total_le_count f t
-              (λ i l. cond_le (eqb job (demand c i).job) (flows v (Delay i)) 1 (bounds.delays i l).1),
+              (λ i l. cond_le (eqb job (demand c i).job) (flows v (Wait i)) 1 (bounds.delays i l).1),
         ),
       )
 
-  exit_tight : flows v (Delay n) ≡ 1 → 0 + cost_at (Owner job) ≡ cost_at Sink
+  exit_tight : flows v (Wait n) ≡ 1 → 0 + cost_at (Owner job) ≡ cost_at Sink
   exit_tight waits_now =
       let between = exit_in_between waits_now in
       let valid = parts (λ (a : Arc Node Key). (a.flow < a.cap → cost_at a.head ≤ a.cost + cost_at a.tail)
@@ -125,7 +125,7 @@ module _ (v : View) (price : ℕ → ℕ) (p : List Choice) (keeps : Keeps v pri
       (keyed_up v price p keeps rank up) in
       (at.wides n next (tight_at (Wide n) next tight)).1 (omega (arith, one, free_wide))
 
-  from_sink : flows v (Delay n) ≡ 1 → IsTightAt v.net price (v.arc (Delay n))
+  from_sink : flows v (Wait n) ≡ 1 → IsTightAt v.net price (v.arc (Wait n))
       → LeadsTo (arcs_of v.net) price (spot_of v Sink) (spot_of v (Task n))
   unfolding arc_at
   from_sink one tight rank up =
@@ -134,7 +134,7 @@ module _ (v : View) (price : ℕ → ℕ) (p : List Choice) (keeps : Keeps v pri
       omega (
         arith,
         (at.exit job (keeps.shows.sound.jobs_in n next) (exit_tight one)).1 (exit_in_between one).0,
-        (at.delays n next (tight_at (Delay n) next tight)).1 (omega (arith, one, free_delay)),
+        (at.delays n next (tight_at (Wait n) next tight)).1 (omega (arith, one, free_delay)),
       )
 
   -- the row that is found under a key
@@ -147,8 +147,8 @@ module _ (v : View) (price : ℕ → ℕ) (p : List Choice) (keeps : Keeps v pri
       (sym found.there ∙ (ap (row_at v.net) (sym is) ∙ there))
 
   -- AN ATTEMPT FOR THE HUB
-  pub hub_leads : (wide wait : ArcId) (row : Row) → wide ≡ v.arc (Wide n) → wait ≡ v.arc (Delay n)
-      → flows v (Delay n) ≡ 1 → IsTightAt v.net price wait → row_at v.net wide ≡ Some row
+  pub hub_leads : (wide wait : ArcId) (row : Row) → wide ≡ v.arc (Wide n) → wait ≡ v.arc (Wait n)
+      → flows v (Wait n) ≡ 1 → IsTightAt v.net price wait → row_at v.net wide ≡ Some row
       → LeadsTo (arcs_of v.net) price (spot_of v Sink) row.tail.id.place
   unfolding arc_at
   hub_leads wide wait row is is_wait one tight there rank up =
@@ -179,7 +179,7 @@ module _ (v : View) (price : ℕ → ℕ) (p : List Choice) (keeps : Keeps v pri
         tail,
         ap (λ (z : NodeId). rank z.id.place) by_hub.2,
       ))
-      (λ (waits_now : (flows v (Wide n) ≡ 0) × (unit ≡ v.arc (Delay n)) × (goal ≡ v.node Sink)).
+      (λ (waits_now : (flows v (Wide n) ≡ 0) × (unit ≡ v.arc (Wait n)) × (goal ≡ v.node Sink)).
       omega (
         arith,
         from_sink (omega (arith, sends_one v price p n keeps next, waits_now.0, none, elsewhere))
@@ -222,7 +222,7 @@ module _ (v : View) (price : ℕ → ℕ) (p : List Choice) (keeps : Keeps v pri
         ⊎_elim
             (λ (by_hub : (1 ≤ flows v (Wide n)) × (unit ≡ v.arc (Wide n)) × (goal ≡ v.node Hub)).
             inl (ap (λ (z : NodeId). z.id.place) by_hub.2))
-            (λ (waits_now : (flows v (Wide n) ≡ 0) × (unit ≡ v.arc (Delay n)) × (goal ≡ v.node Sink)).
+            (λ (waits_now : (flows v (Wide n) ≡ 0) × (unit ≡ v.arc (Wait n)) × (goal ≡ v.node Sink)).
             inr (ap (λ (z : NodeId). z.id.place) waits_now.2))
             way,
       )
@@ -259,7 +259,7 @@ module _ (v : View) (price : ℕ → ℕ) (p : List Choice) (keeps : Keeps v pri
       )
 
   module _ (y : Key → ℕ) (flow : IsAsCheap v.case p (best v p) y) where
-    sends : y (Wide n) + y (Stay n) + y (Delay n) + aside v.case y n ≡ 1
+    sends : y (Wide n) + y (Stay n) + y (Wait n) + aside v.case y n ≡ 1
     sends = task_sends v.case low y n next flow.balanced
 
     same_at : (start end : Node) (is : IsSealed v price p start end) → OnParts (Agrees is.inside y) v.case low (flows v)
@@ -269,7 +269,7 @@ module _ (v : View) (price : ℕ → ℕ) (p : List Choice) (keeps : Keeps v pri
 
     -- a set without the sink has no job with a task that waits
     lacks_owner : (inside : Node → Bool) → All (StaysAtNoCost cost_at inside) arcs → inside Sink ≡ false
-        → flows v (Delay n) ≡ 1 → inside (Owner job) ≡ false
+        → flows v (Wait n) ≡ 1 → inside (Owner job) ≡ false
     lacks_owner inside closed out one =
         let at_parts : OnParts (StaysAtNoCost cost_at inside) v.case low (flows v) =
         parts (StaysAtNoCost cost_at inside) v.case low (flows v) closed in
@@ -283,15 +283,15 @@ module _ (v : View) (price : ℕ → ℕ) (p : List Choice) (keeps : Keeps v pri
         (λ (f : inside (Owner job) ≡ false). f) (cases_Bool (inside (Owner job)))
 
     -- where the sink is cut off from a node of the set, a task of the set that waits does so in each flow as cheap
-    waits_too : (start : Node) (is : IsSealed v price p start Sink) → flows v (Delay n) ≡ 1
-        → is.inside (Task n) ≡ true → y (Delay n) ≡ 1
+    waits_too : (start : Node) (is : IsSealed v price p start Sink) → flows v (Wait n) ≡ 1
+        → is.inside (Task n) ≡ true → y (Wait n) ≡ 1
     waits_too start is one t =
         ((same_at start Sink is).delays n next).0 t
         (lacks_owner is.inside (is.closed (flows v) (own_flow v price p keeps)) is.lacks_end one) ∙ one
 
     -- the own machine gets the task in no flow as cheap, if it gets it in none that crosses the set
     own_most : (own : ℕ) (end : Node) (is : IsSealed v price p (Machine own) end) → (demand v.case n).home ≡ Some own
-        → flows v (Stay n) ≡ 0 → (is.inside (Task n) ≡ true → y (Wide n) + y (Delay n) ≡ 1) → y (Stay n) ≡ 0
+        → flows v (Stay n) ≡ 0 → (is.inside (Task n) ≡ true → y (Wide n) + y (Wait n) ≡ 1) → y (Stay n) ≡ 0
     own_most own end is home none elsewhere =
         ⊎_elim
         (λ (t : is.inside (Task n) ≡ true). omega (arith, sends, elsewhere t))
@@ -307,7 +307,7 @@ module _ (v : View) (price : ℕ → ℕ) (p : List Choice) (keeps : Keeps v pri
         loose_same v price p y key keeps own (λ t. loose row.row row.there (subst (Tight price) row.is t)) flow
 
   -- WHERE A CUT IS KNOWN no flow as cheap carries more
-  hub_known : flows v (Wide n) ≡ 0 → flows v (Delay n) ≡ 1 → IsSealed v price p Hub Sink → IsMost v p (Wide n)
+  hub_known : flows v (Wide n) ≡ 0 → flows v (Wait n) ≡ 1 → IsSealed v price p Hub Sink → IsMost v p (Wide n)
   hub_known none one is y flow =
       ⊎_elim
       (λ (t : is.inside (Task n) ≡ true). omega (arith, sends y flow, waits_too y flow Hub is one t))
@@ -332,7 +332,7 @@ module _ (v : View) (price : ℕ → ℕ) (p : List Choice) (keeps : Keeps v pri
               ((same_at y flow (Machine own) Hub is).wides n next).0 t is.lacks_end,
             )),
       ))
-      (λ (waits_now : (flows v (Wide n) ≡ 0) × (unit ≡ v.arc (Delay n)) × (goal ≡ v.node Sink)).
+      (λ (waits_now : (flows v (Wide n) ≡ 0) × (unit ≡ v.arc (Wait n)) × (goal ≡ v.node Sink)).
       let is : IsSealed v price p (Machine own) Sink =
       sealed Sink (sym (ap (λ (z : NodeId). z.id.place) waits_now.2)) in
       omega (
@@ -359,7 +359,7 @@ module _ (v : View) (price : ℕ → ℕ) (p : List Choice) (keeps : Keeps v pri
         by_hub.0,
         loose_unit y flow (Wide n) next (subst (IsLooseAt v.net price) by_hub.1 loose),
       ))
-      (λ (waits_now : (flows v (Wide n) ≡ 0) × (unit ≡ v.arc (Delay n)) × (goal ≡ v.node Sink)).
+      (λ (waits_now : (flows v (Wide n) ≡ 0) × (unit ≡ v.arc (Wait n)) × (goal ≡ v.node Sink)).
       omega (
         arith,
         sends y flow,
@@ -367,23 +367,23 @@ module _ (v : View) (price : ℕ → ℕ) (p : List Choice) (keeps : Keeps v pri
         elsewhere,
         none,
         waits_now.0,
-        loose_unit y flow (Delay n) next (subst (IsLooseAt v.net price) waits_now.1 loose),
+        loose_unit y flow (Wait n) next (subst (IsLooseAt v.net price) waits_now.1 loose),
       ))
       way
 
-  pub hub_loose : flows v (Delay n) ≡ 1 → (wait : ArcId) → wait ≡ v.arc (Delay n) → IsLooseAt v.net price wait
+  pub hub_loose : flows v (Wait n) ≡ 1 → (wait : ArcId) → wait ≡ v.arc (Wait n) → IsLooseAt v.net price wait
       → IsMost v p (Wide n)
   hub_loose one wait is loose y flow =
       omega (
         arith,
         sends y flow,
         one,
-        loose_unit y flow (Delay n) next (subst (IsLooseAt v.net price) is loose),
+        loose_unit y flow (Wait n) next (subst (IsLooseAt v.net price) is loose),
       )
 
   -- AN ATTEMPT THAT WAS REFUSED, for a cut or for want of a way
   pub hub_lost : (scratch : Workspace) → AreLasting v price p (class_of scratch) → (arc : ArcId) → arc ≡ v.arc (Wide n)
-      → flows v (Wide n) ≡ 0 → flows v (Delay n) ≡ 1
+      → flows v (Wide n) ≡ 0 → flows v (Wait n) ≡ 1
       → IsBlocked v.net price scratch arc
       ⊎ ((row : Row) → row_at v.net arc ≡ Some row → IsSealedAt v price p row.head.id.place (spot_of v Sink))
       → IsMost v p (Wide n)

@@ -24,7 +24,7 @@ use Rattle.firm_rules.specs.Placement.{Case}
 use Rattle.firm_graph.specs.declared.network.Node.{Node}
 use Rattle.firm_graph.specs.declared.network.Node.TheVariants.{Sink, Hub, Machine, Owner, Task}
 use Rattle.firm_graph.specs.declared.network.Key.{Key}
-use Rattle.firm_graph.specs.declared.network.Key.TheVariants.{Through, Slot, Exit, Wide, Stay, Delay, Prefer}
+use Rattle.firm_graph.specs.declared.network.Key.TheVariants.{Through, Slot, Exit, Wide, Stay, Wait, Prefer}
 use Rattle.firm_graph.specs.Network.{gather, arc, slots_of, demand, preferred_at, stay_head, machine_arcs, job_arcs}
 use Rattle.firm_graph.specs.Network.{task_arcs, network, task_nodes}
 use Rattle.firm_graph.specs.Network.{IsSound}
@@ -92,7 +92,7 @@ network_same c low low' x x' e f =
     (ap₂ (λ (a : Arc Node Key) (b : List (Arc Node Key)). a ∷ b)
     (same (Stay i) (Task i) (stay_head (demand c i).home) _ 0 l)
     (ap₂ (λ (a : Arc Node Key) (b : List (Arc Node Key)). a ∷ b)
-    (same (Delay i) (Task i) (Owner (demand c i).job) 1 _ l)
+    (same (Wait i) (Task i) (Owner (demand c i).job) 1 _ l)
     (gather_same (λ (k : ℕ). prefer_arc c low x i k ∷ []) (λ (k : ℕ). prefer_arc c low' x' i k ∷ []) (count_at c i)
     (λ k m. ap (λ (a : Arc Node Key). a ∷ [])
     (same (Prefer i k) (Task i) (Machine (preferred_at c i k)) 1 _ (l, m)))))))))
@@ -222,7 +222,7 @@ arc_at c low x (Slot j k) = arc low x (Slot j k) (Machine j) Sink 1 (k * c.sprea
 arc_at c low x (Exit k) = arc low x (Exit k) (Owner k) Sink c.limit 0
 arc_at c low x (Wide i) = wide_arc c low x i
 arc_at c low x (Stay i) = stay_arc c low x i
-arc_at c low x (Delay i) = delay_arc c low x i
+arc_at c low x (Wait i) = delay_arc c low x i
 arc_at c low x (Prefer i k) = prefer_arc c low x i k
 
 pub key_at : (c : Case) (low x : Key → ℕ) (k : Key) → (arc_at c low x k).key ≡ k
@@ -232,7 +232,7 @@ key_at c low x (Slot j k) = refl
 key_at c low x (Exit k) = refl
 key_at c low x (Wide i) = refl
 key_at c low x (Stay i) = refl
-key_at c low x (Delay i) = refl
+key_at c low x (Wait i) = refl
 key_at c low x (Prefer i k) = refl
 
 pub flow_at : (c : Case) (low x : Key → ℕ) (k : Key) → (arc_at c low x k).flow ≡ x k
@@ -242,7 +242,7 @@ flow_at c low x (Slot j k) = refl
 flow_at c low x (Exit k) = refl
 flow_at c low x (Wide i) = refl
 flow_at c low x (Stay i) = refl
-flow_at c low x (Delay i) = refl
+flow_at c low x (Wait i) = refl
 flow_at c low x (Prefer i k) = refl
 
 pub listed_at : (c : Case) (low x : Key → ℕ) (k : Key) → IsKeyOf c k → Contains (network c low x) (arc_at c low x k)
@@ -257,7 +257,7 @@ listed_at c low x (Wide i) l = (parts (Contains (network c low x)) c low x
     (All-contains_itself (network c low x))).wides i l
 listed_at c low x (Stay i) l = (parts (Contains (network c low x)) c low x
     (All-contains_itself (network c low x))).stays i l
-listed_at c low x (Delay i) l = (parts (Contains (network c low x)) c low x
+listed_at c low x (Wait i) l = (parts (Contains (network c low x)) c low x
     (All-contains_itself (network c low x))).delays i l
 listed_at c low x (Prefer i k) l = (parts (Contains (network c low x)) c low x
     (All-contains_itself (network c low x))).prefers i k l.0 l.1
@@ -278,5 +278,5 @@ low_at c low x (Slot j k) = refl
 low_at c low x (Exit k) = refl
 low_at c low x (Wide i) = refl
 low_at c low x (Stay i) = refl
-low_at c low x (Delay i) = refl
+low_at c low x (Wait i) = refl
 low_at c low x (Prefer i k) = refl

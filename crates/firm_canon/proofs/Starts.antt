@@ -17,7 +17,7 @@ use Rattle.firm_rules.specs.Round.{round_placement, TheRoundIsTheFirst}
 use Rattle.firm_graph.specs.declared.network.Node.{Node}
 use Rattle.firm_graph.specs.declared.network.Node.TheVariants.{Sink}
 use Rattle.firm_graph.specs.declared.network.Key.{Key}
-use Rattle.firm_graph.specs.declared.network.Key.TheVariants.{Through, Slot, Exit, Wide, Stay, Delay, Prefer}
+use Rattle.firm_graph.specs.declared.network.Key.TheVariants.{Through, Slot, Exit, Wide, Stay, Wait, Prefer}
 use Rattle.firm_graph.specs.Network.{network, demand, task_nodes}
 use Rattle.firm_canon.specs.inner.Placed.{wide}
 use Rattle.firm_graph.specs.View.{View, Shows, IsSameCase, lows, flows, spot_of}
@@ -37,7 +37,7 @@ none_held c (Slot j k) = refl
 none_held c (Exit k) = refl
 none_held c (Wide i) = wide_none (demand c i)
 none_held c (Stay i) = stay_none (demand c i).home
-none_held c (Delay i) = refl
+none_held c (Wait i) = refl
 none_held c (Prefer i k) = prefer_none (demand c i) k
 
 pub starts : FlowLaws → ConservedWhereBalanced → (v : View) (price : ℕ → ℕ) → Shows v

@@ -10,7 +10,7 @@ use Rattle.firm_rules.specs.Placement.{Case, total, rank}
 use Rattle.firm_rules.specs.Placement.{IsPlace}
 use Rattle.firm_graph.specs.declared.network.Node.{Node}
 use Rattle.firm_graph.specs.declared.network.Key.{Key}
-use Rattle.firm_graph.specs.declared.network.Key.TheVariants.{Through, Slot, Exit, Wide, Stay, Delay, Prefer}
+use Rattle.firm_graph.specs.declared.network.Key.TheVariants.{Through, Slot, Exit, Wide, Stay, Wait, Prefer}
 use Rattle.firm_graph.specs.Network.{demand, network}
 use Rattle.firm_canon.proofs.Totals.{total-le, total-add, total_at}
 use Rattle.firm_canon.specs.inner.Placed.{pick, wide, stay, waits, prefer, guests}
@@ -75,7 +75,7 @@ low_grows c p o (Slot j k) = omega arith
 low_grows c p o (Exit k) = omega arith
 low_grows c p o (Wide i) = grows (wide (demand c i)) p (o ∷ []) i (wide_none (demand c i))
 low_grows c p o (Stay i) = grows (stay (demand c i).home) p (o ∷ []) i (stay_none (demand c i).home)
-low_grows c p o (Delay i) = grows waits p (o ∷ []) i refl
+low_grows c p o (Wait i) = grows waits p (o ∷ []) i refl
 low_grows c p o (Prefer i k) = grows (prefer (demand c i) k) p (o ∷ []) i (prefer_none (demand c i) k)
 
 -- TAKING A CHOICE that the flow has room for and before which none is left
@@ -105,8 +105,8 @@ take_choice c p o x price stands l place room none =
         (bounds.stays i h).1,
       );
       delays = λ i h. (
-        at_task waits (λ (i : ℕ). x (Delay i)) p o i refl (bounds.delays i h).0
-            (λ e. subst (λ (k : ℕ). waits (Some o) ≤ x (Delay k)) (sym e) room.at_delay),
+        at_task waits (λ (i : ℕ). x (Wait i)) p o i refl (bounds.delays i h).0
+            (λ e. subst (λ (k : ℕ). waits (Some o) ≤ x (Wait k)) (sym e) room.at_delay),
         (bounds.delays i h).1,
       );
       prefers = λ i k h m. (

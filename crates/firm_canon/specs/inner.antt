@@ -4,6 +4,6 @@ pub mod Laws
 pub mod Choosing
 pub mod Turns
 pub mod Classes
-pub mod Ways
+pub mod Approaches
 pub mod State
 pub mod Looks

@@ -13,7 +13,7 @@ ghost use Rattle.firm_canon.specs.inner.Choosing.{IsSpent, Keeps, best};
 ghost use Rattle.firm_canon.specs.inner.Classes.{IsCut, IsMost, IsOwnWay, IsSealedAt, LeadsTo, one_if};
 ghost use Rattle.firm_canon.specs.inner.State.{GoesOn, IsReady, prefix, price, view};
 ghost use Rattle.firm_canon.specs.inner.Looks.{LooksOn};
-ghost use Rattle.firm_graph.specs.declared.network.Key.TheVariants.{Through, Wide, Stay, Delay};
+ghost use Rattle.firm_graph.specs.declared.network.Key.TheVariants.{Through, Wide, Stay, Wait};
 
 use crate::choosing::Choosing;
 use crate::reads::{arcs_are_counted, has_surplus_on, through_arc};
@@ -136,7 +136,7 @@ impl Choosing<'_> {
         requires ready { IsReady self.old }
         requires next { length (prefix self.old) < length (view self.old).case.tasks }
         requires wide { flows (view self.old) (Wide (length (prefix self.old))) ≡ 0 }
-        requires waits { flows (view self.old) (Delay (length (prefix self.old))) ≡ 1 }
+        requires waits { flows (view self.old) (Wait (length (prefix self.old))) ≡ 1 }
         ensures goes_on { GoesOn self.old self.new 1 (one_if result) }
         ensures looked { LooksOn self.old self.new (one_if result) }
         ensures won { result ≡ true → flows (view self.new) (Wide (length (prefix self.old))) ≡ 1 }

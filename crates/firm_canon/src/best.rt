@@ -14,7 +14,7 @@ ghost use Rattle.firm_canon.specs.inner.Choosing.{Keeps};
 ghost use Rattle.firm_canon.specs.inner.Classes.{HasSought, cut_count};
 ghost use Rattle.firm_canon.specs.inner.State.{IsReady, prefix, view};
 ghost use Rattle.firm_canon.specs.inner.Looks.{LooksOn};
-ghost use Rattle.firm_canon.specs.inner.Ways.{preferred_before};
+ghost use Rattle.firm_canon.specs.inner.Approaches.{preferred_before};
 
 use crate::choosing::Choosing;
 use crate::holds::hold_choice;

@@ -9,13 +9,13 @@ ghost use Rattle.firm_canon.specs.inner.Choosing.{IsChosen, IsPassed, IsShutOff,
 ghost use Rattle.firm_canon.specs.inner.Classes.{IsMost, one_if, parted};
 ghost use Rattle.firm_canon.specs.inner.State.{GoesOn, IsReady, prefix, price, view};
 ghost use Rattle.firm_canon.specs.inner.Looks.{LooksOn};
-ghost use Rattle.firm_canon.specs.inner.Ways.{below};
+ghost use Rattle.firm_canon.specs.inner.Approaches.{below};
 ghost use Rattle.firm_graph.specs.declared.network.Node.TheVariants.{Hub, Task};
 ghost use Rattle.firm_graph.specs.declared.network.Key.TheVariants.{Wide, Stay};
 
+use crate::approaches::Stretch;
 use crate::choosing::Choosing;
 use crate::reads::{Wishes, machine_count};
-use crate::ways::Stretch;
 use firm_rules::Choice;
 
 /// The first machine to try by the hub: none where the task's unit is not there.

@@ -3,7 +3,7 @@ ghost use Rattle.std.specs.Prelude.{◌≡◌, ◌<◌, length, true, false};
 ghost use Rattle.firm_graph.specs.Network.{demand};
 ghost use Rattle.firm_graph.specs.View.{flows};
 ghost use Rattle.firm_canon.specs.inner.State.{IsReady, prefix, view};
-ghost use Rattle.firm_graph.specs.declared.network.Key.TheVariants.{Wide, Stay, Delay, Prefer};
+ghost use Rattle.firm_graph.specs.declared.network.Key.TheVariants.{Wide, Stay, Wait, Prefer};
 
 use crate::reads::{flow_on, prefer_arc, stay_arc, wait_arc, wide_arc};
 use firm_graph::Graph;
@@ -42,7 +42,7 @@ impl Choosing<'_> {
     /// Its arc to its job.
     pub(crate) fn wait(&self) -> ArcId
         requires next { length (prefix self.now) < length (view self.now).case.tasks }
-        ensures { result ≡ (view self.now).arc (Delay (length (prefix self.now))) }
+        ensures { result ≡ (view self.now).arc (Wait (length (prefix self.now))) }
     {
         wait_arc(self.graph, self.chosen.len())
     }
@@ -82,8 +82,8 @@ impl Choosing<'_> {
     pub(crate) fn is_waiting(&self) -> bool
         requires ready { IsReady self.now }
         requires next { length (prefix self.now) < length (view self.now).case.tasks }
-        ensures yes { result ≡ true → flows (view self.now) (Delay (length (prefix self.now))) ≡ 1 }
-        ensures no { result ≡ false → flows (view self.now) (Delay (length (prefix self.now))) ≡ 0 }
+        ensures yes { result ≡ true → flows (view self.now) (Wait (length (prefix self.now))) ≡ 1 }
+        ensures no { result ≡ false → flows (view self.now) (Wait (length (prefix self.now))) ≡ 0 }
     {
         let arc = self.wait();
         flow_on(self.graph.net(), arc) > 0

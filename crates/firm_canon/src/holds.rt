@@ -11,8 +11,8 @@ ghost use Rattle.firm_canon.specs.inner.Graphs.{IsSameGraph};
 ghost use Rattle.firm_canon.specs.inner.Choosing.{Keeps, IsChosen, best};
 ghost use Rattle.firm_rules.specs.declared.rounds.Choice.TheVariants.{On};
 
+use crate::approaches::{is_home, preference_for};
 use crate::reads::{Wishes, low_on, prefer_arc, stay_arc, through_arc, wait_arc, wide_arc};
-use crate::ways::{is_home, preference_for};
 use firm_graph::Graph;
 use firm_net::ArcId;
 use firm_paths::Prices;

@@ -1,6 +1,7 @@
 //! The placement of a round: the first of the least.
 #![tactic(auto)]
 
+mod approaches;
 mod attempts;
 mod best;
 mod choice;
@@ -8,6 +9,5 @@ mod choosing;
 mod holds;
 mod reads;
 mod turns;
-mod ways;
 
 pub use best::first_best;

@@ -7,7 +7,7 @@ ghost use Rattle.firm_graph.specs.Network.{demand, preferred_at};
 ghost use Rattle.firm_graph.specs.View.{flow_of_row, low_of_row};
 ghost use Rattle.firm_graph.specs.Ids.{view_of};
 ghost use Rattle.firm_graph.specs.declared.network.Node.TheVariants.{Hub, Machine};
-ghost use Rattle.firm_graph.specs.declared.network.Key.TheVariants.{Through, Wide, Stay, Delay, Prefer};
+ghost use Rattle.firm_graph.specs.declared.network.Key.TheVariants.{Through, Wide, Stay, Wait, Prefer};
 
 use arrayvec::ArrayVec;
 use firm_graph::{Graph, networks_are_counted};
@@ -146,7 +146,7 @@ pub(crate) fn stay_arc(graph: &Graph, task: usize) -> ArcId
 /// The arc from the task at a place to its job.
 pub(crate) fn wait_arc(graph: &Graph, task: usize) -> ArcId
     requires { task < length (view_of graph.now).case.tasks }
-    ensures { result ≡ (view_of graph.now).arc (Delay task) }
+    ensures { result ≡ (view_of graph.now).arc (Wait task) }
 {
     graph.task_arcs(task).wait
 }

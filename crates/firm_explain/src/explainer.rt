@@ -1,6 +1,6 @@
 //! The watcher of the rounds, which writes their reasons.
 
-use crate::options::Asked;
+use crate::options::Request;
 use crate::reasons::put_reasons;
 use firm_rents::{Case, placement_of};
 use firm_rules::{Name, Rows};
@@ -14,7 +14,7 @@ use std::mem;
 pub(crate) struct Explainer<'w, W: Sink> {
     alloc: Global,
     writer: &'w mut W,
-    asked: Asked,
+    request: Request,
     // What the round that is asked for is about, if it is to be explained; an error for want of memory.
     case: Result<Option<Case>, AllocError>,
     // Kept, so that each round's text takes the memory of the longest once.
@@ -23,11 +23,11 @@ pub(crate) struct Explainer<'w, W: Sink> {
 }
 
 impl<'w, W: Sink> Explainer<'w, W> {
-    pub(crate) fn new(alloc: Global, writer: &'w mut W, asked: Asked) -> Explainer<'w, W> {
+    pub(crate) fn new(alloc: Global, writer: &'w mut W, request: Request) -> Explainer<'w, W> {
         Explainer {
             alloc,
             writer,
-            asked,
+            request,
             case: Ok(None),
             text: Vec::new(alloc),
             has_failed: false,
@@ -42,7 +42,7 @@ impl<'w, W: Sink> Explainer<'w, W> {
     // Writes the reasons of the placement that these rows have, for a round of the case.
     fn explain(&mut self, rows: &Rows, case: &Case) -> Result<(), AllocError> {
         let placement = placement_of(self.alloc, rows)?;
-        put_reasons(&mut self.text, rows, case, &placement, self.asked)?;
+        put_reasons(&mut self.text, rows, case, &placement, self.request)?;
         self.write_out();
         Ok(())
     }
@@ -58,7 +58,7 @@ impl<'w, W: Sink> Explainer<'w, W> {
 
 impl<W: Sink> Watcher for Explainer<'_, W> {
     fn before_round(&mut self, name: Name, rows: &Rows) {
-        self.case = if self.asked.is_of(name) {
+        self.case = if self.request.is_of(name) {
             case_of(self.alloc, rows)
         } else {
             Ok(None)

@@ -22,7 +22,7 @@ pub(crate) struct Given<'a> {
 
 /// What is asked of the rounds that are explained.
 #[derive(Clone, Copy, Debug, PartialEq, Eq)]
-pub(crate) struct Asked {
+pub(crate) struct Request {
     /// The tenant whose rounds are explained; `None` for those of all.
     pub(crate) tenant: Option<Name>,
     /// The task whose choices are all given.
@@ -33,14 +33,14 @@ pub(crate) struct Asked {
     pub(crate) all: bool,
 }
 
-impl Asked {
+impl Request {
     /// What these words ask; `None` where a word for a name is none.
-    pub(crate) fn of(given: &Given<'_>) -> Option<Asked> {
+    pub(crate) fn of(given: &Given<'_>) -> Option<Request> {
         let machine = match given.machine {
             Some(slots) => Slots::check(u64::from(slots)),
             None => None,
         };
-        Some(Asked {
+        Some(Request {
             tenant: name_of(given.tenant)?,
             why: name_of(given.why)?,
             machine,

@@ -6,7 +6,7 @@ ghost use Rattle.firm_explain.specs.Program.{ServesFile, StopsFile};
 
 use crate::explainer::Explainer;
 use crate::faults::{Fault, tell};
-use crate::options::{Asked, Given, read};
+use crate::options::{Given, Request, read};
 use crate::roster_file;
 use clap::Error;
 use clap::error::ErrorKind;
@@ -64,12 +64,12 @@ fn serve_file<R: Files, I: Source, O: Sink, C: Sink, F: Sink>(
         (device (I.left reader.old) (I.left reader.new) (I.read_failed reader.new))
         (device (O.written sinks.old.replies) (O.written sinks.new.replies) (O.write_failed sinks.new.replies))) }
 {
-    let Some(asked) = Asked::of(given) else {
+    let Some(request) = Request::of(given) else {
         return Err(Fault::NoName);
     };
     let text = roster_file::read(rt, alloc, given.roster)?;
     let roster = roster(alloc, &text)?;
-    let has_lost_reasons = serve_roster(alloc, &roster, asked, reader, sinks)?;
+    let has_lost_reasons = serve_roster(alloc, &roster, request, reader, sinks)?;
     if has_lost_reasons {
         return Err(Fault::Service(ServeFault::Write));
     }
@@ -80,7 +80,7 @@ fn serve_file<R: Files, I: Source, O: Sink, C: Sink, F: Sink>(
 fn serve_roster<I: Source, O: Sink, C: Sink, F: Sink>(
     alloc: Global,
     roster: &Roster,
-    asked: Asked,
+    request: Request,
     reader: &mut I,
     sinks: &mut Sinks<O, C, F>,
 ) -> Result<bool, ServeFault>
@@ -93,7 +93,7 @@ fn serve_roster<I: Source, O: Sink, C: Sink, F: Sink>(
         (device (I.left reader.old) (I.left reader.new) (I.read_failed reader.new))
         (device (O.written sinks.old.replies) (O.written sinks.new.replies) (O.write_failed sinks.new.replies))) }
 {
-    let mut explainer = Explainer::new(alloc, &mut sinks.reasons, asked);
+    let mut explainer = Explainer::new(alloc, &mut sinks.reasons, request);
     match serve_watched(alloc, reader, &mut sinks.replies, &mut explainer, roster) {
         Ok(()) => Ok(explainer.has_failed()),
         Err(fault) => Err(fault),

@@ -10,13 +10,13 @@ use Rattle.firm_paths.specs.Network.{Arc}
 use Rattle.firm_rules.specs.Book.{TenantRows, machine_names, job_names}
 use Rattle.firm_rules.specs.Placement.{Case, Demand}
 use Rattle.firm_rules.specs.Round.{case_of, place_of, machine_place, job_place, demand_of}
-use Rattle.firm_rules.specs.declared.parts.Machine.{Machine}
-use Rattle.firm_rules.specs.declared.parts.Job.{Job}
-use Rattle.firm_rules.specs.declared.parts.Task.{Task}
+use Rattle.firm_rules.specs.declared.book.Machine.{Machine}
+use Rattle.firm_rules.specs.declared.book.Job.{Job}
+use Rattle.firm_rules.specs.declared.book.Task.{Task}
 use Rattle.firm_graph.specs.declared.network.Node.{Node}
 use Rattle.firm_graph.specs.declared.network.Node.TheVariants.{Sink, Hub, Machine as MachineAt, Owner, Task as TaskAt}
 use Rattle.firm_graph.specs.declared.network.Key.{Key}
-use Rattle.firm_graph.specs.declared.network.Key.TheVariants.{Through, Slot, Exit, Wide, Stay, Delay, Prefer}
+use Rattle.firm_graph.specs.declared.network.Key.TheVariants.{Through, Slot, Exit, Wide, Stay, Wait, Prefer}
 use Rattle.firm_graph.specs.Network.{gather, arc, slots_of, demand, runs, stay_head, away, machine_arcs, job_arcs}
 use Rattle.firm_graph.specs.Network.{task_arcs}
 use Rattle.firm_graph.specs.Network.{network}
@@ -54,7 +54,7 @@ one_task_rows rows i t =
     let leaving : ℕ = cond (is_some t.machine) rows.limits.churn 0 in
     bare (Wide i) (TaskAt i) Hub 1 (leaving + away rows.limits.remote t.preferred)
     ∷ bare (Stay i) (TaskAt i) (head_of (machine_names rows) t.machine) (cond (is_some t.machine) 1 0) 0
-    ∷ bare (Delay i) (TaskAt i) (Owner (position_or_len (bytes_eq t.job) (job_names rows))) 1
+    ∷ bare (Wait i) (TaskAt i) (Owner (position_or_len (bytes_eq t.job) (job_names rows))) 1
     (weight_under rows.jobs t.job + t.waited + leaving)
     ∷ preferred_rows (machine_names rows) leaving i 0 t.preferred
 
@@ -179,7 +179,7 @@ module _ (rows : TenantRows) (low x : Key → ℕ) where
   by_demand i q =
       arc low x (Wide i) (TaskAt i) Hub 1 (cond (runs q.home) c.churn 0 + away c.remote q.preferred)
       ∷ arc low x (Stay i) (TaskAt i) (stay_head q.home) (cond (runs q.home) 1 0) 0
-      ∷ arc low x (Delay i) (TaskAt i) (Owner q.job) 1 (q.delay + cond (runs q.home) c.churn 0)
+      ∷ arc low x (Wait i) (TaskAt i) (Owner q.job) 1 (q.delay + cond (runs q.home) c.churn 0)
       ∷ gather (λ k. arc low x (Prefer i k) (TaskAt i) (MachineAt (get_or q.preferred k 0)) 1
       (cond (runs q.home) c.churn 0) ∷ []) (length q.preferred)
 
@@ -190,7 +190,7 @@ module _ (rows : TenantRows) (low x : Key → ℕ) where
       let mine : Bool → Node → ℕ → List (Arc Node Key) = λ (b : Bool) (n : Node) (w : ℕ).
       arc low x (Wide i) (TaskAt i) Hub 1 (cond b c.churn 0 + away c.remote t.preferred)
       ∷ arc low x (Stay i) (TaskAt i) n (cond b 1 0) 0
-      ∷ arc low x (Delay i) (TaskAt i) (Owner (job_place rows t)) 1 (w + t.waited + cond b c.churn 0)
+      ∷ arc low x (Wait i) (TaskAt i) (Owner (job_place rows t)) 1 (w + t.waited + cond b c.churn 0)
       ∷ map (fill low x) (preferred_rows (machine_names rows) (cond b c.churn 0) i 0 t.preferred) in
       let to : ℕ → List (Arc Node Key) = λ (k : ℕ). arc low x (Prefer i k) (TaskAt i)
       (MachineAt (get_or q.preferred k 0)) 1 cost ∷ [] in
@@ -208,7 +208,7 @@ module _ (rows : TenantRows) (low x : Key → ℕ) where
       ∙ ap₂ (λ (n : ℕ) (l : List (Arc Node Key)).
       arc low x (Wide i) (TaskAt i) Hub 1 (cost + cond (ltb 0 n) c.remote 0)
       ∷ arc low x (Stay i) (TaskAt i) (stay_head q.home) (cond (runs q.home) 1 0) 0
-      ∷ arc low x (Delay i) (TaskAt i) (Owner q.job) 1 (q.delay + cost) ∷ l) counted preferred))
+      ∷ arc low x (Wait i) (TaskAt i) (Owner q.job) 1 (q.delay + cost) ∷ l) counted preferred))
 
   tasks_same : (i : ℕ) (ts : List Task) (d : Task) →
       ((k : ℕ) → k < length ts → demand c (i + k) ≡ demand_of rows (get_or ts k d))

@@ -9,9 +9,9 @@ use Rattle.firm_rules.specs.ArenaUse.{preference_count}
 use Rattle.firm_rules.specs.Book.{TenantRows, machine_names}
 use Rattle.firm_rules.specs.Placement.{Case}
 use Rattle.firm_rules.specs.Round.{case_of, demand_of}
-use Rattle.firm_rules.specs.declared.parts.Machine.{Machine}
-use Rattle.firm_rules.specs.declared.parts.Job.{Job}
-use Rattle.firm_rules.specs.declared.parts.Task.{Task}
+use Rattle.firm_rules.specs.declared.book.Machine.{Machine}
+use Rattle.firm_rules.specs.declared.book.Job.{Job}
+use Rattle.firm_rules.specs.declared.book.Task.{Task}
 use Rattle.firm_graph.specs.declared.network.Node.{Node}
 use Rattle.firm_graph.specs.declared.network.Node.TheVariants.{Machine as MachineAt, Owner as JobAt, Task as TaskAt}
 use Rattle.firm_graph.specs.declared.network.Key.{Key}

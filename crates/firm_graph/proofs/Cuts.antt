@@ -22,11 +22,11 @@ use Rattle.firm_flow.specs.NetFlow.{places, AreDistinctNodes}
 use Rattle.firm_rules.specs.Book.{job_names}
 use Rattle.firm_rules.specs.Names.{is_among}
 use Rattle.firm_rules.specs.Sound.{AreSound}
-use Rattle.firm_rules.specs.declared.parts.Job.{Job}
-use Rattle.firm_rules.specs.declared.parts.Task.{Task}
+use Rattle.firm_rules.specs.declared.book.Job.{Job}
+use Rattle.firm_rules.specs.declared.book.Task.{Task}
 use Rattle.firm_net.specs.Edits.{Span, spans_of}
-use Rattle.firm_graph.specs.declared.parts.JobParts.{JobParts}
-use Rattle.firm_graph.specs.declared.parts.TaskParts.{TaskParts}
+use Rattle.firm_graph.specs.declared.ids.JobParts.{JobParts}
+use Rattle.firm_graph.specs.declared.ids.TaskParts.{TaskParts}
 use Rattle.firm_graph.specs.Graph.{Graph, Mirrors, flat_zip, job_spans, task_spans, Target, target_of, node_under}
 use Rattle.firm_graph.specs.Network.{away}
 use Rattle.firm_graph.specs.Graph.{preferred_spans, graph_spans, graph_nodes, machine_nodes, job_nodes, task_nodes}

@@ -3,11 +3,11 @@ use Rattle.std.proofs.Common.{◌≡◌, ℕ, Option, Some, None, List, [], ◌�
 use Rattle.firm_paths.specs.Network.{Arc}
 use Rattle.firm_rules.specs.Book.{TenantRows}
 use Rattle.firm_rules.specs.Round.{case_of}
-use Rattle.firm_rules.specs.declared.parts.Task.{Task}
+use Rattle.firm_rules.specs.declared.book.Task.{Task}
 use Rattle.firm_graph.specs.declared.network.Node.{Node}
 use Rattle.firm_graph.specs.declared.network.Node.TheVariants.{Sink, Hub, Machine as MachineAt, Owner, Task as TaskAt}
 use Rattle.firm_graph.specs.declared.network.Key.{Key}
-use Rattle.firm_graph.specs.declared.network.Key.TheVariants.{Through, Slot, Exit, Wide, Stay, Delay, Prefer}
+use Rattle.firm_graph.specs.declared.network.Key.TheVariants.{Through, Slot, Exit, Wide, Stay, Wait, Prefer}
 use Rattle.firm_graph.specs.Network.{network}
 
 -- two machines of two slots, a job of weight 10, and these tasks
@@ -44,10 +44,10 @@ two_waiting : network_of (task (codes "a") None ∷ task (codes "b") None ∷ []
     ∷ arc (Exit 0) (Owner 0) Sink 9 0
     ∷ arc (Wide 0) (TaskAt 0) Hub 1 0
     ∷ arc (Stay 0) (TaskAt 0) Hub 0 0
-    ∷ arc (Delay 0) (TaskAt 0) (Owner 0) 1 10
+    ∷ arc (Wait 0) (TaskAt 0) (Owner 0) 1 10
     ∷ arc (Wide 1) (TaskAt 1) Hub 1 0
     ∷ arc (Stay 1) (TaskAt 1) Hub 0 0
-    ∷ arc (Delay 1) (TaskAt 1) (Owner 0) 1 10
+    ∷ arc (Wait 1) (TaskAt 1) (Owner 0) 1 10
     ∷ []
 unfolding rows_of preferring task arc network_of
 two_waiting = refl
@@ -57,13 +57,13 @@ two_running : drop 7 (network_of (task (codes "a") (Some (codes "m1")) ∷ task 
     (codes "c") None ∷ []))
     ≡ arc (Wide 0) (TaskAt 0) Hub 1 2
     ∷ arc (Stay 0) (TaskAt 0) (MachineAt 0) 1 0
-    ∷ arc (Delay 0) (TaskAt 0) (Owner 0) 1 12
+    ∷ arc (Wait 0) (TaskAt 0) (Owner 0) 1 12
     ∷ arc (Wide 1) (TaskAt 1) Hub 1 2
     ∷ arc (Stay 1) (TaskAt 1) (MachineAt 1) 1 0
-    ∷ arc (Delay 1) (TaskAt 1) (Owner 0) 1 12
+    ∷ arc (Wait 1) (TaskAt 1) (Owner 0) 1 12
     ∷ arc (Wide 2) (TaskAt 2) Hub 1 0
     ∷ arc (Stay 2) (TaskAt 2) Hub 0 0
-    ∷ arc (Delay 2) (TaskAt 2) (Owner 0) 1 10
+    ∷ arc (Wait 2) (TaskAt 2) (Owner 0) 1 10
     ∷ []
 unfolding rows_of preferring task arc network_of
 two_running = refl
@@ -73,11 +73,11 @@ two_preferring : drop 7 (network_of (preferring (codes "a") (codes "m2" ∷ []) 
     ∷ preferring (codes "b") (codes "m2" ∷ codes "m1" ∷ []) (Some (codes "m2")) ∷ []))
     ≡ arc (Wide 0) (TaskAt 0) Hub 1 7
     ∷ arc (Stay 0) (TaskAt 0) Hub 0 0
-    ∷ arc (Delay 0) (TaskAt 0) (Owner 0) 1 10
+    ∷ arc (Wait 0) (TaskAt 0) (Owner 0) 1 10
     ∷ arc (Prefer 0 0) (TaskAt 0) (MachineAt 1) 1 0
     ∷ arc (Wide 1) (TaskAt 1) Hub 1 9
     ∷ arc (Stay 1) (TaskAt 1) (MachineAt 1) 1 0
-    ∷ arc (Delay 1) (TaskAt 1) (Owner 0) 1 12
+    ∷ arc (Wait 1) (TaskAt 1) (Owner 0) 1 12
     ∷ arc (Prefer 1 0) (TaskAt 1) (MachineAt 1) 1 2
     ∷ arc (Prefer 1 1) (TaskAt 1) (MachineAt 0) 1 2
     ∷ []

@@ -9,7 +9,7 @@ use Rattle.std.proofs.lemmas.List.Elements.{All-nil, All-cons, filter_passes}
 use Rattle.firm_rules.specs.Book.{TenantRows, is_on, forgetting, evicted}
 use Rattle.firm_rules.specs.Preferences.{without_preference}
 use Rattle.firm_rules.specs.Round.{task_after, rows_after, zipped}
-use Rattle.firm_rules.specs.declared.parts.Task.{Task}
+use Rattle.firm_rules.specs.declared.book.Task.{Task}
 use Rattle.firm_rules.specs.declared.rounds.Choice.{Choice}
 use Rattle.firm_rules.specs.declared.rounds.Choice.TheVariants.{On, Wait}
 use Rattle.firm_graph.specs.inner.Steps.{update_at, placed, with_task_at, changed_first, settled_first, no_task}

@@ -17,8 +17,8 @@ use Rattle.firm_net.specs.declared.row.NodeId.{NodeId}
 use Rattle.firm_net.specs.declared.row.ArcId.{ArcId}
 use Rattle.firm_rules.specs.Book.{TenantRows, machine_names, forgetting}
 use Rattle.firm_rules.specs.Preferences.{without_preference}
-use Rattle.firm_rules.specs.declared.parts.Task.{Task}
-use Rattle.firm_graph.specs.declared.parts.TaskParts.{TaskParts}
+use Rattle.firm_rules.specs.declared.book.Task.{Task}
+use Rattle.firm_graph.specs.declared.ids.TaskParts.{TaskParts}
 use Rattle.firm_graph.specs.Network.{away}
 use Rattle.firm_graph.specs.Graph.{Graph, Mirrors, flat_zip, preferred_spans, task_spans, target_of, node_under}
 use Rattle.firm_graph.specs.Graph.{graph_nodes, graph_spans, machine_nodes}

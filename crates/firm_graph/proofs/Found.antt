@@ -14,7 +14,7 @@ use Rattle.firm_net.specs.declared.row.ArcId.{ArcId}
 use Rattle.firm_arena.specs.Changes.{find-held_own}
 use Rattle.firm_net.specs.Edits.{Span, span_of, nodes_of, spans_of, AsOften}
 use Rattle.firm_graph.specs.Graph.{Graph, Mirrors, graph_nodes, machine_nodes, job_nodes, task_nodes}
-use Rattle.firm_graph.specs.declared.parts.JobParts.{JobParts}
+use Rattle.firm_graph.specs.declared.ids.JobParts.{JobParts}
 use Rattle.std.proofs.lemmas.List.{get_or-map, get_or_default, length-map, get_or_append_left}
 use Rattle.firm_arena.specs.Sums.{sum-slot}
 use Rattle.firm_net.specs.Laws.{node_weight, span_weight, nodes-sum, spans-sum}

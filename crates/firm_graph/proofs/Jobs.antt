@@ -13,11 +13,11 @@ use Rattle.firm_net.specs.Net.{Net, row_at}
 use Rattle.firm_net.specs.declared.row.NodeId.{NodeId}
 use Rattle.firm_rules.specs.Book.{machine_names, job_names}
 use Rattle.firm_graph.specs.inner.Steps.{job_gone}
-use Rattle.firm_rules.specs.declared.parts.Job.{Job}
-use Rattle.firm_rules.specs.declared.parts.Task.{Task}
+use Rattle.firm_rules.specs.declared.book.Job.{Job}
+use Rattle.firm_rules.specs.declared.book.Task.{Task}
 use Rattle.firm_net.specs.Edits.{Span, span_of, IsEdit}
 use Rattle.firm_graph.specs.inner.Steps.{Holds}
-use Rattle.firm_graph.specs.declared.parts.JobParts.{JobParts}
+use Rattle.firm_graph.specs.declared.ids.JobParts.{JobParts}
 use Rattle.firm_graph.specs.Graph.{Graph, Mirrors, job_spans, Target, target_of, home_node, node_under, weight_under}
 use Rattle.firm_graph.specs.Graph.{graph_nodes, graph_spans, machine_nodes, job_nodes, task_nodes}
 use Rattle.firm_graph.proofs.Found.{Contains-skip, Contains-front}

@@ -5,7 +5,7 @@ use Rattle.std.specs.List.{list_any, position_or_len, position}
 use Rattle.std.proofs.lemmas.Bool.{cases_Bool, cond-true, cond-false, ltb-true, or_left}
 use Rattle.firm_net.specs.declared.row.NodeId.{NodeId}
 use Rattle.firm_rules.specs.Names.{is_among}
-use Rattle.firm_rules.specs.declared.parts.Job.{Job}
+use Rattle.firm_rules.specs.declared.book.Job.{Job}
 use Rattle.firm_graph.specs.Graph.{node_under, weight_under}
 
 pub or-false : (a b : Bool) → a ≡ false → a || b ≡ b

@@ -16,8 +16,8 @@ use Rattle.firm_net.specs.Net.{Net, row_at}
 use Rattle.firm_net.specs.declared.row.NodeId.{NodeId}
 use Rattle.firm_rules.specs.Book.{machine_names, job_names, is_on}
 use Rattle.firm_graph.specs.inner.Steps.{machine_gone}
-use Rattle.firm_rules.specs.declared.parts.Machine.{Machine}
-use Rattle.firm_rules.specs.declared.parts.Task.{Task}
+use Rattle.firm_rules.specs.declared.book.Machine.{Machine}
+use Rattle.firm_rules.specs.declared.book.Task.{Task}
 use Rattle.firm_net.specs.Edits.{Span, span_of, IsEdit}
 use Rattle.firm_graph.specs.inner.Steps.{Holds}
 use Rattle.firm_graph.specs.Parts.{MachineParts}

@@ -7,13 +7,13 @@ use Rattle.firm_net.specs.declared.row.NodeId.{NodeId}
 use Rattle.firm_net.specs.declared.row.ArcId.{ArcId}
 use Rattle.firm_paths.specs.Network.{Arc}
 use Rattle.firm_rules.specs.Book.{TenantRows, machine_names, job_names}
-use Rattle.firm_rules.specs.declared.parts.Machine.{Machine}
-use Rattle.firm_rules.specs.declared.parts.Job.{Job}
-use Rattle.firm_rules.specs.declared.parts.Task.{Task}
+use Rattle.firm_rules.specs.declared.book.Machine.{Machine}
+use Rattle.firm_rules.specs.declared.book.Job.{Job}
+use Rattle.firm_rules.specs.declared.book.Task.{Task}
 use Rattle.firm_net.specs.Edits.{Span}
 use Rattle.firm_graph.specs.Parts.{MachineParts}
-use Rattle.firm_graph.specs.declared.parts.JobParts.{JobParts}
-use Rattle.firm_graph.specs.declared.parts.TaskParts.{TaskParts}
+use Rattle.firm_graph.specs.declared.ids.JobParts.{JobParts}
+use Rattle.firm_graph.specs.declared.ids.TaskParts.{TaskParts}
 use Rattle.firm_graph.specs.Graph.{Graph, Mirrors, flat_zip, slot_spans, machine_spans, job_spans, task_spans, Target}
 use Rattle.firm_graph.specs.Graph.{preferred_spans, node_under, target_of, home_node, weight_under, graph_spans}
 use Rattle.firm_graph.specs.Graph.{machine_nodes, job_nodes}
@@ -21,7 +21,7 @@ use Rattle.firm_graph.specs.declared.network.Node.{Node}
 use Rattle.firm_graph.specs.declared.network.Node.TheVariants.{Sink, Hub, Machine as MachineAt, Owner as JobAt}
 use Rattle.firm_graph.specs.declared.network.Node.TheVariants.{Task as TaskAt}
 use Rattle.firm_graph.specs.declared.network.Key.{Key}
-use Rattle.firm_graph.specs.declared.network.Key.TheVariants.{Through, Slot, Exit, Wide, Stay, Delay, Prefer}
+use Rattle.firm_graph.specs.declared.network.Key.TheVariants.{Through, Slot, Exit, Wide, Stay, Wait, Prefer}
 use Rattle.firm_graph.specs.Ids.{node_id, arc_id, no_arc, no_machine, no_arcs}
 use Rattle.firm_graph.specs.Network.{away}
 use Rattle.firm_graph.proofs.Bridge.{bare, slot_rows, machine_rows, job_rows, preferred_rows, one_task_rows, task_rows}
@@ -132,7 +132,7 @@ record AreTaskIds (name : Node → NodeId) (id : Key → ArcId) (i : ℕ) (p : T
   node : p.node ≡ name (TaskAt i)
   wide : p.arcs.wide ≡ id (Wide i)
   stay : p.arcs.stay ≡ id (Stay i)
-  wait : p.arcs.wait ≡ id (Delay i)
+  wait : p.arcs.wait ≡ id (Wait i)
   preferred : (k : ℕ) → k < length p.arcs.preferred → get_or p.arcs.preferred k no_arc ≡ id (Prefer i k)
 
 -- where a task's arcs lead, by the network's ids
@@ -165,7 +165,7 @@ one-shown name id rows target i x p e t own =
     ∷ preferred_spans p.node leaving to.preferred p.arcs.preferred in
     let ids : TaskParts = record {
       node = name (TaskAt i);
-      arcs = record { wide = id (Wide i); stay = id (Stay i); wait = id (Delay i); preferred = [] };
+      arcs = record { wide = id (Wide i); stay = id (Stay i); wait = id (Wait i); preferred = [] };
     } in
     let mine : TaskParts = record {
       node = p.node;
@@ -196,7 +196,7 @@ one-shown name id rows target i x p e t own =
       cap = cond (is_some x.machine) 1 0;
       cost = 0;
     }
-    ∷ record { arc = id (Delay i); tail = name (TaskAt i); head = to.owner; cap = 1; cost = to.delay + leaving } ∷ l)
+    ∷ record { arc = id (Wait i); tail = name (TaskAt i); head = to.owner; cap = 1; cost = to.delay + leaving } ∷ l)
     (preferred-shown name id (machine_names rows) leaving i 0 p.node x.preferred p.arcs.preferred e own.node
     (λ j below. own.preferred j below ∙ ap (λ (q : ℕ). id (Prefer i q)) (let z : j ≡ 0 + j = omega arith in z)))
     ∙ ap (λ (q : TaskParts). made q to) (sym same)
@@ -288,7 +288,7 @@ graph-shown g is =
           (λ (n : ℕ). name (TaskAt n)) (at i);
       wide = ap (λ (n : ℕ). id (Wide n)) (at i);
       stay = ap (λ (n : ℕ). id (Stay n)) (at i);
-      wait = ap (λ (n : ℕ). id (Delay n)) (at i);
+      wait = ap (λ (n : ℕ). id (Wait n)) (at i);
       preferred = λ k b. ap (λ (n : ℕ). id (Prefer n k)) (at i);
     }) in
     map-append show (machine_rows g.rows.limits.spread 0 g.rows.machines)

@@ -11,11 +11,11 @@ use Rattle.firm_net.specs.declared.row.NodeId.{NodeId}
 use Rattle.firm_net.specs.declared.row.ArcId.{ArcId}
 use Rattle.firm_rules.specs.Book.{machine_names}
 use Rattle.firm_graph.specs.inner.Steps.{update_at, placed, with_task_at, no_task}
-use Rattle.firm_rules.specs.declared.parts.Task.{Task}
+use Rattle.firm_rules.specs.declared.book.Task.{Task}
 use Rattle.firm_net.specs.Edits.{Span, span_of, nodes_of, AsOften, IsEdit}
 use Rattle.firm_graph.specs.inner.Steps.{Holds}
 use Rattle.firm_graph.specs.Parts.{MachineParts}
-use Rattle.firm_graph.specs.declared.parts.TaskParts.{TaskParts}
+use Rattle.firm_graph.specs.declared.ids.TaskParts.{TaskParts}
 use Rattle.firm_graph.specs.Graph.{Graph, Mirrors, flat_zip, task_spans, target_of, home_node, node_under, weight_under}
 use Rattle.firm_graph.specs.Network.{away}
 use Rattle.firm_graph.specs.Graph.{preferred_spans, graph_nodes, graph_spans, machine_nodes, job_nodes, task_nodes}

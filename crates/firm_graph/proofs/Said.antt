@@ -7,8 +7,8 @@ use Rattle.firm_net.specs.declared.row.NodeId.{NodeId}
 use Rattle.firm_rules.specs.Book.{TenantRows}
 use Rattle.firm_rules.specs.Limits.{TenantLimits}
 use Rattle.firm_graph.specs.Parts.{MachineParts}
-use Rattle.firm_graph.specs.declared.parts.JobParts.{JobParts}
-use Rattle.firm_graph.specs.declared.parts.TaskParts.{TaskParts}
+use Rattle.firm_graph.specs.declared.ids.JobParts.{JobParts}
+use Rattle.firm_graph.specs.declared.ids.TaskParts.{TaskParts}
 use Rattle.firm_graph.specs.Graph.{Graph, Mirrors, graph_nodes, graph_spans}
 use Rattle.firm_graph.specs.inner.Steps.{Holds}
 use Rattle.firm_graph.proofs.Totals.{sum-one}

@@ -22,17 +22,17 @@ use Rattle.firm_rules.specs.Book.{machine_names, job_names}
 use Rattle.firm_rules.specs.Names.{is_among}
 use Rattle.firm_rules.specs.Placement.{Case, Demand}
 use Rattle.firm_rules.specs.Round.{place_of, machine_place, job_place, demand_of}
-use Rattle.firm_rules.specs.declared.parts.Machine.{Machine}
-use Rattle.firm_rules.specs.declared.parts.Job.{Job}
-use Rattle.firm_rules.specs.declared.parts.Task.{Task}
+use Rattle.firm_rules.specs.declared.book.Machine.{Machine}
+use Rattle.firm_rules.specs.declared.book.Job.{Job}
+use Rattle.firm_rules.specs.declared.book.Task.{Task}
 use Rattle.firm_graph.specs.Parts.{MachineParts}
-use Rattle.firm_graph.specs.declared.parts.JobParts.{JobParts}
-use Rattle.firm_graph.specs.declared.parts.TaskParts.{TaskParts}
+use Rattle.firm_graph.specs.declared.ids.JobParts.{JobParts}
+use Rattle.firm_graph.specs.declared.ids.TaskParts.{TaskParts}
 use Rattle.firm_graph.specs.declared.network.Node.{Node}
 use Rattle.firm_graph.specs.declared.network.Node.TheVariants.{Sink, Hub, Machine as MachineAt, Owner as JobAt}
 use Rattle.firm_graph.specs.declared.network.Node.TheVariants.{Task as TaskAt}
 use Rattle.firm_graph.specs.declared.network.Key.{Key}
-use Rattle.firm_graph.specs.declared.network.Key.TheVariants.{Through, Slot, Exit, Wide, Stay, Delay, Prefer}
+use Rattle.firm_graph.specs.declared.network.Key.TheVariants.{Through, Slot, Exit, Wide, Stay, Wait, Prefer}
 use Rattle.firm_graph.specs.Network.{gather, arc, slots_of, demand, runs, stay_head, preferred_at, leaving, away}
 use Rattle.firm_graph.specs.Network.{machine_arcs, job_arcs, preferred_arcs, task_arcs}
 use Rattle.firm_graph.specs.Network.{network, nodes, task_nodes as case_tasks, IsNodeOf, IsKeyOf, IsSound}
@@ -281,7 +281,7 @@ module _ (c : Case) (low x : Key → ℕ) where
   stay_arc i = arc low x (Stay i) (TaskAt i) (stay_head (demand c i).home) (cond (runs (demand c i).home) 1 0) 0
 
   abbrev delay_arc : ℕ → Arc Node Key
-  delay_arc i = arc low x (Delay i) (TaskAt i) (JobAt (demand c i).job) 1 ((demand c i).delay + leaving c i)
+  delay_arc i = arc low x (Wait i) (TaskAt i) (JobAt (demand c i).job) 1 ((demand c i).delay + leaving c i)
 
   abbrev preferred_arc : ℕ → ℕ → Arc Node Key
   preferred_arc i k = arc low x (Prefer i k) (TaskAt i) (MachineAt (preferred_at c i k)) 1 (leaving c i)
@@ -312,8 +312,8 @@ module _ (c : Case) (low x : Key → ℕ) where
   key-listed (Stay i) h =
       of-task i (stay_arc i) (Stay i) h
       (second-of (wide_arc i) (stay_arc i) (delay_arc i ∷ preferred_arcs c low x i)) refl
-  key-listed (Delay i) h =
-      of-task i (delay_arc i) (Delay i) h
+  key-listed (Wait i) h =
+      of-task i (delay_arc i) (Wait i) h
       (third-of (wide_arc i) (stay_arc i) (delay_arc i) (preferred_arcs c low x i)) refl
   key-listed (Prefer i k) h =
       let a : Arc Node Key = preferred_arc i k in

@@ -10,7 +10,7 @@ use Rattle.firm_net.specs.declared.row.NodeId.{NodeId}
 use Rattle.firm_net.specs.declared.row.ArcId.{ArcId}
 use Rattle.firm_net.specs.Edits.{Span, IsEdit, span_of}
 use Rattle.firm_rules.specs.Book.{machine_names}
-use Rattle.firm_graph.specs.declared.parts.TaskParts.{TaskParts}
+use Rattle.firm_graph.specs.declared.ids.TaskParts.{TaskParts}
 use Rattle.firm_graph.specs.Graph.{Graph, Mirrors, graph_nodes, graph_spans, home_node, machine_nodes, weight_under}
 use Rattle.firm_graph.specs.Graph.{preferred_spans, target_of}
 use Rattle.firm_graph.specs.Network.{away}

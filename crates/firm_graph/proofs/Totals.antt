@@ -13,13 +13,13 @@ use Rattle.firm_net.specs.declared.row.NodeId.{NodeId}
 use Rattle.firm_net.specs.declared.row.ArcId.{ArcId}
 use Rattle.firm_rules.specs.Book.{machine_names}
 use Rattle.firm_rules.specs.ArenaUse.{arena_nodes, arena_arcs, preference_count}
-use Rattle.firm_rules.specs.declared.parts.Machine.{Machine}
-use Rattle.firm_rules.specs.declared.parts.Job.{Job}
-use Rattle.firm_rules.specs.declared.parts.Task.{Task}
+use Rattle.firm_rules.specs.declared.book.Machine.{Machine}
+use Rattle.firm_rules.specs.declared.book.Job.{Job}
+use Rattle.firm_rules.specs.declared.book.Task.{Task}
 use Rattle.firm_net.specs.Edits.{Span, span_of, nodes_of, spans_of, AsOften}
 use Rattle.firm_graph.specs.Parts.{MachineParts}
-use Rattle.firm_graph.specs.declared.parts.JobParts.{JobParts}
-use Rattle.firm_graph.specs.declared.parts.TaskParts.{TaskParts}
+use Rattle.firm_graph.specs.declared.ids.JobParts.{JobParts}
+use Rattle.firm_graph.specs.declared.ids.TaskParts.{TaskParts}
 use Rattle.firm_graph.specs.Graph.{Graph, Mirrors, flat_zip, machine_spans, slot_spans, job_spans, task_spans, Target}
 use Rattle.firm_graph.specs.Graph.{preferred_spans, node_under, target_of, graph_nodes, graph_spans, machine_nodes}
 use Rattle.firm_graph.specs.Graph.{job_nodes, task_nodes}

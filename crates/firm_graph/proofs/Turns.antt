@@ -11,14 +11,14 @@ use Rattle.firm_net.specs.Net.{Net, IsNode, row_at}
 use Rattle.firm_net.specs.declared.row.NodeId.{NodeId}
 use Rattle.firm_rules.specs.Book.{TenantRows, machine_names, is_on}
 use Rattle.firm_rules.specs.Round.{task_after}
-use Rattle.firm_rules.specs.declared.parts.Task.{Task}
-use Rattle.firm_rules.specs.declared.parts.Machine.{Machine}
+use Rattle.firm_rules.specs.declared.book.Task.{Task}
+use Rattle.firm_rules.specs.declared.book.Machine.{Machine}
 use Rattle.firm_rules.specs.declared.rounds.Choice.{Choice}
 use Rattle.firm_rules.specs.declared.rounds.Choice.TheVariants.{Wait}
 use Rattle.firm_net.specs.Edits.{Span}
 use Rattle.firm_graph.specs.Parts.{MachineParts}
-use Rattle.firm_graph.specs.declared.parts.TaskParts.{TaskParts}
-use Rattle.firm_graph.specs.declared.parts.Stand.{Stand}
+use Rattle.firm_graph.specs.declared.ids.TaskParts.{TaskParts}
+use Rattle.firm_graph.specs.declared.ids.Stand.{Stand}
 use Rattle.firm_graph.specs.Graph.{Graph, Mirrors, graph_nodes, home_node, node_under, machine_nodes}
 use Rattle.firm_graph.specs.inner.Steps.{IsPlacing, Stands, Holds, moved, with_task_at, thrown_out, thrown_out_first}
 use Rattle.firm_graph.specs.inner.Steps.{forgetting_rows, settled_first, no_task, task_at}

@@ -4,11 +4,11 @@ use Rattle.firm_net.specs.declared.row.NodeId.{NodeId}
 use Rattle.firm_net.specs.declared.row.ArcId.{ArcId}
 use Rattle.firm_rules.specs.Round.{case_of}
 use Rattle.firm_graph.specs.Parts.{MachineParts}
-use Rattle.firm_graph.specs.declared.parts.TaskArcs.{TaskArcs}
+use Rattle.firm_graph.specs.declared.ids.TaskArcs.{TaskArcs}
 use Rattle.firm_graph.specs.declared.network.Node.{Node}
 use Rattle.firm_graph.specs.declared.network.Node.TheVariants.{Sink, Hub, Machine, Owner, Task}
 use Rattle.firm_graph.specs.declared.network.Key.{Key}
-use Rattle.firm_graph.specs.declared.network.Key.TheVariants.{Through, Slot, Exit, Wide, Stay, Delay, Prefer}
+use Rattle.firm_graph.specs.declared.network.Key.TheVariants.{Through, Slot, Exit, Wide, Stay, Wait, Prefer}
 use Rattle.firm_graph.specs.View.{View, Shows}
 use Rattle.firm_graph.specs.Graph.{Graph, IsGraph, machine_nodes, job_nodes, task_nodes}
 
@@ -37,7 +37,7 @@ arc_id g (Slot j k) = slice_index_or (slice_index_or g.machines j (no_machine g)
 arc_id g (Exit k) = (slice_index_or g.jobs k (record { node = g.hub; exit = no_arc })).exit
 arc_id g (Wide i) = (slice_index_or g.tasks i (record { node = g.hub; arcs = no_arcs })).arcs.wide
 arc_id g (Stay i) = (slice_index_or g.tasks i (record { node = g.hub; arcs = no_arcs })).arcs.stay
-arc_id g (Delay i) = (slice_index_or g.tasks i (record { node = g.hub; arcs = no_arcs })).arcs.wait
+arc_id g (Wait i) = (slice_index_or g.tasks i (record { node = g.hub; arcs = no_arcs })).arcs.wait
 arc_id g (Prefer i k) =
     slice_index_or (slice_index_or g.tasks i (record { node = g.hub; arcs = no_arcs })).arcs.preferred k no_arc
 

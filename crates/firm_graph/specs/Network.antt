@@ -9,7 +9,7 @@ use Rattle.firm_rules.specs.Round.{case_of}
 use Rattle.firm_graph.specs.declared.network.Node.{Node}
 use Rattle.firm_graph.specs.declared.network.Node.TheVariants.{Sink, Hub, Machine, Owner, Task}
 use Rattle.firm_graph.specs.declared.network.Key.{Key}
-use Rattle.firm_graph.specs.declared.network.Key.TheVariants.{Through, Slot, Exit, Wide, Stay, Delay, Prefer}
+use Rattle.firm_graph.specs.declared.network.Key.TheVariants.{Through, Slot, Exit, Wide, Stay, Wait, Prefer}
 
 -- the lists of `f 0`, `f 1` and so on below `n`, end to end
 abbrev pub gather : {A : Type 0} → (ℕ → List A) → ℕ → List A
@@ -74,7 +74,7 @@ abbrev pub task_arcs : Case → (Key → ℕ) → (Key → ℕ) → ℕ → List
 task_arcs c low flow i =
     arc low flow (Wide i) (Task i) Hub 1 (leaving c i + away c.remote (demand c i).preferred)
     ∷ arc low flow (Stay i) (Task i) (stay_head (demand c i).home) (if runs (demand c i).home then 1 else 0) 0
-    ∷ arc low flow (Delay i) (Task i) (Owner (demand c i).job) 1 ((demand c i).delay + leaving c i)
+    ∷ arc low flow (Wait i) (Task i) (Owner (demand c i).job) 1 ((demand c i).delay + leaving c i)
     ∷ preferred_arcs c low flow i
 
 -- the arcs of the network, with these lower bounds and flows
@@ -108,7 +108,7 @@ IsKeyOf c (Slot j k) = (j < length c.slots) × (k < slots_of c j)
 IsKeyOf c (Exit k) = k < c.jobs
 IsKeyOf c (Wide i) = i < length c.tasks
 IsKeyOf c (Stay i) = i < length c.tasks
-IsKeyOf c (Delay i) = i < length c.tasks
+IsKeyOf c (Wait i) = i < length c.tasks
 IsKeyOf c (Prefer i k) = (i < length c.tasks) × (k < length (demand c i).preferred)
 
 -- each task's job is there, and a job is allowed as many tasks as there are

@@ -14,7 +14,7 @@ ghost use Rattle.firm_graph.specs.Graph.{slot_spans, preferred_spans, node_under
 ghost use Rattle.firm_net.specs.Edits.{Span, IsEdit, span_of};
 ghost use Rattle.firm_graph.specs.inner.Steps.{Holds};
 
-use crate::parts::MachineIds;
+use crate::ids::MachineIds;
 use crate::preferred::PreferredArcs;
 use firm_net::{ArcId, ArcRow, Net, NodeId};
 use firm_rules::{Limits, Name, Rows};

@@ -22,16 +22,16 @@ ghost use Rattle.firm_graph.specs.Ids.{view_of};
 ghost use Rattle.firm_graph.specs.Network.{task_nodes, demand};
 ghost use Rattle.firm_graph.specs.View.{Shows, IsAtRest, IsSameCase, CanHold, with_low, spot_of};
 ghost use Rattle.firm_graph.specs.declared.network.Node.TheVariants.{Sink, Hub, Machine};
-ghost use Rattle.firm_graph.specs.declared.network.Key.TheVariants.{Through, Wide, Stay, Delay, Prefer};
+ghost use Rattle.firm_graph.specs.declared.network.Key.TheVariants.{Through, Wide, Stay, Wait, Prefer};
 
 use crate::edits::{
     SlotArcs, away_cost, drop_node, link, link_preferred, link_slots, push_reserved, put_node,
     unlink, unlink_preferred, unlink_slots,
 };
 use crate::growth::{NewTask, grow_jobs, grow_machines, grow_tasks};
+use crate::ids::{GraphRefusal, JobParts, MachineIds, TaskArcs, TaskParts, find_machine};
 use crate::moves::{Heads, evict_tasks, forget_machine, settle_tasks};
 use crate::order::SearchOrder;
-use crate::parts::{GraphRefusal, JobParts, MachineIds, TaskArcs, TaskParts, find_machine};
 use firm_flow::in_any_order;
 use firm_net::{ArcId, Net, NodeId, Way};
 use firm_paths::{Prices, Scratch};
@@ -378,7 +378,7 @@ impl Graph {
         requires { place < length self.now.rows.tasks }
         ensures wide { result.wide ≡ (view_of self.now).arc (Wide place) }
         ensures stay { result.stay ≡ (view_of self.now).arc (Stay place) }
-        ensures wait { result.wait ≡ (view_of self.now).arc (Delay place) }
+        ensures wait { result.wait ≡ (view_of self.now).arc (Wait place) }
         ensures preferences { length result.preferred ≡ length (demand (view_of self.now).case place).preferred }
         ensures preferred { (k : ℕ) (other : ArcId) → k < length result.preferred
             → slice_index_or result.preferred k other ≡ (view_of self.now).arc (Prefer place k) }

@@ -6,8 +6,8 @@ ghost use Rattle.firm_rules.specs.Book.{machine_names, job_names, task_names, wi
 ghost use Rattle.firm_rules.specs.Names.{is_among};
 ghost use Rattle.firm_rules.specs.Sound.{AreSound};
 
+use crate::ids::{JobParts, MachineIds, TaskParts};
 use crate::order::SearchOrder;
-use crate::parts::{JobParts, MachineIds, TaskParts};
 use firm_net::{ArcId, NodeId};
 use firm_rules::{Name, Preferred, Rows, Slots, Weight};
 use std::alloc::{AllocError, Allocator};

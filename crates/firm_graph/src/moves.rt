@@ -2,7 +2,7 @@
 ghost use Rattle.std.specs.Prelude.{◌≡◌, ◌≤◌, ◌<◌, ◌+◌, length, slice_index_or, min, List, ℕ, Option, None, Some};
 ghost use Rattle.std.specs.Prelude.{if◌then◌else◌, map, All, position, bytes_eq, slice_set};
 ghost use Rattle.std.specs.List.{AllZip};
-ghost use Rattle.firm_rules.specs.Book.{is_on, evicted};
+ghost use Rattle.firm_rules.specs.Book.{is_on, evicted, most_waited};
 ghost use Rattle.firm_rules.specs.Placement.{IsPlace};
 ghost use Rattle.firm_rules.specs.Round.{rows_after};
 ghost use Rattle.firm_graph.specs.Graph.{Graph as GraphRow, Mirrors, weight_under};
@@ -10,14 +10,14 @@ ghost use Rattle.firm_graph.specs.inner.Steps.{IsPlacing, IsFitting, Stands, mov
 ghost use Rattle.firm_graph.specs.inner.Steps.{with_forgetting_at, forgetting_rows, thrown_out_first};
 
 use crate::edits::{away_cost, lead, leads_to, rate, rate_preferred, unlink};
-use crate::parts::{MachineIds, Stand, TaskParts};
+use crate::ids::{MachineIds, Stand, TaskParts};
 use firm_net::{Net, NodeId};
-use firm_rules::{Choice, MOST_WAITED, Name, Rows};
+use firm_rules::{Choice, Name, Rows};
 
 /// Gives the arcs of the task at a place the ends, capacities and costs of one that stands so.
 pub(crate) fn place_task(net: &mut Net, rows: &Rows, parts: TaskParts, place: usize, stand: Stand)
     requires place { place < length rows.now.tasks }
-    requires waited { stand.waited ≤ 1000000 }
+    requires waited { stand.waited ≤ most_waited }
     ensures placed { (g : GraphRow) (home : Option (List ℕ)) → IsPlacing g net.old rows.now parts place stand home
         → Mirrors (moved g (with_task_at g.rows place home stand.waited) net.new) }
 {
@@ -154,7 +154,7 @@ pub(crate) fn settle_tasks(
 // stay on their machines, and keep all; for one that goes on waiting its wait alone costs more.
 fn settle_task(net: &mut Net, rows: &Rows, parts: &TaskParts, place: usize, stand: Stand)
     requires place { place < length rows.now.tasks }
-    requires waited { stand.waited ≤ 1000000 }
+    requires waited { stand.waited ≤ most_waited }
     ensures settled { (g : GraphRow) (home : Option (List ℕ))
         → IsPlacing g net.old rows.now parts.now place stand home
         → task_at g.rows place ≡ task_at rows.now place
@@ -182,7 +182,7 @@ fn stand_of(rows: &Rows, heads: &Heads<'_>, place: usize, choice: Choice) -> Sta
     requires place { place < length rows.now.tasks }
     requires machines { length heads.now.machines.now ≡ length rows.now.machines }
     requires there { IsPlace (length rows.now.machines) choice }
-    ensures waited { result.waited ≤ 1000000 }
+    ensures waited { result.waited ≤ most_waited }
     ensures stands { Stands rows.now (map (λ parts. parts.node) heads.now.machines.now) heads.now.hub
         (task_at rows.now place) choice result }
 {
@@ -207,17 +207,13 @@ fn stand_of(rows: &Rows, heads: &Heads<'_>, place: usize, choice: Choice) -> Sta
 // How many rounds will have left the task at a place waiting, after one more.
 fn waited_after(rows: &Rows, place: usize) -> u32
     requires { place < length rows.now.tasks }
-    ensures value { result ≡ min 1000000 ((task_at rows.now place).waited + 1) }
-    ensures most { result ≤ 1000000 }
+    ensures value { result ≡ min most_waited ((task_at rows.now place).waited + 1) }
+    ensures most { result ≤ most_waited }
 {
     let Some(task) = rows.task_at(place) else {
         unreachable!()
     };
-    if task.waited < MOST_WAITED {
-        task.waited + 1
-    } else {
-        MOST_WAITED
-    }
+    task.next_wait()
 }
 
 // Whether the task at a place runs on the machine of a name.

@@ -29,7 +29,7 @@ pub enum Key {
     /// From the task at a place to the machine that it runs on; while it waits, to the hub with capacity 0.
     Stay(u32),
     /// From the task at a place to its job: the task waits.
-    Delay(u32),
+    Wait(u32),
     /// From the task at a place to a machine that it prefers: which of its preferences, counted from 0.
     Prefer(u32, u32),
 }

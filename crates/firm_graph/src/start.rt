@@ -11,8 +11,8 @@ ghost use Rattle.firm_paths.specs.NetArcs.{limits_of};
 ghost use Rattle.firm_flow.specs.NetFlow.{sources_of};
 
 use crate::fill::Fill;
+use crate::ids::{MachineIds, TaskParts};
 use crate::order::RankedTask;
-use crate::parts::{MachineIds, TaskParts};
 use crate::plan::{FULL_PRICE, Fit, MOST_PRICE, Plan, Plans, TaskCosts};
 use firm_flow::{Proposed, Route};
 use firm_net::{ArcId, Net, NodeId};

@@ -3,8 +3,8 @@ ghost use Rattle.std.specs.Prelude.{◌+◌, ◌^◌, ◌<◌, ◌≤◌};
 ghost use Rattle.firm_rules.specs.ArenaUse.{arena_nodes, arena_arcs};
 
 use crate::growth::{NewTask, grow_jobs, grow_machines, grow_tasks};
+use crate::ids::{JobParts, MachineIds, TaskParts};
 use crate::order::SearchOrder;
-use crate::parts::{JobParts, MachineIds, TaskParts};
 use firm_net::NodeId;
 use firm_rules::{Limits, Name, Preferred, Rows, Slots, Weight, use_of};
 use linked_list_allocator::LocalHeap;

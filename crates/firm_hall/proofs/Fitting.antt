@@ -1,4 +1,4 @@
--- The seats fit the register: what it says of a place stands there.
+-- The desk states fit the register: what it says of a place stands there.
 use Rattle.std.proofs.Common.{◌≡◌, ℕ, ◌<◌, List, length, get_or, refl, sym, ap, ◌∙◌, subst, arith}
 use Rattle.std.specs.Prelude.{Bool, true, false, ◌&&◌, Option, Some, None, Ok, Err, position, nat_lt, if◌then◌else◌}
 use Rattle.std.specs.Option.{is_some, is_none, ok_or}
@@ -12,24 +12,24 @@ use Rattle.firm_text.specs.declared.operator.OperatorRefusal.{OperatorRefusal}
 use Rattle.firm_text.specs.declared.operator.OperatorRefusal.TheVariants.{TenantExists, Full}
 use Rattle.firm_text.specs.declared.registers.Entry.{Entry}
 use Rattle.firm_rounds.specs.Passes.{QueueId}
-use Rattle.firm_hall.specs.inner.Seats.{IsBack, IsHome, IsHomeOf, IsFree}
-use Rattle.firm_hall.specs.inner.Serving.{AreSeats, Fits, IsBackAt, SeatIs, place_counts, seat_counts}
-use Rattle.firm_hall.specs.declared.seats.Seat.{Seat}
-use Rattle.firm_hall.specs.declared.seats.Seat.TheVariants.{Home, Away, Empty, Gone}
+use Rattle.firm_hall.specs.inner.DeskStates.{IsBack, IsHome, IsHomeOf, IsFree}
+use Rattle.firm_hall.specs.inner.Serving.{AreDeskStates, Fits, IsBackAt, DeskStateIs, place_counts, desk_state_counts}
+use Rattle.firm_hall.specs.declared.desk_states.DeskState.{DeskState}
+use Rattle.firm_hall.specs.declared.desk_states.DeskState.TheVariants.{Home, Away, Empty, Gone}
 use Rattle.firm_hall.specs.declared.held.HeldAnswer.{HeldAnswer}
 
-module _ (register : List Entry) (seats : List Seat) (fits : Fits register seats) (place : ℕ)
-    (before default : Seat) (low : place < length seats)
-    (at : before ≡ get_or seats place default) where
-  pub counts_at : seat_counts before ≡ place_counts (get_or register place (vacant 0))
+module _ (register : List Entry) (desk_states : List DeskState) (fits : Fits register desk_states) (place : ℕ)
+    (before default : DeskState) (low : place < length desk_states)
+    (at : before ≡ get_or desk_states place default) where
+  pub counts_at : desk_state_counts before ≡ place_counts (get_or register place (vacant 0))
   counts_at =
-      ap seat_counts (at ∙ get_or_default seats place default Gone low)
-      ∙ sym (get_or-map seat_counts seats place Gone)
+      ap desk_state_counts (at ∙ get_or_default desk_states place default Gone low)
+      ∙ sym (get_or-map desk_state_counts desk_states place Gone)
       ∙ ap (λ (counts : List (Bool × ℕ)). get_or counts place (false, 0)) fits
       ∙ get_or-map place_counts register place (vacant 0)
 
   -- a tenant that has the place is there
-  pub has_tenant : (name : List ℕ) → place_in register name ≡ Some place → (seat_counts before).0 ≡ true
+  pub has_tenant : (name : List ℕ) → place_in register name ≡ Some place → (desk_state_counts before).0 ≡ true
   has_tenant name found =
       ap (λ (c : Bool × ℕ). c.0) counts_at
       ∙ named (get_or register place (vacant 0)).tenant
@@ -41,7 +41,7 @@ module _ (register : List Entry) (seats : List Seat) (fits : Fits register seats
 
   -- nobody has a place that the register gives, and it has an admission left
   pub has_none : (name : List ℕ) → place_for register name ≡ Ok place
-      → ((seat_counts before).0 ≡ false) × ((seat_counts before).1 < most_admissions)
+      → ((desk_state_counts before).0 ≡ false) × ((desk_state_counts before).1 < most_admissions)
   has_none name given =
       let free = (position-Some is_free register place (vacant 0)
       (given_place (is_some (place_in register name)) (position is_free register) given)).1 in
@@ -71,44 +71,45 @@ module _ (register : List Entry) (seats : List Seat) (fits : Fits register seats
           by false b none few both = absurd (cc)
 
 -- the desk of a tenant whose round is not away is home
-pub home_there : (queue : QueueId) (place : ℕ) (answers : List HeldAnswer) (seat : Seat)
-    → SeatIs queue place answers seat
-    → IsBack seat → (seat_counts seat).0 ≡ true → IsHomeOf queue seat
+pub home_there : (queue : QueueId) (place : ℕ) (answers : List HeldAnswer) (desk_state : DeskState)
+    → DeskStateIs queue place answers desk_state
+    → IsBack desk_state → (desk_state_counts desk_state).0 ≡ true → IsHomeOf queue desk_state
 home_there queue place answers (Home desk) is back has = is.0
 home_there queue place answers (Away asked) is back has = absurd back
 home_there queue place answers (Empty empty) is back has = absurd (cc)
 home_there queue place answers Gone is back has = absurd is
 
-pub is_home : (queue : QueueId) (seat : Seat) → IsHomeOf queue seat → IsHome seat
+pub is_home : (queue : QueueId) (desk_state : DeskState) → IsHomeOf queue desk_state → IsHome desk_state
 is_home queue (Home desk) is = tt
 is_home queue (Away asked) is = absurd is
 is_home queue (Empty empty) is = absurd is
 is_home queue Gone is = absurd is
 
-pub free_there : (queue : QueueId) (place : ℕ) (answers : List HeldAnswer) (seat : Seat)
-    → SeatIs queue place answers seat
-    → (seat_counts seat).0 ≡ false → (seat_counts seat).1 < most_admissions → IsFree seat
+pub free_there : (queue : QueueId) (place : ℕ) (answers : List HeldAnswer) (desk_state : DeskState)
+    → DeskStateIs queue place answers desk_state
+    → (desk_state_counts desk_state).0 ≡ false → (desk_state_counts desk_state).1 < most_admissions → IsFree desk_state
 free_there queue place answers (Home desk) is none few = absurd (cc)
 free_there queue place answers (Away asked) is none few = absurd (cc)
 free_there queue place answers (Empty empty) is none few = few
 free_there queue place answers Gone is none few = absurd is
 
 -- the same, of what a body finds at a place
-module _ (queue : QueueId) (register : List Entry) (answers : List HeldAnswer) (seats : List Seat)
-    (are : AreSeats queue answers seats) (fits : Fits register seats) (place : ℕ)
-    (before default : Seat) (low : place < most_places) (at : before ≡ get_or seats place default) where
-  within : place < length seats
+module _ (queue : QueueId) (register : List Entry) (answers : List HeldAnswer) (desk_states : List DeskState)
+    (are : AreDeskStates queue answers desk_states) (fits : Fits register desk_states) (place : ℕ)
+    (before default : DeskState) (low : place < most_places) (at : before ≡ get_or desk_states place default) where
+  within : place < length desk_states
   within = omega (arith, are.long)
 
-  here : SeatIs queue place answers before
-  here = subst (SeatIs queue place answers) (sym at) (are.each place default low)
+  here : DeskStateIs queue place answers before
+  here = subst (DeskStateIs queue place answers) (sym at) (are.each place default low)
 
-  pub home_of : (name : List ℕ) → place_in register name ≡ Some place → IsBackAt place seats → IsHomeOf queue before
+  pub home_of : (name : List ℕ) → place_in register name ≡ Some place → IsBackAt place desk_states
+      → IsHomeOf queue before
   home_of name found back =
       home_there queue place answers before here (subst IsBack (sym at) (back default low))
-      (has_tenant register seats fits place before default within at name found)
+      (has_tenant register desk_states fits place before default within at name found)
 
   pub free_of : (name : List ℕ) → place_for register name ≡ Ok place → IsFree before
   free_of name given =
-      let none = has_none register seats fits place before default within at name given in
+      let none = has_none register desk_states fits place before default within at name given in
       free_there queue place answers before here none.0 none.1

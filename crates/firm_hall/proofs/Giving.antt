@@ -13,31 +13,32 @@ use Rattle.firm_table.specs.inner.Line.{state_is, tenants_are}
 use Rattle.firm_rounds.specs.Rounds.{weigh}
 use Rattle.firm_rounds.specs.Passes.{QueueId}
 use Rattle.firm_hall.specs.inner.Held.{FirstIsKnown, NoneWaits, answer_in, held_text}
-use Rattle.firm_hall.specs.inner.Seats.{IsBack}
+use Rattle.firm_hall.specs.inner.DeskStates.{IsBack}
 use Rattle.firm_hall.specs.inner.Held.{HeldIs}
 use Rattle.firm_hall.specs.inner.Serving.{ServingIs, Stands, Keeps, Passes, Begins, serving_is}
-use Rattle.firm_hall.specs.inner.Serving.{book_at, asked_at, state_with, AreSeats, ArePlaced}
-use Rattle.firm_hall.specs.inner.Serving.{SeatIs, Tells, TellsParts, AllBack}
-use Rattle.firm_hall.specs.declared.seats.Seat.{Seat}
-use Rattle.firm_hall.specs.declared.seats.Seat.TheVariants.{Home, Away, Empty, Gone}
+use Rattle.firm_hall.specs.inner.Serving.{book_at, asked_at, state_with, AreDeskStates, ArePlaced}
+use Rattle.firm_hall.specs.inner.Serving.{DeskStateIs, Tells, TellsParts, AllBack}
+use Rattle.firm_hall.specs.declared.desk_states.DeskState.{DeskState}
+use Rattle.firm_hall.specs.declared.desk_states.DeskState.TheVariants.{Home, Away, Empty, Gone}
 use Rattle.firm_hall.specs.declared.held.HeldAnswer.{HeldAnswer}
 use Rattle.firm_hall.specs.declared.held.HeldAnswer.TheVariants.{Known, Waiting}
 use Rattle.firm_hall.proofs.HeldAnswers.{is_place, known_waits}
-use Rattle.firm_hall.proofs.Seating.{seat_pop}
+use Rattle.firm_hall.proofs.DeskStates.{desk_state_pop}
 use Rattle.firm_hall.proofs.Telling.{tells_begins, tells_written}
 
 -- the first answer is taken
-pub popped_seats : (queue : QueueId) (answers rest : List HeldAnswer) (answer : HeldAnswer) (seats : List Seat)
+pub popped_desk_states : (queue : QueueId) (answers rest : List HeldAnswer) (answer : HeldAnswer)
+    (desk_states : List DeskState)
     → answers ≡ answer ∷ rest
     → FirstIsKnown answers
-    → AreSeats queue answers seats → AreSeats queue rest seats
-popped_seats queue answers rest answer seats is known are =
+    → AreDeskStates queue answers desk_states → AreDeskStates queue rest desk_states
+popped_desk_states queue answers rest answer desk_states is known are =
     let known' = subst FirstIsKnown is known in
     record {
       long = are.long;
-      each = λ place default low. seat_pop queue place answer rest (get_or seats place default)
+      each = λ place default low. desk_state_pop queue place answer rest (get_or desk_states place default)
           (known_waits place answer rest known')
-          (subst (λ (xs : List HeldAnswer). SeatIs queue place xs (get_or seats place default)) is
+          (subst (λ (xs : List HeldAnswer). DeskStateIs queue place xs (get_or desk_states place default)) is
           (are.each place default low));
     }
 
@@ -46,78 +47,83 @@ pub popped_placed : (answers rest : List HeldAnswer) (answer : HeldAnswer) → a
 popped_placed answers rest answer is placed = (subst ArePlaced is placed).1
 
 -- and its text is still to be written
-pub popped_tells : (roster : List RosterRow) (register : List Entry) (seats : List Seat)
+pub popped_tells : (roster : List RosterRow) (register : List Entry) (desk_states : List DeskState)
     (answers rest : List HeldAnswer)
     (answer : HeldAnswer) (output later : List ℕ) → answers ≡ answer ∷ rest
     → ((marks : ℕ → Bool) → later ≡ output ++ text_of_answer (answer_in marks answer))
     → (text : List ℕ) (written now : Option (List ℕ))
-    → TellsParts roster register seats answers output text written now
-    → TellsParts roster register seats rest later text written now
-popped_tells roster register seats answers rest answer output later is added text written now told marks =
+    → TellsParts roster register desk_states answers output text written now
+    → TellsParts roster register desk_states rest later text written now
+popped_tells roster register desk_states answers rest answer output later is added text written now told marks =
     let pending : output ++ held_text marks answers ≡ later ++ held_text marks rest =
     ap (λ (xs : List HeldAnswer). output ++ held_text marks xs) is
     ∙ sym (append_assoc output (text_of_answer (answer_in marks answer)) (held_text marks rest))
     ∙ ap (λ (l : List ℕ). l ++ held_text marks rest) (sym (added marks)) in
-    subst (λ (l : List ℕ). Tells (state_is roster (tenants_are register (map (book_at marks) seats)) l)
-    (weigh asked_at seats) text written now) pending (told marks)
+    subst (λ (l : List ℕ). Tells (state_is roster (tenants_are register (map (book_at marks) desk_states)) l)
+    (weigh asked_at desk_states) text written now) pending (told marks)
 
 -- no mark for any place
 abbrev unmarked : ℕ → Bool
 unmarked place = false
 
 -- what was written begins the output
-pub begun : (roster : List RosterRow) (register : List Entry) (seats : List Seat) (answers : List HeldAnswer)
+pub begun : (roster : List RosterRow) (register : List Entry) (desk_states : List DeskState) (answers : List HeldAnswer)
     (output text : List ℕ) (written now : Option (List ℕ))
-    → TellsParts roster register seats answers output text written now → BeginsAnswers roster text written now
-begun roster register seats answers output text written now told =
-    tells_begins (state_with unmarked roster register seats answers output)
-    (weigh asked_at seats) text written now now 0
+    → TellsParts roster register desk_states answers output text written now → BeginsAnswers roster text written now
+begun roster register desk_states answers output text written now told =
+    tells_begins (state_with unmarked roster register desk_states answers output)
+    (weigh asked_at desk_states) text written now now 0
     [] (output ++ held_text unmarked answers) (told unmarked) refl (omega arith) (Appends-nil now)
 
 -- and so it does where some of what was to be written was
-pub partly : (roster : List RosterRow) (register : List Entry) (seats : List Seat) (answers : List HeldAnswer)
+pub partly : (roster : List RosterRow) (register : List Entry) (desk_states : List DeskState)
+    (answers : List HeldAnswer)
     (output text : List ℕ) (written now later : Option (List ℕ)) (count : ℕ) → count ≤ length output
-    → Appends now later (take count output) → TellsParts roster register seats answers output text written now
+    → Appends now later (take count output) → TellsParts roster register desk_states answers output text written now
     → BeginsAnswers roster text written later
-partly roster register seats answers output text written now later count few wrote told =
-    tells_begins (state_with unmarked roster register seats answers output)
-    (weigh asked_at seats) text written now later
+partly roster register desk_states answers output text written now later count few wrote told =
+    tells_begins (state_with unmarked roster register desk_states answers output)
+    (weigh asked_at desk_states) text written now later
     count output (held_text unmarked answers) (told unmarked) refl few wrote
 
-pub wholly : (roster : List RosterRow) (register : List Entry) (seats : List Seat) (answers : List HeldAnswer)
+pub wholly : (roster : List RosterRow) (register : List Entry) (desk_states : List DeskState)
+    (answers : List HeldAnswer)
     (output text : List ℕ) (written now later : Option (List ℕ))
-    → Appends now later output → TellsParts roster register seats answers output text written now
+    → Appends now later output → TellsParts roster register desk_states answers output text written now
     → BeginsAnswers roster text written later
-wholly roster register seats answers output text written now later wrote told =
-    partly roster register seats answers output text written now later (length output) (omega arith)
+wholly roster register desk_states answers output text written now later wrote told =
+    partly roster register desk_states answers output text written now later (length output) (omega arith)
     (subst (Appends now later) (sym (take-length output)) wrote) told
 
 -- all that was to be written was
-pub written_all : (roster : List RosterRow) (register : List Entry) (seats : List Seat) (answers : List HeldAnswer)
+pub written_all : (roster : List RosterRow) (register : List Entry) (desk_states : List DeskState)
+    (answers : List HeldAnswer)
     (output held text : List ℕ) (written now later : Option (List ℕ)) → held ≡ []
-    → Appends now later output → TellsParts roster register seats answers output text written now
-    → TellsParts roster register seats answers held text written later
-written_all roster register seats answers output held text written now later none wrote told marks =
+    → Appends now later output → TellsParts roster register desk_states answers output text written now
+    → TellsParts roster register desk_states answers held text written later
+written_all roster register desk_states answers output held text written now later none wrote told marks =
     let same : held_text marks answers ≡ held ++ held_text marks answers =
     ap (λ (l : List ℕ). l ++ held_text marks answers) (sym none) in
-    subst (λ (l : List ℕ). Tells (state_is roster (tenants_are register (map (book_at marks) seats)) l)
-    (weigh asked_at seats) text written later) same
-    (tells_written (state_with marks roster register seats answers output)
-    (weigh asked_at seats) text written now later output (held_text marks answers) (told marks) refl wrote)
+    subst (λ (l : List ℕ). Tells (state_is roster (tenants_are register (map (book_at marks) desk_states)) l)
+    (weigh asked_at desk_states) text written later) same
+    (tells_written (state_with marks roster register desk_states answers output)
+    (weigh asked_at desk_states) text written now later output (held_text marks answers) (told marks) refl wrote)
 
 -- where no round is away, each answer is known
-pub all_known : (queue : QueueId) (answers : List HeldAnswer) (seats : List Seat) → AreSeats queue answers seats
-    → ArePlaced answers → AllBack seats → 0 < length answers
+pub all_known : (queue : QueueId) (answers : List HeldAnswer) (desk_states : List DeskState)
+    → AreDeskStates queue answers desk_states
+    → ArePlaced answers → AllBack desk_states → 0 < length answers
     → FirstIsKnown answers
-all_known queue [] seats are placed back some = absurd (omega arith)
-all_known queue (Known answer ∷ rest) seats are placed back some = tt
-all_known queue (Waiting place name asked ∷ rest) seats are placed back some =
-    let none = waits_none (get_or seats place Gone) (back place Gone placed.0)
+all_known queue [] desk_states are placed back some = absurd (omega arith)
+all_known queue (Known answer ∷ rest) desk_states are placed back some = tt
+all_known queue (Waiting place name asked ∷ rest) desk_states are placed back some =
+    let none = waits_none (get_or desk_states place Gone) (back place Gone placed.0)
     (are.each place Gone placed.0) in
     let here = is_place place place refl in
     absurd (not_both here none.0)
   where
-    waits_none : (seat : Seat) → IsBack seat → SeatIs queue place (Waiting place name asked ∷ rest) seat
+    waits_none : (desk_state : DeskState) → IsBack desk_state
+        → DeskStateIs queue place (Waiting place name asked ∷ rest) desk_state
         → NoneWaits place (Waiting place name asked ∷ rest)
     waits_none (Home desk) is_back is = is.2
     waits_none (Away other) is_back is = absurd is_back
@@ -128,10 +134,11 @@ all_known queue (Waiting place name asked ∷ rest) seats are placed back some =
     not_both e f = let g : true ≡ false = sym e ∙ f in cc
 
 -- nothing is still to be written: what was is the output
-pub answers_all : (roster : List RosterRow) (register : List Entry) (seats : List Seat) (answers : List HeldAnswer)
+pub answers_all : (roster : List RosterRow) (register : List Entry) (desk_states : List DeskState)
+    (answers : List HeldAnswer)
     (output text : List ℕ) (written now : Option (List ℕ)) → answers ≡ [] → output ≡ []
-    → TellsParts roster register seats answers output text written now → Answers roster text written now
-answers_all roster register seats answers output text written now none_held none told =
+    → TellsParts roster register desk_states answers output text written now → Answers roster text written now
+answers_all roster register desk_states answers output text written now none_held none told =
     let t = (told unmarked).told in
     let empty : output ++ held_text unmarked answers ≡ [] =
     ap (λ (l : List ℕ). l ++ held_text unmarked answers) none ∙ ap (held_text unmarked) none_held in
@@ -157,45 +164,48 @@ pub record Wrote {T E : Type 0} (r : Result T E) (old new : ServingIs) (now late
   pub passes : OnOk r (Passes old new now later)
   pub begins : Begins old now later
 
-pub wrote : {T E : Type 0} (r : Result T E) (queue : QueueId) (register : List Entry) (seats : List Seat)
+pub wrote : {T E : Type 0} (r : Result T E) (queue : QueueId) (register : List Entry) (desk_states : List DeskState)
     (held after : HeldIs) (now later : Option (List ℕ)) → OnOk r (Appends now later held.output)
     → OnOk r (after.output ≡ []) → after.answers ≡ held.answers
     → OnErr r ((count : ℕ) × (count ≤ length held.output) × Appends now later (take count held.output))
-    → Wrote r (serving_is queue register seats held) (serving_is queue register seats after) now later
-wrote (Ok x) queue register seats held after now later all none same part = record {
+    → Wrote r (serving_is queue register desk_states held) (serving_is queue register desk_states after) now later
+wrote (Ok x) queue register desk_states held after now later all none same part = record {
   passes = λ roster text written told.
-      subst (λ (xs : List HeldAnswer). TellsParts roster register seats xs after.output text written later) (sym same)
-      (written_all roster register seats held.answers held.output after.output text written now later none all told);
+      subst (λ (xs : List HeldAnswer). TellsParts roster register desk_states xs after.output text written later)
+      (sym same)
+      (written_all roster register desk_states held.answers held.output after.output text written now later none all
+      told);
   begins = λ roster text written told.
-      wholly roster register seats held.answers held.output text written now later all told;
+      wholly roster register desk_states held.answers held.output text written now later all told;
 }
-wrote (Err e) queue register seats held after now later all none same part = record {
+wrote (Err e) queue register desk_states held after now later all none same part = record {
   passes = tt;
   begins = λ roster text written told.
-      partly roster register seats held.answers held.output text written now later part.0 part.1 part.2 told;
+      partly roster register desk_states held.answers held.output text written now later part.0 part.1 part.2 told;
 }
 
 -- nothing is written yet
 pub nothing_written : (old : ServingIs) (now : Option (List ℕ)) → Begins old now now
 nothing_written old now roster text written told =
-    begun roster old.register old.seats old.answers old.output text written now told
+    begun roster old.register old.desk_states old.answers old.output text written now told
 
 -- the first answer is put behind the output
-pub popped_stands : (queue : QueueId) (register : List Entry) (seats : List Seat) (held after : HeldIs)
-    (first : HeldAnswer) → Stands (serving_is queue register seats held) → held.answers ≡ first ∷ after.answers
-    → FirstIsKnown held.answers → Stands (serving_is queue register seats after)
-popped_stands queue register seats held after first stands is known = record {
-  seats = popped_seats queue held.answers after.answers first seats is known stands.seats;
+pub popped_stands : (queue : QueueId) (register : List Entry) (desk_states : List DeskState) (held after : HeldIs)
+    (first : HeldAnswer) → Stands (serving_is queue register desk_states held) → held.answers ≡ first ∷ after.answers
+    → FirstIsKnown held.answers → Stands (serving_is queue register desk_states after)
+popped_stands queue register desk_states held after first stands is known = record {
+  desk_states = popped_desk_states queue held.answers after.answers first desk_states is known stands.desk_states;
   fits = stands.fits;
   placed = popped_placed held.answers after.answers first is stands.placed;
 }
 
-pub popped_keeps : (queue : QueueId) (register : List Entry) (seats : List Seat) (held after : HeldIs)
+pub popped_keeps : (queue : QueueId) (register : List Entry) (desk_states : List DeskState) (held after : HeldIs)
     (first : HeldAnswer) → held.answers ≡ first ∷ after.answers
     → ((marks : ℕ → Bool) → after.output ≡ held.output ++ text_of_answer (answer_in marks first))
-    → Keeps (serving_is queue register seats held) (serving_is queue register seats after)
-popped_keeps queue register seats held after first is put roster text written now told =
-    popped_tells roster register seats held.answers after.answers first held.output after.output is put text written now
+    → Keeps (serving_is queue register desk_states held) (serving_is queue register desk_states after)
+popped_keeps queue register desk_states held after first is put roster text written now told =
+    popped_tells roster register desk_states held.answers after.answers first held.output after.output is put text
+    written now
     told
 
 -- what follows where a call failed

@@ -3,7 +3,7 @@ mod Opening
 mod Once
 mod Shutting
 mod HeldAnswers
-mod Seating
+mod DeskStates
 mod Telling
 mod Coming
 mod Taking

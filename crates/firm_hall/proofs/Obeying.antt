@@ -7,7 +7,7 @@ use Rattle.std.proofs.lemmas.List.{length-set, map-set, set-get_or}
 use Rattle.firm_rules.specs.Limits.{TenantLimits}
 use Rattle.firm_rules.specs.Book.{Book, opening_book}
 use Rattle.firm_text.specs.Inputs.{input_lines}
-use Rattle.firm_text.specs.Registers.{AreSound, admissions_at, occupied, place_for, place_in, vacant}
+use Rattle.firm_text.specs.Registers.{IsRegister, admissions_at, occupied, place_for, place_in, vacant}
 use Rattle.firm_text.specs.Registers.{with_tenant, without_tenant}
 use Rattle.firm_text.specs.Rosters.{RosterRow, most_places}
 use Rattle.firm_text.specs.declared.inputs.Line.TheVariants.{Operator}
@@ -24,35 +24,38 @@ use Rattle.firm_table.specs.inner.Adding.{OneMoreIsTold, AdmissionsAreAnswered, 
 use Rattle.firm_table.specs.inner.Adding.{AdmissionsAreRefused, RetirementsAreAnswered, RetirementsAreRefused}
 use Rattle.firm_rounds.specs.Rounds.{weigh}
 use Rattle.firm_rounds.specs.Passes.{QueueId}
-use Rattle.firm_hall.specs.inner.Seats.{IsAdmitted, IsRetired}
-use Rattle.firm_hall.specs.inner.Serving.{book_at, asked_at, seat_counts, place_counts, AreSeats, Fits, SeatIs}
+use Rattle.firm_hall.specs.inner.DeskStates.{IsAdmitted, IsRetired}
+use Rattle.firm_hall.specs.inner.Serving.{book_at, asked_at, desk_state_counts, place_counts, AreDeskStates, Fits}
+use Rattle.firm_hall.specs.inner.Serving.{DeskStateIs}
 use Rattle.firm_hall.specs.inner.Serving.{TellsParts}
-use Rattle.firm_hall.specs.declared.seats.Seat.{Seat}
-use Rattle.firm_hall.specs.declared.seats.Seat.TheVariants.{Home, Away, Empty, Gone}
+use Rattle.firm_hall.specs.declared.desk_states.DeskState.{DeskState}
+use Rattle.firm_hall.specs.declared.desk_states.DeskState.TheVariants.{Home, Away, Empty, Gone}
 use Rattle.firm_hall.specs.declared.held.HeldAnswer.{HeldAnswer}
 use Rattle.firm_hall.specs.declared.held.HeldAnswer.TheVariants.{Known}
 use Rattle.firm_hall.proofs.Fitting.{counts_at}
-use Rattle.firm_hall.proofs.Seating.{weigh_set, each_set}
+use Rattle.firm_hall.proofs.DeskStates.{weigh_set, each_set}
 use Rattle.firm_hall.proofs.Taking.{line_told, text_push}
 
 -- what is held once the operator has its reply: one line more is told
-abbrev pub Told : List RosterRow → List Entry → List Entry → List Seat → List Seat → List HeldAnswer → List ℕ
+abbrev pub Told : List RosterRow → List Entry → List Entry → List DeskState → List DeskState → List HeldAnswer → List ℕ
     → OperatorLine → OperatorReply → Type 0
-Told roster register later seats after answers output request reply =
+Told roster register later desk_states after answers output request reply =
     (text text_after : List ℕ) (written now : Option (List ℕ))
     → input_lines text_after ≡ input_lines text ++ Operator request ∷ []
-    → TellsParts roster register seats answers output text written now
+    → TellsParts roster register desk_states answers output text written now
     → TellsParts roster later after (answers ++ Known (ToOperator reply) ∷ []) output text_after written now
 
 obeyed_told : OneMoreIsTold
-    → (roster : List RosterRow) (register later : List Entry) (seats after : List Seat) (answers : List HeldAnswer)
+    → (roster : List RosterRow) (register later : List Entry) (desk_states after : List DeskState)
+    (answers : List HeldAnswer)
     (output : List ℕ) (request : OperatorLine) (reply : OperatorReply)
     → ((marks : ℕ → Bool)
-    → IsRight (tenants_are register (map (book_at marks) seats)) (tenants_are later (map (book_at marks) after))
+    → IsRight (tenants_are register (map (book_at marks) desk_states)) (tenants_are later (map (book_at marks) after))
     (Operator request) (ToOperator reply))
-    → weigh asked_at after ≡ weigh asked_at seats → Told roster register later seats after answers output request reply
-obeyed_told one_more roster register later seats after answers output request reply right same =
-    line_told one_more roster register later seats after answers (answers ++ Known (ToOperator reply) ∷ []) output
+    → weigh asked_at after ≡ weigh asked_at desk_states → Told roster register later desk_states after answers output
+    request reply
+obeyed_told one_more roster register later desk_states after answers output request reply right same =
+    line_told one_more roster register later desk_states after answers (answers ++ Known (ToOperator reply) ∷ []) output
     (Operator request)
     (λ marks. record {
       answer = record {
@@ -66,119 +69,123 @@ obeyed_told one_more roster register later seats after answers output request re
 
 -- a line of the operator that asks for nothing
 pub faulty_told : OneMoreIsTold
-    → (roster : List RosterRow) (register : List Entry) (seats : List Seat) (answers : List HeldAnswer)
+    → (roster : List RosterRow) (register : List Entry) (desk_states : List DeskState) (answers : List HeldAnswer)
     (output : List ℕ)
     (refusal : OperatorRefusal)
-    → Told roster register register seats seats answers output (Faulty refusal) (Refused refusal)
-faulty_told one_more roster register seats answers output refusal =
-    obeyed_told one_more roster register register seats seats answers output (Faulty refusal) (Refused refusal)
+    → Told roster register register desk_states desk_states answers output (Faulty refusal) (Refused refusal)
+faulty_told one_more roster register desk_states answers output refusal =
+    obeyed_told one_more roster register register desk_states desk_states answers output (Faulty refusal)
+    (Refused refusal)
     (λ marks. record { answers = λ places shows. refl; leaves = λ places shows. shows }) refl
 
 -- an admission to which the register gives no place, or memory is refused
 pub admission_refused : OneMoreIsTold → AdmissionsAreRefused
-    → (roster : List RosterRow) (register : List Entry) (seats : List Seat) (answers : List HeldAnswer)
+    → (roster : List RosterRow) (register : List Entry) (desk_states : List DeskState) (answers : List HeldAnswer)
     (output : List ℕ)
     (name : List ℕ)
     (limits : TenantLimits) (refusal : OperatorRefusal) → place_for register name ≡ Err refusal
-    → Told roster register register seats seats answers output (Admit name limits) (Refused refusal)
-admission_refused one_more refused roster register seats answers output name limits refusal none_given =
-    obeyed_told one_more roster register register seats seats answers output (Admit name limits) (Refused refusal)
-    (λ marks. refused (tenants_are register (map (book_at marks) seats)) name limits refusal none_given) refl
+    → Told roster register register desk_states desk_states answers output (Admit name limits) (Refused refusal)
+admission_refused one_more refused roster register desk_states answers output name limits refusal none_given =
+    obeyed_told one_more roster register register desk_states desk_states answers output (Admit name limits)
+    (Refused refusal)
+    (λ marks. refused (tenants_are register (map (book_at marks) desk_states)) name limits refusal none_given) refl
 
 pub admission_found_no_memory : OneMoreIsTold → AdmissionsFindNoMemory
-    → (roster : List RosterRow) (register : List Entry) (seats : List Seat) (answers : List HeldAnswer)
+    → (roster : List RosterRow) (register : List Entry) (desk_states : List DeskState) (answers : List HeldAnswer)
     (output : List ℕ)
     (name : List ℕ)
     (limits : TenantLimits) (place : ℕ) → place_for register name ≡ Ok place
-    → Told roster register register seats seats answers output (Admit name limits) (Refused Memory)
-admission_found_no_memory one_more none roster register seats answers output name limits place given =
-    obeyed_told one_more roster register register seats seats answers output (Admit name limits) (Refused Memory)
-    (λ marks. none (tenants_are register (map (book_at marks) seats)) name limits place given) refl
+    → Told roster register register desk_states desk_states answers output (Admit name limits) (Refused Memory)
+admission_found_no_memory one_more none roster register desk_states answers output name limits place given =
+    obeyed_told one_more roster register register desk_states desk_states answers output (Admit name limits)
+    (Refused Memory)
+    (λ marks. none (tenants_are register (map (book_at marks) desk_states)) name limits place given) refl
 
 -- a retirement of a tenant that is not there
 pub retirement_refused : OneMoreIsTold → RetirementsAreRefused
-    → (roster : List RosterRow) (register : List Entry) (seats : List Seat) (answers : List HeldAnswer)
+    → (roster : List RosterRow) (register : List Entry) (desk_states : List DeskState) (answers : List HeldAnswer)
     (output : List ℕ)
     (name : List ℕ)
     → place_in register name ≡ None
-    → Told roster register register seats seats answers output (Retire name) (Refused NoSuchTenant)
-retirement_refused one_more refused roster register seats answers output name none =
-    obeyed_told one_more roster register register seats seats answers output (Retire name) (Refused NoSuchTenant)
-    (λ marks. refused (tenants_are register (map (book_at marks) seats)) name none) refl
+    → Told roster register register desk_states desk_states answers output (Retire name) (Refused NoSuchTenant)
+retirement_refused one_more refused roster register desk_states answers output name none =
+    obeyed_told one_more roster register register desk_states desk_states answers output (Retire name)
+    (Refused NoSuchTenant)
+    (λ marks. refused (tenants_are register (map (book_at marks) desk_states)) name none) refl
 
--- a seat changed, and its place with it
-module _ (queue : QueueId) (register : List Entry) (answers : List HeldAnswer) (seats : List Seat)
-    (are : AreSeats queue answers seats) (fit : Fits register seats) (place : ℕ)
-    (before default : Seat) (low : place < most_places) (at : before ≡ get_or seats place default) where
-  within : place < length seats
+-- a desk state changed, and its entry in the register with it
+module _ (queue : QueueId) (register : List Entry) (answers : List HeldAnswer) (desk_states : List DeskState)
+    (are : AreDeskStates queue answers desk_states) (fit : Fits register desk_states) (place : ℕ)
+    (before default : DeskState) (low : place < most_places) (at : before ≡ get_or desk_states place default) where
+  within : place < length desk_states
   within = omega (arith, are.long)
 
-  here : SeatIs queue place answers before
-  here = subst (SeatIs queue place answers) (sym at) (are.each place default low)
+  here : DeskStateIs queue place answers before
+  here = subst (DeskStateIs queue place answers) (sym at) (are.each place default low)
 
-  pub record Changed (last : Seat) (new : Entry) (book : Option Book) : Type 0 where
-    pub seats_are : AreSeats queue answers (set seats place last)
-    pub fits : Fits (set register place new) (set seats place last)
-    pub asked : weigh asked_at (set seats place last) ≡ weigh asked_at seats
+  pub record Changed (last : DeskState) (new : Entry) (book : Option Book) : Type 0 where
+    pub desk_states_are : AreDeskStates queue answers (set desk_states place last)
+    pub fits : Fits (set register place new) (set desk_states place last)
+    pub asked : weigh asked_at (set desk_states place last) ≡ weigh asked_at desk_states
     pub books : (marks : ℕ → Bool)
-        → map (book_at marks) (set seats place last) ≡ set (map (book_at marks) seats) place book
+        → map (book_at marks) (set desk_states place last) ≡ set (map (book_at marks) desk_states) place book
 
-  changed : (last : Seat) (new : Entry) (book : Option Book) → SeatIs queue place answers last
-      → seat_counts last ≡ place_counts new → asked_at last ≡ asked_at before
+  changed : (last : DeskState) (new : Entry) (book : Option Book) → DeskStateIs queue place answers last
+      → desk_state_counts last ≡ place_counts new → asked_at last ≡ asked_at before
       → ((marks : ℕ → Bool) → book_at marks last ≡ book) → Changed last new book
   changed last new book is counts asked books = record {
-    seats_are = record {
-      long = length-set seats place last ∙ are.long;
+    desk_states_are = record {
+      long = length-set desk_states place last ∙ are.long;
       each = λ j d l.
-          each_set (λ k (s : Seat). SeatIs queue k answers s)
-          (λ k (s : Seat). SeatIs queue k answers s) seats place last d
+          each_set (λ k (s : DeskState). DeskStateIs queue k answers s)
+          (λ k (s : DeskState). DeskStateIs queue k answers s) desk_states place last d
           within is (λ k differ old. old) j (λ w. are.each j d l)
           (omega (arith, are.long));
     };
-    fits = map-set seat_counts seats place last
-        ∙ ap (λ (cs : List (Bool × ℕ)). set cs place (seat_counts last)) fit
+    fits = map-set desk_state_counts desk_states place last
+        ∙ ap (λ (cs : List (Bool × ℕ)). set cs place (desk_state_counts last)) fit
         ∙ ap (set (map place_counts register) place) counts
         ∙ sym (map-set place_counts register place new);
     asked =
-        let turn = weigh_set asked_at seats place last default within in
-        let old : asked_at (get_or seats place default) ≡ asked_at before = ap asked_at (sym at) in
+        let turn = weigh_set asked_at desk_states place last default within in
+        let old : asked_at (get_or desk_states place default) ≡ asked_at before = ap asked_at (sym at) in
         omega (arith, turn, old, asked);
-    books = λ marks. map-set (book_at marks) seats place last
-        ∙ ap (set (map (book_at marks) seats) place) (books marks);
+    books = λ marks. map-set (book_at marks) desk_states place last
+        ∙ ap (set (map (book_at marks) desk_states) place) (books marks);
   }
 
-  admissions_here : (seat_counts before).1 ≡ admissions_at register place
-  admissions_here = ap (λ (c : Bool × ℕ). c.1) (counts_at register seats fit place before default within at)
+  admissions_here : (desk_state_counts before).1 ≡ admissions_at register place
+  admissions_here = ap (λ (c : Bool × ℕ). c.1) (counts_at register desk_states fit place before default within at)
 
   -- a tenant came
-  pub came : (name : List ℕ) (limits : TenantLimits) (last : Seat) → IsAdmitted before limits true last
+  pub came : (name : List ℕ) (limits : TenantLimits) (last : DeskState) → IsAdmitted before limits true last
       → Changed last (occupied name (admissions_at register place + 1)) (Some (opening_book limits))
   came name limits last admitted = by before here refl admissions_here admitted
     where
-      by : (seat : Seat) → SeatIs queue place answers seat → asked_at seat ≡ asked_at before
-          → (seat_counts seat).1 ≡ admissions_at register place → IsAdmitted seat limits true last
+      by : (desk_state : DeskState) → DeskStateIs queue place answers desk_state → asked_at desk_state ≡ asked_at before
+          → (desk_state_counts desk_state).1 ≡ admissions_at register place → IsAdmitted desk_state limits true last
           → Changed last (occupied name (admissions_at register place + 1)) (Some (opening_book limits))
       by (Home desk) is asked count admitted = absurd admitted
       by (Away away) is asked count admitted = absurd admitted
       by (Empty empty) is asked count admitted =
           changed last (occupied name (admissions_at register place + 1)) (Some (opening_book limits))
-          (subst (SeatIs queue place answers) (sym admitted) is)
-          (ap seat_counts admitted ∙ ap (λ (n : ℕ). (true, n + 1)) count)
+          (subst (DeskStateIs queue place answers) (sym admitted) is)
+          (ap desk_state_counts admitted ∙ ap (λ (n : ℕ). (true, n + 1)) count)
           (ap asked_at admitted ∙ asked)
           (λ marks. ap (book_at marks) admitted)
       by Gone is asked count admitted = absurd admitted
 
   -- the tenant left
-  pub left : (last : Seat) → IsRetired before last → Changed last (vacant (admissions_at register place)) None
+  pub left : (last : DeskState) → IsRetired before last → Changed last (vacant (admissions_at register place)) None
   left last retired = by before here refl admissions_here retired
     where
-      by : (seat : Seat) → SeatIs queue place answers seat → asked_at seat ≡ asked_at before
-          → (seat_counts seat).1 ≡ admissions_at register place → IsRetired seat last
+      by : (desk_state : DeskState) → DeskStateIs queue place answers desk_state → asked_at desk_state ≡ asked_at before
+          → (desk_state_counts desk_state).1 ≡ admissions_at register place → IsRetired desk_state last
           → Changed last (vacant (admissions_at register place)) None
       by (Home desk) is asked count retired =
           changed last (vacant (admissions_at register place)) None
-          (subst (SeatIs queue place answers) (sym retired) is)
-          (ap seat_counts retired ∙ ap (λ (n : ℕ). (false, n)) count)
+          (subst (DeskStateIs queue place answers) (sym retired) is)
+          (ap desk_state_counts retired ∙ ap (λ (n : ℕ). (false, n)) count)
           (ap asked_at retired ∙ asked)
           (λ marks. ap (book_at marks) retired)
       by (Away away) is asked count retired = absurd retired
@@ -186,44 +193,48 @@ module _ (queue : QueueId) (register : List Entry) (answers : List HeldAnswer) (
       by Gone is asked count retired = absurd retired
 
   -- nobody came, and all is as it was
-  pub nobody_came : (limits : TenantLimits) (last : Seat) → IsAdmitted before limits false last
-      → set seats place last ≡ seats
+  pub nobody_came : (limits : TenantLimits) (last : DeskState) → IsAdmitted before limits false last
+      → set desk_states place last ≡ desk_states
   nobody_came limits last admitted = by before at admitted
     where
-      by : (seat : Seat) → seat ≡ get_or seats place default → IsAdmitted seat limits false last
-          → set seats place last ≡ seats
+      by : (desk_state : DeskState) → desk_state ≡ get_or desk_states place default
+          → IsAdmitted desk_state limits false last
+          → set desk_states place last ≡ desk_states
       by (Home desk) is admitted = absurd admitted
       by (Away away) is admitted = absurd admitted
-      by (Empty empty) is admitted = ap (set seats place) (admitted ∙ is) ∙ set-get_or seats place default
+      by (Empty empty) is admitted = ap (set desk_states place) (admitted ∙ is) ∙ set-get_or desk_states place default
       by Gone is admitted = absurd admitted
 
 -- and both are told
 pub admission_told : OneMoreIsTold → AdmissionsAreAnswered
-    → (roster : List RosterRow) (register : List Entry) (seats after : List Seat) (answers : List HeldAnswer)
+    → (roster : List RosterRow) (register : List Entry) (desk_states after : List DeskState) (answers : List HeldAnswer)
     (output : List ℕ) (name : List ℕ)
     (limits : TenantLimits) (place : ℕ) → place_for register name ≡ Ok place
-    → weigh asked_at after ≡ weigh asked_at seats
+    → weigh asked_at after ≡ weigh asked_at desk_states
     → ((marks : ℕ → Bool)
-    → map (book_at marks) after ≡ set (map (book_at marks) seats) place (Some (opening_book limits)))
-    → Told roster register (with_tenant register place name) seats after answers output (Admit name limits)
+    → map (book_at marks) after ≡ set (map (book_at marks) desk_states) place (Some (opening_book limits)))
+    → Told roster register (with_tenant register place name) desk_states after answers output (Admit name limits)
     (Admitted name)
-admission_told one_more answered roster register seats after answers output name limits place given asked books =
-    obeyed_told one_more roster register (with_tenant register place name) seats after answers output
+admission_told one_more answered roster register desk_states after answers output name limits place given asked books =
+    obeyed_told one_more roster register (with_tenant register place name) desk_states after answers output
     (Admit name limits)
     (Admitted name)
-    (λ marks. rw (books marks) (answered (tenants_are register (map (book_at marks) seats)) name limits place given))
+    (λ marks. rw (books marks) (answered (tenants_are register (map (book_at marks) desk_states)) name limits
+    place given))
     asked
 
 pub retirement_told : OneMoreIsTold → RetirementsAreAnswered
-    → (roster : List RosterRow) (register : List Entry) (seats after : List Seat) (answers : List HeldAnswer)
+    → (roster : List RosterRow) (register : List Entry) (desk_states after : List DeskState) (answers : List HeldAnswer)
     (output : List ℕ) (name : List ℕ)
-    (place : ℕ) → AreSound register → place_in register name ≡ Some place → weigh asked_at after ≡ weigh asked_at seats
-    → ((marks : ℕ → Bool) → map (book_at marks) after ≡ set (map (book_at marks) seats) place None)
-    → Told roster register (without_tenant register place) seats after answers output (Retire name) (Retired name)
-retirement_told one_more answered roster register seats after answers output name place sound found asked books =
-    obeyed_told one_more roster register (without_tenant register place) seats after answers output (Retire name)
+    (place : ℕ) → IsRegister register → place_in register name ≡ Some place
+    → weigh asked_at after ≡ weigh asked_at desk_states
+    → ((marks : ℕ → Bool) → map (book_at marks) after ≡ set (map (book_at marks) desk_states) place None)
+    → Told roster register (without_tenant register place) desk_states after answers output (Retire name) (Retired name)
+retirement_told one_more answered roster register desk_states after answers output name place sound found asked books =
+    obeyed_told one_more roster register (without_tenant register place) desk_states after answers output (Retire name)
     (Retired name)
-    (λ marks. rw (books marks) (answered (tenants_are register (map (book_at marks) seats)) name place sound found))
+    (λ marks. rw (books marks) (answered (tenants_are register (map (book_at marks) desk_states)) name place
+    sound found))
     asked
 
 -- what the register's answer to a retirement says

@@ -8,7 +8,7 @@ use Rattle.firm_rounds.specs.Rounds.{weigh, ticket, share, numbered, is_at}
 use Rattle.firm_rounds.specs.Turning.{weigh-append}
 use Rattle.firm_hall.specs.Desks.{DeskIs, PlaceIs}
 use Rattle.firm_hall.specs.Closed.{asked_weight, left_weight, is_ticket}
-use Rattle.firm_hall.specs.inner.Gathered.{of_place, is_place}
+use Rattle.firm_hall.specs.inner.Gathered.{desks_at, places_at}
 
 -- one ticket more of a place
 one_more : (t : Ticket) (p n : ℕ)
@@ -46,7 +46,7 @@ numbered_once t p (suc n) = by (t.number == suc n) refl (numbered_once t p n)
     by false e before = omega (arith, one_more t p n, other_number t p (suc n) e)
 
 -- the desks asked a ticket no more often than there are desks of its place
-pub asked_once : (t : Ticket) (desks : List DeskIs) → asked_weight (is_ticket t) desks ≤ of_place t.place desks
+pub asked_once : (t : Ticket) (desks : List DeskIs) → asked_weight (is_ticket t) desks ≤ desks_at t.place desks
 asked_once t [] = omega arith
 asked_once t (d ∷ ds) =
     let one : weigh (is_ticket t) (numbered d.place d.put) ≤ is_at t.place (share d.place d.put []) =
@@ -54,7 +54,7 @@ asked_once t (d ∷ ds) =
     omega (arith, asked_once t ds)
 
 -- and at the places that no tenant has no more often than there are places of it
-pub left_once : (t : Ticket) (places : List PlaceIs) → left_weight (is_ticket t) places ≤ is_place t.place places
+pub left_once : (t : Ticket) (places : List PlaceIs) → left_weight (is_ticket t) places ≤ places_at t.place places
 left_once t [] = omega arith
 left_once t (p ∷ ps) =
     let one : weigh (is_ticket t) (numbered p.place p.put) ≤ is_at t.place (share p.place p.put []) =

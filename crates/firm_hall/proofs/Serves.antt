@@ -15,7 +15,7 @@ use Rattle.firm_rounds.specs.Passes.{QueueId, pop_is, new_pops}
 use Rattle.firm_hall.specs.Counts.{ServedWith}
 use Rattle.firm_hall.specs.inner.Held.{held_text}
 use Rattle.firm_hall.specs.inner.Serving.{asked_at, TellsParts}
-use Rattle.firm_hall.specs.declared.seats.Seat.{Seat}
+use Rattle.firm_hall.specs.declared.desk_states.DeskState.{DeskState}
 use Rattle.firm_hall.specs.declared.held.HeldAnswer.{HeldAnswer}
 
 -- nothing was read yet
@@ -38,11 +38,12 @@ unread roster most left written read_failed write_failed reads writes = record {
 }
 
 -- all was read, and nothing is still to be written
-pub served_with : (roster : List RosterRow) (register : List Entry) (seats : List Seat) (answers : List HeldAnswer)
+pub served_with : (roster : List RosterRow) (register : List Entry) (desk_states : List DeskState)
+    (answers : List HeldAnswer)
     (output : List ℕ) (most : ℕ) (reader writer : Device) → answers ≡ [] → output ≡ []
-    → ToldToTheEnd (TellsParts roster register seats answers output) most reader writer
-    → Served roster most reader writer → ServedWith roster most reader writer (weigh asked_at seats)
-served_with roster register seats answers output most reader writer none_held none end served =
+    → ToldToTheEnd (TellsParts roster register desk_states answers output) most reader writer
+    → Served roster most reader writer → ServedWith roster most reader writer (weigh asked_at desk_states)
+served_with roster register desk_states answers output most reader writer none_held none end served =
     let marks : ℕ → Bool = λ place. false in
     let tells = end.told.told marks in
     let t = tells.told in
@@ -71,15 +72,17 @@ served_with roster register seats answers output most reader writer none_held no
     }
 
 -- the same, of the rosters that a body knows to be this one, and of a count that it knows
-pub served_by : (roster own now : List RosterRow) (register : List Entry) (seats : List Seat)
+pub served_by : (roster own now : List RosterRow) (register : List Entry) (desk_states : List DeskState)
     (answers : List HeldAnswer)
     (output : List ℕ) (most asked : ℕ) (reader writer : Device) → own ≡ roster → now ≡ own
-    → asked ≡ weigh asked_at seats → answers ≡ [] → output ≡ []
-    → ToldToTheEnd (TellsParts now register seats answers output) most reader writer → Served own most reader writer
+    → asked ≡ weigh asked_at desk_states → answers ≡ [] → output ≡ []
+    → ToldToTheEnd (TellsParts now register desk_states answers output) most reader writer
+    → Served own most reader writer
     → ServedWith roster most reader writer asked
-served_by roster own now register seats answers output most asked reader writer is same all none_held none end served =
-    let here : ServedWith now most reader writer (weigh asked_at seats) =
-    served_with now register seats answers output most reader writer none_held none end
+served_by roster own now register desk_states answers output most asked reader writer is same all none_held none end
+    served =
+    let here : ServedWith now most reader writer (weigh asked_at desk_states) =
+    served_with now register desk_states answers output most reader writer none_held none end
     (subst (λ (r : List RosterRow). Served r most reader writer) (sym same) served) in
     subst (λ (r : List RosterRow). ServedWith r most reader writer asked) (same ∙ is)
     (subst (λ (n : ℕ). ServedWith now most reader writer n) (sym all) here)

@@ -15,7 +15,7 @@ use Rattle.firm_rules.specs.declared.replies.Refusal.TheVariants.{Worn, Memory}
 use Rattle.firm_tenant.specs.Step.{step, is_memory}
 use Rattle.firm_tenant.specs.Laws.{RepliesTellTheirMarks}
 use Rattle.firm_text.specs.Inputs.{input_lines}
-use Rattle.firm_text.specs.Registers.{AreSound, place_in}
+use Rattle.firm_text.specs.Registers.{IsRegister, place_in}
 use Rattle.firm_text.specs.Rosters.{RosterRow, most_places}
 use Rattle.firm_text.specs.declared.inputs.Line.{Line}
 use Rattle.firm_text.specs.declared.inputs.Line.TheVariants.{Nothing, Long, Nameless, For}
@@ -28,43 +28,46 @@ use Rattle.firm_rounds.specs.Rounds.{weigh}
 use Rattle.firm_rounds.specs.Passes.{QueueId}
 use Rattle.firm_table.specs.inner.Adding.{OneMoreIsTold, TenantsAreAnswered, StrangersAreAnswered}
 use Rattle.firm_hall.specs.Desks.{DeskIs}
-use Rattle.firm_hall.specs.Counts.{round_in, is_round}
+use Rattle.firm_table.specs.Interleaving.{is_round}
+use Rattle.firm_hall.specs.Counts.{round_in}
 use Rattle.firm_hall.specs.inner.Held.{answer_in, held_text, waits_for}
-use Rattle.firm_hall.specs.inner.Seats.{IsTaken, IsTakenAt, Answered}
+use Rattle.firm_hall.specs.inner.DeskStates.{IsTaken, IsTakenAt, Answered}
 use Rattle.firm_hall.specs.inner.Held.{HeldIs, held_is}
 use Rattle.firm_hall.specs.inner.Serving.{Stands, serving_is}
-use Rattle.firm_hall.specs.inner.Serving.{book_at, asked_at, seat_counts, state_with, AreSeats}
-use Rattle.firm_hall.specs.inner.Serving.{ArePlaced, SeatIs, IsPlaced, TellsParts}
-use Rattle.firm_hall.specs.declared.seats.Seat.{Seat}
-use Rattle.firm_hall.specs.declared.seats.Seat.TheVariants.{Home, Away, Empty, Gone}
+use Rattle.firm_hall.specs.inner.Serving.{book_at, asked_at, desk_state_counts, state_with, AreDeskStates}
+use Rattle.firm_hall.specs.inner.Serving.{ArePlaced, DeskStateIs, IsPlaced, TellsParts}
+use Rattle.firm_hall.specs.declared.desk_states.DeskState.{DeskState}
+use Rattle.firm_hall.specs.declared.desk_states.DeskState.TheVariants.{Home, Away, Empty, Gone}
 use Rattle.firm_hall.specs.declared.held.HeldAnswer.{HeldAnswer}
 use Rattle.firm_hall.specs.declared.held.HeldAnswer.TheVariants.{Known, Waiting}
 use Rattle.firm_hall.proofs.HeldAnswers.{is_place, none_push, one_here, placed_push}
-use Rattle.firm_hall.proofs.Seating.{weigh_set, each_set, seat_push}
-use Rattle.firm_hall.proofs.Telling.{Adds, tells_more, held_push}
+use Rattle.firm_hall.proofs.DeskStates.{weigh_set, each_set, desk_state_push}
+use Rattle.firm_hall.proofs.Telling.{AddsAnswer, tells_more, held_push}
 
 -- what one line makes of the tenants and of what is held, however memory is granted to the rounds that are away
-pub record LineStep (register later_register : List Entry) (seats after : List Seat) (answers later : List HeldAnswer)
+pub record LineStep (register later_register : List Entry) (desk_states after : List DeskState)
+    (answers later : List HeldAnswer)
     (output : List ℕ) (line : Line) (marks : ℕ → Bool) : Type 0 where
-  pub answer : IsAnswer (tenants_are register (map (book_at marks) seats))
+  pub answer : IsAnswer (tenants_are register (map (book_at marks) desk_states))
       (tenants_are later_register (map (book_at marks) after)) line (output ++ held_text marks answers)
       (output ++ held_text marks later)
-  pub adds : Adds (weigh asked_at seats) (weigh asked_at after) line answer.answer
+  pub adds : AddsAnswer (weigh asked_at desk_states) (weigh asked_at after) line answer.answer
 
 pub line_told : OneMoreIsTold
-    → (roster : List RosterRow) (register later_register : List Entry) (seats after : List Seat)
+    → (roster : List RosterRow) (register later_register : List Entry) (desk_states after : List DeskState)
     (answers later : List HeldAnswer) (output : List ℕ) (line : Line)
-    → ((marks : ℕ → Bool) → LineStep register later_register seats after answers later output line marks)
+    → ((marks : ℕ → Bool) → LineStep register later_register desk_states after answers later output line marks)
     → (text text_after : List ℕ) (written now : Option (List ℕ))
     → input_lines text_after ≡ input_lines text ++ line ∷ []
-    → TellsParts roster register seats answers output text written now
+    → TellsParts roster register desk_states answers output text written now
     → TellsParts roster later_register after later output text_after written now
-line_told one_more roster register later_register seats after answers later output line steps text text_after written
+line_told one_more roster register later_register desk_states after answers later output line steps text text_after
+    written
     now more told marks =
     let s = steps marks in
-    tells_more one_more (state_with marks roster register seats answers output)
+    tells_more one_more (state_with marks roster register desk_states answers output)
     (tenants_are later_register (map (book_at marks) after)) (output ++ held_text marks later) line
-    (weigh asked_at seats) (weigh asked_at after) text text_after written now more s.answer s.adds (told marks)
+    (weigh asked_at desk_states) (weigh asked_at after) text text_after written now more s.answer s.adds (told marks)
 
 -- an answer more is held behind the others
 pub text_push : (marks : ℕ → Bool) (answers : List HeldAnswer) (answer : HeldAnswer) (output : List ℕ)
@@ -75,9 +78,9 @@ text_push marks answers answer output =
     ∙ sym (append_assoc output (held_text marks answers) (text_of_answer (answer_in marks answer)))
 
 -- lines that no tenant answers
-module _ (register : List Entry) (seats : List Seat) (answers : List HeldAnswer) (output : List ℕ)
+module _ (register : List Entry) (desk_states : List DeskState) (answers : List HeldAnswer) (output : List ℕ)
     (marks : ℕ → Bool) where
-  nothing_step : LineStep register register seats seats answers answers output Nothing marks
+  nothing_step : LineStep register register desk_states desk_states answers answers output Nothing marks
   nothing_step = record {
     answer = record {
       answer = Silent;
@@ -87,7 +90,8 @@ module _ (register : List Entry) (seats : List Seat) (answers : List HeldAnswer)
     adds = record { least = omega arith; most = omega arith };
   }
 
-  long_step : LineStep register register seats seats answers (answers ++ Known LineTooLong ∷ []) output Long marks
+  long_step : LineStep register register desk_states desk_states answers (answers ++ Known LineTooLong ∷ []) output
+      Long marks
   long_step = record {
     answer = record {
       answer = LineTooLong;
@@ -97,7 +101,7 @@ module _ (register : List Entry) (seats : List Seat) (answers : List HeldAnswer)
     adds = record { least = omega arith; most = omega arith };
   }
 
-  nameless_step : LineStep register register seats seats answers
+  nameless_step : LineStep register register desk_states desk_states answers
       (answers ++ Known UnknownTenant ∷ []) output Nameless marks
   nameless_step = record {
     answer = record {
@@ -109,12 +113,12 @@ module _ (register : List Entry) (seats : List Seat) (answers : List HeldAnswer)
   }
 
   stranger_step : StrangersAreAnswered → (name : List ℕ) (command : Command) → place_in register name ≡ None
-      → LineStep register register seats seats answers (answers ++ Known UnknownTenant ∷ []) output
+      → LineStep register register desk_states desk_states answers (answers ++ Known UnknownTenant ∷ []) output
       (For name command) marks
   stranger_step strangers name command none = record {
     answer = record {
       answer = UnknownTenant;
-      right = strangers (tenants_are register (map (book_at marks) seats)) name command none;
+      right = strangers (tenants_are register (map (book_at marks) desk_states)) name command none;
       text = text_push marks answers (Known UnknownTenant) output;
     };
     adds = record { least = omega arith; most = omega arith };
@@ -153,72 +157,78 @@ round_counts b true left = rw (lt-leb b.rows.limits.life b.given left) refl
 round_counts b false left = rw (lt-leb b.rows.limits.life b.given left) refl
 
 module _ (register : List Entry) (queue : QueueId) (place : ℕ) (name : List ℕ) (command : Command)
-    (answers : List HeldAnswer) (seats : List Seat) (output : List ℕ) (default : Seat) (desk : DeskIs)
-    (are : AreSeats queue answers seats) (home : Home desk ≡ get_or seats place default) (sound : AreSound register)
+    (answers : List HeldAnswer) (desk_states : List DeskState) (output : List ℕ) (default : DeskState) (desk : DeskIs)
+    (are : AreDeskStates queue answers desk_states) (home : Home desk ≡ get_or desk_states place default)
+    (sound : IsRegister register)
     (found : place_in register name ≡ Some place) (low : place < most_places) where
-  within : place < length seats
+  within : place < length desk_states
   within = omega (arith, are.long)
 
-  here_is : SeatIs queue place answers (Home desk)
-  here_is = subst (SeatIs queue place answers) (sym home) (are.each place default low)
+  here_is : DeskStateIs queue place answers (Home desk)
+  here_is = subst (DeskStateIs queue place answers) (sym home) (are.each place default low)
 
-  book_here : (marks : ℕ → Bool) → get_or (map (book_at marks) seats) place None ≡ Some desk.book
-  book_here marks = get_or-map (book_at marks) seats place default None within ∙ ap (book_at marks) (sym home)
+  book_here : (marks : ℕ → Bool) → get_or (map (book_at marks) desk_states) place None ≡ Some desk.book
+  book_here marks = get_or-map (book_at marks) desk_states place default None within ∙ ap (book_at marks) (sym home)
 
-  asked_set : (last : Seat) → weigh asked_at (set seats place last) + desk.put ≡ weigh asked_at seats + asked_at last
+  asked_set : (last : DeskState) → weigh asked_at (set desk_states place last) + desk.put
+      ≡ weigh asked_at desk_states + asked_at last
   asked_set last =
-      let turn = weigh_set asked_at seats place last default within in
-      let put : asked_at (get_or seats place default) ≡ desk.put = sym (ap asked_at home) in
+      let turn = weigh_set asked_at desk_states place last default within in
+      let put : asked_at (get_or desk_states place default) ≡ desk.put = sym (ap asked_at home) in
       omega (arith, turn, put)
 
-  counts_set : (after : DeskIs) → after.admissions ≡ desk.admissions → (last : Seat)
-      → seat_counts last ≡ (true, after.admissions)
-      → map seat_counts (set seats place last) ≡ map seat_counts seats
+  counts_set : (after : DeskIs) → after.admissions ≡ desk.admissions → (last : DeskState)
+      → desk_state_counts last ≡ (true, after.admissions)
+      → map desk_state_counts (set desk_states place last) ≡ map desk_state_counts desk_states
   counts_set after same last is =
-      map-set_same seat_counts seats place last default (is ∙ ap (λ (n : ℕ). (true, n)) same ∙ ap seat_counts home)
+      map-set_same desk_state_counts desk_states place last default
+      (is ∙ ap (λ (n : ℕ). (true, n)) same ∙ ap desk_state_counts home)
 
-  -- the step of the tenant, of whatever seat and answer stand for it
-  right_step : TenantsAreAnswered → (marks : ℕ → Bool) (last : Seat) (reply : Reply) (after : Book)
+  -- the step of the tenant, of whatever desk state and answer stand for it
+  right_step : TenantsAreAnswered → (marks : ℕ → Bool) (last : DeskState) (reply : Reply) (after : Book)
       → book_at marks last ≡ Some after
       → (reply, after) ≡ step desk.book command (is_memory reply)
-      → IsRight (tenants_are register (map (book_at marks) seats))
-      (tenants_are register (map (book_at marks) (set seats place last))) (For name command) (Replied name reply)
+      → IsRight (tenants_are register (map (book_at marks) desk_states))
+      (tenants_are register (map (book_at marks) (set desk_states place last))) (For name command) (Replied name reply)
   right_step known marks last reply after is stepped =
-      let tenants = tenants_are register (map (book_at marks) seats) in
-      let books : map (book_at marks) (set seats place last) ≡ set (map (book_at marks) seats) place (Some after) =
-      map-set (book_at marks) seats place last ∙ ap (set (map (book_at marks) seats) place) is in
+      let tenants = tenants_are register (map (book_at marks) desk_states) in
+      let books : map (book_at marks) (set desk_states place last)
+      ≡ set (map (book_at marks) desk_states) place (Some after) =
+      map-set (book_at marks) desk_states place last ∙ ap (set (map (book_at marks) desk_states) place) is in
       subst (λ (bs : List (Option Book)). IsRight tenants (tenants_are register bs) (For name command)
       (Replied name reply)) (sym books)
       (known tenants name command place desk.book after reply sound found (book_here marks) stepped)
 
-  -- the seats behind a line, of which the answer is held last
-  seats_set : (answer : HeldAnswer) (last : Seat) → ((other : ℕ) → other ≢ place → waits_for other answer ≡ false)
-      → SeatIs queue place (answers ++ answer ∷ []) last
-      → AreSeats queue (answers ++ answer ∷ []) (set seats place last)
-  seats_set answer last out is =
+  -- the desk states behind a line, of which the answer is held last
+  desk_states_set : (answer : HeldAnswer) (last : DeskState)
+      → ((other : ℕ) → other ≢ place → waits_for other answer ≡ false)
+      → DeskStateIs queue place (answers ++ answer ∷ []) last
+      → AreDeskStates queue (answers ++ answer ∷ []) (set desk_states place last)
+  desk_states_set answer last out is =
       record {
-        long = length-set seats place last ∙ are.long;
+        long = length-set desk_states place last ∙ are.long;
         each = λ j d l.
-            each_set (λ k (s : Seat). SeatIs queue k answers s)
-            (λ k (s : Seat). SeatIs queue k (answers ++ answer ∷ []) s)
-            seats place last d within is
-            (λ k differ old. seat_push queue k answers answer (get_or seats k d) (out k differ) old)
+            each_set (λ k (s : DeskState). DeskStateIs queue k answers s)
+            (λ k (s : DeskState). DeskStateIs queue k (answers ++ answer ∷ []) s)
+            desk_states place last d within is
+            (λ k differ old. desk_state_push queue k answers answer (get_or desk_states k d) (out k differ) old)
             j (λ w. are.each j d l) (omega (arith, are.long));
       }
 
   -- what a command leaves there, with its answer
-  pub record Taken (seat : Seat) (answer : HeldAnswer) : Type 0 where
-    pub seats_are : AreSeats queue (answers ++ answer ∷ []) (set seats place seat)
-    pub counts : map seat_counts (set seats place seat) ≡ map seat_counts seats
+  pub record Taken (desk_state : DeskState) (answer : HeldAnswer) : Type 0 where
+    pub desk_states_are : AreDeskStates queue (answers ++ answer ∷ []) (set desk_states place desk_state)
+    pub counts : map desk_state_counts (set desk_states place desk_state) ≡ map desk_state_counts desk_states
     pub placed : IsPlaced answer
     pub steps : (marks : ℕ → Bool)
-        → LineStep register register seats (set seats place seat) answers (answers ++ answer ∷ []) output
+        → LineStep register register desk_states (set desk_states place desk_state) answers
+        (answers ++ answer ∷ []) output
         (For name command) marks
 
   answered : TenantsAreAnswered → (after : DeskIs) (reply : Reply) → Answered desk command after reply
       → Taken (Home after) (Known (Replied name reply))
   answered known after reply a = record {
-    seats_are = seats_set (Known (Replied name reply)) (Home after) (λ other differ. refl) (
+    desk_states_are = desk_states_set (Known (Replied name reply)) (Home after) (λ other differ. refl) (
       ap (λ (d : DeskIs). d.queue) a.stepped.same_desk ∙ here_is.0,
       ap (λ (d : DeskIs). d.place) a.stepped.same_desk
           ∙ here_is.1,
@@ -228,7 +238,7 @@ module _ (register : List Entry) (queue : QueueId) (place : ℕ) (name : List �
     placed = tt;
     steps = λ marks.
         let put : after.put ≡ desk.put = ap (λ (d : DeskIs). d.put) a.stepped.same_desk in
-        let asked : weigh asked_at (set seats place (Home after)) ≡ weigh asked_at seats =
+        let asked : weigh asked_at (set desk_states place (Home after)) ≡ weigh asked_at desk_states =
         omega (arith, asked_set (Home after), put) in
         record {
           answer = record {
@@ -248,7 +258,7 @@ module _ (register : List Entry) (queue : QueueId) (place : ℕ) (name : List �
       → IsTaken desk place name command (Away asked) answer → Taken (Away asked) answer
   went by_step tell asked (Known answer) w = absurd w
   went by_step tell asked (Waiting at tenant known) w = record {
-    seats_are = seats_set (Waiting at tenant known) (Away asked)
+    desk_states_are = desk_states_set (Waiting at tenant known) (Away asked)
         (λ other differ. ne_eqb at other (λ e. differ (sym e ∙ w.here))) (
           ap (λ (d : DeskIs). d.queue) w.asked_is ∙ here_is.0,
           ap (λ (d : DeskIs). d.place) w.asked_is ∙ here_is.1,
@@ -273,7 +283,7 @@ module _ (register : List Entry) (queue : QueueId) (place : ℕ) (name : List �
         ap (λ (b : Book). Some (step b Round (marks asked.place)).1) asked_book
         ∙ ap (λ (p : ℕ). Some (step desk.book Round (marks p)).1) asked_place in
         let put : asked.put ≡ desk.put + 1 = ap (λ (d : DeskIs). d.put) w.asked_is in
-        let asked_more : weigh asked_at (set seats place (Away asked)) ≡ weigh asked_at seats + 1 =
+        let asked_more : weigh asked_at (set desk_states place (Away asked)) ≡ weigh asked_at desk_states + 1 =
         omega (arith, asked_set (Away asked), put) in
         let counts : round_in command reply ≡ 1 =
         ap (λ (c : Command). round_in c reply) w.round ∙ round_counts desk.book mark w.left in
@@ -289,8 +299,8 @@ module _ (register : List Entry) (queue : QueueId) (place : ℕ) (name : List �
   }
 
   -- either
-  pub taken : TenantsAreAnswered → RepliesTellTheirMarks → (seat : Seat) (answer : HeldAnswer)
-      → IsTaken desk place name command seat answer → Taken seat answer
+  pub taken : TenantsAreAnswered → RepliesTellTheirMarks → (desk_state : DeskState) (answer : HeldAnswer)
+      → IsTaken desk place name command desk_state answer → Taken desk_state answer
   taken known tell (Home after) (Known answer) t =
       subst (λ (x : LineAnswer). Taken (Home after) (Known x)) (sym t.1) (answered known after t.0 t.2)
   taken known tell (Away asked) answer t = went known tell asked answer t
@@ -298,98 +308,104 @@ module _ (register : List Entry) (queue : QueueId) (place : ℕ) (name : List �
   taken known tell (Empty after) answer t = absurd t
   taken known tell Gone answer t = absurd t
 
--- the same, of what a body knows of the seat that it put there and of the answers that it left
+-- the same, of what a body knows of the desk state that it put there and of the answers that it left
 pub record TakenBy (roster : List RosterRow) (register : List Entry) (queue : QueueId) (answers later : List HeldAnswer)
-    (seats after : List Seat) (output : List ℕ) (line : Line) : Type 0 where
-  pub seats_are : AreSeats queue later after
-  pub counts : map seat_counts after ≡ map seat_counts seats
+    (desk_states after : List DeskState) (output : List ℕ) (line : Line) : Type 0 where
+  pub desk_states_are : AreDeskStates queue later after
+  pub counts : map desk_state_counts after ≡ map desk_state_counts desk_states
   pub placed : ArePlaced later
   pub takes : (text text_after : List ℕ) (written now : Option (List ℕ))
       → input_lines text_after ≡ input_lines text ++ line ∷ []
-      → TellsParts roster register seats answers output text written now
+      → TellsParts roster register desk_states answers output text written now
       → TellsParts roster register after later output text_after written now
 
 pub taken_by : (roster : List RosterRow) (register : List Entry) (queue : QueueId) (place : ℕ) (name : List ℕ)
-    (command : Command) (answers later : List HeldAnswer) (seats : List Seat) (output : List ℕ)
-    (default before last : Seat) (answer : HeldAnswer)
-    → AreSeats queue answers seats → ArePlaced answers → before ≡ get_or seats place default → AreSound register
+    (command : Command) (answers later : List HeldAnswer) (desk_states : List DeskState) (output : List ℕ)
+    (default before last : DeskState) (answer : HeldAnswer)
+    → AreDeskStates queue answers desk_states → ArePlaced answers → before ≡ get_or desk_states place default
+    → IsRegister register
     → place_in register name ≡ Some place
     → later ≡ answers ++ answer ∷ [] → OneMoreIsTold → TenantsAreAnswered → RepliesTellTheirMarks
     → IsTakenAt before place name command last answer
     → place < most_places
-    → TakenBy roster register queue answers later seats (set seats place last) output (For name command)
-taken_by roster register queue place name command answers later seats output default
+    → TakenBy roster register queue answers later desk_states (set desk_states place last) output (For name command)
+taken_by roster register queue place name command answers later desk_states output default
     (Home desk) last answer are placed at sound found held one_more known tell t low =
-    let done = taken register queue place name command answers seats output default desk are at sound found low known
+    let done = taken register queue place name command answers desk_states output default desk are at sound found low
+    known
     tell last answer t in
     rw held
     (record {
-      seats_are = done.seats_are;
+      desk_states_are = done.desk_states_are;
       counts = done.counts;
       placed = placed_push answers answer placed done.placed;
       takes = λ text text_after written now more told.
-          line_told one_more roster register register seats (set seats place last) answers
+          line_told one_more roster register register desk_states (set desk_states place last) answers
           (answers ++ answer ∷ []) output
           (For name command) done.steps text text_after written now more told;
     })
-taken_by roster register queue place name command answers later seats output default
+taken_by roster register queue place name command answers later desk_states output default
     (Away asked) last answer are placed at sound found held one_more known tell t low = absurd t
-taken_by roster register queue place name command answers later seats output default
+taken_by roster register queue place name command answers later desk_states output default
     (Empty empty) last answer are placed at sound found held one_more known tell t low = absurd t
-taken_by roster register queue place name command answers later seats output default Gone last answer are placed at
+taken_by roster register queue place name command answers later desk_states output default Gone last answer are placed
+    at
     sound found held one_more known tell t low = absurd t
 
-module _ (one_more : OneMoreIsTold) (roster : List RosterRow) (register : List Entry) (seats : List Seat)
+module _ (one_more : OneMoreIsTold) (roster : List RosterRow) (register : List Entry) (desk_states : List DeskState)
     (answers later : List HeldAnswer) (output : List ℕ) (line : Line) where
   pub nothing_follows : line ≡ Nothing → later ≡ answers → (text text_after : List ℕ) (written now : Option (List ℕ))
       → input_lines text_after ≡ input_lines text ++ line ∷ []
-      → TellsParts roster register seats answers output text written now
-      → TellsParts roster register seats later output text_after written now
+      → TellsParts roster register desk_states answers output text written now
+      → TellsParts roster register desk_states later output text_after written now
   nothing_follows is held =
-      rw (is, held) (line_told one_more roster register register seats seats answers answers output Nothing
-      (nothing_step register seats answers output))
+      rw (is, held) (line_told one_more roster register register desk_states desk_states answers answers output Nothing
+      (nothing_step register desk_states answers output))
 
   pub long_follows : line ≡ Long → later ≡ answers ++ Known LineTooLong ∷ []
       → (text text_after : List ℕ) (written now : Option (List ℕ))
       → input_lines text_after ≡ input_lines text ++ line ∷ []
-      → TellsParts roster register seats answers output text written now
-      → TellsParts roster register seats later output text_after written now
+      → TellsParts roster register desk_states answers output text written now
+      → TellsParts roster register desk_states later output text_after written now
   long_follows is held =
-      rw (is, held) (line_told one_more roster register register seats seats answers (answers ++ Known LineTooLong ∷ [])
+      rw (is, held) (line_told one_more roster register register desk_states desk_states answers
+      (answers ++ Known LineTooLong ∷ [])
       output Long
-      (long_step register seats answers output))
+      (long_step register desk_states answers output))
 
   pub nameless_follows : line ≡ Nameless → later ≡ answers ++ Known UnknownTenant ∷ []
       → (text text_after : List ℕ) (written now : Option (List ℕ))
       → input_lines text_after ≡ input_lines text ++ line ∷ []
-      → TellsParts roster register seats answers output text written now
-      → TellsParts roster register seats later output text_after written now
+      → TellsParts roster register desk_states answers output text written now
+      → TellsParts roster register desk_states later output text_after written now
   nameless_follows is held =
-      rw (is, held) (line_told one_more roster register register seats seats answers
-      (answers ++ Known UnknownTenant ∷ []) output Nameless (nameless_step register seats answers output))
+      rw (is, held) (line_told one_more roster register register desk_states desk_states answers
+      (answers ++ Known UnknownTenant ∷ []) output Nameless (nameless_step register desk_states answers output))
 
   pub stranger_follows : StrangersAreAnswered → (name : List ℕ) (command : Command) → line ≡ For name command
       → place_in register name ≡ None → later ≡ answers ++ Known UnknownTenant ∷ []
       → (text text_after : List ℕ) (written now : Option (List ℕ))
       → input_lines text_after ≡ input_lines text ++ line ∷ []
-      → TellsParts roster register seats answers output text written now
-      → TellsParts roster register seats later output text_after written now
+      → TellsParts roster register desk_states answers output text written now
+      → TellsParts roster register desk_states later output text_after written now
   stranger_follows strangers name command is none held =
       rw (is, held)
-      (line_told one_more roster register register seats seats answers (answers ++ Known UnknownTenant ∷ []) output
+      (line_told one_more roster register register desk_states desk_states answers
+      (answers ++ Known UnknownTenant ∷ []) output
       (For name command)
-      (λ marks. stranger_step register seats answers output marks strangers name command none))
+      (λ marks. stranger_step register desk_states answers output marks strangers name command none))
 
 -- an answer that waits for nothing, behind the others
-pub known_seats : (queue : QueueId) (answers later : List HeldAnswer) (seats : List Seat) (answer : HeldAnswer)
+pub known_desk_states : (queue : QueueId) (answers later : List HeldAnswer) (desk_states : List DeskState)
+    (answer : HeldAnswer)
     → later ≡ answers ++ answer ∷ [] → ((place : ℕ) → waits_for place answer ≡ false)
-    → AreSeats queue answers seats → AreSeats queue later seats
-known_seats queue answers later seats answer held out are =
+    → AreDeskStates queue answers desk_states → AreDeskStates queue later desk_states
+known_desk_states queue answers later desk_states answer held out are =
     rw held
     (record {
       long = are.long;
       each =
-          λ place default low. seat_push queue place answers answer (get_or seats place default) (out place)
+          λ place default low. desk_state_push queue place answers answer (get_or desk_states place default) (out place)
           (are.each place default low);
     })
 
@@ -398,11 +414,14 @@ pub known_placed : (answers later : List HeldAnswer) (answer : HeldAnswer) → l
     → ArePlaced answers → ArePlaced later
 known_placed answers later answer held is placed = rw held (placed_push answers answer placed is)
 
-pub known_stands : (queue : QueueId) (register : List Entry) (seats : List Seat) (held : HeldIs) (answer : HeldAnswer)
-    → ((place : ℕ) → waits_for place answer ≡ false) → IsPlaced answer → Stands (serving_is queue register seats held)
-    → Stands (serving_is queue register seats (held_is (held.answers ++ answer ∷ []) held.output))
-known_stands queue register seats held answer out is stands = record {
-  seats = known_seats queue held.answers (held.answers ++ answer ∷ []) seats answer refl out stands.seats;
+pub known_stands : (queue : QueueId) (register : List Entry) (desk_states : List DeskState) (held : HeldIs)
+    (answer : HeldAnswer)
+    → ((place : ℕ) → waits_for place answer ≡ false) → IsPlaced answer
+    → Stands (serving_is queue register desk_states held)
+    → Stands (serving_is queue register desk_states (held_is (held.answers ++ answer ∷ []) held.output))
+known_stands queue register desk_states held answer out is stands = record {
+  desk_states = known_desk_states queue held.answers (held.answers ++ answer ∷ []) desk_states answer refl out
+      stands.desk_states;
   fits = stands.fits;
   placed = known_placed held.answers (held.answers ++ answer ∷ []) answer refl is stands.placed;
 }

@@ -15,7 +15,7 @@ use Rattle.firm_table.specs.Answers.{tells_memory, text_of_answer}
 use Rattle.firm_table.specs.declared.answers.LineAnswer.{LineAnswer}
 use Rattle.firm_table.specs.Output.{answers_of, output_of}
 use Rattle.firm_table.specs.Service.{BeginsAnswers}
-use Rattle.firm_table.specs.inner.Line.{State, Tenants, IsAnswer, state_is}
+use Rattle.firm_table.specs.inner.Line.{State, TenantsState, IsAnswer, state_is}
 use Rattle.firm_table.specs.inner.Adding.{OneMoreIsTold}
 use Rattle.firm_hall.specs.Counts.{rounds_in, round_of, refusal_in, refusals_in}
 use Rattle.firm_hall.specs.inner.Held.{answer_in, held_text}
@@ -42,14 +42,14 @@ refusals_more (a ∷ answers) answer =
     refusals_more answers answer in omega arith
 
 -- what one line more adds to the rounds that were asked
-pub record Adds (asked later : ℕ) (line : Line) (answer : LineAnswer) : Type 0 where
+pub record AddsAnswer (asked later : ℕ) (line : Line) (answer : LineAnswer) : Type 0 where
   pub least : later ≤ asked + round_of line answer
   pub most : asked + round_of line answer ≤ later + refusal_in answer
 
 pub tells_more : OneMoreIsTold
-    → (state : State) (tenants : Tenants) (pending : List ℕ) (line : Line) (asked later : ℕ) (text after : List ℕ)
+    → (state : State) (tenants : TenantsState) (pending : List ℕ) (line : Line) (asked later : ℕ) (text after : List ℕ)
     (written now : Option (List ℕ)) → input_lines after ≡ input_lines text ++ line ∷ []
-    → (a : IsAnswer state.tenants tenants line state.pending pending) → Adds asked later line a.answer
+    → (a : IsAnswer state.tenants tenants line state.pending pending) → AddsAnswer asked later line a.answer
     → Tells state asked text written now → Tells (state_is state.roster tenants pending) later after written now
 tells_more one_more state tenants pending line asked later text after written now more a adds tells =
     let q = one_more state text after written now tenants pending line tells.told more a in

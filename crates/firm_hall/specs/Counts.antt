@@ -1,7 +1,6 @@
 -- How many rounds the lines of an input ask.
 use Rattle.std.specs.Prelude.{◌≡◌, ℕ, ◌+◌, ◌≤◌, Bool, true, false, List, [], ◌∷◌, if◌then◌else◌}
 use Rattle.firm_rules.specs.declared.commands.Command.{Command}
-use Rattle.firm_rules.specs.declared.commands.Command.TheVariants.{Round}
 use Rattle.firm_rules.specs.declared.replies.Reply.{Reply}
 use Rattle.firm_rules.specs.declared.replies.Outcome.{Outcome}
 use Rattle.firm_rules.specs.declared.replies.Outcome.TheVariants.{Refused}
@@ -10,17 +9,13 @@ use Rattle.firm_tenant.specs.Step.{is_memory}
 use Rattle.firm_text.specs.declared.inputs.Line.{Line}
 use Rattle.firm_text.specs.declared.inputs.Line.TheVariants.{Nothing, Long, Nameless, For, Operator}
 use Rattle.firm_text.specs.Rosters.{RosterRow}
+use Rattle.firm_table.specs.Interleaving.{is_round}
 use Rattle.firm_table.specs.Places.{MarkedLine}
 use Rattle.firm_table.specs.Output.{answers_of}
 use Rattle.firm_table.specs.Service.{Device, Served}
 use Rattle.firm_table.specs.declared.answers.LineAnswer.{LineAnswer}
 use Rattle.firm_table.specs.declared.answers.LineAnswer.TheVariants.{Silent, LineTooLong, UnknownTenant, Replied}
 use Rattle.firm_table.specs.declared.answers.LineAnswer.TheVariants.{ToOperator}
-
--- whether a command is a round
-abbrev pub is_round : Command → Bool
-is_round Round = true
-is_round _ = false
 
 -- whether an outcome says that no life is left
 abbrev pub is_worn : Outcome → Bool

@@ -56,7 +56,7 @@ abbrev pub rounds_of : ℕ → ℕ
 rounds_of tenants = tenants * 2 ^ 40
 
 -- a place was given at most as often as it may be, and no more rounds were asked there than its tenants may ask
-pub record IsCounted (put admissions : ℕ) : Type 0 where
+pub record PlaceCountsFit (put admissions : ℕ) : Type 0 where
   pub few : admissions ≤ most_admissions
   pub asked : put ≤ rounds_of admissions
 
@@ -68,7 +68,7 @@ pub record IsLive (put admissions : ℕ) (book : Book) : Type 0 where
   pub life : book.rows.limits.life ≤ 2 ^ 40
 
 -- the same while a round is away, which is one more command
-pub record IsAway (put admissions : ℕ) (book : Book) : Type 0 where
+pub record IsLiveAway (put admissions : ℕ) (book : Book) : Type 0 where
   pub asked : put + rounds_of 1 ≤ rounds_of admissions + book.given + 1
   pub given : book.given < book.rows.limits.life
   pub life : book.rows.limits.life ≤ 2 ^ 40

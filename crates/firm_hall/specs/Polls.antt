@@ -6,6 +6,6 @@ use Rattle.firm_hall.specs.declared.desks.AskedPoll.{AskedPoll}
 use Rattle.firm_hall.specs.declared.desks.AskedPoll.TheVariants.{Back, Not}
 
 -- the round of the book that was handed over, or the same token again
-abbrev pub IsPolled : DeskIs → AskedPoll → Type 0
-IsPolled asked (Back desk reply) = IsStep asked Round reply desk
-IsPolled asked (Not same) = same ≡ asked
+abbrev pub IsAskedPoll : DeskIs → AskedPoll → Type 0
+IsAskedPoll asked (Back desk reply) = IsStep asked Round reply desk
+IsAskedPoll asked (Not same) = same ≡ asked

@@ -1,6 +1,6 @@
 -- What no public clause cites: how held answers, places, desks and shares are kept, and what a service has come to.
 pub mod Held
-pub mod Seats
+pub mod DeskStates
 pub mod Serving
 pub mod Ending
 pub mod Gathered

@@ -19,13 +19,10 @@ use crate::setting::Setting;
 use crossbeam_utils::sync::Key;
 use firm_table::{Clerk, ServeFault};
 use firm_text::{Line, PLACES, Sink, Source};
+use firm_tray::LOOKS_BEFORE_SLEEP;
 use std::alloc::AllocError;
 use std::hint::spin_loop;
 use std::sync::Wait;
-
-// How often the clerk looks for a missing answer in vain before it sleeps until there is one, or input: for some ten
-// microseconds, as long as a small round takes.
-const LOOKS_BEFORE_SLEEP: u32 = 1_024;
 
 /// A hall that serves, and the rooms that are reserved for its desks at the end.
 #[derive(Drop)]
@@ -71,7 +68,7 @@ impl<'h, R: Wait> HallClerk<'h, R> {
         requires open { IsOpen self.setting.hall.now.id self.serving }
         ensures of { AreOf self.entry.setting.hall.now.id result.desks.items result.empty.items }
         ensures all { length result.desks.items + length result.empty.items ≡ most_places }
-        ensures rounds { result.rounds ≡ weigh asked_at self.entry.serving.seats }
+        ensures rounds { result.rounds ≡ weigh asked_at self.entry.serving.desk_states }
     {
         let HallClerk {
             setting,
@@ -102,6 +99,7 @@ impl<'h, R: Wait> Clerk for HallClerk<'h, R> {
         self.serving.answer(&self.setting, writer, line)
     }
 
+    // Where an answer is missing it looks again, and after some looks in vain it sleeps until there is one, or input.
     fn write_out<S: Source, W: Sink>(
         &mut self,
         reader: &S,

@@ -5,7 +5,7 @@ ghost use Rattle.firm_rules.specs.declared.commands.Command.TheVariants.{Round};
 ghost use Rattle.firm_rounds.specs.Passes.{closing_is};
 ghost use Rattle.firm_rounds.specs.Rounds.{share};
 ghost use Rattle.firm_hall.specs.Desks.{desk_is, place_is, spent_desk, IsLive, IsStep, IsRefused};
-ghost use Rattle.firm_hall.specs.Polls.{IsPolled};
+ghost use Rattle.firm_hall.specs.Polls.{IsAskedPoll};
 
 use crate::empty::EmptyDesk;
 use crate::halls::Hall;
@@ -49,13 +49,13 @@ pub struct Asked {
 }
 
 impl Model for Asked {
-    ghost use Rattle.firm_hall.specs.Desks.{DeskIs, desk_is, IsAway};
+    ghost use Rattle.firm_hall.specs.Desks.{DeskIs, desk_is, IsLiveAway};
 
     ghost Value = { DeskIs };
 
     ghost view = { λ a. desk_is a.place.queue a.place.place a.place.put a.place.admissions a.side.book };
 
-    ghost invariant = { λ a. IsAway a.place.put a.place.admissions a.side.book };
+    ghost invariant = { λ a. IsLiveAway a.place.put a.place.admissions a.side.book };
 }
 
 /// What a look at an asked round gives.
@@ -177,7 +177,7 @@ impl Asked {
     /// The desk with the round's reply, if the round is answered; else the same token. It waits for nobody and takes no
     /// memory.
     pub fn poll(self) -> AskedPoll
-        ensures { IsPolled self result }
+        ensures { IsAskedPoll self result }
     {
         // A law: a step counts once.
         steps_count_once();
@@ -193,7 +193,7 @@ impl Asked {
 
     // The same, after some looks, or else the same token.
     pub(crate) fn look_awhile(self) -> AskedPoll
-        ensures { IsPolled self result }
+        ensures { IsAskedPoll self result }
     {
         let mut asked = self;
         for _ in 0..LOOKS_BEFORE_RING {

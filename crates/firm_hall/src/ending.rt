@@ -4,12 +4,12 @@ ghost use Rattle.firm_text.specs.Rosters.{most_places};
 ghost use Rattle.firm_rounds.specs.Passes.{QueueId};
 ghost use Rattle.firm_rounds.specs.Rounds.{weigh};
 ghost use Rattle.firm_hall.specs.inner.Ending.{AreOf, IsOf};
-ghost use Rattle.firm_hall.specs.inner.Seats.{IsSeated};
+ghost use Rattle.firm_hall.specs.inner.DeskStates.{IsPresent};
 ghost use Rattle.firm_hall.specs.inner.Serving.{IsReserved, asked_at};
 
+use crate::desk_states::DeskState;
 use crate::desks::Desk;
 use crate::empty::EmptyDesk;
-use crate::seats::Seat;
 use crate::serving::Serving;
 use std::sync::Wait;
 
@@ -28,14 +28,14 @@ impl Serving {
         requires empty_room { IsReserved empty_room.items (vec_capacity empty_room) }
         ensures of { AreOf self.queue result.desks.items result.empty.items }
         ensures all { length result.desks.items + length result.empty.items ≡ most_places }
-        ensures rounds { result.rounds ≡ weigh asked_at self.seats }
+        ensures rounds { result.rounds ≡ weigh asked_at self.desk_states }
     {
-        let Serving { seats, .. } = self;
+        let Serving { desk_states, .. } = self;
         let mut desks = room;
         let mut empty = empty_room;
         let mut rounds = 0;
-        for seat in seats {
-            rounds += put_away(rt, seat, &mut desks, &mut empty);
+        for desk_state in desk_states {
+            rounds += put_away(rt, desk_state, &mut desks, &mut empty);
         }
         Ended {
             desks,
@@ -47,30 +47,35 @@ impl Serving {
 
 // Puts a desk with the others, once it is home, or an empty one with the empty ones. Tells how many rounds were asked
 // there.
-fn put_away<R: Wait>(rt: &R, seat: Seat, desks: &mut Vec<Desk>, empty: &mut Vec<EmptyDesk>) -> u64
-    requires seated { IsSeated seat }
+fn put_away<R: Wait>(
+    rt: &R,
+    desk_state: DeskState,
+    desks: &mut Vec<Desk>,
+    empty: &mut Vec<EmptyDesk>,
+) -> u64
+    requires present { IsPresent desk_state }
     requires room { vec_len desks.old < vec_capacity desks.old }
     requires empty_room { vec_len empty.old < vec_capacity empty.old }
-    ensures of { (id : QueueId) → IsOf id seat → AreOf id desks.old.items empty.old.items
+    ensures of { (id : QueueId) → IsOf id desk_state → AreOf id desks.old.items empty.old.items
         → AreOf id desks.new.items empty.new.items }
     ensures count { vec_len desks.new + vec_len empty.new ≡ (vec_len desks.old + vec_len empty.old) + 1 }
     ensures room { (vec_capacity desks.new ≡ vec_capacity desks.old)
         × (vec_capacity empty.new ≡ vec_capacity empty.old) }
-    ensures asked { result ≡ asked_at seat }
+    ensures asked { result ≡ asked_at desk_state }
     ensures few { result ≤ 2 ^ 55 }
 {
-    match seat {
-        Seat::Home(desk) => put_desk(desks, desk),
-        Seat::Away(asked) => {
+    match desk_state {
+        DeskState::Home(desk) => put_desk(desks, desk),
+        DeskState::Away(asked) => {
             let (desk, _) = asked.wait(rt);
             put_desk(desks, desk)
         }
-        Seat::Empty(place) => {
+        DeskState::Empty(place) => {
             let rounds = place.asked();
             empty.push_reserved(place);
             rounds
         }
-        Seat::Gone => unreachable!(),
+        DeskState::Gone => unreachable!(),
     }
 }
 

@@ -7,7 +7,7 @@ ghost use Rattle.firm_table.specs.Answers.{text_of_answer};
 ghost use Rattle.firm_table.specs.inner.Faults.{IsWritingFault};
 ghost use Rattle.firm_hall.specs.Desks.{DeskIs};
 ghost use Rattle.firm_hall.specs.declared.held.HeldAnswer.{HeldAnswer};
-ghost use Rattle.firm_hall.specs.inner.Held.{answer_in, answered, filled, held_is, most_held, waits_for};
+ghost use Rattle.firm_hall.specs.inner.Held.{answer_in, answered, filled, held_is, most_answers_held, waits_for};
 ghost use Rattle.firm_hall.specs.inner.Held.{FirstIsKnown, IsFirst, OneWaits};
 
 use crate::desks::Asked;
@@ -20,7 +20,7 @@ use std::marker::Model;
 use std::snapshot::Snapshot;
 
 /// At most this many answers are held.
-const MOST_HELD: usize = 1_024;
+const MOST_ANSWERS_HELD: usize = 1_024;
 
 /// The answer to a line, which is held.
 #[derive(Drop)]
@@ -52,13 +52,14 @@ pub(crate) struct Held {
 impl Model for Held {
     ghost use Rattle.std.specs.Prelude.{◌≤◌};
     ghost use Rattle.std.specs.VecDeque.{deque_capacity, deque_len};
-    ghost use Rattle.firm_hall.specs.inner.Held.{HeldIs, held_is, most_held};
+    ghost use Rattle.firm_hall.specs.inner.Held.{HeldIs, held_is, most_answers_held};
 
     ghost Value = { HeldIs };
 
     ghost view = { λ h. held_is h.answers.items h.output.items };
 
-    ghost invariant = { λ h. (deque_len h.answers ≤ most_held) × (most_held ≤ deque_capacity h.answers) };
+    ghost invariant = { λ h. (deque_len h.answers ≤ most_answers_held)
+        × (most_answers_held ≤ deque_capacity h.answers) };
 }
 
 impl Held {
@@ -66,7 +67,7 @@ impl Held {
     pub(crate) fn open(alloc: Global) -> Result<Held, AllocError>
         ensures { IfOk result (λ held. held ≡ held_is [] []) }
     {
-        let answers = VecDeque::with_capacity(alloc, MOST_HELD)?;
+        let answers = VecDeque::with_capacity(alloc, MOST_ANSWERS_HELD)?;
         Ok(Held {
             answers,
             output: Vec::new(alloc),
@@ -80,14 +81,15 @@ impl Held {
     }
 
     pub(crate) fn is_full(&self) -> bool
-        ensures { MatchBool result (length self.now.answers ≡ most_held) (length self.now.answers < most_held) }
+        ensures { MatchBool result (length self.now.answers ≡ most_answers_held)
+            (length self.now.answers < most_answers_held) }
     {
-        self.answers.len() == MOST_HELD
+        self.answers.len() == MOST_ANSWERS_HELD
     }
 
     // Holds one answer more.
     pub(crate) fn push(&mut self, answer: HeldAnswer)
-        requires { length self.old.answers < most_held }
+        requires { length self.old.answers < most_answers_held }
         ensures { self.new ≡ held_is (self.old.answers ++ answer ∷ []) self.old.output }
     {
         self.answers.push_back_reserved(answer);

@@ -4,13 +4,13 @@
 mod bell;
 mod clerk;
 mod close;
+mod desk_states;
 mod desks;
 mod empty;
 mod ending;
 mod halls;
 mod held;
 mod places;
-mod seats;
 mod service;
 mod serving;
 mod setting;

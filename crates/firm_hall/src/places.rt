@@ -20,13 +20,13 @@ pub(crate) struct Place {
 }
 
 impl Model for Place {
-    ghost use Rattle.firm_hall.specs.Desks.{PlaceIs, place_is, IsCounted};
+    ghost use Rattle.firm_hall.specs.Desks.{PlaceIs, place_is, PlaceCountsFit};
 
     ghost Value = { PlaceIs };
 
     ghost view = { λ p. place_is p.pass.queue p.pass.place p.pass.put p.admissions };
 
-    ghost invariant = { λ p. IsCounted p.pass.put p.admissions };
+    ghost invariant = { λ p. PlaceCountsFit p.pass.put p.admissions };
 }
 
 impl Place {

@@ -2,22 +2,22 @@
 ghost use Rattle.std.specs.Prelude.{◌≡◌, ℕ, ◌-◌, ◌<◌, ◌++◌, ◌∷◌, IfErr, IfOk, List, MatchBool, OnErr, OnOk, Option};
 ghost use Rattle.std.specs.Prelude.{Some, [], false, length, map};
 ghost use Rattle.firm_text.specs.Inputs.{input_lines};
-ghost use Rattle.firm_text.specs.Registers.{AreSound, place_in};
+ghost use Rattle.firm_text.specs.Registers.{IsRegister, place_in};
 ghost use Rattle.firm_text.specs.Rosters.{RosterRow, most_places};
 ghost use Rattle.firm_text.specs.declared.inputs.Line.TheVariants.{For};
 ghost use Rattle.firm_table.specs.Service.{BeginsAnswers};
 ghost use Rattle.firm_table.specs.inner.Faults.{IsWritingFault};
 ghost use Rattle.firm_hall.specs.Opening.{opening_desks, unused_places};
-ghost use Rattle.firm_hall.specs.declared.seats.Seat.TheVariants.{Empty, Home};
-ghost use Rattle.firm_hall.specs.inner.Held.{FirstIsKnown, FirstWaits, most_held};
+ghost use Rattle.firm_hall.specs.declared.desk_states.DeskState.TheVariants.{Empty, Home};
+ghost use Rattle.firm_hall.specs.inner.Held.{FirstIsKnown, FirstWaits, most_answers_held};
 ghost use Rattle.firm_hall.specs.inner.Serving.{AllBack, Begins, Follows, IsBackAt, IsFinished, IsOpen, IsWrittenOut};
 ghost use Rattle.firm_hall.specs.inner.Serving.{Keeps, Passes, Takes, TellsAll};
 
+use crate::desk_states::DeskState;
 use crate::desks::Desk;
 use crate::empty::EmptyDesk;
 use crate::halls::Hall;
 use crate::held::{First, Held, HeldAnswer};
-use crate::seats::Seat;
 use crate::setting::Setting;
 use firm_rules::{Command, Name};
 use firm_table::{LineAnswer, ServeFault, answers_add_up};
@@ -34,7 +34,7 @@ pub(crate) struct Serving {
     // The hall of the desks, which clauses alone read.
     pub(crate) hall: Snapshot<Hall>,
     pub(crate) register: Register,
-    pub(crate) seats: Vec<Seat>,
+    pub(crate) desk_states: Vec<DeskState>,
     pub(crate) held: Held,
 }
 
@@ -43,9 +43,9 @@ impl Model for Serving {
 
     ghost Value = { ServingIs };
 
-    ghost view = { λ s. serving_is s.hall.value.id s.register s.seats.items s.held };
+    ghost view = { λ s. serving_is s.hall.value.id s.register s.desk_states.items s.held };
 
-    ghost invariant = { λ s. Stands (serving_is s.hall.value.id s.register s.seats.items s.held) };
+    ghost invariant = { λ s. Stands (serving_is s.hall.value.id s.register s.desk_states.items s.held) };
 }
 
 impl Serving {
@@ -66,14 +66,14 @@ impl Serving {
         answers_add_up();
         // A roster has no more rows than there are places.
         prove!(setting.roster.len() <= PLACES);
-        let mut seats = Vec::with_capacity(setting.alloc, PLACES)?;
-        put_desks(&mut seats, desks)?;
-        put_empty(&mut seats, empty)?;
+        let mut desk_states = Vec::with_capacity(setting.alloc, PLACES)?;
+        put_desks(&mut desk_states, desks)?;
+        put_empty(&mut desk_states, empty)?;
         let held = Held::open(setting.alloc)?;
         Ok(Serving {
             hall: Snapshot::of(setting.hall),
             register: Register::of(setting.roster),
-            seats,
+            desk_states,
             held,
         })
     }
@@ -140,16 +140,16 @@ impl Serving {
     )
         requires open { IsOpen setting.now.hall.now.id self.old }
         requires place { place < most_places }
-        requires sound { AreSound self.old.register }
+        requires sound { IsRegister self.old.register }
         requires found { place_in self.old.register name ≡ Some place }
-        requires back { IsBackAt place self.old.seats }
+        requires back { IsBackAt place self.old.desk_states }
         ensures takes { Takes self.old self.new (For name command) }
         ensures hall { self.new.queue ≡ self.old.queue }
     {
         // Laws: of one line more, and of marks that replies tell.
         answers_add_up();
         replies_tell_their_marks();
-        let answer = self.seats[place].take(setting, place, name, command);
+        let answer = self.desk_states[place].take(setting, place, name, command);
         self.held.push(answer);
     }
 
@@ -185,7 +185,7 @@ impl Serving {
         requires { FirstIsKnown self.old.answers }
         ensures keeps { OnOk result (Keeps self.old self.new) }
         ensures hall { self.new.queue ≡ self.old.queue }
-        ensures seats { self.new.seats ≡ self.old.seats }
+        ensures desk_states { self.new.desk_states ≡ self.old.desk_states }
         ensures fewer { length self.new.answers < length self.old.answers }
     {
         self.held.put_first()
@@ -205,7 +205,7 @@ impl Serving {
 
     // The same for all answers, each of which is known.
     fn put_all(&mut self) -> Result<(), AllocError>
-        requires { AllBack self.old.seats }
+        requires { AllBack self.old.desk_states }
         ensures follows { Follows self.old self.new }
         ensures keeps { OnOk result (Keeps self.old self.new) }
         ensures none { OnOk result (self.new.answers ≡ []) }
@@ -284,22 +284,22 @@ impl Serving {
     }
 }
 
-// Adds a seat for each desk, with its tenant at home.
-fn put_desks(seats: &mut Vec<Seat>, desks: Vec<Desk>) -> Result<(), AllocError>
-    ensures { OnOk result (seats.new.items ≡ seats.old.items ++ map Home desks.items) }
+// Adds each desk, with its tenant at home.
+fn put_desks(desk_states: &mut Vec<DeskState>, desks: Vec<Desk>) -> Result<(), AllocError>
+    ensures { OnOk result (desk_states.new.items ≡ desk_states.old.items ++ map Home desks.items) }
 {
     for desk in desks {
-        seats.push(Seat::Home(desk))?;
+        desk_states.push(DeskState::Home(desk))?;
     }
     Ok(())
 }
 
-// Adds a seat for each empty desk.
-fn put_empty(seats: &mut Vec<Seat>, empty: Vec<EmptyDesk>) -> Result<(), AllocError>
-    ensures { OnOk result (seats.new.items ≡ seats.old.items ++ map Empty empty.items) }
+// Adds each empty desk.
+fn put_empty(desk_states: &mut Vec<DeskState>, empty: Vec<EmptyDesk>) -> Result<(), AllocError>
+    ensures { OnOk result (desk_states.new.items ≡ desk_states.old.items ++ map Empty empty.items) }
 {
     for place in empty {
-        seats.push(Seat::Empty(place))?;
+        desk_states.push(DeskState::Empty(place))?;
     }
     Ok(())
 }

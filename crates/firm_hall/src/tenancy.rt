@@ -47,7 +47,7 @@ impl Serving {
             Ok(place) => place,
             Err(refusal) => return OperatorReply::Refused(refusal),
         };
-        if self.seats[place].admit(alloc, limits) {
+        if self.desk_states[place].admit(alloc, limits) {
             return OperatorReply::Admitted(name);
         }
         self.register.undo(place);
@@ -73,7 +73,7 @@ impl Serving {
     fn leave(&mut self, place: usize, name: Name)
         requires place { place < most_places }
         requires found { place_in self.old.register name ≡ Some place }
-        requires back { IsBackAt place self.old.seats }
+        requires back { IsBackAt place self.old.desk_states }
         ensures obeys { Obeys self.old self.new (Retire name) (Retired name) }
         ensures follows { Follows self.old self.new }
     {
@@ -82,7 +82,7 @@ impl Serving {
         let Ok(_) = self.register.retire(name) else {
             unreachable!()
         };
-        self.seats[place].retire();
+        self.desk_states[place].retire();
     }
 
     // The round that is away from the place comes back, if one is; the answer that waited for it is known then.
@@ -91,14 +91,14 @@ impl Serving {
         ensures follows { Follows self.old self.new }
         ensures keeps { Keeps self.old self.new }
         ensures register { self.new.register ≡ self.old.register }
-        ensures back { IsBackAt place self.new.seats }
-        ensures others { (other : ℕ) → IsBackAt other self.old.seats → IsBackAt other self.new.seats }
+        ensures back { IsBackAt place self.new.desk_states }
+        ensures others { (other : ℕ) → IsBackAt other self.old.desk_states → IsBackAt other self.new.desk_states }
         ensures first { FirstIsFor place self.old.answers → FirstIsKnown self.new.answers }
     {
-        if self.seats[place].is_back() {
+        if self.desk_states[place].is_back() {
             return;
         }
-        let reply = self.seats[place].come_home(setting);
+        let reply = self.desk_states[place].come_home(setting);
         self.held.fill(place, reply);
     }
 
@@ -109,7 +109,7 @@ impl Serving {
         ensures keeps { Keeps self.old self.new }
         ensures first { MatchBool result (FirstIsKnown self.new.answers) (FirstWaits self.new.answers) }
     {
-        let Some(reply) = self.seats[place].look() else {
+        let Some(reply) = self.desk_states[place].look() else {
             return false;
         };
         self.held.fill(place, reply);
@@ -120,7 +120,7 @@ impl Serving {
     pub(crate) fn all_come_home<R: Wait>(&mut self, setting: &Setting<'_, R>)
         ensures follows { Follows self.old self.new }
         ensures keeps { Keeps self.old self.new }
-        ensures back { AllBack self.new.seats }
+        ensures back { AllBack self.new.desk_states }
     {
         for place in 0..PLACES {
             self.come_home(setting, place);

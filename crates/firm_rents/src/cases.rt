@@ -4,7 +4,7 @@ ghost use Rattle.std.specs.Prelude.{bytes_eq, nat_le};
 ghost use Rattle.std.specs.List.{list_all, position_or_len};
 ghost use Rattle.std.specs.Option.{option_to_list};
 ghost use Rattle.arrayvec.specs.ArrayVec.{array_vec_len};
-ghost use Rattle.firm_rules.specs.Book.{job_names, machine_names};
+ghost use Rattle.firm_rules.specs.Book.{job_names, machine_names, most_waited};
 ghost use Rattle.firm_rules.specs.Names.{is_among};
 ghost use Rattle.firm_rules.specs.Placement.{goes_to, is_legal, is_place, is_remote, leaves, load, numbers, prefers};
 ghost use Rattle.firm_rules.specs.Placement.{runs_at, task_cost};
@@ -57,7 +57,7 @@ impl Case {
     pub fn of(alloc: Global, rows: &Rows) -> Result<Case, AllocError>
         ensures { IfOk result (λ case. case ≡ case_of rows.now) }
     {
-        let slots = slots_of(alloc, rows)?;
+        let slots = slot_counts(alloc, rows)?;
         let demands = demands_of(alloc, rows)?;
         Ok(Case {
             limits: rows.limits(),
@@ -273,7 +273,7 @@ pub(crate) fn is_on(choice: Choice, place: u32) -> bool
 }
 
 // How many slots each machine has.
-fn slots_of(alloc: Global, rows: &Rows) -> Result<Vec<u32>, AllocError>
+fn slot_counts(alloc: Global, rows: &Rows) -> Result<Vec<u32>, AllocError>
     ensures slots { IfOk result (λ slots. slots.items ≡ map (λ machine. machine.slots) rows.now.machines) }
     ensures most { IfOk result (λ slots. All (λ n. n ≤ 64) slots.items) }
 {
@@ -307,7 +307,7 @@ fn demands_of(alloc: Global, rows: &Rows) -> Result<Vec<Demand>, AllocError>
 fn demand_of(rows: &Rows, task: &Task) -> Demand
     requires machine { IfSome task.now.machine (λ name. is_among (machine_names rows.now) name ≡ true) }
     requires preferred { All (λ name. is_among (machine_names rows.now) name ≡ true) task.now.preferred }
-    requires waited { task.now.waited ≤ 1000000 }
+    requires waited { task.now.waited ≤ most_waited }
     ensures seen { seen result ≡ demand_of rows.now task.now }
     ensures fits { Fits (length rows.now.machines) result }
 {
@@ -333,7 +333,7 @@ fn home_of(rows: &Rows, task: &Task) -> Option<u32>
 
 // What a wait costs a task apart from churn.
 fn delay_of(rows: &Rows, task: &Task) -> u64
-    requires { task.now.waited ≤ 1000000 }
+    requires { task.now.waited ≤ most_waited }
     ensures delay { result ≡ weight_at rows.now (job_place rows.now task.now) + task.now.waited }
     ensures most { result ≤ 2000000 }
 {

@@ -7,7 +7,7 @@ use native.Mathlib.Decide.{ℕ_discrete}
 use Rattle.firm_rules.specs.declared.tickets.Ticket.{Ticket}
 use Rattle.firm_rounds.specs.declared.protocol.Share.{Share}
 use Rattle.firm_rounds.specs.declared.protocol.Sight.{Sight}
-use Rattle.firm_rounds.specs.Rounds.{weigh, total, share, numbered, put_by, cap, excess, fresh}
+use Rattle.firm_rounds.specs.Rounds.{weigh, weigh_shares, share, numbered, put_by, cap, excess, fresh}
 use Rattle.firm_rounds.specs.Turning.{weigh-append}
 
 -- the cap of a place is 2 ^ 55
@@ -45,6 +45,7 @@ shares_cover : (xs : List Share) → weigh (put_by (λ t. 1)) xs ≤ weigh cap x
 shares_cover [] = omega arith
 shares_cover (x ∷ xs) = omega (arith, shares_cover xs, numbered_ones x.place x.put)
 
-pub caps_cover : (views : List Sight) → total (put_by (λ t. 1)) views ≤ total cap views + total excess views
+pub caps_cover : (views : List Sight) → weigh_shares (put_by (λ t. 1)) views
+    ≤ weigh_shares cap views + weigh_shares excess views
 caps_cover [] = omega arith
 caps_cover (v ∷ vs) = omega (arith, caps_cover vs, shares_cover v.shares)

@@ -2,7 +2,8 @@
 use Rattle.std.proofs.Common.{◌≡◌, ℕ, zero, suc, ◌+◌, ◌-◌, ◌<◌, List, [], ◌∷◌, ◌++◌, sym, ap, ◌∙◌, arith}
 use Rattle.firm_rounds.specs.declared.protocol.Share.{Share}
 use Rattle.firm_rounds.specs.declared.protocol.Sight.{Sight}
-use Rattle.firm_rounds.specs.Rounds.{share, sight, beyond, fresh, grown, grown_to, held_from, without_second, second}
+use Rattle.firm_rounds.specs.Rounds.{share, sight, beyond, fresh, with_new_share, grown_to, held_from, without_second}
+use Rattle.firm_rounds.specs.Rounds.{second}
 use Rattle.firm_rounds.specs.Rounds.{left_over, cut_off}
 use Rattle.firm_rounds.proofs.Fairs.{grown_to_more}
 
@@ -27,6 +28,6 @@ held_cut v k n e low =
     ap cut_off e ∙ (ap (λ (xs : List Share). sight (n + 1) (second (share beyond 0 [] ∷ xs))) (held_shares k n low)
     ∙ ap (λ (j : ℕ). sight j (share k 0 [] ∷ [])) (sym a))
 
-pub grown_on : (v : Sight) (k c : ℕ) → v ≡ grown_to (k + c) → grown v ≡ grown_to (k + (c + 1))
+pub grown_on : (v : Sight) (k c : ℕ) → v ≡ grown_to (k + c) → with_new_share v ≡ grown_to (k + (c + 1))
 grown_on v k c e =
-    let same : k + c + 1 ≡ k + (c + 1) = omega arith in ap grown e ∙ (grown_to_more (k + c) ∙ ap grown_to same)
+    let same : k + c + 1 ≡ k + (c + 1) = omega arith in ap with_new_share e ∙ (grown_to_more (k + c) ∙ ap grown_to same)

@@ -15,10 +15,11 @@ use Rattle.firm_rules.specs.declared.tickets.Ticket.{Ticket}
 use Rattle.firm_rounds.specs.declared.protocol.JobParts.{JobParts}
 use Rattle.firm_rounds.specs.declared.protocol.Share.{Share}
 use Rattle.firm_rounds.specs.declared.protocol.Sight.{Sight}
-use Rattle.firm_rounds.specs.Rounds.{weigh, total, count, tickets, ticket, share, sight, numbered, put_by, got_by}
-use Rattle.firm_rounds.specs.Rounds.{is_at, beyond, cap, excess, FewGot, Fair, fresh, grown_to, nothing, grown}
-use Rattle.firm_rounds.specs.Rounds.{left_over, cut_off, ended, joined, without_second, second, after_put}
-use Rattle.firm_rounds.specs.Rounds.{got_more, after_pop, Holds, IsOf, share_of}
+use Rattle.firm_rounds.specs.Rounds.{weigh, weigh_shares, count, tickets, ticket, share, sight, numbered, put_by}
+use Rattle.firm_rounds.specs.Rounds.{got_by}
+use Rattle.firm_rounds.specs.Rounds.{is_at, beyond, cap, excess, FewGot, Fair, fresh, grown_to, nothing, with_new_share}
+use Rattle.firm_rounds.specs.Rounds.{left_over, cut_off, given_away, joined, without_second, second, after_put}
+use Rattle.firm_rounds.specs.Rounds.{got_more, after_pop, Holds, IsShareOf, share_of}
 use Rattle.firm_rounds.specs.Turning.{weigh-append}
 use Rattle.firm_rounds.proofs.Weighs.{weigh-set, weigh-at, total_one, other_none}
 
@@ -194,7 +195,7 @@ fresh_most zero p = omega arith
 fresh_most (suc n) p =
     let e = next_at n p (fresh_most n p) in omega (arith, weigh-append (is_at p) (fresh 0 n) (share (0 + n) 0 [] ∷ []))
 
-pub grown_to_more : (n : ℕ) → grown (grown_to n) ≡ grown_to (n + 1)
+pub grown_to_more : (n : ℕ) → with_new_share (grown_to n) ≡ grown_to (n + 1)
 grown_to_more n =
     let k : suc (length (fresh 0 n)) - 1 ≡ 0 + n = omega (arith, fresh_wide 0 n) in
     ap (λ (j : ℕ). sight (n + 1 + 1) (share beyond 0 [] ∷ (fresh 0 n ++ share j 0 [] ∷ []))) k
@@ -209,9 +210,10 @@ forks : (items : List JobParts) (views : List Sight) (id all' : ℕ) (v l r : Si
     → ((h : Ticket → ℕ) → weigh (put_by h) l.shares + weigh (put_by h) r.shares ≡ weigh (put_by h) v.shares)
     → ((h : Ticket → ℕ) → weigh (got_by h) l.shares + weigh (got_by h) r.shares ≡ weigh (got_by h) v.shares)
     → ((p : ℕ) → p < beyond
-    → total (is_at p) views + (weigh (is_at p) l.shares + weigh (is_at p) r.shares) ≤ 1 + weigh (is_at p) v.shares)
+    → weigh_shares (is_at p) views + (weigh (is_at p) l.shares + weigh (is_at p) r.shares)
+    ≤ 1 + weigh (is_at p) v.shares)
     → (weigh excess l.shares + weigh excess r.shares ≡ weigh excess v.shares)
-    → (total cap views + (weigh cap l.shares + weigh cap r.shares) ≤ 2 ^ 61 + weigh cap v.shares)
+    → (weigh_shares cap views + (weigh cap l.shares + weigh cap r.shares) ≤ 2 ^ 61 + weigh cap v.shares)
     → Fair items (set views id l ++ r ∷ [])
 forks items views id all' v l r fair at la ra others wide put got placed more caps = record {
   all = all';
@@ -262,9 +264,9 @@ forks items views id all' v l r fair at la ra others wide put got placed more ca
   few = fair.few;
 }
 
-grows_here : (id n : ℕ) → Forks Fair id (grown_to n) (grown (grown_to n)) nothing
+grows_here : (id n : ℕ) → Forks Fair id (grown_to n) (with_new_share (grown_to n)) nothing
 grows_here id n items views fair at =
-    let v = grown_to n in let l = grown v in
+    let v = grown_to n in let l = with_new_share v in
     let long : length v.shares ≡ n + 1 = omega (arith, fresh_wide 0 n) in
     let all_is : v.all ≡ fair.all = fair.agree id v at (omega arith) in
     let every : length v.shares ≡ count views = omega (arith, fair.counted) in
@@ -284,7 +286,7 @@ grows_here id n items views fair at =
     let moved : cap new ≡ cap (share (0 + n) 0 []) = ap (λ (j : ℕ). cap (share j 0 [])) k in
     omega (arith, total_one cap views id v at every, weigh-append cap v.shares (new ∷ []), cap_after n))
 
-pub grows : (id n : ℕ) (v : Sight) → v ≡ grown_to n → Forks Fair id v (grown v) nothing
+pub grows : (id n : ℕ) (v : Sight) → v ≡ grown_to n → Forks Fair id v (with_new_share v) nothing
 grows id n v e = rw e (grows_here id n)
 
 cut_weight : (f : Share → ℕ) (xs : List Share) → weigh f (without_second xs) + weigh f (second xs) ≡ weigh f xs
@@ -367,15 +369,15 @@ pub puts_as : (n id all place k : ℕ) (v : Sight) (x : JobParts) → place < 64
     → Pushes Fair n id v x (λ w. w ≡ after_put v)
 puts_as n id all place k v x low less eight next e = rw e (puts n id all place k x low less eight next)
 
-pub gives : (id : ℕ) (v : Sight) → 0 < length v.shares → Forks Fair id v (ended v) v
+pub gives : (id : ℕ) (v : Sight) → 0 < length v.shares → Forks Fair id v (given_away v) v
 gives id v some_share items views fair at =
     let all_is : v.all ≡ fair.all = fair.agree id v at some_share in
-    forks items views id fair.all v (ended v) v fair at (λ s. absurd (omega arith)) (λ s. all_is)
+    forks items views id fair.all v (given_away v) v fair at (λ s. absurd (omega arith)) (λ s. all_is)
     (λ j u ne. fair.agree j u)
     (omega arith) (λ h. omega arith) (λ h. omega arith) (λ p low. omega (arith, fair.placed p low)) (omega arith)
     (omega (arith, fair.capped))
 
-pub some_of : (x : Share) (v : Sight) → IsOf x v → 0 < v.all → 0 < length v.shares
+pub some_of : (x : Share) (v : Sight) → IsShareOf x v → 0 < v.all → 0 < length v.shares
 some_of x v is live = let wide = ap (λ (u : Sight). length u.shares) (is.1 live) in omega arith
 
 ones : (xs : List Ticket) → weigh (λ (t : Ticket). 1) xs ≡ length xs
@@ -384,7 +386,7 @@ ones (x ∷ xs) = omega (arith, ones xs)
 
 -- what a pass with one share is after a pop
 abbrev pub Counts : ℕ → Sight → Type 0
-Counts n w = (n ≡ length (share_of w).got) × (n ≤ 2 ^ 61) × IsOf (share (share_of w).place 0 (share_of w).got) w
+Counts n w = (n ≡ length (share_of w).got) × (n ≤ 2 ^ 61) × IsShareOf (share (share_of w).place 0 (share_of w).got) w
 
 counts_here : (t : Ticket) (all p n : ℕ) (got : List Ticket) → FewGot (after_pop t (sight all (share p 0 got ∷ [])))
     → n ≡ length got → Counts (n + 1) (after_pop t (sight all (share p 0 got ∷ [])))

@@ -6,7 +6,7 @@ use Rattle.firm_rounds.specs.declared.protocol.Sight.{Sight}
 use Rattle.firm_rounds.specs.Rounds.{weigh, share, sight, joined, put_by, got_by, is_at, beyond}
 use Rattle.firm_rules.specs.declared.tickets.Ticket.{Ticket}
 use Rattle.firm_rounds.specs.Passes.{PutIs, PopIs, JobIs}
-use Rattle.firm_rounds.specs.Closed.{Adds, HasAll, AsOften, job_weight}
+use Rattle.firm_rounds.specs.Closed.{AddsPops, HasAll, AsOften, job_weight}
 use Rattle.firm_rounds.specs.Turning.{weigh-append}
 
 pub joined_weigh : (f : Share → ℕ) (v w n : Sight) (all : ℕ) (x : Share) → n ≡ joined v w → w ≡ sight all (x ∷ [])
@@ -37,7 +37,7 @@ none_got h (x ∷ xs) = omega (arith, none_got h xs)
 pub gathered : (v0 v1 v2 : Sight) (all p : ℕ) (head rest pops : List PopIs) (puts : List PutIs) (d : PopIs)
     → pops ≡ head ++ rest → length head ≡ 1 → v0 ≡ sight all (share p 0 (get_or head 0 d).got ∷ [])
     → ((f : Share → ℕ) → weigh f v1.shares ≡ weigh f v0.shares + weigh (λ q. f (share q.place q.put [])) puts)
-    → Adds v1 v2 rest → HasAll v2 puts pops
+    → AddsPops v1 v2 rest → HasAll v2 puts pops
 gathered v0 v1 v2 all p head rest pops puts d cut one first more adds =
     let x = share p 0 (get_or head 0 d).got in
     let alone : (f : Share → ℕ) → weigh f v0.shares ≡ f x + 0 = λ f. ap (λ (u : Sight). weigh f u.shares) first in

@@ -7,7 +7,7 @@ use Rattle.firm_rules.specs.declared.tickets.Ticket.{Ticket}
 use Rattle.firm_rounds.specs.declared.protocol.JobParts.{JobParts}
 use Rattle.firm_rounds.specs.declared.protocol.Share.{Share}
 use Rattle.firm_rounds.specs.declared.protocol.Sight.{Sight}
-use Rattle.firm_rounds.specs.Rounds.{weigh, total, count, tickets, ticket, share, fresh, is_at, beyond}
+use Rattle.firm_rounds.specs.Rounds.{weigh, weigh_shares, count, tickets, ticket, share, fresh, is_at, beyond}
 
 module _ {A : Type 0} (f : A → ℕ) where
   pub weigh-set : (xs : List A) (i : ℕ) (v w : A) → get_elem? xs i ≡ some v
@@ -26,14 +26,14 @@ module _ {A : Type 0} (f : A → ℕ) where
   weigh_none (x ∷ xs) e = absurd (omega arith)
 
 -- where the seats have no share in all, none has a weight
-total_none : (f : Share → ℕ) (views : List Sight) → count views ≡ 0 → total f views ≡ 0
+total_none : (f : Share → ℕ) (views : List Sight) → count views ≡ 0 → weigh_shares f views ≡ 0
 total_none f [] e = refl
 total_none f (v ∷ vs) e =
     let here = weigh_none f v.shares (omega arith) in let rest = total_none f vs (omega arith) in omega arith
 
 -- where one seat has every share, the others have no weight
 pub total_one : (f : Share → ℕ) (views : List Sight) (id : ℕ) (v : Sight) → get_elem? views id ≡ some v
-    → length v.shares ≡ count views → total f views ≡ weigh f v.shares
+    → length v.shares ≡ count views → weigh_shares f views ≡ weigh f v.shares
 total_one f [] id v e all = absurd (some-ne-none v (sym e))
 total_one f (u ∷ us) zero v e all =
     let same : length u.shares ≡ length v.shares = ap (λ (x : Sight). length x.shares) (some-injective u v e) in

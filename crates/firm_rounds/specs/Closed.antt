@@ -27,12 +27,14 @@ pub record Settled (shares : List Share) (jobs : List JobIs) : Type 0 where
   pub placed : (place : ℕ) → place < beyond → weigh (is_at place) shares ≤ 1
   pub few : weigh (got_by (λ t. 1)) shares ≤ 2 ^ 61
 
-pub record Adds (v w : Sight) (pops : List PopIs) : Type 0 where
+-- one seat's shares are another's and those of these passes that got
+pub record AddsPops (v w : Sight) (pops : List PopIs) : Type 0 where
   pub puts : (h : Ticket → ℕ) → weigh (put_by h) w.shares ≡ weigh (put_by h) v.shares
   pub gots : (h : Ticket → ℕ) → weigh (got_by h) w.shares ≡ weigh (got_by h) v.shares + got_weight h pops
   pub count : weigh (λ x. 1) w.shares ≡ weigh (λ x. 1) v.shares + length pops
   pub places : (place : ℕ) → weigh (is_at place) v.shares ≤ weigh (is_at place) w.shares
 
+-- a seat has the shares of these passes
 pub record HasAll (v : Sight) (puts : List PutIs) (pops : List PopIs) : Type 0 where
   pub put : (h : Ticket → ℕ) → weigh (put_by h) v.shares ≡ put_weight h puts
   pub got : (h : Ticket → ℕ) → weigh (got_by h) v.shares ≡ got_weight h pops

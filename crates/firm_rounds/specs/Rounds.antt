@@ -44,8 +44,8 @@ cap x = cond (nat_lt x.place 64) (2 ^ 55) 0
 abbrev pub excess : Share → ℕ
 excess x = x.put - cap x
 
-abbrev pub total : (Share → ℕ) → List Sight → ℕ
-total f views = weigh (λ v. weigh f v.shares) views
+abbrev pub weigh_shares : (Share → ℕ) → List Sight → ℕ
+weigh_shares f views = weigh (λ v. weigh f v.shares) views
 
 abbrev pub count : List Sight → ℕ
 count views = weigh (λ v. length v.shares) views
@@ -63,10 +63,11 @@ pub record Fair (items : List JobParts) (views : List Sight) : Type 0 where
   pub all : ℕ
   pub agree : (id : ℕ) (v : Sight) → get_elem? views id ≡ some v → 0 < length v.shares → v.all ≡ all
   pub counted : count views ≡ all
-  pub balanced : (h : Ticket → ℕ) → total (put_by h) views ≡ total (got_by h) views + weigh h (tickets items)
-  pub placed : (place : ℕ) → place < beyond → total (is_at place) views ≤ 1
-  pub within : total excess views ≡ 0
-  pub capped : total cap views ≤ 2 ^ 61
+  pub balanced : (h : Ticket → ℕ) → weigh_shares (put_by h) views
+      ≡ weigh_shares (got_by h) views + weigh h (tickets items)
+  pub placed : (place : ℕ) → place < beyond → weigh_shares (is_at place) views ≤ 1
+  pub within : weigh_shares excess views ≡ 0
+  pub capped : weigh_shares cap views ≤ 2 ^ 61
   pub few : length items ≤ 8
 
 abbrev pub opening : Sight
@@ -83,8 +84,8 @@ grown_to n = sight (n + 1) (share beyond 0 [] ∷ fresh 0 n)
 abbrev pub nothing : Sight
 nothing = sight 0 []
 
-abbrev pub grown : Sight → Sight
-grown v = sight (v.all + 1) (v.shares ++ share (length v.shares - 1) 0 [] ∷ [])
+abbrev pub with_new_share : Sight → Sight
+with_new_share v = sight (v.all + 1) (v.shares ++ share (length v.shares - 1) 0 [] ∷ [])
 
 abbrev pub without_second : List Share → List Share
 without_second [] = []
@@ -139,12 +140,12 @@ first_share (x ∷ xs) = x
 abbrev pub held_from : ℕ → ℕ → Sight
 held_from k n = sight (n + 1) (share beyond 0 [] ∷ fresh k (n - k))
 
-abbrev pub ended : Sight → Sight
-ended v = record { all = 0; shares = []; memo = v.shares }
+abbrev pub given_away : Sight → Sight
+given_away v = record { all = 0; shares = []; memo = v.shares }
 
 -- the seat has this share, or had it
-abbrev pub IsOf : Share → Sight → Type 0
-IsOf x v = (v.shares ++ v.memo ≡ x ∷ []) × (0 < v.all → v ≡ sight v.all (x ∷ []))
+abbrev pub IsShareOf : Share → Sight → Type 0
+IsShareOf x v = (v.shares ++ v.memo ≡ x ∷ []) × (0 < v.all → v ≡ sight v.all (x ∷ []))
 
 abbrev pub share_of : Sight → Share
 share_of v = first_share (v.shares ++ v.memo)

@@ -5,7 +5,7 @@ ghost use Rattle.firm_rounds.specs.declared.protocol.Share.{Share};
 ghost use Rattle.firm_rules.specs.declared.tickets.Ticket.{Ticket};
 ghost use Rattle.firm_rounds.specs.Rounds.{weigh, share, put_by, got_by, is_at, beyond, FewGot};
 ghost use Rattle.firm_rounds.specs.Passes.{spent_put, spent_pop};
-ghost use Rattle.firm_rounds.specs.Closed.{Adds, HasAll, job_weight};
+ghost use Rattle.firm_rounds.specs.Closed.{AddsPops, HasAll, job_weight};
 
 use crate::job::Job;
 use crate::passes::{PopPass, PutPass};
@@ -34,7 +34,7 @@ fn give_pops(ring: &Ring, keep: &mut QueueSeat, passes: &mut [PopPass])
     requires passes { All (λ p. (p.queue.table ≡ ring.now.table.shared.table_id) × (0 < p.queue.all)) passes.old }
     ensures keep { IsPassOf ring.now keep.new × ((view keep.new).all ≡ (view keep.old).all)
         × (0 < length (view keep.new).shares) }
-    ensures shares { Adds (view keep.old) (view keep.new) passes.old }
+    ensures shares { AddsPops (view keep.old) (view keep.new) passes.old }
     ensures passes { passes.new ≡ map spent_pop passes.old }
 {
     for i in 0..passes.len() {

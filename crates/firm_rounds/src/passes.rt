@@ -21,7 +21,7 @@ pub struct PutPass {
 impl Model for PutPass {
     ghost use Rattle.std.specs.Prelude.{◌≡◌, ◌<◌, ◌≤◌, ◌^◌, [], ◌∷◌};
     ghost use Rattle.crossbeam_queue.specs.Passes.{view as sees};
-    ghost use Rattle.firm_rounds.specs.Rounds.{share, IsOf};
+    ghost use Rattle.firm_rounds.specs.Rounds.{share, IsShareOf};
     ghost use Rattle.firm_rounds.specs.Passes.{PutIs};
 
     ghost Value = { PutIs };
@@ -33,7 +33,7 @@ impl Model for PutPass {
     } };
 
     ghost invariant = { λ p. (p.seat.me.1 ≡ []) × (p.place < 64) × (p.put ≤ 2 ^ 55)
-        × IsOf (share p.place p.put []) (sees p.seat) };
+        × IsShareOf (share p.place p.put []) (sees p.seat) };
 }
 
 /// The right to get rounds. Contracts see the tickets that it got, in order; at run time it keeps their number alone.
@@ -47,7 +47,7 @@ pub struct PopPass {
 impl Model for PopPass {
     ghost use Rattle.std.specs.Prelude.{◌≡◌, ◌≤◌, ◌^◌, [], ◌∷◌, length};
     ghost use Rattle.crossbeam_queue.specs.Passes.{view as sees};
-    ghost use Rattle.firm_rounds.specs.Rounds.{share, share_of, IsOf};
+    ghost use Rattle.firm_rounds.specs.Rounds.{share, share_of, IsShareOf};
     ghost use Rattle.firm_rounds.specs.Passes.{PopIs};
 
     ghost Value = { PopIs };
@@ -58,7 +58,7 @@ impl Model for PopPass {
     } };
 
     ghost invariant = { λ p. (p.seat.me.1 ≡ []) × (p.count ≡ length (share_of (sees p.seat)).got) × (p.count ≤ 2 ^ 61)
-        × IsOf (share (share_of (sees p.seat)).place 0 (share_of (sees p.seat)).got) (sees p.seat) };
+        × IsShareOf (share (share_of (sees p.seat)).place 0 (share_of (sees p.seat)).got) (sees p.seat) };
 }
 
 impl PutPass {

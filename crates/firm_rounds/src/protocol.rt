@@ -46,9 +46,9 @@ impl Protocol<JobParts, Sight> for TicketRule {
 pub struct Grow;
 
 impl Split<Sight> for Grow {
-    ghost use Rattle.firm_rounds.specs.Rounds.{grown, nothing};
+    ghost use Rattle.firm_rounds.specs.Rounds.{with_new_share, nothing};
 
-    ghost left = { grown };
+    ghost left = { with_new_share };
 
     ghost right = { λ v. nothing };
 }
@@ -68,9 +68,9 @@ impl Split<Sight> for Cut {
 pub struct Give;
 
 impl Split<Sight> for Give {
-    ghost use Rattle.firm_rounds.specs.Rounds.{ended};
+    ghost use Rattle.firm_rounds.specs.Rounds.{given_away};
 
-    ghost left = { ended };
+    ghost left = { given_away };
 
     ghost right = { λ v. v };
 }

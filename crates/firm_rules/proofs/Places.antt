@@ -9,9 +9,9 @@ use Rattle.std.proofs.lemmas.List.{length-map, get_or-map}
 use Rattle.firm_rules.specs.Book.{TenantRows, machine_names, job_names}
 use Rattle.firm_rules.specs.Placement.{is_remote, runs_at}
 use Rattle.firm_rules.specs.Round.{weight_at, place_of, machine_place, demand_of}
-use Rattle.firm_rules.specs.declared.parts.Task.{Task}
-use Rattle.firm_rules.specs.declared.parts.Job.{Job}
-use Rattle.firm_rules.specs.declared.parts.Machine.{Machine}
+use Rattle.firm_rules.specs.declared.book.Task.{Task}
+use Rattle.firm_rules.specs.declared.book.Job.{Job}
+use Rattle.firm_rules.specs.declared.book.Machine.{Machine}
 use Rattle.std.proofs.lemmas.Bool.{cases_lt, cond-true, cond-false, lt-ltb, le-ltb}
 use Rattle.std.proofs.lemmas.List.Sums.{prefix_len-le-length}
 use Rattle.std.proofs.lemmas.Option.{slice_get-map, unwrap_or-slice_get, slice_get_within, get_or_from_slice_get}

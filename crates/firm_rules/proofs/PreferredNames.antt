@@ -11,7 +11,7 @@ use Rattle.std.proofs.lemmas.List.{length-append}
 use Rattle.std.proofs.lemmas.Map.Keys.{IsDistinct-push}
 use Rattle.firm_rules.specs.Names.{is_among}
 use Rattle.firm_rules.specs.Book.{is_on, evicted, forgetting}
-use Rattle.firm_rules.specs.declared.parts.Task.{Task}
+use Rattle.firm_rules.specs.declared.book.Task.{Task}
 use Rattle.firm_rules.specs.Preferences.{with_preference, without_preference}
 use Rattle.firm_rules.specs.inner.Padding.{padded_preferences, ArePreferences}
 use Rattle.firm_rules.proofs.NamedRows.{bytes_eq-own, bytes_eq-other, length-filter-le}

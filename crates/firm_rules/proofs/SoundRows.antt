@@ -16,15 +16,15 @@ use Rattle.std.proofs.lemmas.Map.Made.{AllPairs-from_IsDistinct, IsDistinct-from
 use Rattle.firm_rules.specs.Names.{is_among}
 use Rattle.firm_rules.specs.Book.{TenantRows, machine_names, job_names, task_names, name_at, is_on, evicted, running_on}
 use Rattle.firm_rules.specs.Book.{with_machine, with_job, with_task, without_machine, without_job, without_task}
-use Rattle.firm_rules.specs.Book.{has_tasks, new_task, forgetting}
+use Rattle.firm_rules.specs.Book.{has_tasks, new_task, forgetting, most_waited}
 use Rattle.firm_rules.specs.Preferences.{without_preference}
 use Rattle.firm_rules.specs.ArenaUse.{FitsLimits, preference_count}
 use Rattle.firm_rules.specs.Sound.{AreSound}
 use Rattle.firm_rules.specs.Placement.{IsLegal, IsPlace, load, goes_to}
 use Rattle.firm_rules.specs.Round.{case_of, rows_after, task_after, zipped}
-use Rattle.firm_rules.specs.declared.parts.Machine.{Machine}
-use Rattle.firm_rules.specs.declared.parts.Job.{Job}
-use Rattle.firm_rules.specs.declared.parts.Task.{Task}
+use Rattle.firm_rules.specs.declared.book.Machine.{Machine}
+use Rattle.firm_rules.specs.declared.book.Job.{Job}
+use Rattle.firm_rules.specs.declared.book.Task.{Task}
 use Rattle.firm_rules.specs.declared.rounds.Choice.{Choice}
 use Rattle.firm_rules.specs.declared.rounds.Choice.TheVariants.{On, Wait}
 use Rattle.firm_rules.proofs.NamedRows.{bytes_eq-own, sum_by-le-each, sum_by-filter-le, length-filter-le, sum_by-map}
@@ -158,7 +158,7 @@ module _ (rows : TenantRows) (sound : AreSound rows) where
         room = λ k d l.
             let on : Task → ℕ = λ t. cond (is_on (slice_index_or rows.machines k d).name t.machine) 1 0 in
             omega (arith, sound.room k d l, sum_by_push on rows.tasks task);
-        waited = All-push (λ (t : Task). t.waited ≤ 1000000) rows.tasks task sound.waited (omega arith);
+        waited = All-push (λ (t : Task). t.waited ≤ most_waited) rows.tasks task sound.waited (omega arith);
         fits = fits;
         slots = sound.slots;
         weights = sound.weights;
@@ -262,8 +262,8 @@ module _ (rows : TenantRows) (sound : AreSound rows) where
               sum_by-map (on name) (evicted gone) rows.tasks,
               sum_by-le-each (λ (t : Task). on name (evicted gone t)) (on name) rows.tasks (on-evicted-le gone name),
             ));
-        waited = All-map (λ (t : Task). t.waited ≤ 1000000) (evicted gone) rows.tasks (λ k d l.
-            evicted-cases gone (slice_index_or rows.tasks k d) (λ (t : Task). t.waited ≤ 1000000) (λ _. omega arith)
+        waited = All-map (λ (t : Task). t.waited ≤ most_waited) (evicted gone) rows.tasks (λ k d l.
+            evicted-cases gone (slice_index_or rows.tasks k d) (λ (t : Task). t.waited ≤ most_waited) (λ _. omega arith)
             (λ _. sound.waited k d l));
         fits = record {
           nodes = omega (
@@ -362,7 +362,7 @@ module _ (rows : TenantRows) (sound : AreSound rows) where
         room = λ k d l.
             let on : Task → ℕ = λ t. cond (is_on (slice_index_or rows.machines k d).name t.machine) 1 0 in
             omega (arith, sound.room k d l, sum_by-filter-le on others rows.tasks);
-        waited = All-filter others (λ (t : Task). t.waited ≤ 1000000) rows.tasks sound.waited;
+        waited = All-filter others (λ (t : Task). t.waited ≤ most_waited) rows.tasks sound.waited;
         fits = record {
           nodes = omega (arith, sound.fits.nodes, length-filter-le others rows.tasks);
           arcs = omega (
@@ -535,8 +535,8 @@ module _ (rows : TenantRows) (sound : AreSound rows) (placement : List Choice)
               ap (λ (n : List ℕ). running_on (rows_after rows placement) n) name-at,
             );
         waited =
-            All-zipped (λ (t : Task). t.waited ≤ 1000000) (λ _. Unit {0}) (λ _. Unit {0}) (task_after rows) waited-few
-            rows.tasks placement (λ k d l. tt) (λ k d l. tt);
+            All-zipped (λ (t : Task). t.waited ≤ most_waited) (λ _. Unit {0}) (λ _. Unit {0}) (task_after rows)
+            waited-few rows.tasks placement (λ k d l. tt) (λ k d l. tt);
         fits = record {
           nodes = omega (arith, sound.fits.nodes, length-zipped (task_after rows) rows.tasks placement one_each);
           arcs = omega (
@@ -575,6 +575,6 @@ module _ (rows : TenantRows) (sound : AreSound rows) (placement : List Choice)
       machine-there t (On j) u place = among-at (machine_names rows) j place
       machine-there t Wait u place = tt
 
-      waited-few : (t : Task) (c : Choice) → Unit {0} → Unit {0} → (task_after rows t c).waited ≤ 1000000
+      waited-few : (t : Task) (c : Choice) → Unit {0} → Unit {0} → (task_after rows t c).waited ≤ most_waited
       waited-few t (On j) u v = omega arith
       waited-few t Wait u v = omega arith

@@ -15,16 +15,15 @@ use Rattle.firm_rules.specs.Names.{is_among}
 use Rattle.firm_rules.specs.Book.{TenantRows, machine_names, job_names, task_names, name_at, is_on, evicted}
 use Rattle.firm_rules.specs.Book.{running_count, with_machine, with_job, with_task, without_machine, without_job}
 use Rattle.firm_rules.specs.Book.{without_task, has_tasks, new_task, forgetting}
-use Rattle.firm_rules.specs.ArenaUse.{FitsLimits, machine_arcs, preference_count}
+use Rattle.firm_rules.specs.ArenaUse.{FitsLimits, machine_arc_count, preference_count}
 use Rattle.firm_rules.specs.Sound.{AreSound}
-use Rattle.firm_rules.specs.inner.Tables.{StandsByName, AreTables, rows_in, settled}
+use Rattle.firm_rules.specs.inner.Tables.{StandsByName, AreTables, rows_in}
 use Rattle.firm_rules.specs.Placement.{IsLegal, is_legal}
-use Rattle.firm_rules.specs.Round.{case_of, rows_after, task_after, zipped}
-use Rattle.firm_rules.specs.declared.parts.Machine.{Machine}
-use Rattle.firm_rules.specs.declared.parts.Job.{Job}
-use Rattle.firm_rules.specs.declared.parts.Task.{Task}
+use Rattle.firm_rules.specs.Round.{case_of, rows_after, settled, task_after, zipped}
+use Rattle.firm_rules.specs.declared.book.Machine.{Machine}
+use Rattle.firm_rules.specs.declared.book.Job.{Job}
+use Rattle.firm_rules.specs.declared.book.Task.{Task}
 use Rattle.firm_rules.specs.declared.rounds.Choice.{Choice}
-use Rattle.firm_rules.specs.declared.rounds.Choice.TheVariants.{On, Wait}
 use Rattle.firm_rules.proofs.Legals.{to_legal}
 use Rattle.firm_rules.proofs.NamedRows.{filter-remove}
 use Rattle.firm_rules.proofs.SoundRows.{sound-with_machine, sound-with_job, sound-with_task, sound-without_machine}
@@ -111,16 +110,6 @@ running-evicted gone (task ∷ tasks) =
           | false ↦ λ _. omega arith
         ] refl
 
--- the choices given among the machines of the rows are those of the round
-zipped-settled : (rows : TenantRows) (tasks : List Task) (choices : List Choice)
-    → zipped (settled rows.machines) tasks choices ≡ zipped (task_after rows) tasks choices
-zipped-settled rows [] choices = refl
-zipped-settled rows (task ∷ tasks) [] = refl
-zipped-settled rows (task ∷ tasks) (On j ∷ choices) =
-    ap (λ (l : List Task). task_after rows task (On j) ∷ l) (zipped-settled rows tasks choices)
-zipped-settled rows (task ∷ tasks) (Wait ∷ choices) =
-    ap (λ (l : List Task). task_after rows task Wait ∷ l) (zipped-settled rows tasks choices)
-
 module _ {limits : TenantLimits} {machines : List (List ℕ × Machine)} {jobs : List (List ℕ × Job)}
     {tasks : List (List ℕ × Task)} {arcs preferences running : ℕ}
     (were : AreTables limits machines jobs tasks arcs preferences running)
@@ -161,7 +150,7 @@ module _ {limits : TenantLimits} {machines : List (List ℕ × Machine)} {jobs :
                 arith,
                 wide-is,
                 were.arcs_kept,
-                ap machine_arcs values,
+                ap machine_arc_count values,
                 sum_by_push (λ (m : Machine). 1 + m.slots) (values_of machines) machine,
               );
           preferences_kept = were.preferences_kept;
@@ -352,7 +341,7 @@ module _ {limits : TenantLimits} {machines : List (List ℕ × Machine)} {jobs :
   -- a machine's arcs are among those that are kept
   pub arcs-at : (place : ℕ) (name : List ℕ) (machine : Machine) → Some (name, machine) ≡ slice_get machines place
       → place < length rows.machines
-      → machine_arcs (remove (values_of machines) place) + (1 + machine.slots) ≡ arcs
+      → machine_arc_count (remove (values_of machines) place) + (1 + machine.slots) ≡ arcs
   arcs-at place name machine read below =
       let wide : Machine → ℕ = λ m. 1 + m.slots in
       let there : place < length (values_of machines) =
@@ -423,7 +412,7 @@ module _ {limits : TenantLimits} {machines : List (List ℕ × Machine)} {jobs :
               ∙ sym (ap (λ (l : List Task). map (λ (t : Task). t.name) l) evicts);
           sound = subst AreSound (sym after) kept;
           preferences_kept = left-is;
-          arcs_kept = omega (arith, wide-is, arcs-at place name machine read below, ap machine_arcs values);
+          arcs_kept = omega (arith, wide-is, arcs-at place name machine read below, ap machine_arc_count values);
           running_kept = omega (arith, running-drained machine.name _ out-is, ap running_count evicts);
         };
         view = after;
@@ -438,8 +427,7 @@ module _ {limits : TenantLimits} {machines : List (List ℕ × Machine)} {jobs :
   tables-settled choices {placed} {now} legal same-keys values now-is =
       let is_legal_list : IsLegal (case_of rows) choices = to_legal (case_of rows) choices legal in
       let round : values_of placed ≡ zipped (task_after rows) rows.tasks choices =
-      values ∙ ap (λ (r : TenantRows). zipped (settled r.machines) r.tasks choices) view
-      ∙ zipped-settled rows rows.tasks choices in
+      values ∙ ap (λ (r : TenantRows). zipped (settled r.machines) r.tasks choices) view in
       let after : rows_in limits machines jobs placed ≡ rows_after rows choices =
       ap (λ (l : List Task). let r : TenantRows =
       record { limits = limits; machines = values_of machines; jobs = values_of jobs; tasks = l } in r)

@@ -9,11 +9,11 @@ use Rattle.std.proofs.lemmas.List.{length-map, get_or-map}
 use Rattle.std.proofs.lemmas.List.Sums.{sum_by-cons, sum_by_more, sum_by-take-le}
 use Rattle.firm_rules.specs.Book.{is_on, evicted, running_count}
 use Rattle.firm_rules.specs.ArenaUse.{preference_count}
-use Rattle.firm_rules.specs.Round.{zipped}
+use Rattle.firm_rules.specs.Round.{settled, zipped}
 use Rattle.firm_rules.specs.declared.rounds.Choice.TheVariants.{On, Wait}
-use Rattle.firm_rules.specs.declared.parts.Task.{Task}
-use Rattle.firm_rules.specs.inner.Tables.{settled, is_placed}
-use Rattle.firm_rules.specs.declared.parts.Machine.{Machine}
+use Rattle.firm_rules.specs.declared.book.Task.{Task}
+use Rattle.firm_rules.specs.inner.Tables.{is_placed}
+use Rattle.firm_rules.specs.declared.book.Machine.{Machine}
 use Rattle.firm_rules.specs.declared.rounds.Choice.{Choice}
 use Rattle.firm_rules.proofs.SoundRows.{one_if, length-zipped}
 

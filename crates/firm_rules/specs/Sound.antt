@@ -3,7 +3,7 @@ use Rattle.std.specs.Prelude.{◌≡◌, ◌≤◌, true, All, IfSome, length, b
 use Rattle.std.specs.List.{IsDistinct}
 use Rattle.firm_rules.specs.Names.{is_among}
 use Rattle.firm_rules.specs.Preferences.{most_preferences}
-use Rattle.firm_rules.specs.Book.{TenantRows, machine_names, job_names, task_names, running_on}
+use Rattle.firm_rules.specs.Book.{TenantRows, machine_names, job_names, task_names, running_on, most_waited}
 use Rattle.firm_rules.specs.ArenaUse.{FitsLimits}
 
 -- names differ in each list; each task's job is there, and so is the machine of each that runs; a task prefers at most
@@ -20,7 +20,7 @@ pub record AreSound (rows : TenantRows) : Type 0 where
   pub preferred_few : All (λ task. length task.preferred ≤ most_preferences) rows.tasks
   pub preferred_differ : All (λ task. IsDistinct bytes_eq task.preferred) rows.tasks
   pub room : All (λ machine. running_on rows machine.name ≤ machine.slots) rows.machines
-  pub waited : All (λ task. task.waited ≤ 1000000) rows.tasks
+  pub waited : All (λ task. task.waited ≤ most_waited) rows.tasks
   pub fits : FitsLimits rows
   pub slots : All (λ machine. (1 ≤ machine.slots) × (machine.slots ≤ 64)) rows.machines
   pub weights : All (λ job. (1 ≤ job.weight) × (job.weight ≤ 1000000)) rows.jobs

@@ -3,8 +3,8 @@ ghost use Rattle.std.specs.Prelude.{◌≡◌, ◌<◌, true, IfOk, length, opti
 ghost use Rattle.firm_rules.specs.Placement.{IsPlace, is_legal};
 ghost use Rattle.firm_rules.specs.Round.{case_of, changes_made, machine_at, task_changes};
 
+use crate::book::Task;
 use crate::names::Name;
-use crate::parts::Task;
 use crate::rounds::{Change, Choice};
 use crate::tables::Rows;
 use std::alloc::{AllocError, Allocator, Global};

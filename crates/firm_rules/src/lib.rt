@@ -3,12 +3,12 @@
 #![tactic(auto)]
 
 mod amounts;
+mod book;
 mod bounds;
 mod changes;
 mod commands;
 mod laws;
 mod names;
-mod parts;
 mod placements;
 mod preferences;
 mod recent;
@@ -18,16 +18,16 @@ mod tables;
 mod tickets;
 
 pub use amounts::{Slots, Weight};
+pub use book::{Job, Machine, Task, Use};
 pub use bounds::Limits;
 pub use changes::{Changes, changes_of};
 pub use commands::{Command, LineFault};
 pub use laws::{legality_is_judged, the_first_difference_decides, the_round_is_the_first};
 pub use names::Name;
-pub use parts::{Job, Machine, Task, Use};
 pub use placements::{cost_of, cost_of_load, legal, loads_of, ranks_before, weight_of};
 pub use preferences::{MOST_PREFERENCES, Preferred};
 pub use recent::{MOST_COSTS, RecentCosts};
 pub use replies::{Outcome, Refusal, Reply};
 pub use rounds::{Change, Choice};
-pub use tables::{MOST_WAITED, Rows, use_of};
+pub use tables::{Rows, use_of};
 pub use tickets::Ticket;

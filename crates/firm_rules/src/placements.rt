@@ -8,8 +8,8 @@ ghost use Rattle.firm_rules.specs.Placement.{task_cost, tasks_cost, placement_co
 ghost use Rattle.firm_rules.specs.Placement.{is_remote, runs_at};
 ghost use Rattle.firm_rules.specs.Round.{case_of, demand_of, machine_place, place_of, weight_at};
 
+use crate::book::Task;
 use crate::names::Name;
-use crate::parts::Task;
 use crate::rounds::Choice;
 use crate::tables::Rows;
 use std::alloc::Allocator;

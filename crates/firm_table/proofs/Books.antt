@@ -10,7 +10,7 @@ use Rattle.firm_rules.specs.Limits.{TenantLimits}
 use Rattle.firm_rules.specs.declared.commands.Command.{Command}
 use Rattle.firm_rules.specs.declared.replies.Reply.{Reply}
 use Rattle.firm_tenant.specs.Step.{step, is_memory}
-use Rattle.firm_text.specs.Registers.{AreSound, occupied, place_for, place_in, vacant, with_tenant}
+use Rattle.firm_text.specs.Registers.{IsRegister, occupied, place_for, place_in, vacant, with_tenant}
 use Rattle.firm_text.specs.Registers.{without_tenant}
 use Rattle.firm_text.specs.Rosters.{RosterRow, most_places}
 use Rattle.firm_text.specs.declared.operator.OperatorLine.TheVariants.{Admit}
@@ -25,7 +25,7 @@ use Rattle.firm_table.specs.declared.answers.LineAnswer.TheVariants.{Replied, To
 use Rattle.firm_table.specs.inner.Adding.{TenantsAreAnswered, StrangersAreAnswered, AdmissionsAreAnswered}
 use Rattle.firm_table.specs.inner.Adding.{AdmissionsFindNoMemory, AdmissionsAreRefused, RetirementsAreAnswered}
 use Rattle.firm_table.specs.inner.Adding.{RetirementsAreRefused}
-use Rattle.firm_table.specs.inner.Line.{Tenants, tenants_are, book_of, books_of, opening_tenants, Shows}
+use Rattle.firm_table.specs.inner.Line.{TenantsState, tenants_are, book_of, books_of, opening_tenants, Shows}
 use Rattle.firm_table.proofs.Alones.{book_of-more, last_reply-more}
 use Rattle.firm_table.proofs.Lookups.{not_here}
 use Rattle.firm_table.proofs.Registering.{none_there, StaysAt, stays_there, changed_once, register_commanded}
@@ -40,8 +40,8 @@ books_set : (places : List Place) (at : ℕ) (new : Place) → books_of (set pla
 books_set places at new = map-set (λ (place : Place). option_map book_of place.stay) places at new
 
 -- a command of a tenant that is there
-module _ (tenants : Tenants) (name : List ℕ) (command : Command) (at : ℕ) (book after : Book) (reply : Reply)
-    (sound : AreSound tenants.register)
+module _ (tenants : TenantsState) (name : List ℕ) (command : Command) (at : ℕ) (book after : Book) (reply : Reply)
+    (sound : IsRegister tenants.register)
     (found : place_in tenants.register name ≡ Some at) (here : slice_index_or tenants.books at None ≡ Some book)
     (stepped : (reply, after)
     ≡ step book command (is_memory reply)) (places : List Place) (shows : Shows tenants places) where
@@ -90,7 +90,7 @@ tenants_are_answered tenants name command at book after reply sound found here s
 }
 
 -- and of one that is not
-nowhere : (tenants : Tenants) (name : List ℕ) (places : List Place) → place_in tenants.register name ≡ None
+nowhere : (tenants : TenantsState) (name : List ℕ) (places : List Place) → place_in tenants.register name ≡ None
     → Shows tenants places → stay_of places name ≡ None
 nowhere tenants name places none shows =
     none_there places name (ap (λ (r : List Entry). place_in r name) shows.register ∙ none)
@@ -111,7 +111,8 @@ strangers_are_answered tenants name command none = record {
 }
 
 -- a line that admits a tenant
-admits : (tenants : Tenants) (name : List ℕ) (limits : TenantLimits) (found : Result ℕ OperatorRefusal) (mark : Bool)
+admits : (tenants : TenantsState) (name : List ℕ) (limits : TenantLimits) (found : Result ℕ OperatorRefusal)
+    (mark : Bool)
     (places : List Place) → place_for tenants.register name ≡ found
     → Shows tenants places → obeyed places (Admit name limits) mark ≡ admission places name limits found mark
 admits tenants name limits found mark places is shows =

@@ -28,18 +28,18 @@ pub position-behind : {X : Type 0} (p : X → Bool) (x : X) (xs : List X) → p 
 position-behind p x xs there = rw there (position_behind (position_or_len p xs) (length xs))
 
 -- where it stands
-pub data First {X : Type 0} (p : X → Bool) (x : X) (xs : List X) : ℕ → Type 0 where
-  here : p x ≡ true → First p x xs zero
-  behind : (n : ℕ) → p x ≡ false → position p xs ≡ Some n → First p x xs (suc n)
+pub data FirstAt {X : Type 0} (p : X → Bool) (x : X) (xs : List X) : ℕ → Type 0 where
+  here : p x ≡ true → FirstAt p x xs zero
+  behind : (n : ℕ) → p x ≡ false → position p xs ≡ Some n → FirstAt p x xs (suc n)
 
 pub first : {X : Type 0} (p : X → Bool) (x : X) (xs : List X) (at : ℕ) → position p (x ∷ xs) ≡ Some at
-    → First p x xs at
-first p x xs at e = elim (p x) as (λ b. p x ≡ b → First p x xs at) [
+    → FirstAt p x xs at
+first p x xs at e = elim (p x) as (λ b. p x ≡ b → FirstAt p x xs at) [
   | true ↦ λ passes. let front : zero ≡ at = cc (position-here p x xs passes, e) in rw (← front) (here passes)
   | false ↦ λ fails. further (position p xs) refl fails (sym (position-behind p x xs fails) ∙ e)
 ] refl
   where
-    further : (o : Option ℕ) → position p xs ≡ o → p x ≡ false → option_map (λ i. suc i) o ≡ Some at → First p x xs at
+    further : (o : Option ℕ) → position p xs ≡ o → p x ≡ false → option_map (λ i. suc i) o ≡ Some at → FirstAt p x xs at
     further None is fails f = cc
     further (Some n) is fails f = let same : suc n ≡ at = cc in rw (← same) (behind n fails is)
 

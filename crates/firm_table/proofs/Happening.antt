@@ -20,7 +20,7 @@ use Rattle.firm_table.specs.Interleaving.{TableState, posted, asked, taken_by, i
 use Rattle.firm_table.specs.Interleaving.{retired, next_ticket, local, seat_behind, at_place, place_held, taking}
 use Rattle.firm_table.specs.Interleaving.{take_front, may_take, answering, happens, queue_more, rounds_more}
 use Rattle.firm_table.specs.Interleaving.{admissions_more}
-use Rattle.firm_table.specs.Fitting.{is_answered, is_empty, stands, is_free, has_waiting, fits, asks}
+use Rattle.firm_table.specs.Fitting.{is_answered, is_empty, stands, is_free_seat, has_waiting, fits, asks}
 use Rattle.firm_table.specs.inner.Tables.{IsSound}
 use Rattle.firm_table.specs.inner.Events.{IsDone}
 use Rattle.firm_table.specs.declared.events.Event.{Event}
@@ -99,25 +99,25 @@ no_position : {X : Type 0} (p : X → Bool) (xs : List X) → position p xs ≡ 
 no_position p xs e = none_below p xs (past_all (position_or_len p xs) (length xs) e)
 
 -- what stands at a place is as it was where the answer tells of no change
-record IsRight (fit : Bool) (station : Station) (outcome : EventAnswer × Station) : Type 0 where
+record IsRightOutcome (fit : Bool) (station : Station) (outcome : EventAnswer × Station) : Type 0 where
   pub refused : is_not_now outcome.0 ≡ not fit
   pub kept : tells_change outcome.0 ≡ false → outcome.1 ≡ station
 
 -- and an event that is refused
-right_not_now : (station : Station) → IsRight false station (NotNow, station)
+right_not_now : (station : Station) → IsRightOutcome false station (NotNow, station)
 right_not_now station = record { refused = refl; kept = λ e. refl }
 
-right_either : (fit b : Bool) (station : Station) (x y : EventAnswer × Station) → IsRight fit station x
-    → IsRight fit station y → IsRight fit station (if b then x else y)
+right_either : (fit b : Bool) (station : Station) (x y : EventAnswer × Station) → IsRightOutcome fit station x
+    → IsRightOutcome fit station y → IsRightOutcome fit station (if b then x else y)
 right_either fit true station x y p q = p
 right_either fit false station x y p q = q
 
 right_posted : (station : Station) (command : Command) (mark : Bool)
-    → IsRight (is_home station && not (is_round command)) station (posted station command mark)
+    → IsRightOutcome (is_home station && not (is_round command)) station (posted station command mark)
 right_posted empty command mark = right_not_now empty
 right_posted (home book) command mark = at (is_round command)
   where
-    at : (b : Bool) → IsRight (true && not b) (home book)
+    at : (b : Bool) → IsRightOutcome (true && not b) (home book)
         (if b then (NotNow, home book) else (Replied (step book command mark).0, home (step book command mark).1))
     at true = right_not_now (home book)
     at false = record { refused = refl; kept = λ e. cc }
@@ -126,20 +126,20 @@ right_posted (held book ticket worker) command mark = right_not_now (held book t
 right_posted (answered book reply) command mark = right_not_now (answered book reply)
 
 right_asked : (station : Station) (ticket : Ticket) (mark : Bool)
-    → IsRight (is_home station) station (asked station ticket mark)
+    → IsRightOutcome (is_home station) station (asked station ticket mark)
 right_asked empty ticket mark = right_not_now empty
 right_asked (home book) ticket mark =
     let now : EventAnswer × Station = (Replied (step book Round mark).0, home (step book Round mark).1) in
     let later : EventAnswer × Station = (Queued ticket, queued book ticket) in
-    let right_now : IsRight true (home book) now = record { refused = refl; kept = λ e. cc } in
-    let right_later : IsRight true (home book) later = record { refused = refl; kept = λ e. cc } in
+    let right_now : IsRightOutcome true (home book) now = record { refused = refl; kept = λ e. cc } in
+    let right_later : IsRightOutcome true (home book) later = record { refused = refl; kept = λ e. cc } in
     right_either true (nat_le book.rows.limits.life book.given) (home book) now (if mark then now else later) right_now
     (right_either true mark (home book) now later right_now right_later)
 right_asked (queued book other) ticket mark = right_not_now (queued book other)
 right_asked (held book other worker) ticket mark = right_not_now (held book other worker)
 right_asked (answered book reply) ticket mark = right_not_now (answered book reply)
 
-right_collected : (station : Station) → IsRight (is_answered station) station (collected station)
+right_collected : (station : Station) → IsRightOutcome (is_answered station) station (collected station)
 right_collected empty = right_not_now empty
 right_collected (home book) = right_not_now (home book)
 right_collected (queued book ticket) = right_not_now (queued book ticket)
@@ -148,7 +148,7 @@ right_collected (answered book reply) = record { refused = refl; kept = λ e. cc
 
 -- a worker that holds the tenant solves its round
 right_solved : (worker : ℕ) (station : Station) (mark : Bool) → is_held worker station ≡ true
-    → IsRight true station (solved station mark)
+    → IsRightOutcome true station (solved station mark)
 right_solved worker empty mark e = cc
 right_solved worker (home book) mark e = cc
 right_solved worker (queued book ticket) mark e = cc
@@ -156,7 +156,8 @@ right_solved worker (held book ticket holder) mark e = record { refused = refl; 
 right_solved worker (answered book reply) mark e = cc
 
 right_admitted : (station : Station) (admissions : ℕ) (limits : TenantLimits) (mark : Bool)
-    → IsRight (is_empty station && nat_lt admissions most_admissions) station (admitted station admissions limits mark)
+    → IsRightOutcome (is_empty station && nat_lt admissions most_admissions) station
+    (admitted station admissions limits mark)
 right_admitted empty admissions limits mark = at (nat_lt admissions most_admissions)
   where
     nobody : EventAnswer × Station
@@ -165,7 +166,8 @@ right_admitted empty admissions limits mark = at (nat_lt admissions most_admissi
     comes : EventAnswer × Station
     comes = (Admitted, home (opening_book limits))
 
-    at : (b : Bool) → IsRight (true && b) empty (if not b then (NotNow, empty) else if mark then nobody else comes)
+    at : (b : Bool) → IsRightOutcome (true && b) empty
+        (if not b then (NotNow, empty) else if mark then nobody else comes)
     at true =
         right_either true mark empty nobody comes (record { refused = refl; kept = λ e. refl })
         (record { refused = refl; kept = λ e. cc })
@@ -175,7 +177,7 @@ right_admitted (queued book ticket) admissions limits mark = right_not_now (queu
 right_admitted (held book ticket worker) admissions limits mark = right_not_now (held book ticket worker)
 right_admitted (answered book reply) admissions limits mark = right_not_now (answered book reply)
 
-right_retired : (station : Station) → IsRight (is_home station) station (retired station)
+right_retired : (station : Station) → IsRightOutcome (is_home station) station (retired station)
 right_retired empty = right_not_now empty
 right_retired (home book) = record { refused = refl; kept = λ e. cc }
 right_retired (queued book ticket) = right_not_now (queued book ticket)
@@ -209,7 +211,7 @@ none_added seat answer station adds same =
 
 goes_at : (table : TableState) (place : ℕ) (seat : Seat) (event : Event) (mark fit : Bool) → IsSound table
     → slice_get table.seats place ≡ Some seat
-    → IsRight fit seat.station (local seat place event mark)
+    → IsRightOutcome fit seat.station (local seat place event mark)
     → Goes table fit (at_place table place (Some seat) event mark)
 goes_at table place seat event mark fit sound here right =
     let outcome : EventAnswer × Station = local seat place event mark in
@@ -253,10 +255,10 @@ goes_collected table place mark (Some seat) sound here =
 
 goes_admitted : (table : TableState) (place : ℕ) (limits : TenantLimits) (mark : Bool) (found : Option Seat)
     → IsSound table → slice_get table.seats place ≡ found
-    → Goes table (is_free found) (at_place table place found (Admit place limits) mark)
+    → Goes table (is_free_seat found) (at_place table place found (Admit place limits) mark)
 goes_admitted table place limits mark None sound here = goes_nowhere table sound
 goes_admitted table place limits mark (Some seat) sound here =
-    goes_at table place seat (Admit place limits) mark (is_free (Some seat)) sound here
+    goes_at table place seat (Admit place limits) mark (is_free_seat (Some seat)) sound here
     (right_admitted seat.station seat.admissions limits mark)
 
 goes_retired : (table : TableState) (place : ℕ) (mark : Bool) (found : Option Seat) → IsSound table

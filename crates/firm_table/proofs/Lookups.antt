@@ -7,7 +7,7 @@ use Rattle.std.proofs.lemmas.Slice.Eq.{bytes_eq-Decides}
 use Rattle.firm_text.specs.Registers.{is_free, most_admissions}
 use Rattle.firm_table.specs.Places.{Given, Stay, Place, is_stay_of, stay_of, with_command, commanded, left_by}
 use Rattle.firm_table.specs.Places.{registered, register_of}
-use Rattle.firm_table.proofs.Firsts.{First, here, behind, first}
+use Rattle.firm_table.proofs.Firsts.{FirstAt, here, behind, first}
 
 pub eq_same : (xs : List ℕ) → bytes_eq xs xs ≡ true
 eq_same xs = (bytes_eq-Decides xs xs).1 refl
@@ -121,7 +121,7 @@ stay_of-entered (place ∷ rest) name at new free none mine =
     by at (first is_free (registered place) (register_of rest) at free)
     (λ n is. stay_of-entered rest name n new is (not_here name place.stay (stay_of rest name) none).1 mine)
   where
-    by : (at : ℕ) → First is_free (registered place) (register_of rest) at
+    by : (at : ℕ) → FirstAt is_free (registered place) (register_of rest) at
         → ((n : ℕ) → position is_free (register_of rest) ≡ Some n → stay_of (slice_set rest n new) name ≡ new.stay)
         → stay_of (slice_set (place ∷ rest) at new) name ≡ new.stay
     by _ (here free) more = rw mine refl
@@ -136,7 +136,7 @@ stay_of-entered-other (place ∷ rest) name at new free others =
     by at (first is_free (registered place) (register_of rest) at free)
     (λ n is. stay_of-entered-other rest name n new is others)
   where
-    by : (at : ℕ) → First is_free (registered place) (register_of rest) at
+    by : (at : ℕ) → FirstAt is_free (registered place) (register_of rest) at
         → ((n : ℕ) → position is_free (register_of rest) ≡ Some n → stay_of (slice_set rest n new) name
         ≡ stay_of rest name)
         → stay_of (slice_set (place ∷ rest) at new) name ≡ stay_of (place ∷ rest) name

@@ -10,7 +10,7 @@ use Rattle.std.proofs.lemmas.List.Splits.{slice_split-cons_yes, slice_split-cons
 use Rattle.std.proofs.lemmas.List.{take_all, drop_all, append_cancel_right}
 use Rattle.std.proofs.lemmas.List.Sums.{split_at_first, passes_at_first}
 use Rattle.std.proofs.lemmas.Bool.Decides.{nat_tests}
-use Rattle.firm_text.specs.Cutters.{Cut, StandsFor}
+use Rattle.firm_text.specs.Cutters.{CutterIs, StandsFor}
 use Rattle.firm_text.specs.Inputs.{input_lines, line_of}
 use Rattle.firm_text.specs.Lines.{is_filled, is_line_feed, lines, without_empty_last}
 use Rattle.firm_text.specs.Rosters.{RosterRow}
@@ -155,7 +155,7 @@ halts_between roster heard text rest more written now both ended begins = record
 }
 
 -- nothing came yet
-pub heard_none : (IsTold : Telling) (cut : Cut) (heard front piece : List ℕ) (written now : Option (List ℕ))
+pub heard_none : (IsTold : Telling) (cut : CutterIs) (heard front piece : List ℕ) (written now : Option (List ℕ))
     → piece ≡ front ++ piece → Heard IsTold cut heard written now → Heard IsTold cut (heard ++ front) written now
 heard_none IsTold cut heard front piece written now same h =
     let none : front ≡ [] = append_cancel_right front [] piece (sym same) in
@@ -176,7 +176,7 @@ no_cut xs used e within u =
     (take_all _ xs l, drop_all used xs (omega arith))
 
 -- bytes came in which no line ends
-pub heard_more : (IsTold : Telling) (cut later : Cut) (heard bytes front : List ℕ) (written now : Option (List ℕ))
+pub heard_more : (IsTold : Telling) (cut later : CutterIs) (heard bytes front : List ℕ) (written now : Option (List ℕ))
     → front ≡ bytes
     → ((text : List ℕ) → StandsFor cut text → StandsFor later (text ++ bytes))
     → Heard IsTold cut heard written now → Heard IsTold later (heard ++ front) written now

@@ -13,7 +13,7 @@ use Rattle.firm_text.specs.declared.operator.OperatorRefusal.TheVariants.{Tenant
 use Rattle.firm_text.specs.declared.registers.Entry.{Entry}
 use Rattle.firm_table.specs.Places.{Given, Stay, Place, new_stay, unused_place, is_stay_of, stay_of, with_command}
 use Rattle.firm_table.specs.Places.{commanded, entered_at, registered, register_of}
-use Rattle.firm_table.proofs.Firsts.{First, here, behind, first, none_first}
+use Rattle.firm_table.proofs.Firsts.{FirstAt, here, behind, first, none_first}
 
 named_is : (name : List ℕ) (s : Option Stay) → is_named name (option_map (λ stay. stay.name) s) ≡ is_stay_of name s
 named_is name None = refl
@@ -44,7 +44,7 @@ stays_there (place ∷ rest) name at found =
     by at (first (λ (p : Entry). is_named name p.tenant) (registered place) (register_of rest) at found)
     (λ n is. stays_there rest name n is)
   where
-    by : (at : ℕ) → First (λ (p : Entry). is_named name p.tenant) (registered place) (register_of rest) at
+    by : (at : ℕ) → FirstAt (λ (p : Entry). is_named name p.tenant) (registered place) (register_of rest) at
         → ((n : ℕ) → place_in (register_of rest) name ≡ Some n → StaysAt rest name n) → StaysAt (place ∷ rest) name at
     by _ (here passes) more =
         let mine : is_stay_of name place.stay ≡ true = sym (named_is name place.stay) ∙ passes in
@@ -118,7 +118,7 @@ changed_once (place ∷ rest) name change at d apart found =
             length_registered [] = refl
             length_registered (p ∷ ps) = ap (λ (n : ℕ). suc n) (length_registered ps)
 
-    by : (at : ℕ) → First (λ (p : Entry). is_named name p.tenant) (registered place) (register_of rest) at
+    by : (at : ℕ) → FirstAt (λ (p : Entry). is_named name p.tenant) (registered place) (register_of rest) at
         → ((n : ℕ) → place_in (register_of rest) name ≡ Some n → map (changed name change) rest
         ≡ set rest n (change (get_or rest n d)))
         → map (changed name change) (place ∷ rest) ≡ set (place ∷ rest) at (change (get_or (place ∷ rest) at d))

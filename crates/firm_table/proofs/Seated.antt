@@ -9,14 +9,14 @@ use Rattle.std.proofs.lemmas.List.{length-map, map-set}
 use Rattle.std.proofs.lemmas.List.Quantifiers.{position-Some}
 use Rattle.std.proofs.lemmas.Option.{get_or_from_slice_get, slice_get-get_or}
 use Rattle.firm_rules.specs.Book.{Book, opening_book}
-use Rattle.firm_text.specs.Registers.{AreSound, is_named, occupied, place_in, vacant}
+use Rattle.firm_text.specs.Registers.{IsRegister, is_named, occupied, place_in, vacant}
 use Rattle.firm_text.specs.Rosters.{RosterRow, most_places}
 use Rattle.firm_text.specs.declared.registers.Entry.{Entry}
-use Rattle.firm_table.specs.inner.Line.{tenants_are, opening_tenants, Fits}
+use Rattle.firm_table.specs.inner.Line.{tenants_are, opening_tenants, BooksFit}
 
-module _ (register : List Entry) (books : List (Option Book)) (fits : Fits (tenants_are register books)) where
+module _ (register : List Entry) (books : List (Option Book)) (fits : BooksFit (tenants_are register books)) where
   -- as many books as places
-  pub seated_within : AreSound register → (at : ℕ) → at < most_places → at < length books
+  pub seated_within : IsRegister register → (at : ℕ) → at < most_places → at < length books
   seated_within sound at low =
       let same = sym (length-map register (λ (place : Entry). is_some place.tenant)) ∙ ap length fits
       ∙ length-map books is_some in
@@ -39,7 +39,7 @@ module _ (register : List Entry) (books : List (Option Book)) (fits : Fits (tena
 
   -- a place and its book change together
   pub seated_set : (at : ℕ) (place : Entry) (book : Option Book) → is_some place.tenant ≡ is_some book
-      → Fits (tenants_are (set register at place) (set books at book))
+      → BooksFit (tenants_are (set register at place) (set books at book))
   seated_set at place book same =
       map-set (λ (p : Entry). is_some p.tenant) register at place
       ∙ ap (λ (tests : List Bool). set tests at (is_some place.tenant)) fits
@@ -48,7 +48,7 @@ module _ (register : List Entry) (books : List (Option Book)) (fits : Fits (tena
 
   -- or another book stands at a place that has one
   pub seated_still : (at : ℕ) (book : Book) → is_some (get_or books at None) ≡ true
-      → Fits (tenants_are register (set books at (Some book)))
+      → BooksFit (tenants_are register (set books at (Some book)))
   seated_still at book here = fits ∙ sym (map-set_same is_some books at (Some book) None (sym here))
 
 -- what an index finds
@@ -67,5 +67,5 @@ opens_seated [] zero = refl
 opens_seated [] (suc n) = ap (λ (tests : List Bool). false ∷ tests) (opens_seated [] n)
 opens_seated (row ∷ rest) n = ap (λ (tests : List Bool). true ∷ tests) (opens_seated rest n)
 
-pub opening_seated : (roster : List RosterRow) → Fits (opening_tenants roster)
+pub opening_seated : (roster : List RosterRow) → BooksFit (opening_tenants roster)
 opening_seated roster = opens_seated roster (most_places - length roster)

@@ -2,7 +2,7 @@
 use Rattle.std.proofs.Common.{◌≡◌, ℕ, ◌≤◌, List, [], ◌++◌, length, refl, sym, subst, append-nil, inl, inr}
 use Rattle.std.specs.Prelude.{Bool, false, Option, Result, Ok, Err, OnOk, OnErr, IfErr}
 use Rattle.std.specs.Io.KnownBytes.{Consumes, IsAtEnd}
-use Rattle.firm_text.specs.Cutters.{Cut}
+use Rattle.firm_text.specs.Cutters.{CutterIs}
 use Rattle.firm_text.specs.Rosters.{RosterRow}
 use Rattle.firm_table.specs.Service.{Answers, BeginsAnswers, Served, Stopped, IsCause, device}
 use Rattle.firm_table.specs.Telling.{Telling}
@@ -36,7 +36,7 @@ cause_writing TooLong input most read_failed write_failed well p = absurd p
 cause_writing Memory input most read_failed write_failed well p = (well, p)
 
 -- what is said of each text after a call holds of what was heard
-pub heard_told : (IsTold Later : Telling) (cut : Cut) (heard : List ℕ) (written now later : Option (List ℕ))
+pub heard_told : (IsTold Later : Telling) (cut : CutterIs) (heard : List ℕ) (written now later : Option (List ℕ))
     → Heard IsTold cut heard written now
     → ((text : List ℕ) (before : Option (List ℕ)) → IsTold text before now → Later text before later)
     → Heard Later cut heard written later

@@ -25,7 +25,7 @@ use Rattle.firm_table.specs.declared.events.Answer.TheVariants.{NotNow}
 use Rattle.firm_table.proofs.Machine.{Places, one, two, places, eq_itself, set_here, set_there}
 
 -- what an event at a place adds to the queue is the ticket that then waits there
-pub record Adds (place : ℕ) (station : Station) (outcome : EventAnswer × Station) : Type 0 where
+pub record AddsTicket (place : ℕ) (station : Station) (outcome : EventAnswer × Station) : Type 0 where
   pub here : queued_ticket outcome.1 ≡ queued_ticket station ++ queue_more outcome.0
   pub own : tickets_of place (queue_more outcome.0) ≡ queue_more outcome.0
   pub others : (other : ℕ) → (place == other) ≡ false → tickets_of other (queue_more outcome.0) ≡ []
@@ -33,7 +33,7 @@ pub record Adds (place : ℕ) (station : Station) (outcome : EventAnswer × Stat
 -- nothing is added
 adds_none : (place : ℕ) (station after : Station) (answer : EventAnswer) → queue_more answer ≡ []
     → queued_ticket after ≡ queued_ticket station
-    → Adds place station (answer, after)
+    → AddsTicket place station (answer, after)
 adds_none place station after answer none same = record {
   here = same ∙ sym (append-nil (queued_ticket station))
       ∙ ap (λ (more : List Ticket). queued_ticket station ++ more) (sym none);
@@ -41,14 +41,14 @@ adds_none place station after answer none same = record {
   others = λ other apart. ap (tickets_of other) none;
 }
 
-adds_either : (place : ℕ) (station : Station) (b : Bool) (x y : EventAnswer × Station) → Adds place station x
-    → Adds place station y
-    → Adds place station (if b then x else y)
+adds_either : (place : ℕ) (station : Station) (b : Bool) (x y : EventAnswer × Station) → AddsTicket place station x
+    → AddsTicket place station y
+    → AddsTicket place station (if b then x else y)
 adds_either place station true x y p q = p
 adds_either place station false x y p q = q
 
 adds_posted : (place : ℕ) (station : Station) (command : Command) (mark : Bool)
-    → Adds place station (posted station command mark)
+    → AddsTicket place station (posted station command mark)
 adds_posted place empty command mark = adds_none place empty empty NotNow refl refl
 adds_posted place (home book) command mark =
     adds_either place (home book) (is_round command) (NotNow, home book)
@@ -63,7 +63,7 @@ adds_posted place (answered book reply) command mark =
     adds_none place (answered book reply) (answered book reply) NotNow refl refl
 
 adds_ticket : (place number : ℕ) (book : Book) → let ticket : Ticket = record { place = place; number = number } in
-    Adds place (home book) (Queued ticket, queued book ticket)
+    AddsTicket place (home book) (Queued ticket, queued book ticket)
 adds_ticket place number book = record {
   here = refl;
   own = rw (eq_itself place) refl;
@@ -71,13 +71,13 @@ adds_ticket place number book = record {
 }
 
 adds_asked : (place number : ℕ) (station : Station) (mark : Bool)
-    → Adds place station (asked station (record { place = place; number = number }) mark)
+    → AddsTicket place station (asked station (record { place = place; number = number }) mark)
 adds_asked place number empty mark = adds_none place empty empty NotNow refl refl
 adds_asked place number (home book) mark =
     let ticket : Ticket = record { place = place; number = number } in
     let now : EventAnswer × Station = (Replied (step book Round mark).0, home (step book Round mark).1) in
     let later : EventAnswer × Station = (Queued ticket, queued book ticket) in
-    let at_once : Adds place (home book) now =
+    let at_once : AddsTicket place (home book) now =
     adds_none place (home book) (home (step book Round mark).1) (Replied (step book Round mark).0) refl refl in
     adds_either place (home book) (nat_le book.rows.limits.life book.given) now (if mark then now else later) at_once
     (adds_either place (home book) mark now later at_once (adds_ticket place number book))
@@ -88,7 +88,7 @@ adds_asked place number (held book ticket worker) mark =
 adds_asked place number (answered book reply) mark =
     adds_none place (answered book reply) (answered book reply) NotNow refl refl
 
-adds_solved : (place : ℕ) (station : Station) (mark : Bool) → Adds place station (solved station mark)
+adds_solved : (place : ℕ) (station : Station) (mark : Bool) → AddsTicket place station (solved station mark)
 adds_solved place empty mark = adds_none place empty empty NotNow refl refl
 adds_solved place (home book) mark = adds_none place (home book) (home book) NotNow refl refl
 adds_solved place (queued book ticket) mark = adds_none place (queued book ticket) (queued book ticket) NotNow refl refl
@@ -98,7 +98,7 @@ adds_solved place (held book ticket worker) mark =
 adds_solved place (answered book reply) mark =
     adds_none place (answered book reply) (answered book reply) NotNow refl refl
 
-adds_collected : (place : ℕ) (station : Station) → Adds place station (collected station)
+adds_collected : (place : ℕ) (station : Station) → AddsTicket place station (collected station)
 adds_collected place empty = adds_none place empty empty NotNow refl refl
 adds_collected place (home book) = adds_none place (home book) (home book) NotNow refl refl
 adds_collected place (queued book ticket) = adds_none place (queued book ticket) (queued book ticket) NotNow refl refl
@@ -107,7 +107,7 @@ adds_collected place (held book ticket worker) =
 adds_collected place (answered book reply) = adds_none place (answered book reply) (home book) (Replied reply) refl refl
 
 adds_admitted : (place : ℕ) (station : Station) (admissions : ℕ) (limits : TenantLimits) (mark : Bool)
-    → Adds place station (admitted station admissions limits mark)
+    → AddsTicket place station (admitted station admissions limits mark)
 adds_admitted place empty admissions limits mark =
     let nobody : EventAnswer × Station = (NoMemory, empty) in
     let comes : EventAnswer × Station = (Admitted, home (opening_book limits)) in
@@ -123,7 +123,7 @@ adds_admitted place (held book ticket worker) admissions limits mark =
 adds_admitted place (answered book reply) admissions limits mark =
     adds_none place (answered book reply) (answered book reply) NotNow refl refl
 
-adds_retired : (place : ℕ) (station : Station) → Adds place station (retired station)
+adds_retired : (place : ℕ) (station : Station) → AddsTicket place station (retired station)
 adds_retired place empty = adds_none place empty empty NotNow refl refl
 adds_retired place (home book) = adds_none place (home book) empty Retired refl refl
 adds_retired place (queued book ticket) = adds_none place (queued book ticket) (queued book ticket) NotNow refl refl
@@ -132,7 +132,7 @@ adds_retired place (held book ticket worker) =
 adds_retired place (answered book reply) = adds_none place (answered book reply) (answered book reply) NotNow refl refl
 
 pub adds_local : (seat : Seat) (place : ℕ) (event : Event) (mark : Bool)
-    → Adds place seat.station (local seat place event mark)
+    → AddsTicket place seat.station (local seat place event mark)
 adds_local seat place (Post at command) mark = adds_posted place seat.station command mark
 adds_local seat place (Ask at) mark = adds_asked place (seat.rounds + 1) seat.station mark
 adds_local seat place (Collect at) mark = adds_collected place seat.station
@@ -154,7 +154,7 @@ waiting_set (first ∷ rest) (suc place) seat new e = let behind =
 
 pub sound_at : (table : TableState) (place : ℕ) (seat : Seat) (outcome : EventAnswer × Station) → IsSound table
     → slice_get table.seats place ≡ Some seat
-    → Adds place seat.station outcome
+    → AddsTicket place seat.station outcome
     → IsSound (record table {
       seats = slice_set table.seats place (seat_behind seat outcome);
       queue = table.queue

@@ -31,9 +31,9 @@ stands test None = false
 stands test (Some seat) = test seat.station
 
 -- whether a place is there, nobody is at it, and it has an admission left
-abbrev pub is_free : Option Seat → Bool
-is_free None = false
-is_free (Some seat) = is_empty seat.station && nat_lt seat.admissions most_admissions
+abbrev pub is_free_seat : Option Seat → Bool
+is_free_seat None = false
+is_free_seat (Some seat) = is_empty seat.station && nat_lt seat.admissions most_admissions
 
 -- whether a round waits in the queue
 abbrev pub has_waiting : List Ticket → Bool
@@ -49,7 +49,7 @@ fits table (Ask place) = stands is_home (slice_get table.seats place)
 fits table (Take worker) = may_take table worker && has_waiting table.queue
 fits table (Answer worker) = list_any (λ seat. is_held worker seat.station) table.seats
 fits table (Collect place) = stands is_answered (slice_get table.seats place)
-fits table (Admit place limits) = is_free (slice_get table.seats place)
+fits table (Admit place limits) = is_free_seat (slice_get table.seats place)
 fits table (Retire place) = stands is_home (slice_get table.seats place)
 
 -- whether an event asks for a round
@@ -64,7 +64,7 @@ asks (Retire place) = false
 
 -- an event is answered, and changes the table, as defined; memory may be refused in it, but not to a round that is only
 -- asked for
-pub record IsStep (table : TableState) (event : Event) (answer : EventAnswer) (after : TableState) : Type 0 where
+pub record IsEventStep (table : TableState) (event : Event) (answer : EventAnswer) (after : TableState) : Type 0 where
   pub mark : Bool
   pub asked : asks event ≡ true → mark ≡ false
   pub happened : (answer, after) ≡ happens table (event, mark)

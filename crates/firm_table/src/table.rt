@@ -3,7 +3,7 @@
 ghost use Rattle.std.specs.Prelude.{◌≡◌, ◌≤◌, ◌↔◌, false, IfOk, length, slice_get};
 ghost use Rattle.std.specs.List.{list_any};
 ghost use Rattle.firm_table.specs.Interleaving.{opening_seats, opening_table, place_held, is_held};
-ghost use Rattle.firm_table.specs.Fitting.{IsStep, fits};
+ghost use Rattle.firm_table.specs.Fitting.{IsEventStep, fits};
 ghost use Rattle.firm_table.specs.inner.Events.{IsDone};
 ghost use Rattle.firm_table.specs.inner.Tables.{first_seat};
 
@@ -61,7 +61,7 @@ impl Table {
     /// most 32,768 times, a row of the roster counting as once. The allocator is for the list in a reply, and for a
     /// tenant that is admitted.
     pub fn event(&mut self, alloc: Global, event: Event) -> Answer
-        ensures stepped { IsStep self.old event result self.new }
+        ensures stepped { IsEventStep self.old event result self.new }
         ensures not_now { (result ≡ Answer.NotNow) ↔ (fits self.old event ≡ false) }
         ensures unchanged { result ≡ Answer.NotNow → self.new ≡ self.old }
         ensures no_memory { result ≡ Answer.NoMemory → self.new ≡ self.old }

@@ -25,15 +25,15 @@ pub struct Tenants {
 }
 
 impl Model for Tenants {
-    ghost use Rattle.firm_table.specs.inner.Line.{Tenants as TenantsState};
+    ghost use Rattle.firm_table.specs.inner.Line.{TenantsState};
 
     ghost Value = { TenantsState };
 
-    ghost use Rattle.firm_table.specs.inner.Line.{Fits, tenants_are};
+    ghost use Rattle.firm_table.specs.inner.Line.{BooksFit, tenants_are};
 
     ghost view = { λ t. tenants_are t.register t.places.items };
 
-    ghost invariant = { λ t. Fits (tenants_are t.register t.places.items) };
+    ghost invariant = { λ t. BooksFit (tenants_are t.register t.places.items) };
 }
 
 impl Tenants {

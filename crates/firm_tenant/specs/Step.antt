@@ -10,7 +10,7 @@ use Rattle.firm_rules.specs.Placement.{placement_cost}
 use Rattle.firm_rules.specs.Recent.{with_cost}
 use Rattle.firm_rules.specs.Refusals.{fault_refusal}
 use Rattle.firm_rules.specs.Round.{case_of, round_placement, changes_made, rows_after}
-use Rattle.firm_rules.specs.declared.parts.Task.{Task}
+use Rattle.firm_rules.specs.declared.book.Task.{Task}
 use Rattle.firm_rules.specs.declared.rounds.Choice.{Choice}
 use Rattle.firm_rules.specs.declared.commands.Command.{Command}
 use Rattle.firm_rules.specs.declared.commands.Command.TheVariants.{AddMachine, AddJob, AddTask, Drain, CloseJob, Done}

@@ -16,7 +16,7 @@ use Rattle.std.proofs.lemmas.List.Quantifiers.{position-Some}
 use Rattle.std.proofs.lemmas.List.Sums.{fails_before_first}
 use Rattle.std.proofs.lemmas.Slice.Eq.{bytes_eq-Decides}
 use Rattle.firm_text.specs.Rosters.{RosterRow, NamesDiffer, most_places}
-use Rattle.firm_text.specs.Registers.{AreApart, AreSound, IsAdmission, IsCounted, admissions_at, is_free, is_named}
+use Rattle.firm_text.specs.Registers.{AreApart, IsRegister, IsAdmission, IsCounted, admissions_at, is_free, is_named}
 use Rattle.firm_text.specs.Registers.{first_places, most_admissions, occupied, place_for, place_in, vacant}
 use Rattle.firm_text.specs.declared.operator.OperatorRefusal.{OperatorRefusal}
 use Rattle.firm_text.specs.declared.operator.OperatorRefusal.TheVariants.{TenantExists, Full}
@@ -114,8 +114,8 @@ apart_set places at place apart new i j d before within name first second =
           ]
     ]
 
-pub sound_set : (places : List Entry) (at : ℕ) (place : Entry) → AreSound places → IsCounted place
-    → ((name : List ℕ) → place.tenant ≡ Some name → place_in places name ≡ None) → AreSound (set places at place)
+pub sound_set : (places : List Entry) (at : ℕ) (place : Entry) → IsRegister places → IsCounted place
+    → ((name : List ℕ) → place.tenant ≡ Some name → place_in places name ≡ None) → IsRegister (set places at place)
 sound_set places at place sound counted new = record {
   all = length-set places at place ∙ sound.all;
   apart = apart_set places at place sound.apart new;
@@ -123,8 +123,8 @@ sound_set places at place sound counted new = record {
 }
 
 -- a tenant is admitted to a place that may be given
-pub sound_given : (places : List Entry) (name : List ℕ) (at : ℕ) (d : Entry) → AreSound places
-    → place_for places name ≡ Ok at → AreSound (set places at (occupied name ((get_or places at d).admissions + 1)))
+pub sound_given : (places : List Entry) (name : List ℕ) (at : ℕ) (d : Entry) → IsRegister places
+    → place_for places name ≡ Ok at → IsRegister (set places at (occupied name ((get_or places at d).admissions + 1)))
 sound_given places name at d sound given =
     let free = free_for places name at given in
     let spare = spare_of (get_or places at d) (free.free d) in
@@ -132,8 +132,8 @@ sound_given places name at d sound given =
     (λ other held. subst (λ (n : List ℕ). place_in places n ≡ None) (cc) free.none)
 
 -- a place that is emptied, given no more often than it was
-pub sound_left : (places : List Entry) (at : ℕ) (admissions : ℕ) (d : Entry) → AreSound places → at < length places
-    → admissions ≤ (get_or places at d).admissions → AreSound (set places at (vacant admissions))
+pub sound_left : (places : List Entry) (at : ℕ) (admissions : ℕ) (d : Entry) → IsRegister places → at < length places
+    → admissions ≤ (get_or places at d).admissions → IsRegister (set places at (vacant admissions))
 sound_left places at admissions d sound within fewer =
     let counted = (sound.counted at d within).0 in
     sound_set places at (vacant admissions) sound (omega arith, λ some. absurd (cc)) (λ name held. absurd (cc))
@@ -251,7 +251,7 @@ first_apart tenants differ few i j d before within name first second =
     ]
 
 pub sound_first : (tenants : List RosterRow) → NamesDiffer tenants → length tenants ≤ most_places
-    → AreSound (first_places tenants)
+    → IsRegister (first_places tenants)
 sound_first tenants differ few = record {
   all = first_wide tenants few;
   apart = first_apart tenants differ few;

@@ -69,7 +69,7 @@ abbrev pub IsCounted : Entry → Type 0
 IsCounted place = (place.admissions ≤ most_admissions) × (IsSome place.tenant → 0 < place.admissions)
 
 -- what holds of the places at all times
-pub record AreSound (places : List Entry) : Type 0 where
+pub record IsRegister (places : List Entry) : Type 0 where
   pub all : length places ≡ most_places
   pub apart : AllPairs AreApart places
   pub counted : All IsCounted places

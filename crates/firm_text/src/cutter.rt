@@ -5,14 +5,14 @@ ghost use Rattle.std.specs.List.{position_or_len};
 ghost use Rattle.std.specs.Str.Lines.{strip_carriage_return};
 ghost use Rattle.firm_text.specs.Inputs.{line_of};
 ghost use Rattle.firm_text.specs.Lines.{is_filled, is_line_feed};
-ghost use Rattle.firm_text.specs.Cutters.{StandsFor, most_held, most_counted};
+ghost use Rattle.firm_text.specs.Cutters.{StandsFor, most_bytes_held, most_counted};
 
 use crate::inputs::Line;
 use crate::reading::line;
 use std::marker::Model;
 
 /// How many bytes of a line are held: the longest line and a carriage return.
-const MOST_HELD: usize = 257;
+const MOST_BYTES_HELD: usize = 257;
 
 /// Where the count of a line's bytes stops.
 const MOST_COUNTED: usize = 258;
@@ -20,16 +20,16 @@ const MOST_COUNTED: usize = 258;
 /// The bytes of a line that comes in pieces, as far as they matter: the first 257 of them, and their count up to 258.
 #[derive(Drop)]
 pub struct Cutter {
-    bytes: [u8; MOST_HELD],
+    bytes: [u8; MOST_BYTES_HELD],
     count: usize,
     has_ended: bool,
 }
 
 impl Model for Cutter {
     ghost use Rattle.std.specs.Prelude.{◌≤◌, take, length, min};
-    ghost use Rattle.firm_text.specs.Cutters.{Cut, most_counted};
+    ghost use Rattle.firm_text.specs.Cutters.{CutterIs, most_counted};
 
-    ghost Value = { Cut };
+    ghost Value = { CutterIs };
 
     ghost view = { λ c. record { held = take c.count c.bytes; count = c.count; has_ended = c.has_ended } };
 
@@ -52,7 +52,7 @@ impl Cutter {
         ensures open { result.has_ended ≡ false }
     {
         Cutter {
-            bytes: [0; MOST_HELD],
+            bytes: [0; MOST_BYTES_HELD],
             count: 0,
             has_ended: false,
         }
@@ -108,12 +108,12 @@ impl Cutter {
     }
 
     fn hold(&mut self, bytes: &[u8])
-        ensures held { self.new.held ≡ take most_held (self.old.held ++ bytes.now) }
+        ensures held { self.new.held ≡ take most_bytes_held (self.old.held ++ bytes.now) }
         ensures count { self.new.count ≡ min most_counted (self.old.count + length bytes.now) }
         ensures ended { self.new.has_ended ≡ self.old.has_ended }
     {
-        let begin = self.count.min(MOST_HELD);
-        let fits = bytes.len().min(MOST_HELD - begin);
+        let begin = self.count.min(MOST_BYTES_HELD);
+        let fits = bytes.len().min(MOST_BYTES_HELD - begin);
         self.bytes[begin..begin + fits].copy_from_slice(&bytes[..fits]);
         self.count = MOST_COUNTED.min(self.count + bytes.len());
     }

@@ -1,7 +1,7 @@
 //! Which tenant has which place while tenants are admitted and retired.
 ghost use Rattle.std.specs.Prelude.{◌≡◌, ◌<◌, ℕ, List, IfOk, IfSome, OnErr, position};
 ghost use Rattle.std.specs.Option.{ok_or};
-ghost use Rattle.firm_text.specs.Registers.{AreSound, IsAdmission, first_places, is_free, is_named};
+ghost use Rattle.firm_text.specs.Registers.{IsRegister, IsAdmission, first_places, is_free, is_named};
 ghost use Rattle.firm_text.specs.Rosters.{most_places};
 ghost use Rattle.firm_text.specs.Registers.{place_for, place_in, with_tenant, without_tenant};
 ghost use Rattle.firm_text.specs.declared.registers.Entry.{Entry};
@@ -37,11 +37,11 @@ impl Model for Register {
 
     ghost Value = { List Entry };
 
-    ghost use Rattle.firm_text.specs.Registers.{AreSound};
+    ghost use Rattle.firm_text.specs.Registers.{IsRegister};
 
     ghost view = { λ register. register.places };
 
-    ghost invariant = { λ register. AreSound register.places };
+    ghost invariant = { λ register. IsRegister register.places };
 }
 
 impl Register {
@@ -64,7 +64,7 @@ impl Register {
     pub fn place_of(&self, name: Name) -> Option<usize>
         ensures place { result ≡ place_in self.now name }
         ensures within { IfSome result (λ place. place < most_places) }
-        ensures sound { AreSound self.now }
+        ensures sound { IsRegister self.now }
     {
         self.places.iter().position(|place| place.is_of(name))
     }
@@ -74,7 +74,7 @@ impl Register {
     pub fn admit(&mut self, name: Name) -> Result<usize, OperatorRefusal>
         ensures place { result ≡ place_for self.old name }
         ensures within { IfOk result (λ place. place < most_places) }
-        ensures sound { AreSound self.old }
+        ensures sound { IsRegister self.old }
         ensures admitted { IfOk result (λ place. self.new ≡ with_tenant self.old place name) }
         ensures unchanged { OnErr result (self.new ≡ self.old) }
     {
@@ -94,7 +94,7 @@ impl Register {
     pub fn retire(&mut self, name: Name) -> Result<usize, OperatorRefusal>
         ensures place { result ≡ ok_or (place_in self.old name) NoSuchTenant }
         ensures within { IfOk result (λ place. place < most_places) }
-        ensures sound { AreSound self.old }
+        ensures sound { IsRegister self.old }
         ensures retired { IfOk result (λ place. self.new ≡ without_tenant self.old place) }
         ensures unchanged { OnErr result (self.new ≡ self.old) }
     {

@@ -9,37 +9,39 @@ use Rattle.atomic_table.specs.Table.{rest}
 use Rattle.firm_rules.specs.Book.{Book}
 use Rattle.firm_tray.specs.declared.protocol.Stage.{Stage}
 use Rattle.firm_tray.specs.declared.protocol.Stage.TheVariants.{Opening, Holding, Open, Spent, Asked, Taken}
-use Rattle.firm_tray.specs.declared.protocol.Sight.{Sight}
+use Rattle.firm_tray.specs.declared.protocol.TraySight.{TraySight}
 use Rattle.firm_tray.specs.declared.protocol.Solved.{Solved}
 use Rattle.firm_tray.specs.Solved.{IsSolved}
-use Rattle.firm_tray.specs.Rule.{sight, Phase, fresh, dealt, waiting, answered, gone, Tray, state_of, IsFair, Keeps}
-use Rattle.firm_tray.specs.Rule.{Hand, takes_slot, answers, looks}
+use Rattle.firm_tray.specs.Rule.{tray_sight, Phase, fresh, dealt, waiting, answered, gone, Tray, tray_at, IsFair}
+use Rattle.firm_tray.specs.Rule.{KeepsRule}
+use Rattle.firm_tray.specs.Rule.{Hand, takes_slot, gives_answer, looks}
 
 -- what a step at the word owes in the state s
 abbrev Goes : Book → ℕ → Hand → (ℕ → ℕ) → (ℕ → Hand → Type 0) → Tray → Type 0
 Goes b id me f then s =
-    (w : Sight) × (a : Act _) × Valid s.homes me.1 a × Keeps b (stepped s 0 (f (get_or s.words 0 0)) id me.1 w a)
+    (w : TraySight) × (a : Act _) × Valid s.homes me.1 a
+    × KeepsRule b (stepped s 0 (f (get_or s.words 0 0)) id me.1 w a)
     × then (get_or s.words 0 0) (w, carried_after me.1 a)
 
 by_phase : (b : Book) (slots id : ℕ) (me : Hand) (f : ℕ → ℕ) (then : ℕ → Hand → Type 0)
-    → ((p : Phase) → IsFair b p → get_elem? (state_of b p).views id ≡ some me.0 → Goes b id me f then (state_of b p))
-    → Allows (Keeps b) slots id me 0 f then
+    → ((p : Phase) → IsFair b p → get_elem? (tray_at b p).views id ≡ some me.0 → Goes b id me f then (tray_at b p))
+    → Allows (KeepsRule b) slots id me 0 f then
 by_phase b slots id me f then go s k _ at _ =
     subst (Goes b id me f then) (sym k.1) (go k.0 k.2 (ap (λ (t : Tray). get_elem? t.views id) (sym k.1) ∙ at))
 
-stage_in : (x y : Sight) → some x ≡ some y → x.stage ≡ y.stage
-stage_in x y e = ap (λ (v : Sight). v.stage) (some-injective x y e)
+stage_in : (x y : TraySight) → some x ≡ some y → x.stage ≡ y.stage
+stage_in x y e = ap (λ (v : TraySight). v.stage) (some-injective x y e)
 
 -- the stage of the seat that stands there
 abbrev Stands : Book → ℕ → Phase → Stage → Type 0
-Stands b id p stage = get_elem? (state_of b p).views id ≡ some (sight stage b)
+Stands b id p stage = get_elem? (tray_at b p).views id ≡ some (tray_sight stage b)
 
-nowhere : {G : Type 0} (v : Sight) → mathlib.Core.Option.none ≡ some v → G
+nowhere : {G : Type 0} (v : TraySight) → mathlib.Core.Option.none ≡ some v → G
 nowhere v e = absurd (some-ne-none v (sym e))
 
 deals : (b : Book) (id : ℕ) (p : Phase) → IsFair b p → Stands b id p Opening
-    → Goes b id (sight Opening b, []) (λ n. n) (λ n m. m ≡ (sight Holding b, (0, None) ∷ [])) (state_of b p)
-deals b zero fresh fair at = (sight Holding b, takes 0 None, refl, (dealt, refl, tt), refl)
+    → Goes b id (tray_sight Opening b, []) (λ n. n) (λ n m. m ≡ (tray_sight Holding b, (0, None) ∷ [])) (tray_at b p)
+deals b zero fresh fair at = (tray_sight Holding b, takes 0 None, refl, (dealt, refl, tt), refl)
 deals b (suc id) fresh fair at = nowhere _ at
 deals b zero dealt fair at = let e : Holding ≡ Opening = stage_in _ _ at in cc
 deals b (suc id) dealt fair at = nowhere _ at
@@ -54,12 +56,12 @@ deals b (suc zero) gone fair at = let e : Taken ≡ Opening = stage_in _ _ at in
 deals b (suc (suc id)) gone fair at = nowhere _ at
 
 fills : (b : Book) (x : Solved) → IsSolved b x → (id : ℕ) (p : Phase) → IsFair b p → Stands b id p Open
-    → Goes b id (sight Open b, (0, Some x) ∷ []) (λ n. 1) (λ n m. m ≡ (sight Spent b, [])) (state_of b p)
+    → Goes b id (tray_sight Open b, (0, Some x) ∷ []) (λ n. 1) (λ n m. m ≡ (tray_sight Spent b, [])) (tray_at b p)
 fills b x r zero fresh fair at = let e : Opening ≡ Open = stage_in _ _ at in cc
 fills b x r (suc id) fresh fair at = nowhere _ at
 fills b x r zero dealt fair at = let e : Holding ≡ Open = stage_in _ _ at in cc
 fills b x r (suc id) dealt fair at = nowhere _ at
-fills b x r zero waiting fair at = (sight Spent b, gives, tt, (answered x, refl, r), refl)
+fills b x r zero waiting fair at = (tray_sight Spent b, gives, tt, (answered x, refl, r), refl)
 fills b x r (suc zero) waiting fair at = let e : Asked ≡ Open = stage_in _ _ at in cc
 fills b x r (suc (suc id)) waiting fair at = nowhere _ at
 fills b x r zero (answered y) fair at = let e : Spent ≡ Open = stage_in _ _ at in cc
@@ -70,56 +72,59 @@ fills b x r (suc zero) gone fair at = let e : Taken ≡ Open = stage_in _ _ at i
 fills b x r (suc (suc id)) gone fair at = nowhere _ at
 
 sees : (b : Book) (id : ℕ) (p : Phase) → IsFair b p → Stands b id p Asked
-    → Goes b id (sight Asked b, []) (λ n. either (n == 1) 2 n)
-    (λ n m. looks (step 1 0 1 2 mathlib.Core.Option.none) (sight Asked b, []) n m) (state_of b p)
+    → Goes b id (tray_sight Asked b, []) (λ n. either (n == 1) 2 n)
+    (λ n m. looks (step 1 0 1 2 mathlib.Core.Option.none) (tray_sight Asked b, []) n m) (tray_at b p)
 sees b zero fresh fair at = let e : Opening ≡ Asked = stage_in _ _ at in cc
 sees b (suc id) fresh fair at = nowhere _ at
 sees b zero dealt fair at = let e : Holding ≡ Asked = stage_in _ _ at in cc
 sees b (suc id) dealt fair at = nowhere _ at
 sees b zero waiting fair at = let e : Open ≡ Asked = stage_in _ _ at in cc
-sees b (suc zero) waiting fair at = (sight Asked b, keeps, tt, (waiting, refl, tt), (refl, refl))
+sees b (suc zero) waiting fair at = (tray_sight Asked b, keeps, tt, (waiting, refl, tt), (refl, refl))
 sees b (suc (suc id)) waiting fair at = nowhere _ at
 sees b zero (answered x) fair at = let e : Spent ≡ Asked = stage_in _ _ at in cc
-sees b (suc zero) (answered x) fair at = (sight Taken b, takes 0 (Some x), refl, (gone, refl, tt), (x, fair, refl))
+sees b (suc zero) (answered x) fair at = (tray_sight Taken b, takes 0 (Some x), refl, (gone, refl, tt), (x, fair, refl))
 sees b (suc (suc id)) (answered x) fair at = nowhere _ at
 sees b zero gone fair at = let e : Spent ≡ Asked = stage_in _ _ at in cc
 sees b (suc zero) gone fair at = let e : Taken ≡ Asked = stage_in _ _ at in cc
 sees b (suc (suc id)) gone fair at = nowhere _ at
 
 pub deals_allowed : (b : Book) (slots id : ℕ)
-    → Allows (Keeps b) slots id (sight Opening b, []) 0 (λ n. n)
-    (takes_slot (step slots 0 0 0 mathlib.Core.Option.none) (sight Opening b, []))
+    → Allows (KeepsRule b) slots id (tray_sight Opening b, []) 0 (λ n. n)
+    (takes_slot (step slots 0 0 0 mathlib.Core.Option.none) (tray_sight Opening b, []))
 deals_allowed b slots id =
-    by_phase b slots id (sight Opening b, []) (λ n. n) (λ n m. m ≡ (sight Holding b, (0, None) ∷ [])) (deals b id)
+    by_phase b slots id (tray_sight Opening b, []) (λ n. n) (λ n m. m ≡ (tray_sight Holding b, (0, None) ∷ []))
+    (deals b id)
 
 pub fills_allowed : (b : Book) (x : Solved) (slots id : ℕ) → IsSolved b x
-    → Allows (Keeps b) slots id (sight Open b, (0, Some x) ∷ []) 0 (λ n. 1)
-    (λ n. answers (step slots 0 1 0 mathlib.Core.Option.none) (sight Open b, (0, Some x) ∷ []) 1)
+    → Allows (KeepsRule b) slots id (tray_sight Open b, (0, Some x) ∷ []) 0 (λ n. 1)
+    (λ n. gives_answer (step slots 0 1 0 mathlib.Core.Option.none) (tray_sight Open b, (0, Some x) ∷ []) 1)
 fills_allowed b x slots id r =
-    by_phase b slots id (sight Open b, (0, Some x) ∷ []) (λ n. 1) (λ n m. m ≡ (sight Spent b, [])) (fills b x r id)
+    by_phase b slots id (tray_sight Open b, (0, Some x) ∷ []) (λ n. 1) (λ n m. m ≡ (tray_sight Spent b, []))
+    (fills b x r id)
 
 pub sees_allowed : (b : Book) (slots id : ℕ)
-    → Allows (Keeps b) slots id (sight Asked b, []) 0 (λ n. either (n == 1) 2 n)
-    (looks (step slots 0 1 2 mathlib.Core.Option.none) (sight Asked b, []))
+    → Allows (KeepsRule b) slots id (tray_sight Asked b, []) 0 (λ n. either (n == 1) 2 n)
+    (looks (step slots 0 1 2 mathlib.Core.Option.none) (tray_sight Asked b, []))
 sees_allowed b slots id =
-    by_phase b slots id (sight Asked b, []) (λ n. either (n == 1) 2 n)
-    (λ n m. looks (step slots 0 1 2 mathlib.Core.Option.none) (sight Asked b, []) n m) (sees b id)
+    by_phase b slots id (tray_sight Asked b, []) (λ n. either (n == 1) 2 n)
+    (λ n m. looks (step slots 0 1 2 mathlib.Core.Option.none) (tray_sight Asked b, []) n m) (sees b id)
 
 -- the same where the key and the seat are known to be those
-pub deals_as : (b key : Book) (me : Hand) (slots id : ℕ) → key ≡ b → me ≡ (sight Opening b, [])
-    → Allows (Keeps key) slots id me 0 (λ n. n) (takes_slot (step slots 0 0 0 mathlib.Core.Option.none) me)
+pub deals_as : (b key : Book) (me : Hand) (slots id : ℕ) → key ≡ b → me ≡ (tray_sight Opening b, [])
+    → Allows (KeepsRule key) slots id me 0 (λ n. n) (takes_slot (step slots 0 0 0 mathlib.Core.Option.none) me)
 deals_as b key me slots id k e = rw (k, e) (deals_allowed b slots id)
 
 pub fills_as : (b key : Book) (me : Hand) (x : Solved) (slots id : ℕ) → key ≡ b
-    → me ≡ (sight Open b, (0, Some x) ∷ []) → IsSolved b x
-    → Allows (Keeps key) slots id me 0 (λ n. 1) (λ n. answers (step slots 0 1 0 mathlib.Core.Option.none) me 1)
+    → me ≡ (tray_sight Open b, (0, Some x) ∷ []) → IsSolved b x
+    → Allows (KeepsRule key) slots id me 0 (λ n. 1) (λ n. gives_answer (step slots 0 1 0 mathlib.Core.Option.none) me 1)
 fills_as b key me x slots id k e r = rw (k, e) (fills_allowed b x slots id r)
 
-pub sees_as : (b key : Book) (me : Hand) (slots id : ℕ) → key ≡ b → me ≡ (sight Asked b, [])
-    → Allows (Keeps key) slots id me 0 (λ n. either (n == 1) 2 n) (looks (step slots 0 1 2 mathlib.Core.Option.none) me)
+pub sees_as : (b key : Book) (me : Hand) (slots id : ℕ) → key ≡ b → me ≡ (tray_sight Asked b, [])
+    → Allows (KeepsRule key) slots id me 0 (λ n. either (n == 1) 2 n)
+    (looks (step slots 0 1 2 mathlib.Core.Option.none) me)
 sees_as b key me slots id k e = rw (k, e) (sees_allowed b slots id)
 
-one_carried : (y : Option Solved) (v : Sight) (m : Hand) → m ≡ (v, (0, y) ∷ []) → m.1 ≡ (0, y) ∷ rest m.1
+one_carried : (y : Option Solved) (v : TraySight) (m : Hand) → m ≡ (v, (0, y) ∷ []) → m.1 ≡ (0, y) ∷ rest m.1
 one_carried y v m e = rw e refl
 
 -- where the word was 1, the slot is out with the asking seat

@@ -4,18 +4,19 @@ use mathlib.Core.Option.{some}
 use Rattle.firm_rules.specs.Book.{Book}
 use Rattle.firm_tray.specs.declared.protocol.Stage.{Stage}
 use Rattle.firm_tray.specs.declared.protocol.Stage.TheVariants.{Opening, Holding, Open, Spent, Asked, Taken}
-use Rattle.firm_tray.specs.Rule.{sight, Phase, fresh, dealt, waiting, answered, gone, Tray, state_of, IsFair, Keeps}
+use Rattle.firm_tray.specs.Rule.{tray_sight, Phase, fresh, dealt, waiting, answered, gone, Tray, tray_at, IsFair}
+use Rattle.firm_tray.specs.Rule.{KeepsRule}
 use Rattle.firm_tray.specs.Reading.{IsReadAloud, IsOpening, Reads, one_seat, two_seats}
 
-words_of : (book : Book) (state : Tray) (phase : Phase) → state ≡ state_of book phase
-    → state.words ≡ (state_of book phase).words
+words_of : (book : Book) (state : Tray) (phase : Phase) → state ≡ tray_at book phase
+    → state.words ≡ (tray_at book phase).words
 words_of book state phase e = ap (λ (s : Tray). s.words) e
 
-seats_of : (book : Book) (state : Tray) (phase : Phase) → state ≡ state_of book phase
-    → state.views ≡ (state_of book phase).views
+seats_of : (book : Book) (state : Tray) (phase : Phase) → state ≡ tray_at book phase
+    → state.views ≡ (tray_at book phase).views
 seats_of book state phase e = ap (λ (s : Tray). s.views) e
 
-pub reads : (book : Book) (state : Tray) → Keeps book state → Reads book state
+pub reads : (book : Book) (state : Tray) → KeepsRule book state → Reads book state
 reads book state (fresh, e, fair) =
     one_seat Opening
     (record { word = words_of book state fresh e; before = inl refl; one_book = seats_of book state fresh e })

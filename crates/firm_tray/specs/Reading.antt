@@ -3,7 +3,7 @@ use Rattle.std.specs.Prelude.{◌≡◌, ◌↔◌, ◌⊎◌, ◌≤◌, ℕ, [
 use mathlib.Core.Option.{some}
 use Rattle.firm_rules.specs.Book.{Book}
 use Rattle.firm_tray.specs.Solved.{IsSolved}
-use Rattle.firm_tray.specs.Rule.{Tray, Keeps, sight}
+use Rattle.firm_tray.specs.Rule.{Tray, KeepsRule, tray_sight}
 use Rattle.firm_tray.specs.declared.protocol.Solved.{Solved}
 use Rattle.firm_tray.specs.declared.protocol.Stage.{Stage}
 use Rattle.firm_tray.specs.declared.protocol.Stage.TheVariants.{Opening, Holding, Open, Spent, Asked, Taken}
@@ -14,7 +14,7 @@ pub record IsReadAloud (book : Book) (state : Tray) (word : ℕ) (answering aski
   pub small : word ≤ 2
   pub answers : (answering ≡ Open) ⊎ (answering ≡ Spent)
   pub asks : (asking ≡ Asked) ⊎ (asking ≡ Taken)
-  pub one_book : state.views ≡ sight answering book ∷ sight asking book ∷ []
+  pub one_book : state.views ≡ tray_sight answering book ∷ tray_sight asking book ∷ []
   pub opens : answering ≡ Open ↔ word ≡ 0
   pub takes : asking ≡ Taken ↔ word ≡ 2
   pub solved : word ≡ 1 → (answer : Solved) × (state.homes ≡ some (Some answer) ∷ []) × IsSolved book answer
@@ -23,7 +23,7 @@ pub record IsReadAloud (book : Book) (state : Tray) (word : ℕ) (answering aski
 pub record IsOpening (book : Book) (state : Tray) (stage : Stage) : Type 0 where
   pub word : state.words ≡ 0 ∷ []
   pub before : (stage ≡ Opening) ⊎ (stage ≡ Holding)
-  pub one_book : state.views ≡ sight stage book ∷ []
+  pub one_book : state.views ≡ tray_sight stage book ∷ []
 
 -- a tray that keeps the rule has one seat and is opening, or has two and reads so
 pub data Reads (book : Book) (state : Tray) : Type 0 where
@@ -31,4 +31,4 @@ pub data Reads (book : Book) (state : Tray) : Type 0 where
   two_seats : (word : ℕ) (answering asking : Stage) → IsReadAloud book state word answering asking → Reads book state
 
 abbrev pub TraysAreReadAloud : Type 0
-TraysAreReadAloud = (book : Book) (state : Tray) → Keeps book state → Reads book state
+TraysAreReadAloud = (book : Book) (state : Tray) → KeepsRule book state → Reads book state

@@ -8,4 +8,4 @@ mod sides;
 
 pub use laws::trays_are_read_aloud;
 pub use protocol::Solved;
-pub use sides::{AnswerSide, AskSide, Polled, Spent, Tray};
+pub use sides::{AnswerSide, AskSide, LOOKS_BEFORE_SLEEP, Polled, Spent, Tray};

@@ -23,7 +23,7 @@ pub enum Stage {
 }
 
 /// What a seat knows: its stage, and the tenant for which the tray was opened. No value of it is made.
-pub struct Sight {
+pub struct TraySight {
     pub stage: Stage,
     pub book: Tenant,
 }
@@ -31,40 +31,40 @@ pub struct Sight {
 /// The rule that every step keeps.
 pub struct TrayRule;
 
-impl TableRule<Option<Solved>, Sight, Tenant> for TrayRule {
-    ghost use Rattle.firm_tray.specs.Rule.{Keeps, opening_sight};
+impl TableRule<Option<Solved>, TraySight, Tenant> for TrayRule {
+    ghost use Rattle.firm_tray.specs.Rule.{KeepsRule, opening_sight};
 
-    ghost holds = { Keeps };
+    ghost holds = { KeepsRule };
 
     ghost first = { opening_sight };
 }
 
-pub type Board = Table<Option<Solved>, Sight, Tenant, TrayRule, Global>;
+pub type Board = Table<Option<Solved>, TraySight, Tenant, TrayRule, Global>;
 
-pub type TraySeat = Seat<Option<Solved>, Sight>;
+pub type TraySeat = Seat<Option<Solved>, TraySight>;
 
 /// The opening seat takes the slot out, before the tray has two sides.
 pub struct TakesSlot;
 
-impl Play<Option<Solved>, Sight> for TakesSlot {
+impl Play<Option<Solved>, TraySight> for TakesSlot {
     ghost use Rattle.firm_tray.specs.Rule.{takes_slot};
 
     ghost then = { takes_slot };
 }
 
 /// The answering seat puts the slot back with the answer in it.
-pub struct Answers;
+pub struct GivesAnswer;
 
-impl Play<Option<Solved>, Sight> for Answers {
-    ghost use Rattle.firm_tray.specs.Rule.{answers};
+impl Play<Option<Solved>, TraySight> for GivesAnswer {
+    ghost use Rattle.firm_tray.specs.Rule.{gives_answer};
 
-    ghost then = { answers };
+    ghost then = { gives_answer };
 }
 
 /// The asking seat looks, and takes the answer where one is there.
 pub struct Looks;
 
-impl Play<Option<Solved>, Sight> for Looks {
+impl Play<Option<Solved>, TraySight> for Looks {
     ghost use Rattle.firm_tray.specs.Rule.{looks};
 
     ghost then = { looks };
@@ -73,7 +73,7 @@ impl Play<Option<Solved>, Sight> for Looks {
 /// The seat that holds the slot answers, and the new one asks.
 pub struct Sides;
 
-impl Split<Sight> for Sides {
+impl Split<TraySight> for Sides {
     ghost use Rattle.firm_tray.specs.Rule.{open_sight, asked_sight};
 
     ghost left = { open_sight };

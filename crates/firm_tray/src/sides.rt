@@ -3,16 +3,16 @@ ghost use Rattle.std.specs.Prelude.{◌≡◌, IfOk};
 ghost use Rattle.firm_tray.specs.Solved.{IsSolved};
 ghost use Rattle.firm_tray.specs.Polls.{IsPolled};
 
-use crate::protocol::{Answers, Board, Looks, Sides, Solved, TakesSlot, TraySeat};
+use crate::protocol::{Board, GivesAnswer, Looks, Sides, Solved, TakesSlot, TraySeat};
 use firm_tenant::Tenant;
 use std::alloc::{AllocError, Global};
 use std::hint::spin_loop;
 use std::marker::Model;
 use std::sync::{Arc, Wait};
 
-// How often a wait looks in vain before it sleeps until the answer is there: for some ten microseconds, as long as a
-// small round takes. It does not yield, since on a busy machine one yield takes longer than all looks and the sleep.
-const LOOKS_BEFORE_SLEEP: u32 = 1_024;
+// A wait does not yield, since on a busy machine one yield takes longer than all looks and the sleep.
+/// How often a wait looks in vain before it sleeps: for some ten microseconds, as long as a small round takes.
+pub const LOOKS_BEFORE_SLEEP: u32 = 1_024;
 
 /// What a tenant's round comes back on.
 pub struct Tray;
@@ -31,13 +31,13 @@ impl Model for AskSide {
 
     ghost Value = { Side };
 
-    ghost use Rattle.firm_tray.specs.Rule.{sight, IsSeated};
+    ghost use Rattle.firm_tray.specs.Rule.{tray_sight, IsSeated};
     ghost use Rattle.firm_tray.specs.declared.protocol.Stage.TheVariants.{Asked};
 
     ghost view = { λ a. record { tray = a.seat.table_id; book = a.seat.me.0.book } };
 
     ghost invariant = { λ a. IsSeated (arc_value a.board).shared.table_id (arc_value a.board).shared.key a.seat.table_id
-        a.seat.me.0.book × (a.seat.me ≡ (sight Asked a.seat.me.0.book, [])) };
+        a.seat.me.0.book × (a.seat.me ≡ (tray_sight Asked a.seat.me.0.book, [])) };
 }
 
 /// The side that answers. The slot is out with it.
@@ -54,13 +54,13 @@ impl Model for AnswerSide {
 
     ghost Value = { Side };
 
-    ghost use Rattle.firm_tray.specs.Rule.{sight, IsSeated};
+    ghost use Rattle.firm_tray.specs.Rule.{tray_sight, IsSeated};
     ghost use Rattle.firm_tray.specs.declared.protocol.Stage.TheVariants.{Open};
 
     ghost view = { λ a. record { tray = a.seat.table_id; book = a.seat.me.0.book } };
 
     ghost invariant = { λ a. IsSeated (arc_value a.board).shared.table_id (arc_value a.board).shared.key a.seat.table_id
-        a.seat.me.0.book × (a.seat.me ≡ (sight Open a.seat.me.0.book, (0, None) ∷ [])) };
+        a.seat.me.0.book × (a.seat.me ≡ (tray_sight Open a.seat.me.0.book, (0, None) ∷ [])) };
 }
 
 /// What shows that a tray was answered.
@@ -75,12 +75,12 @@ impl Model for Spent {
 
     ghost Value = { Side };
 
-    ghost use Rattle.firm_tray.specs.Rule.{sight};
+    ghost use Rattle.firm_tray.specs.Rule.{tray_sight};
     ghost use Rattle.firm_tray.specs.declared.protocol.Stage.TheVariants.{Spent as IsSpent};
 
     ghost view = { λ a. record { tray = a.seat.table_id; book = a.seat.me.0.book } };
 
-    ghost invariant = { λ a. a.seat.me ≡ (sight IsSpent a.seat.me.0.book, []) };
+    ghost invariant = { λ a. a.seat.me ≡ (tray_sight IsSpent a.seat.me.0.book, []) };
 }
 
 /// What a look at a tray gives.
@@ -120,7 +120,7 @@ impl AnswerSide {
     {
         let AnswerSide { board, mut seat } = self;
         board.shared.exchange(&mut seat, 0, Some(solved));
-        board.shared.store::<Answers>(&mut seat, 0, 1);
+        board.shared.store::<GivesAnswer>(&mut seat, 0, 1);
         // One wake is enough, since there is one asking side. The word outlives it: this side's share of the board ends
         // later.
         board.shared.wake_one(0);

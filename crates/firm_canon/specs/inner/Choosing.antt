@@ -10,7 +10,7 @@ use Rattle.firm_flow.specs.Balance.{Balanced}
 use Rattle.firm_graph.specs.declared.network.Node.{Node}
 use Rattle.firm_graph.specs.declared.network.Node.TheVariants.{Sink, Machine, Task}
 use Rattle.firm_graph.specs.declared.network.Key.{Key}
-use Rattle.firm_graph.specs.declared.network.Key.TheVariants.{Through, Slot, Exit, Wide, Stay, Delay, Prefer}
+use Rattle.firm_graph.specs.declared.network.Key.TheVariants.{Through, Slot, Exit, Wide, Stay, Wait, Prefer}
 use Rattle.firm_graph.specs.Network.{network, task_nodes, demand, leaving}
 use Rattle.firm_rules.specs.Placement.{IsLegal, IsPlace, placement_cost as cost, comes_before as before}
 use Rattle.firm_graph.specs.View.{View, Shows, lows, flows, spot_of}
@@ -26,7 +26,7 @@ low_of c p (Slot j k) = 0
 low_of c p (Exit k) = 0
 low_of c p (Wide i) = wide_at c p i
 low_of c p (Stay i) = stay_at c p i
-low_of c p (Delay i) = waits (pick p i)
+low_of c p (Wait i) = waits (pick p i)
 low_of c p (Prefer i k) = prefer_at c p i k
 
 -- what the loop keeps, with the prefix `p` chosen, `x` on the arcs and `price` at the nodes
@@ -68,7 +68,7 @@ pub record Shut (v : View) (p : List Choice) (j : ℕ) : Type 0 where
 pub record HasRoom (c : Case) (p : List Choice) (o : Choice) (x : Key → ℕ) : Type 0 where
   pub at_wide : wide (demand c (length p)) (Some o) ≤ x (Wide (length p))
   pub at_stay : stay (demand c (length p)).home (Some o) ≤ x (Stay (length p))
-  pub at_delay : waits (Some o) ≤ x (Delay (length p))
+  pub at_delay : waits (Some o) ≤ x (Wait (length p))
   pub at_prefer : (k : ℕ) → k < length (demand c (length p)).preferred
       → prefer (demand c (length p)) k (Some o) ≤ x (Prefer (length p) k)
   pub at_through : (j : ℕ) → j < length c.slots

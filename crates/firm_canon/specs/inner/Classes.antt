@@ -11,7 +11,7 @@ use Rattle.firm_paths.specs.Classes.{LeadsUp, AreTogether, class_of}
 use Rattle.firm_graph.specs.declared.network.Node.{Node}
 use Rattle.firm_graph.specs.declared.network.Node.TheVariants.{Sink, Hub, Machine}
 use Rattle.firm_graph.specs.declared.network.Key.{Key}
-use Rattle.firm_graph.specs.declared.network.Key.TheVariants.{Wide, Delay}
+use Rattle.firm_graph.specs.declared.network.Key.TheVariants.{Wide, Wait}
 use Rattle.firm_graph.specs.Network.{network}
 use Rattle.firm_graph.specs.View.{View, flows, spot_of}
 use Rattle.firm_canon.specs.inner.Choosing.{low_of, best, IsAsCheap}
@@ -58,7 +58,7 @@ IsMost v p key = (x : Key → ℕ) → IsAsCheap v.case p (best v p) x → x key
 abbrev pub IsOwnWay : View → ℕ → ArcId → NodeId → Type 0
 IsOwnWay v i arc goal =
     ((1 ≤ flows v (Wide i)) × (arc ≡ v.arc (Wide i)) × (goal ≡ v.node Hub))
-    ⊎ ((flows v (Wide i) ≡ 0) × (arc ≡ v.arc (Delay i)) × (goal ≡ v.node Sink))
+    ⊎ ((flows v (Wide i) ≡ 0) × (arc ≡ v.arc (Wait i)) × (goal ≡ v.node Sink))
 
 abbrev pub one_if : Bool → ℕ
 one_if b = if b then 1 else 0

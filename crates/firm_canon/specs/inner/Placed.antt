@@ -5,7 +5,7 @@ use Rattle.firm_rules.specs.declared.rounds.Choice.{Choice}
 use Rattle.firm_rules.specs.declared.rounds.Choice.TheVariants.{On, Wait}
 use Rattle.firm_rules.specs.Placement.{Case, Demand, total, load, runs_at, prefers}
 use Rattle.firm_graph.specs.declared.network.Key.{Key}
-use Rattle.firm_graph.specs.declared.network.Key.TheVariants.{Through, Slot, Exit, Wide, Stay, Delay, Prefer}
+use Rattle.firm_graph.specs.declared.network.Key.TheVariants.{Through, Slot, Exit, Wide, Stay, Wait as WaitArc, Prefer}
 use Rattle.firm_graph.specs.Network.{demand}
 
 -- the choice at a place, if the placement goes that far
@@ -84,7 +84,7 @@ placed c q (Slot j k) = cond (ltb k (load q j)) 1 0
 placed c q (Exit k) = total (λ i. cond (eqb (demand c i).job k) (waits (pick q i)) 0) (length c.tasks)
 placed c q (Wide i) = wide_at c q i
 placed c q (Stay i) = stay_at c q i
-placed c q (Delay i) = waits (pick q i)
+placed c q (WaitArc i) = waits (pick q i)
 placed c q (Prefer i k) = prefer_at c q i k
 
 -- what flows on the arcs of a task's preferences, taken together

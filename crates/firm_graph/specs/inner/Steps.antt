@@ -12,9 +12,9 @@ use Rattle.firm_rules.specs.Book.{TenantRows, machine_names, is_on, forgetting}
 use Rattle.firm_rules.specs.Round.{task_after}
 use Rattle.firm_rules.specs.declared.rounds.Choice.{Choice}
 use Rattle.firm_rules.specs.declared.rounds.Choice.TheVariants.{Wait}
-use Rattle.firm_rules.specs.declared.parts.Task.{Task}
-use Rattle.firm_graph.specs.declared.parts.TaskParts.{TaskParts}
-use Rattle.firm_graph.specs.declared.parts.Stand.{Stand}
+use Rattle.firm_rules.specs.declared.book.Task.{Task}
+use Rattle.firm_graph.specs.declared.ids.TaskParts.{TaskParts}
+use Rattle.firm_graph.specs.declared.ids.Stand.{Stand}
 use Rattle.firm_graph.specs.Graph.{Graph, Mirrors, preferred_spans, home_node, machine_nodes}
 
 -- the list with the element at a place changed

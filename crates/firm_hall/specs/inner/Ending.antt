@@ -7,11 +7,11 @@ use Rattle.firm_rounds.specs.Passes.{QueueId}
 use Rattle.firm_hall.specs.Desks.{DeskIs, PlaceIs}
 use Rattle.firm_hall.specs.Counts.{ServedWith}
 use Rattle.firm_hall.specs.declared.ending.Ended.{Ended}
-use Rattle.firm_hall.specs.declared.seats.Seat.{Seat}
-use Rattle.firm_hall.specs.declared.seats.Seat.TheVariants.{Home, Away, Empty, Gone}
+use Rattle.firm_hall.specs.declared.desk_states.DeskState.{DeskState}
+use Rattle.firm_hall.specs.declared.desk_states.DeskState.TheVariants.{Home, Away, Empty, Gone}
 
--- what stands at a seat is of this hall
-abbrev pub IsOf : QueueId → Seat → Type 0
+-- what stands at a place is of this hall
+abbrev pub IsOf : QueueId → DeskState → Type 0
 IsOf id (Home desk) = desk.queue ≡ id
 IsOf id (Away asked) = asked.queue ≡ id
 IsOf id (Empty place) = place.queue ≡ id

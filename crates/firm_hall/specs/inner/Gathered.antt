@@ -9,12 +9,12 @@ use Rattle.firm_hall.specs.Desks.{DeskIs, PlaceIs}
 use Rattle.firm_hall.specs.Closed.{asked_weight, left_weight}
 
 -- how many of the desks are of the place
-abbrev pub of_place : ℕ → List DeskIs → ℕ
-of_place place desks = weigh (λ d. is_at place (share d.place d.put [])) desks
+abbrev pub desks_at : ℕ → List DeskIs → ℕ
+desks_at place desks = weigh (λ d. is_at place (share d.place d.put [])) desks
 
 -- how many of these are the place
-abbrev pub is_place : ℕ → List PlaceIs → ℕ
-is_place place places = weigh (λ p. is_at place (share p.place p.put [])) places
+abbrev pub places_at : ℕ → List PlaceIs → ℕ
+places_at place places = weigh (λ p. is_at place (share p.place p.put [])) places
 
 -- what reports add to the shares that were handed in
 pub record Gave (old new : List Share) (reports : List PopIs) : Type 0 where
@@ -29,4 +29,4 @@ pub record IsGathered (shares : List Share) (desks : List DeskIs) (empty : List 
   pub put : (h : Ticket → ℕ) → weigh (put_by h) shares ≡ asked_weight h desks + left_weight h empty
   pub got : (h : Ticket → ℕ) → weigh (got_by h) shares ≡ got_weight h reports
   pub count : length shares ≡ length desks + length empty + length reports
-  pub places : (p : ℕ) → of_place p desks + is_place p empty ≤ weigh (is_at p) shares
+  pub places : (p : ℕ) → desks_at p desks + places_at p empty ≤ weigh (is_at p) shares

@@ -14,8 +14,8 @@ use Rattle.firm_hall.specs.declared.held.HeldAnswer.{HeldAnswer}
 use Rattle.firm_hall.specs.declared.held.HeldAnswer.TheVariants.{Known, Waiting}
 
 -- at most this many answers are held
-abbrev pub most_held : ℕ
-most_held = 1024
+abbrev pub most_answers_held : ℕ
+most_answers_held = 1024
 
 -- the answers that are held, in the order of their lines, and the text that is still to be written before them
 pub record HeldIs : Type 0 where

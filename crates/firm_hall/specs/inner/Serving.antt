@@ -19,10 +19,10 @@ use Rattle.firm_table.specs.inner.Progress.{Told}
 use Rattle.firm_rounds.specs.Rounds.{weigh}
 use Rattle.firm_rounds.specs.Passes.{QueueId}
 use Rattle.firm_hall.specs.Counts.{Counted}
-use Rattle.firm_hall.specs.inner.Held.{HeldIs, most_held, held_text, NoneWaits, OneWaits, FirstWaits}
-use Rattle.firm_hall.specs.inner.Seats.{IsBack}
-use Rattle.firm_hall.specs.declared.seats.Seat.{Seat}
-use Rattle.firm_hall.specs.declared.seats.Seat.TheVariants.{Home, Away, Empty, Gone}
+use Rattle.firm_hall.specs.inner.Held.{HeldIs, most_answers_held, held_text, NoneWaits, OneWaits, FirstWaits}
+use Rattle.firm_hall.specs.inner.DeskStates.{IsBack}
+use Rattle.firm_hall.specs.declared.desk_states.DeskState.{DeskState}
+use Rattle.firm_hall.specs.declared.desk_states.DeskState.TheVariants.{Home, Away, Empty, Gone}
 use Rattle.firm_table.specs.declared.answers.LineAnswer.TheVariants.{ToOperator}
 use Rattle.firm_hall.specs.declared.held.HeldAnswer.{HeldAnswer}
 use Rattle.firm_hall.specs.declared.held.HeldAnswer.TheVariants.{Known, Waiting}
@@ -32,39 +32,45 @@ use Rattle.firm_hall.specs.declared.held.HeldAnswer.TheVariants.{Known, Waiting}
 pub record ServingIs : Type 0 where
   pub queue : QueueId
   pub register : List Entry
-  pub seats : List Seat
+  pub desk_states : List DeskState
   pub answers : List HeldAnswer
   pub output : List ℕ
 
-abbrev pub serving_is : QueueId → List Entry → List Seat → HeldIs → ServingIs
-serving_is queue register seats held =
-    record { queue = queue; register = register; seats = seats; answers = held.answers; output = held.output }
+abbrev pub serving_is : QueueId → List Entry → List DeskState → HeldIs → ServingIs
+serving_is queue register desk_states held =
+    record {
+      queue = queue;
+      register = register;
+      desk_states = desk_states;
+      answers = held.answers;
+      output = held.output;
+    }
 
--- the book at a seat, once the rounds that are away are answered, each with the mark of its place
-abbrev pub book_at : (ℕ → Bool) → Seat → Option Book
+-- the book at a place, once the rounds that are away are answered, each with the mark of its place
+abbrev pub book_at : (ℕ → Bool) → DeskState → Option Book
 book_at marks (Home desk) = Some desk.book
 book_at marks (Away asked) = Some (step asked.book Round (marks asked.place)).1
 book_at marks (Empty place) = None
 book_at marks Gone = None
 
 -- the state of the tenants, once those rounds are answered
-abbrev pub state_with : (ℕ → Bool) → List RosterRow → List Entry → List Seat → List HeldAnswer → List ℕ → State
-state_with marks roster register seats answers output =
-    state_is roster (tenants_are register (map (book_at marks) seats)) (output ++ held_text marks answers)
+abbrev pub state_with : (ℕ → Bool) → List RosterRow → List Entry → List DeskState → List HeldAnswer → List ℕ → State
+state_with marks roster register desk_states answers output =
+    state_is roster (tenants_are register (map (book_at marks) desk_states)) (output ++ held_text marks answers)
 
--- how many rounds were asked at a seat, by all tenants of its place
-abbrev pub asked_at : Seat → ℕ
+-- how many rounds were asked at a place, by all its tenants
+abbrev pub asked_at : DeskState → ℕ
 asked_at (Home desk) = desk.put
 asked_at (Away asked) = asked.put
 asked_at (Empty place) = place.put
 asked_at Gone = 0
 
--- whether a tenant has the place of a seat, and how often the place was given
-abbrev pub seat_counts : Seat → Bool × ℕ
-seat_counts (Home desk) = (true, desk.admissions)
-seat_counts (Away asked) = (true, asked.admissions)
-seat_counts (Empty place) = (false, place.admissions)
-seat_counts Gone = (false, 0)
+-- whether a tenant has the place, and how often it was given
+abbrev pub desk_state_counts : DeskState → Bool × ℕ
+desk_state_counts (Home desk) = (true, desk.admissions)
+desk_state_counts (Away asked) = (true, asked.admissions)
+desk_state_counts (Empty place) = (false, place.admissions)
+desk_state_counts Gone = (false, 0)
 
 -- the same as the register knows it
 abbrev pub place_counts : Entry → Bool × ℕ
@@ -72,17 +78,18 @@ place_counts place = (is_some place.tenant, place.admissions)
 
 -- the desk at home, of this hall and place, for which no answer waits; or its round is away, for which one waits; or
 -- nobody is there
-abbrev pub SeatIs : QueueId → ℕ → List HeldAnswer → Seat → Type 0
-SeatIs queue place answers (Home desk) = (desk.queue ≡ queue) × (desk.place ≡ place) × NoneWaits place answers
-SeatIs queue place answers (Away asked) = (asked.queue ≡ queue) × (asked.place ≡ place) × OneWaits place asked answers
-SeatIs queue place answers (Empty empty) = (empty.queue ≡ queue) × (empty.place ≡ place) × NoneWaits place answers
-SeatIs queue place answers Gone = ⊥
+abbrev pub DeskStateIs : QueueId → ℕ → List HeldAnswer → DeskState → Type 0
+DeskStateIs queue place answers (Home desk) = (desk.queue ≡ queue) × (desk.place ≡ place) × NoneWaits place answers
+DeskStateIs queue place answers (Away asked) = (asked.queue ≡ queue) × (asked.place ≡ place)
+    × OneWaits place asked answers
+DeskStateIs queue place answers (Empty empty) = (empty.queue ≡ queue) × (empty.place ≡ place) × NoneWaits place answers
+DeskStateIs queue place answers Gone = ⊥
 
--- a seat for each place
-pub record AreSeats (queue : QueueId) (answers : List HeldAnswer) (seats : List Seat) : Type 0 where
-  pub long : length seats ≡ most_places
-  pub each : (place : ℕ) (default : Seat) → place < most_places
-      → SeatIs queue place answers (slice_index_or seats place default)
+-- a desk state for each place
+pub record AreDeskStates (queue : QueueId) (answers : List HeldAnswer) (desk_states : List DeskState) : Type 0 where
+  pub long : length desk_states ≡ most_places
+  pub each : (place : ℕ) (default : DeskState) → place < most_places
+      → DeskStateIs queue place answers (slice_index_or desk_states place default)
 
 -- the answers that wait do so for places that there are
 abbrev pub IsPlaced : HeldAnswer → Type 0
@@ -93,20 +100,20 @@ abbrev pub ArePlaced : List HeldAnswer → Type 0
 ArePlaced [] = Unit {0}
 ArePlaced (answer ∷ rest) = IsPlaced answer × ArePlaced rest
 
--- a tenant has the place of a seat where the register says so, and the two agree on how often the place was given
-abbrev pub Fits : List Entry → List Seat → Type 0
-Fits register seats = map seat_counts seats ≡ map place_counts register
+-- desk states and register agree on which places a tenant has, and on how often each was given
+abbrev pub Fits : List Entry → List DeskState → Type 0
+Fits register desk_states = map desk_state_counts desk_states ≡ map place_counts register
 
--- seats, register and held answers fit each other
+-- desk states, register and held answers fit each other
 pub record Stands (serving : ServingIs) : Type 0 where
-  pub seats : AreSeats serving.queue serving.answers serving.seats
-  pub fits : Fits serving.register serving.seats
+  pub desk_states : AreDeskStates serving.queue serving.answers serving.desk_states
+  pub fits : Fits serving.register serving.desk_states
   pub placed : ArePlaced serving.answers
 
 -- a service of this hall with room for one more answer
 pub record IsOpen (id : QueueId) (serving : ServingIs) : Type 0 where
   pub same_hall : serving.queue ≡ id
-  pub room : length serving.answers < most_held
+  pub room : length serving.answers < most_answers_held
 
 -- nothing lies there yet, and there is room for each place
 abbrev pub IsReserved : {A : Type 0} → List A → ℕ → Type 0
@@ -118,16 +125,17 @@ pub record Tells (state : State) (asked : ℕ) (text : List ℕ) (written now : 
   pub told : Told state text written now
   pub counted : Counted asked told.lines (answers_of state.roster told.lines)
 
-abbrev pub TellsParts : List RosterRow → List Entry → List Seat → List HeldAnswer → List ℕ → List ℕ → Option (List ℕ)
+abbrev pub TellsParts : List RosterRow → List Entry → List DeskState → List HeldAnswer → List ℕ → List ℕ
+    → Option (List ℕ)
     → Option (List ℕ) → Type 0
-TellsParts roster register seats answers output text written now =
+TellsParts roster register desk_states answers output text written now =
     (marks : ℕ → Bool)
-    → Tells (state_with marks roster register seats answers output) (weigh asked_at seats) text written now
+    → Tells (state_with marks roster register desk_states answers output) (weigh asked_at desk_states) text written now
 
 -- the same of a whole service
 abbrev pub TellsAll : List RosterRow → ServingIs → List ℕ → Option (List ℕ) → Option (List ℕ) → Type 0
 TellsAll roster serving text written now =
-    TellsParts roster serving.register serving.seats serving.answers serving.output text written now
+    TellsParts roster serving.register serving.desk_states serving.answers serving.output text written now
 
 -- the same hall, with no answer more held
 pub record Follows (old new : ServingIs) : Type 0 where
@@ -155,7 +163,7 @@ abbrev pub Obeys : ServingIs → ServingIs → OperatorLine → OperatorReply �
 Obeys old new request reply = (roster : List RosterRow) (text after : List ℕ) (written now : Option (List ℕ))
     → input_lines after ≡ input_lines text ++ Operator request ∷ []
     → TellsAll roster old text written now
-    → TellsParts roster new.register new.seats
+    → TellsParts roster new.register new.desk_states
     (new.answers ++ Known (ToOperator reply) ∷ []) new.output after written now
 
 -- the text that was written begins the output for the lines that were answered
@@ -164,12 +172,13 @@ Begins old now later = (roster : List RosterRow) (text : List ℕ) (written : Op
     → TellsAll roster old text written now → BeginsAnswers roster text written later
 
 -- no round is away from the place
-abbrev pub IsBackAt : ℕ → List Seat → Type 0
-IsBackAt place seats = (default : Seat) → place < most_places → IsBack (slice_index_or seats place default)
+abbrev pub IsBackAt : ℕ → List DeskState → Type 0
+IsBackAt place desk_states = (default : DeskState) → place < most_places
+    → IsBack (slice_index_or desk_states place default)
 
 -- none is away
-abbrev pub AllBack : List Seat → Type 0
-AllBack seats = (place : ℕ) → IsBackAt place seats
+abbrev pub AllBack : List DeskState → Type 0
+AllBack desk_states = (place : ℕ) → IsBackAt place desk_states
 
 -- no known answer is left unwritten before the first that waits
 pub record IsWrittenOut (serving : ServingIs) : Type 0 where

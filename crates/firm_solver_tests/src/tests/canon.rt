@@ -144,7 +144,7 @@ fn count_change(met: &mut Met, rows: &Rows, change: &Change) {
 }
 
 /// How many tasks have room on all machines.
-fn slots_of(rows: &Rows) -> u64 {
+fn slot_total(rows: &Rows) -> u64 {
     let mut slots = 0_u64;
     for machine in rows.machines() {
         slots = slots.saturating_add(u64::from(machine.slots.get()));
@@ -159,7 +159,7 @@ fn count_round(met: &mut Met, rows: &Rows, changes: &Changes, least: u64) {
     if 1 < least {
         met.ties = met.ties.saturating_add(1);
     }
-    if rows.running() == slots_of(rows) && rows.running() < rows.task_count() as u64 {
+    if rows.running() == slot_total(rows) && rows.running() < rows.task_count() as u64 {
         met.full = met.full.saturating_add(1);
     }
     if rows.limits().churn() == 0 {

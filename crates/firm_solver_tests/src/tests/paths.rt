@@ -376,83 +376,89 @@ fn searches_and_looks_are_counted(rt: HostRuntime) {
 
 /// What is asked inside classes, in turn: the numbers of both ends, the path that is found, no steps for none, and how
 /// many searches were made by then.
-struct Asked {
+struct Query {
     ends: (usize, usize),
     path: &'static [(usize, Way)],
     searches: u64,
 }
 
 /// Asks for a path inside classes, and checks it.
-fn expect_within(rt: &impl Abort, alloc: Global, world: &mut World, asked: &Asked)
+fn expect_within(rt: &impl Abort, alloc: Global, world: &mut World, query: &Query)
     requires limits { (world.old.prices.limits ≡ (8, 16)) × (world.old.scratch.limits ≡ (8, 16)) }
     ensures limits { (world.new.prices.limits ≡ (8, 16)) × (world.new.scratch.limits ≡ (8, 16)) }
 {
-    let (from, to) = (node(rt, world, asked.ends.0), node(rt, world, asked.ends.1));
+    let (from, to) = (node(rt, world, query.ends.0), node(rt, world, query.ends.1));
     check_nodes(rt, world, from, to);
     let steps = tight_within(&mut world.scratch, &world.net, &world.prices, from, to);
     let steps = copied(rt, alloc, steps);
     assert_eq!(rt;
         world.scratch.searches(),
-        asked.searches,
+        query.searches,
         "from {} to {}",
-        asked.ends.0,
-        asked.ends.1
+        query.ends.0,
+        query.ends.1
     );
-    if asked.path.is_empty() {
+    if query.path.is_empty() {
         expect_no_path(rt, steps);
     } else {
-        expect_steps(rt, world, steps, asked.path);
+        expect_steps(rt, world, steps, query.path);
     }
 }
 
-fn expect_all_within(rt: &impl Abort, alloc: Global, nodes: u32, links: &[Link], asked: &[Asked]) {
+fn expect_all_within(
+    rt: &impl Abort,
+    alloc: Global,
+    nodes: u32,
+    links: &[Link],
+    queries: &[Query],
+) {
     let mut world = build(rt, alloc, nodes, links);
     world.scratch.join_nodes();
-    for asked in asked {
-        expect_within(rt, alloc, &mut world, asked);
+    for query in queries {
+        expect_within(rt, alloc, &mut world, query);
     }
 }
 
 /// Three nodes on a cycle, and from the last of them a way to two more on another.
-static TWO_CYCLES: [Asked; 8] = [
-    Asked {
+static TWO_CYCLES: [Query; 8] = [
+    Query {
         ends: (0, 2),
         path: &[(0, Forward), (1, Forward)],
         searches: 1,
     },
     // On no cycle, but nothing has parted its ends yet.
-    Asked {
+    Query {
         ends: (0, 4),
         path: &[(0, Forward), (1, Forward), (3, Forward), (4, Forward)],
         searches: 2,
     },
-    Asked {
+    Query {
         ends: (4, 1),
         path: &[],
         searches: 3,
     },
     // The cycles are classes now. No search is made from one to the other, not even along the way between them.
-    Asked {
+    Query {
         ends: (3, 2),
         path: &[],
         searches: 3,
     },
-    Asked {
+    Query {
         ends: (2, 3),
         path: &[],
         searches: 3,
     },
-    Asked {
+    Query {
         ends: (1, 0),
         path: &[(1, Forward), (2, Forward)],
         searches: 4,
     },
-    Asked {
+    Query {
         ends: (4, 3),
         path: &[(5, Forward)],
         searches: 5,
     },
-    Asked {
+    Query {
         ends: (4, 0),
         path: &[],
         searches: 5,
@@ -461,29 +467,29 @@ static TWO_CYCLES: [Asked; 8] = [
 
 /// A unit from the second node to the first, a held one from the first to the third, a free way from the second to the
 /// third, and a dear one back.
-static UNITS: [Asked; 5] = [
-    Asked {
+static UNITS: [Query; 5] = [
+    Query {
         ends: (0, 2),
         path: &[(0, Backward), (1, Forward)],
         searches: 1,
     },
     // The dear arc is not tight, and the held unit leads nowhere.
-    Asked {
+    Query {
         ends: (2, 0),
         path: &[],
         searches: 2,
     },
-    Asked {
+    Query {
         ends: (1, 0),
         path: &[],
         searches: 3,
     },
-    Asked {
+    Query {
         ends: (0, 1),
         path: &[],
         searches: 3,
     },
-    Asked {
+    Query {
         ends: (0, 2),
         path: &[],
         searches: 3,

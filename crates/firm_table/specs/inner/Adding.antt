@@ -7,7 +7,7 @@ use Rattle.firm_rules.specs.declared.commands.Command.{Command}
 use Rattle.firm_rules.specs.declared.replies.Reply.{Reply}
 use Rattle.firm_tenant.specs.Step.{step, is_memory}
 use Rattle.firm_text.specs.Inputs.{input_lines}
-use Rattle.firm_text.specs.Registers.{AreSound, place_for, place_in, with_tenant, without_tenant}
+use Rattle.firm_text.specs.Registers.{IsRegister, place_for, place_in, with_tenant, without_tenant}
 use Rattle.firm_text.specs.Rosters.{RosterRow}
 use Rattle.firm_text.specs.declared.inputs.Line.{Line}
 use Rattle.firm_text.specs.declared.inputs.Line.TheVariants.{For, Operator}
@@ -19,7 +19,7 @@ use Rattle.firm_table.specs.Answers.{tells_memory}
 use Rattle.firm_table.specs.declared.answers.LineAnswer.TheVariants.{UnknownTenant, Replied, ToOperator}
 use Rattle.firm_table.specs.Output.{answers_of}
 use Rattle.firm_table.specs.Service.{Answers, BeginsAnswers}
-use Rattle.firm_table.specs.inner.Line.{Tenants, tenants_are, opening_tenants, IsRight, IsAnswer, State, state_is}
+use Rattle.firm_table.specs.inner.Line.{TenantsState, tenants_are, opening_tenants, IsRight, IsAnswer, State, state_is}
 use Rattle.firm_table.specs.inner.Progress.{Told}
 
 -- before the first line nothing is to be written
@@ -31,7 +31,7 @@ NothingIsTold =
 -- one line more was answered: the line and its answer stand behind those before
 abbrev pub OneMoreIsTold : Type 0
 OneMoreIsTold =
-    (state : State) (text after : List ℕ) (written now : Option (List ℕ)) (tenants : Tenants) (pending : List ℕ)
+    (state : State) (text after : List ℕ) (written now : Option (List ℕ)) (tenants : TenantsState) (pending : List ℕ)
     (line : Line) → (before : Told state text written now) → input_lines after ≡ input_lines text ++ line ∷ []
     → (answered : IsAnswer state.tenants tenants line state.pending pending)
     → (told : Told (state_is state.roster tenants pending) after written now)
@@ -66,8 +66,8 @@ OneMoreBegins =
 -- a command of the tenant at this place is answered by its step
 abbrev pub TenantsAreAnswered : Type 0
 TenantsAreAnswered =
-    (tenants : Tenants) (name : List ℕ) (command : Command) (place : ℕ) (book after : Book) (reply : Reply)
-    → AreSound tenants.register → place_in tenants.register name ≡ Some place
+    (tenants : TenantsState) (name : List ℕ) (command : Command) (place : ℕ) (book after : Book) (reply : Reply)
+    → IsRegister tenants.register → place_in tenants.register name ≡ Some place
     → slice_index_or tenants.books place None ≡ Some book → (reply, after) ≡ step book command (is_memory reply)
     → IsRight tenants (tenants_are tenants.register (slice_set tenants.books place (Some after))) (For name command)
     (Replied name reply)
@@ -75,13 +75,13 @@ TenantsAreAnswered =
 -- a command of a tenant that is not there changes nothing
 abbrev pub StrangersAreAnswered : Type 0
 StrangersAreAnswered =
-    (tenants : Tenants) (name : List ℕ) (command : Command) → place_in tenants.register name ≡ None
+    (tenants : TenantsState) (name : List ℕ) (command : Command) → place_in tenants.register name ≡ None
     → IsRight tenants tenants (For name command) UnknownTenant
 
 -- a tenant that is admitted to the place that the register gives it has its opening book there
 abbrev pub AdmissionsAreAnswered : Type 0
 AdmissionsAreAnswered =
-    (tenants : Tenants) (name : List ℕ) (limits : TenantLimits) (place : ℕ)
+    (tenants : TenantsState) (name : List ℕ) (limits : TenantLimits) (place : ℕ)
     → place_for tenants.register name ≡ Ok place
     → IsRight tenants (tenants_are (with_tenant tenants.register place name)
     (slice_set tenants.books place (Some (opening_book limits)))) (Operator (Admit name limits))
@@ -90,21 +90,21 @@ AdmissionsAreAnswered =
 -- one to which memory was refused leaves all as it was
 abbrev pub AdmissionsFindNoMemory : Type 0
 AdmissionsFindNoMemory =
-    (tenants : Tenants) (name : List ℕ) (limits : TenantLimits) (place : ℕ)
+    (tenants : TenantsState) (name : List ℕ) (limits : TenantLimits) (place : ℕ)
     → place_for tenants.register name ≡ Ok place
     → IsRight tenants tenants (Operator (Admit name limits)) (ToOperator (Refused Memory))
 
 -- and so does one to which the register gives no place
 abbrev pub AdmissionsAreRefused : Type 0
 AdmissionsAreRefused =
-    (tenants : Tenants) (name : List ℕ) (limits : TenantLimits) (refusal : OperatorRefusal)
+    (tenants : TenantsState) (name : List ℕ) (limits : TenantLimits) (refusal : OperatorRefusal)
     → place_for tenants.register name ≡ Err refusal
     → IsRight tenants tenants (Operator (Admit name limits)) (ToOperator (Refused refusal))
 
 -- a tenant that is retired leaves its place, and its book is gone
 abbrev pub RetirementsAreAnswered : Type 0
 RetirementsAreAnswered =
-    (tenants : Tenants) (name : List ℕ) (place : ℕ) → AreSound tenants.register
+    (tenants : TenantsState) (name : List ℕ) (place : ℕ) → IsRegister tenants.register
     → place_in tenants.register name ≡ Some place
     → IsRight tenants (tenants_are (without_tenant tenants.register place) (slice_set tenants.books place None))
     (Operator (Retire name)) (ToOperator (Retired name))
@@ -112,5 +112,5 @@ RetirementsAreAnswered =
 -- the retirement of a tenant that is not there changes nothing
 abbrev pub RetirementsAreRefused : Type 0
 RetirementsAreRefused =
-    (tenants : Tenants) (name : List ℕ) → place_in tenants.register name ≡ None
+    (tenants : TenantsState) (name : List ℕ) → place_in tenants.register name ≡ None
     → IsRight tenants tenants (Operator (Retire name)) (ToOperator (Refused NoSuchTenant))

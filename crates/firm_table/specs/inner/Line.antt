@@ -12,12 +12,12 @@ use Rattle.firm_table.specs.declared.answers.LineAnswer.{LineAnswer}
 use Rattle.firm_table.specs.Places.{Stay, Place, register_of, after_line}
 
 -- what a service keeps of its tenants: which one has which place, and by places the books of those that are there
-pub record Tenants : Type 0 where
+pub record TenantsState : Type 0 where
   pub register : List Entry
   pub books : List (Option Book)
 
 -- the tenants of these parts
-abbrev pub tenants_are : List Entry → List (Option Book) → Tenants
+abbrev pub tenants_are : List Entry → List (Option Book) → TenantsState
 tenants_are register books = record { register = register; books = books }
 
 -- the books before the first line: those of the roster's tenants, which have just opened
@@ -26,7 +26,7 @@ opening_books roster =
     map (λ tenant. Some (opening_book tenant.1)) roster ++ replicate (most_places - length roster) None
 
 -- the tenants before the first line
-abbrev pub opening_tenants : List RosterRow → Tenants
+abbrev pub opening_tenants : List RosterRow → TenantsState
 opening_tenants roster = tenants_are (first_places roster) (opening_books roster)
 
 -- the book of a stay
@@ -38,33 +38,33 @@ abbrev pub books_of : List Place → List (Option Book)
 books_of places = map (λ place. option_map book_of place.stay) places
 
 -- they are the tenants that stay at these places
-pub record Shows (tenants : Tenants) (places : List Place) : Type 0 where
+pub record Shows (tenants : TenantsState) (places : List Place) : Type 0 where
   pub register : register_of places ≡ tenants.register
   pub books : books_of places ≡ tenants.books
 
 -- The answer to a line is the one of the places whose tenants these are, and the tenants behind it are those of the
 -- places behind it; memory was refused to the line where the answer says so.
-pub record IsRight (tenants after : Tenants) (line : Line) (answer : LineAnswer) : Type 0 where
+pub record IsRight (tenants after : TenantsState) (line : Line) (answer : LineAnswer) : Type 0 where
   pub answers : (places : List Place) → Shows tenants places → answer ≡ answer_of places (line, tells_memory answer)
   pub leaves : (places : List Place) → Shows tenants places
       → Shows after (after_line places (line, tells_memory answer))
 
 -- a line was answered: rightly, and the answer's text stands behind what was to be written
-pub record IsAnswer (tenants after : Tenants) (line : Line) (pending pending_after : List ℕ) : Type 0 where
+pub record IsAnswer (tenants after : TenantsState) (line : Line) (pending pending_after : List ℕ) : Type 0 where
   pub answer : LineAnswer
   pub right : IsRight tenants after line answer
   pub text : pending_after ≡ pending ++ text_of_answer answer
 
 -- each place has a book where the register has a tenant for it, and there alone
-abbrev pub Fits : Tenants → Type 0
-Fits tenants = map (λ place. is_some place.tenant) tenants.register ≡ map is_some tenants.books
+abbrev pub BooksFit : TenantsState → Type 0
+BooksFit tenants = map (λ place. is_some place.tenant) tenants.register ≡ map is_some tenants.books
 
 -- a service between two lines: the roster, its tenants, and what is still to be written
 pub record State : Type 0 where
   pub roster : List RosterRow
-  pub tenants : Tenants
+  pub tenants : TenantsState
   pub pending : List ℕ
 
 -- the state of these parts
-abbrev pub state_is : List RosterRow → Tenants → List ℕ → State
+abbrev pub state_is : List RosterRow → TenantsState → List ℕ → State
 state_is roster tenants pending = record { roster = roster; tenants = tenants; pending = pending }

@@ -1,7 +1,7 @@
 -- How far an input that comes in pieces was read.
 use Rattle.std.specs.Prelude.{◌≡◌, ℕ, List, ◌++◌, Option}
 use Rattle.std.specs.Io.{IsEmptyOrEndsWith}
-use Rattle.firm_text.specs.Cutters.{Cut, StandsFor}
+use Rattle.firm_text.specs.Cutters.{CutterIs, StandsFor}
 use Rattle.firm_text.specs.Inputs.{input_lines}
 use Rattle.firm_text.specs.Rosters.{RosterRow}
 use Rattle.firm_table.specs.Service.{BeginsAnswers}
@@ -13,7 +13,7 @@ pub record HasEnded (text : List ℕ) : Type 0 where
   pub parts : (more : List ℕ) → input_lines (text ++ more) ≡ input_lines text ++ input_lines more
 
 -- this was read: lines that have ended, of which this is said, and a rest for which the cutter stands
-pub record Heard (IsTold : Telling) (cut : Cut) (heard : List ℕ) (written now : Option (List ℕ)) : Type 0 where
+pub record Heard (IsTold : Telling) (cut : CutterIs) (heard : List ℕ) (written now : Option (List ℕ)) : Type 0 where
   pub text : List ℕ
   pub rest : List ℕ
   pub both : heard ≡ text ++ rest

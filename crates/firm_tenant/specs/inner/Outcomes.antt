@@ -1,7 +1,7 @@
 -- The outcome of a command or of a row, as the code of a step takes it.
 use Rattle.std.specs.Prelude.{Result, Ok, Err}
-use Rattle.firm_graph.specs.declared.parts.GraphRefusal.{GraphRefusal}
-use Rattle.firm_graph.specs.declared.parts.GraphRefusal.TheVariants.{Nodes, Arcs, Memory as NoMemory}
+use Rattle.firm_graph.specs.declared.ids.GraphRefusal.{GraphRefusal}
+use Rattle.firm_graph.specs.declared.ids.GraphRefusal.TheVariants.{Nodes, Arcs, Memory as NoMemory}
 use Rattle.firm_rules.specs.declared.replies.Outcome.{Outcome}
 use Rattle.firm_rules.specs.declared.replies.Outcome.TheVariants.{Plain, Refused}
 use Rattle.firm_rules.specs.declared.replies.Refusal.{Refusal}

@@ -14,7 +14,7 @@ use Rattle.firm_canon.specs.Counts.{HasSearchedUpTo}
 use Rattle.firm_rules.specs.Book.{TenantRows}
 use Rattle.firm_canon.specs.inner.Choosing.{Keeps}
 use Rattle.firm_canon.specs.inner.Classes.{HasSought, cut_count}
-use Rattle.firm_canon.specs.inner.Ways.{preferred_before}
+use Rattle.firm_canon.specs.inner.Approaches.{preferred_before}
 use Rattle.firm_canon.specs.inner.Looks.{HasLooked, arc_ends}
 use Rattle.firm_canon.proofs.Counts.{few_cuts, more_since, no_cuts, preferences_counted, sought_in_all, sought_of_all}
 use Rattle.firm_canon.proofs.Graphs.{same_on, same_rows, same_machines}

@@ -1,39 +1,40 @@
-use Rattle.std.proofs.Common.{◌≡◌, ◌∙◌, ℕ, ◌+◌, List, [], arith, ap, sym, subst}
-use Rattle.firm_net.specs.Net.{Net, arc_count, without_flow}
+use Rattle.std.proofs.Common.{◌≡◌, ◌≤◌, ◌∙◌, ℕ, ◌+◌, List, [], length, arith, ap, sym, subst}
+use Rattle.firm_net.specs.Net.{Net, IsNet, arc_count, without_flow}
+use Rattle.firm_net.specs.declared.row.NodeId.{NodeId}
 use Rattle.firm_net.specs.Laws.{cleared_twice}
 use Rattle.firm_paths.specs.PriceTable.{price_of}
 use Rattle.firm_paths.specs.Workspace.{HasSearched}
 use Rattle.firm_flow.specs.declared.start.Proposed.{Proposed}
-use Rattle.firm_flow.specs.NetFlow.{SameButFlow, places, sources_of}
+use Rattle.firm_flow.specs.NetFlow.{AreDistinctNodes, SameButFlow, places, sources_of}
 use Rattle.firm_flow.specs.inner.Push.{IsSent}
 use Rattle.firm_flow.specs.inner.Start.{IsPlaced}
 use Rattle.firm_flow.proofs.Placed.{sources_length, placed_none}
 use Rattle.firm_flow.proofs.Solved.{few_sources, sent_none, still_distinct}
 use Rattle.firm_flow.proofs.start.start.Goals as goal
 
-pub accept-requires-clause-few : goal.accept-requires-clause-few
-accept-requires-clause-few c =
-    let cleared : SameButFlow c.args.net.now c.clear_flow.new.self =
-    ap without_flow c.clear_flow.ensures.clears ∙ cleared_twice c.args.net.now in
+-- a net has few sources, as few as once its flow is cleared
+sources_few : (now cleared : Net) (sources : List Proposed) (sink : NodeId) → IsNet cleared → cleared ≡ without_flow now
+    → AreDistinctNodes now (sources_of sources) sink → length sources ≤ 4096
+sources_few now cleared sources sink net clears nodes =
+    let same : SameButFlow now cleared = ap without_flow clears ∙ cleared_twice now in
     omega (
       arith,
-      few_sources c.clear_flow.new.self (sources_of c.args.sources.now) c.args.sink c.clear_flow.ensures.net
-          (still_distinct c.args.net.now c.clear_flow.new.self (sources_of c.args.sources.now) c.args.sink cleared
-          c.requires.nodes),
-      sources_length c.args.sources.now,
+      few_sources cleared (sources_of sources) sink net
+          (still_distinct now cleared (sources_of sources) sink same nodes),
+      sources_length sources,
     )
+
+pub accept-requires-clause-few : goal.accept-requires-clause-few
+accept-requires-clause-few c =
+    sources_few c.args.net.now c.clear_flow.new.self c.args.sources.now c.args.sink c.clear_flow.ensures.net
+    c.clear_flow.ensures.clears c.requires.nodes
 
 pub count_searches-requires : goal.count_searches-requires
 count_searches-requires c =
-    let cleared : SameButFlow c.args.net.now c.clear_flow.new.self =
-    ap without_flow c.clear_flow.ensures.clears ∙ cleared_twice c.args.net.now in
-    omega (
-      arith,
-      few_sources c.clear_flow.new.self (sources_of c.args.sources.now) c.args.sink c.clear_flow.ensures.net
-          (still_distinct c.args.net.now c.clear_flow.new.self (sources_of c.args.sources.now) c.args.sink cleared
-          c.requires.nodes),
-      sources_length c.args.sources.now,
-    )
+    record {
+      few = sources_few c.args.net.now c.clear_flow.new.self c.args.sources.now c.args.sink c.clear_flow.ensures.net
+          c.clear_flow.ensures.clears c.requires.nodes;
+    }
 
 pub accept-requires-clause-clear : goal.accept-requires-clause-clear
 accept-requires-clause-clear c =

@@ -2,7 +2,7 @@ use Rattle.std.proofs.Common.{ap, sym, ◌∙◌}
 use Rattle.std.proofs.lemmas.List.{length-map}
 use Rattle.firm_net.specs.declared.row.NodeId.{NodeId}
 use Rattle.firm_rules.specs.Book.{machine_names}
-use Rattle.firm_rules.specs.declared.parts.Machine.{Machine}
+use Rattle.firm_rules.specs.declared.book.Machine.{Machine}
 use Rattle.firm_graph.specs.Parts.{MachineParts}
 use Rattle.firm_graph.proofs.Additions.{node-read}
 use Rattle.firm_graph.proofs.edits.machine_node.Goals as goal

@@ -6,8 +6,8 @@ use Rattle.firm_net.specs.Row.{Row}
 use Rattle.firm_net.specs.Edits.{IsEdit, span_of}
 use Rattle.firm_net.specs.declared.row.ArcId.{ArcId}
 use Rattle.firm_rules.specs.Limits.{TenantLimits}
-use Rattle.firm_rules.specs.declared.parts.Task.{Task}
-use Rattle.firm_graph.specs.declared.parts.TaskParts.{TaskParts}
+use Rattle.firm_rules.specs.declared.book.Task.{Task}
+use Rattle.firm_graph.specs.declared.ids.TaskParts.{TaskParts}
 use Rattle.firm_graph.specs.Network.{away}
 use Rattle.firm_graph.specs.Graph.{Mirrors}
 use Rattle.firm_graph.specs.inner.Steps.{refitted, with_forgetting_at, task_at, no_task}

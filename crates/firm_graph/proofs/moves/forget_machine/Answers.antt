@@ -1,7 +1,7 @@
 use Rattle.std.proofs.Common.{◌≡◌, ◌≤◌, ℕ, length, arith, ap, ◌∙◌, subst}
 use Rattle.firm_rules.specs.Book.{TenantRows}
-use Rattle.firm_rules.specs.declared.parts.Task.{Task}
-use Rattle.firm_graph.specs.declared.parts.TaskParts.{TaskParts}
+use Rattle.firm_rules.specs.declared.book.Task.{Task}
+use Rattle.firm_graph.specs.declared.ids.TaskParts.{TaskParts}
 use Rattle.firm_graph.specs.Graph.{Mirrors}
 use Rattle.firm_graph.specs.inner.Steps.{refitted, no_task}
 use Rattle.firm_graph.proofs.Drops.{AllZip-at}

@@ -1,6 +1,6 @@
 use Rattle.std.proofs.Common.{◌≡◌, ℕ, ◌≤◌, map, get_or}
 use Rattle.firm_graph.specs.Graph.{Graph, Mirrors}
-use Rattle.firm_graph.specs.declared.parts.TaskParts.{TaskParts}
+use Rattle.firm_graph.specs.declared.ids.TaskParts.{TaskParts}
 use Rattle.firm_graph.specs.inner.Steps.{refitted, forgetting_first}
 use Rattle.firm_graph.proofs.moves.forget_machine.Given as goal
 

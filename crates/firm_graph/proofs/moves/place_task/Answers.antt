@@ -2,7 +2,7 @@ use Rattle.std.proofs.Common.{◌≡◌, ◌+◌, ◌≤◌, ℕ, Bool, cond, lt
 use Rattle.std.proofs.Common.{subst}
 use Rattle.firm_net.specs.Net.{Net, added_of}
 use Rattle.firm_rules.specs.Limits.{TenantLimits}
-use Rattle.firm_rules.specs.declared.parts.Job.{Job}
+use Rattle.firm_rules.specs.declared.book.Job.{Job}
 use Rattle.firm_graph.specs.Graph.{weight_under}
 use Rattle.firm_graph.specs.Network.{away}
 use Rattle.firm_graph.specs.inner.Steps.{task_at}

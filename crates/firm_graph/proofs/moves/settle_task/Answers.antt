@@ -1,9 +1,9 @@
 use Rattle.std.proofs.Common.{◌≡◌, ◌+◌, ◌≤◌, ℕ, Bool, cond, is_some, Some, List, ap, ap₂, sym, ◌∙◌, subst}
 use Rattle.firm_net.specs.Net.{Net, added_of, row_at}
 use Rattle.firm_rules.specs.Limits.{TenantLimits}
-use Rattle.firm_rules.specs.declared.parts.Job.{Job}
-use Rattle.firm_rules.specs.declared.parts.Task.{Task}
-use Rattle.firm_graph.specs.declared.parts.TaskParts.{TaskParts}
+use Rattle.firm_rules.specs.declared.book.Job.{Job}
+use Rattle.firm_rules.specs.declared.book.Task.{Task}
+use Rattle.firm_graph.specs.declared.ids.TaskParts.{TaskParts}
 use Rattle.firm_graph.specs.Graph.{Mirrors, weight_under}
 use Rattle.firm_graph.specs.inner.Steps.{moved, with_task_at, task_at, no_task}
 use Rattle.firm_graph.proofs.Additions.{read-at}

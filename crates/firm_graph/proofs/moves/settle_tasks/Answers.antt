@@ -2,7 +2,7 @@ use Rattle.std.proofs.Common.{◌≡◌, ◌<◌, List, length, get_or, arith, a
 use Rattle.std.proofs.lemmas.List.{get_or_default}
 use Rattle.firm_rules.specs.Book.{TenantRows}
 use Rattle.firm_rules.specs.declared.rounds.Choice.TheVariants.{Wait}
-use Rattle.firm_graph.specs.declared.parts.TaskParts.{TaskParts}
+use Rattle.firm_graph.specs.declared.ids.TaskParts.{TaskParts}
 use Rattle.firm_graph.specs.Graph.{Mirrors}
 use Rattle.firm_graph.specs.inner.Steps.{moved}
 use Rattle.firm_graph.proofs.Firsts.{settle-end}

@@ -1,5 +1,5 @@
 use Rattle.std.proofs.Common.{◌≡◌, ap, sym, ◌∙◌}
-use Rattle.firm_rules.specs.declared.parts.Task.{Task}
+use Rattle.firm_rules.specs.declared.book.Task.{Task}
 use Rattle.firm_graph.specs.Graph.{weight_under}
 use Rattle.firm_graph.specs.inner.Steps.{task_at, no_task}
 use Rattle.firm_graph.proofs.Additions.{weight-read, read-at}

@@ -10,7 +10,8 @@ returns-clause-ran g c =
     let own = c.args.clerk.setting.roster.now in
     let s = c.serve_lines.new.clerk.serving in
     let e = c.in_ok-serve_lines.ensures in
-    served_by own own c.serve_lines.new.clerk.setting.roster.now s.register s.seats s.answers s.output c.args.most _ _ _
+    served_by own own c.serve_lines.new.clerk.setting.roster.now s.register s.desk_states s.answers s.output
+    c.args.most _ _ _
     refl c.serve_lines.ensures.roster c.end.ensures.rounds e.finished.answered e.finished.none e.told e.served
 
 pub returns-then-not-are_all-clause-ran : goal.returns-then-not-are_all-clause-ran

@@ -5,7 +5,7 @@ use Rattle.std.specs.List.{All}
 use Rattle.firm_rules.specs.Book.{machine_names}
 use Rattle.firm_rules.specs.Names.{is_among}
 use Rattle.firm_rules.specs.Round.{demand_of}
-use Rattle.firm_rules.specs.declared.parts.Task.{Task}
+use Rattle.firm_rules.specs.declared.book.Task.{Task}
 use Rattle.firm_rents.specs.declared.cases.Demand.{Demand}
 use Rattle.firm_rents.specs.inner.Demands.{seen, Fits}
 use Rattle.firm_rents.proofs.Rows.{known, grown_by}

@@ -1,7 +1,7 @@
 use Rattle.std.proofs.Common.{bytes_eq, sym, ◌∙◌}
 use Rattle.std.proofs.lemmas.List.{length-map}
 use Rattle.firm_rules.specs.Book.{job_names}
-use Rattle.firm_rules.specs.declared.parts.Job.{Job}
+use Rattle.firm_rules.specs.declared.book.Job.{Job}
 use Rattle.firm_rents.proofs.Names.{first_found, none_found}
 use Rattle.firm_rents.proofs.cases.job_place_of.Goals as goal
 

@@ -1,7 +1,7 @@
 use Rattle.std.proofs.Common.{true≢false, bytes_eq, is_some, sym, ap, ◌∙◌}
 use Rattle.std.proofs.lemmas.List.{length-map}
 use Rattle.firm_rules.specs.Book.{machine_names}
-use Rattle.firm_rules.specs.declared.parts.Machine.{Machine}
+use Rattle.firm_rules.specs.declared.book.Machine.{Machine}
 use Rattle.firm_rents.proofs.Names.{first_found, none_found}
 use Rattle.firm_rents.proofs.cases.place_of.Goals as goal
 

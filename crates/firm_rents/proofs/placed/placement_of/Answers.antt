@@ -1,8 +1,8 @@
 use Rattle.std.proofs.Common.{ℕ, List, map, sym, ap, subst, ◌∙◌, arith}
 use Rattle.std.specs.List.{All}
 use Rattle.std.proofs.lemmas.List.{length-map, take_all}
-use Rattle.firm_rules.specs.declared.parts.Machine.{Machine}
-use Rattle.firm_rules.specs.declared.parts.Task.{Task}
+use Rattle.firm_rules.specs.declared.book.Machine.{Machine}
+use Rattle.firm_rules.specs.declared.book.Task.{Task}
 use Rattle.firm_rules.specs.Placement.{IsPlace}
 use Rattle.firm_rules.specs.Round.{case_of, demand_of}
 use Rattle.firm_rents.specs.Placed.{choice_of, placement_of}

@@ -1,6 +1,6 @@
 use Rattle.std.proofs.Common.{◌≡◌, ℕ, ◌+◌, ◌<◌, [], length, take}
 use Rattle.crossbeam_queue.specs.Passes.{view, IsPassOf}
-use Rattle.firm_rounds.specs.Closed.{Adds}
+use Rattle.firm_rounds.specs.Closed.{AddsPops}
 use Rattle.firm_rounds.specs.Passes.{spent_pop}
 use Rattle.firm_rounds.specs.Turning.{turned}
 use Rattle.firm_rounds.proofs.gathering.give_pops.Given as goal
@@ -10,6 +10,6 @@ invariant-loop-i l = record {
   keep : IsPassOf l.ring l.keep;
   all : (view l.keep).all ≡ (view l.initial.keep).all;
   some : 0 < length (view l.keep).shares;
-  shares : Adds (view l.initial.keep) (view l.keep) (take l.i l.initial.passes);
+  shares : AddsPops (view l.initial.keep) (view l.keep) (take l.i l.initial.passes);
   passes : l.passes ≡ turned spent_pop l.i l.initial.passes;
 }

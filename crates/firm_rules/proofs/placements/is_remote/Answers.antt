@@ -1,4 +1,4 @@
-use Rattle.std.proofs.Common.{◌<◌, ◌≤◌, Bool, ℕ, Option, length, true, false, true≢false, refl, sym, ap, ◌∙◌, arith}
+use Rattle.std.proofs.Common.{◌<◌, ◌≤◌, Bool, length, true, false, true≢false, refl, sym, ◌∙◌, arith}
 use Rattle.std.proofs.lemmas.Bool.{not-true, not-false, lt-ltb, le-ltb}
 use Rattle.firm_rules.specs.Placement.{runs_at}
 use Rattle.firm_rules.specs.Round.{machine_place}

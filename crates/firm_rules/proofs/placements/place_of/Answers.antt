@@ -2,7 +2,7 @@ use Rattle.std.proofs.Common.{◌≡◌, length, bytes_eq, sym, ap, ◌∙◌}
 use Rattle.std.specs.Option.{unwrap_or}
 use Rattle.std.proofs.lemmas.List.{length-map}
 use Rattle.firm_rules.specs.Book.{machine_names}
-use Rattle.firm_rules.specs.declared.parts.Machine.{Machine}
+use Rattle.firm_rules.specs.declared.book.Machine.{Machine}
 use Rattle.firm_rules.proofs.Places.{position_or_all}
 use Rattle.firm_rules.proofs.placements.place_of.Goals as goal
 

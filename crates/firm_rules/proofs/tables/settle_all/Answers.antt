@@ -2,8 +2,7 @@ use Rattle.std.proofs.Common.{length, arith, refl, ap, sym, ◌∙◌}
 use Rattle.indexmap.specs.IndexMap.{values}
 use Rattle.std.proofs.lemmas.List.{take_all}
 use Rattle.firm_rules.specs.Book.{running_count}
-use Rattle.firm_rules.specs.Round.{zipped}
-use Rattle.firm_rules.specs.inner.Tables.{settled}
+use Rattle.firm_rules.specs.Round.{settled, zipped}
 use Rattle.firm_rules.proofs.SoundRows.{length-zipped}
 use Rattle.firm_rules.proofs.TaskWrites.{written-length, written-all, settled-next, no_task, round}
 use Rattle.firm_rules.proofs.tables.settle_all.Goals as goal

@@ -1,8 +1,7 @@
 use Rattle.std.proofs.Common.{◌≡◌, take}
 use Rattle.indexmap.specs.IndexMap.{keys, values}
 use Rattle.firm_rules.specs.Book.{running_count}
-use Rattle.firm_rules.specs.Round.{zipped}
-use Rattle.firm_rules.specs.inner.Tables.{settled}
+use Rattle.firm_rules.specs.Round.{settled, zipped}
 use Rattle.firm_rules.proofs.TaskWrites.{written}
 use Rattle.firm_rules.proofs.tables.settle_all.Given as goal
 

@@ -1,8 +1,8 @@
 use Rattle.std.proofs.Common.{ℕ, None, ap, sym, ◌∙◌}
 use Rattle.indexmap.specs.IndexMap.{values}
 use Rattle.indexmap.proofs.CallerLemmas.{keys-with_value_at}
-use Rattle.firm_rules.specs.inner.Tables.{settled}
-use Rattle.firm_rules.specs.declared.parts.Task.{Task}
+use Rattle.firm_rules.specs.Round.{settled}
+use Rattle.firm_rules.specs.declared.book.Task.{Task}
 use Rattle.firm_rules.proofs.TaskWrites.{settled-written, settled-on}
 use Rattle.firm_rules.proofs.tables.settle_at.Goals as goal
 
@@ -26,5 +26,5 @@ returns-in-Wait-clause-tasks g c =
     c.placed.result c.args.choice c.in-Some.ensures.value
     (c.placed.ensures
     ∙ ap (λ (waited : ℕ). let t : Task = record c.in-Some.task.now { machine = None; waited = waited } in t)
-    c.one_more.ensures
+    c.next_wait.ensures
     ∙ ap (settled (values c.args.machines.now) c.in-Some.task.now) (sym c.in-Wait.is))

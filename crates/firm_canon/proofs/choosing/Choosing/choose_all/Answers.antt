@@ -6,7 +6,7 @@ use Rattle.firm_graph.specs.Graph.{Graph}
 use Rattle.firm_graph.specs.Ids.{view_of}
 use Rattle.firm_graph.specs.Network.{demand}
 use Rattle.firm_canon.specs.inner.Classes.{HasSought, cut_count}
-use Rattle.firm_canon.specs.inner.Ways.{preferred_before}
+use Rattle.firm_canon.specs.inner.Approaches.{preferred_before}
 use Rattle.firm_canon.specs.inner.State.{prefix, view}
 use Rattle.firm_canon.specs.inner.Looks.{LooksOn}
 use Rattle.firm_canon.specs.declared.choosing.Choosing.{Choosing}

@@ -6,7 +6,7 @@ use Rattle.firm_graph.specs.Ids.{view_of}
 use Rattle.firm_canon.specs.inner.Graphs.{IsSameGraph}
 use Rattle.firm_canon.specs.inner.Classes.{HasSought, cut_count}
 use Rattle.firm_canon.specs.inner.State.{IsReady, prefix, view}
-use Rattle.firm_canon.specs.inner.Ways.{preferred_before}
+use Rattle.firm_canon.specs.inner.Approaches.{preferred_before}
 use Rattle.firm_canon.specs.inner.Looks.{LooksOn}
 use Rattle.firm_canon.proofs.choosing.Choosing.choose_all.Given as goal
 

@@ -12,7 +12,7 @@ use Rattle.firm_graph.specs.declared.network.Key.{Key}
 use Rattle.firm_graph.specs.declared.network.Key.TheVariants.{Stay}
 use Rattle.firm_canon.specs.inner.Choosing.{IsShutOff, IsSpentBeside, best}
 use Rattle.firm_canon.specs.inner.Classes.{one_if}
-use Rattle.firm_canon.specs.inner.Ways.{below}
+use Rattle.firm_canon.specs.inner.Approaches.{below}
 use Rattle.firm_canon.specs.inner.State.{prefix, price, view}
 use Rattle.firm_canon.specs.declared.choosing.Choosing.{Choosing}
 use Rattle.firm_canon.proofs.Counts.{below_all}

@@ -12,7 +12,7 @@ use Rattle.firm_graph.specs.declared.network.Key.TheVariants.{Wide, Stay}
 use Rattle.firm_canon.specs.inner.Placed.{aside}
 use Rattle.firm_canon.specs.inner.Choosing.{IsPassed, IsShutOff, IsSpent, IsSpentBeside, best}
 use Rattle.firm_canon.specs.inner.Classes.{one_if, parted}
-use Rattle.firm_canon.specs.inner.Ways.{below}
+use Rattle.firm_canon.specs.inner.Approaches.{below}
 use Rattle.firm_canon.specs.inner.State.{GoesOn, IsReady, prefix, price, view}
 use Rattle.firm_canon.specs.declared.choosing.Choosing.{Choosing}
 use Rattle.firm_canon.proofs.Counts.{below_all, parted_le, parted_none}

@@ -8,7 +8,7 @@ use Rattle.firm_paths.specs.Classes.{class_of}
 use Rattle.firm_graph.specs.Network.{demand}
 use Rattle.firm_graph.specs.View.{flows}
 use Rattle.firm_canon.specs.inner.Choosing.{HasRoom, IsPassed}
-use Rattle.firm_canon.specs.inner.Ways.{found_by}
+use Rattle.firm_canon.specs.inner.Approaches.{found_by}
 use Rattle.firm_canon.specs.inner.State.{prefix, price, view}
 use Rattle.firm_canon.specs.declared.choosing.Choosing.{Choosing}
 use Rattle.firm_canon.proofs.Counts.{below_on}
@@ -57,23 +57,23 @@ pub loop-machine-preserved : goal.loop-machine-preserved
 loop-machine-preserved c =
     let s : Choosing = c.args.self.now in
     let t : Choosing = c.loop-machine.self in
-    let u : Choosing = c.try_way.new.self in
+    let u : Choosing = c.try_approach.new.self in
     let m : ℕ = c.loop-machine.machine in
     let inv = c.loop-machine.invariant in
     let on = c.next_place-machine-in-loop-machine.ensures in
     let next : ℕ = c.next_place-machine-in-loop-machine.result in
     let places : List ℕ = c.args.wishes.now.places.items in
-    let lost = c.if-try_way.ensures in
+    let lost = c.if-try_approach.ensures in
     let class : ℕ → ℕ = class_of u.scratch.now in
     let here : IsPassed (view s) (price s) (prefix s) class true m =
     still_back (λ v at b. IsPassed v at b class true m) s t _ _ inv.goes inv.still (lost.passed refl) in
     record {
       still = lost.unchanged refl ∙ inv.still;
-      goes = goes_both s t u _ 1 _ _ (found_by c.in-Some.way false) _ inv.goes lost.goes_on
+      goes = goes_both s t u _ 1 _ _ (found_by c.in-Some.approach false) _ inv.goes lost.goes_on
           (omega (arith, on.least, inv.from))
           (omega (
             arith,
-            found_none places (nat_le c.args.stretch.behind m) m c.in-Some.way c.in-Some.ensures.some.1,
+            found_none places (nat_le c.args.stretch.behind m) m c.in-Some.approach c.in-Some.ensures.some.1,
             below_on places (m + 1) next on.least,
             below_on places c.args.stretch.from m inv.from,
           ));
@@ -90,36 +90,36 @@ loop-machine-preserved c =
           c.deref-in-loop-machine.ensures.0 (on.skipped k a b));
     }
 
-pub returns-then-try_way-clause-some : goal.returns-then-try_way-clause-some
-returns-then-try_way-clause-some c =
+pub returns-then-try_approach-clause-some : goal.returns-then-try_approach-clause-some
+returns-then-try_approach-clause-some c =
     let s : Choosing = c.args.self.now in
     let t : Choosing = c.loop-machine.self in
-    let u : Choosing = c.try_way.new.self in
+    let u : Choosing = c.try_approach.new.self in
     let m : ℕ = c.loop-machine.machine in (
       c.loop-machine-test.true,
       c.in-Some.ensures.some.0,
       kept_back (λ at b. HasRoom (view u).case b (On m) (flows (view u))) s t _ _ c.loop-machine.invariant.goes
-          (c.if-try_way.ensures.room refl),
+          (c.if-try_approach.ensures.room refl),
     )
 
-pub returns-then-try_way-clause-before : goal.returns-then-try_way-clause-before
-returns-then-try_way-clause-before c k a b =
+pub returns-then-try_approach-clause-before : goal.returns-then-try_approach-clause-before
+returns-then-try_approach-clause-before c k a b =
     let s : Choosing = c.args.self.now in
     passed_on (view s) (view s) (price s) (prefix s) (class_of c.loop-machine.self.scratch.now)
-    (class_of c.try_way.new.self.scratch.now) (nat_le c.args.stretch.behind k) k (same_view (view s)) refl
-    c.if-try_way.ensures.goes_on.refined (c.loop-machine.invariant.passed k a b)
+    (class_of c.try_approach.new.self.scratch.now) (nat_le c.args.stretch.behind k) k (same_view (view s)) refl
+    c.if-try_approach.ensures.goes_on.refined (c.loop-machine.invariant.passed k a b)
 
-pub returns-then-try_way-clause-goes_on : goal.returns-then-try_way-clause-goes_on
-returns-then-try_way-clause-goes_on c =
+pub returns-then-try_approach-clause-goes_on : goal.returns-then-try_approach-clause-goes_on
+returns-then-try_approach-clause-goes_on c =
     let m : ℕ = c.loop-machine.machine in
     let inv = c.loop-machine.invariant in
     let places : List ℕ = c.args.wishes.now.places.items in
-    goes_both c.args.self.now c.loop-machine.self c.try_way.new.self _ 1 _ _ (found_by c.in-Some.way true) _ inv.goes
-    c.if-try_way.ensures.goes_on
+    goes_both c.args.self.now c.loop-machine.self c.try_approach.new.self _ 1 _ _ (found_by c.in-Some.approach true) _
+    inv.goes c.if-try_approach.ensures.goes_on
     (omega (arith, c.loop-machine-test.true, inv.from))
     (omega (
       arith,
-      found_one places (nat_le c.args.stretch.behind m) m c.in-Some.way c.in-Some.ensures.some.1,
+      found_one places (nat_le c.args.stretch.behind m) m c.in-Some.approach c.in-Some.ensures.some.1,
       below_on places (m + 1) c.args.stretch.end (omega (arith, c.loop-machine-test.true)),
       below_on places c.args.stretch.from m inv.from,
       tried_within c.args.stretch.behind m c.args.stretch.end c.loop-machine-test.true,
@@ -134,8 +134,8 @@ returns-clause-goes_on_none c =
     goes_within c.args.self.now c.loop-machine.self _ _ _ _ inv.goes (omega (arith, inv.end))
     (omega (arith, below_on c.args.wishes.now.places.items c.loop-machine.machine c.args.stretch.end inv.end))
 
-pub returns-then-try_way-clause-looked : goal.returns-then-try_way-clause-looked
-returns-then-try_way-clause-looked c =
+pub returns-then-try_approach-clause-looked : goal.returns-then-try_approach-clause-looked
+returns-then-try_approach-clause-looked c =
     let inv = c.loop-machine.invariant in
-    looks_both c.args.self.now c.loop-machine.self c.try_way.new.self 0 1 1 inv.goes.same inv.looked
-    c.if-try_way.ensures.looked (omega arith)
+    looks_both c.args.self.now c.loop-machine.self c.try_approach.new.self 0 1 1 inv.goes.same inv.looked
+    c.if-try_approach.ensures.looked (omega arith)

@@ -4,7 +4,7 @@ use Rattle.firm_paths.specs.Classes.{class_of}
 use Rattle.firm_canon.specs.inner.Choosing.{IsPassed}
 use Rattle.firm_canon.specs.inner.State.{GoesOn, prefix, price, view}
 use Rattle.firm_canon.specs.inner.Looks.{LooksOn}
-use Rattle.firm_canon.specs.inner.Ways.{below}
+use Rattle.firm_canon.specs.inner.Approaches.{below}
 use Rattle.firm_canon.proofs.choosing.Choosing.find_place.Given as goal
 
 abbrev pub invariant-loop-machine : goal.invariant-loop-machine

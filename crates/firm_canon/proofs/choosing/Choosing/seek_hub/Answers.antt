@@ -8,7 +8,7 @@ use Rattle.firm_net.specs.declared.row.ArcId.{ArcId}
 use Rattle.firm_net.specs.declared.row.NodeId.{NodeId}
 use Rattle.firm_graph.specs.declared.network.Node.TheVariants.{Sink}
 use Rattle.firm_graph.specs.declared.network.Key.{Key}
-use Rattle.firm_graph.specs.declared.network.Key.TheVariants.{Wide, Delay}
+use Rattle.firm_graph.specs.declared.network.Key.TheVariants.{Wide, Wait}
 use Rattle.firm_graph.specs.View.{flow_of_row}
 use Rattle.firm_canon.specs.inner.State.{prefix, price, view}
 use Rattle.firm_canon.specs.declared.choosing.Choosing.{Choosing}
@@ -21,7 +21,7 @@ use Rattle.firm_canon.proofs.choosing.Choosing.seek_hub.Goals as goal
 pub is_tight_arc-requires-clause-there : goal.is_tight_arc-requires-clause-there
 is_tight_arc-requires-clause-there c =
     let s : Choosing = c.args.self.now in
-    there_at (view s) (price s) (prefix s) (Delay (length (prefix s))) c.wait-wait.result c.requires.ready.keeps
+    there_at (view s) (price s) (prefix s) (Wait (length (prefix s))) c.wait-wait.result c.requires.ready.keeps
     c.requires.next c.wait-wait.ensures
 
 pub returns-then-not-is_tight_arc-clause-goes_on : goal.returns-then-not-is_tight_arc-clause-goes_on

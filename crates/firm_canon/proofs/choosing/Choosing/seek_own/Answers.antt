@@ -2,7 +2,7 @@ use Rattle.std.proofs.Common.{◌≡◌, ◌≤◌, ℕ, length, ap, refl, arith
 use Rattle.firm_net.specs.declared.row.ArcId.{ArcId}
 use Rattle.firm_net.specs.declared.row.NodeId.{NodeId}
 use Rattle.firm_graph.specs.declared.network.Node.TheVariants.{Sink, Hub}
-use Rattle.firm_graph.specs.declared.network.Key.TheVariants.{Stay, Wide, Delay}
+use Rattle.firm_graph.specs.declared.network.Key.TheVariants.{Stay, Wide, Wait}
 use Rattle.firm_graph.specs.View.{View, flows, flow_of_row}
 use Rattle.firm_graph.specs.declared.network.Key.{Key}
 use Rattle.firm_net.specs.Net.{IsNode, row_at}
@@ -24,8 +24,8 @@ is_tight_arc-requires-clause-there c =
     ⊎_elim
     (λ (hub : (1 ≤ flows v (Wide n)) × (unit ≡ v.arc (Wide n)) × (goal ≡ v.node Hub)).
     there_at v (price s) (prefix s) (Wide n) unit c.requires.ready.keeps c.requires.next hub.1)
-    (λ (job : (flows v (Wide n) ≡ 0) × (unit ≡ v.arc (Delay n)) × (goal ≡ v.node Sink)).
-    there_at v (price s) (prefix s) (Delay n) unit c.requires.ready.keeps c.requires.next job.1)
+    (λ (job : (flows v (Wide n) ≡ 0) × (unit ≡ v.arc (Wait n)) × (goal ≡ v.node Sink)).
+    there_at v (price s) (prefix s) (Wait n) unit c.requires.ready.keeps c.requires.next job.1)
     c.own_way.ensures
 
 pub returns-then-not-is_tight_arc-clause-most : goal.returns-then-not-is_tight_arc-clause-most
@@ -57,7 +57,7 @@ seek-requires-clause-goal c =
     ⊎_elim
     (λ (hub : (1 ≤ flows v (Wide n)) × (unit ≡ v.arc (Wide n)) × (end ≡ v.node Hub)).
     subst (λ (z : NodeId). IsNode s.graph.now.net z) (sym hub.2) (c.requires.ready.keeps.shows.nodes Hub tt))
-    (λ (job : (flows v (Wide n) ≡ 0) × (unit ≡ v.arc (Delay n)) × (end ≡ v.node Sink)).
+    (λ (job : (flows v (Wide n) ≡ 0) × (unit ≡ v.arc (Wait n)) × (end ≡ v.node Sink)).
     subst (λ (z : NodeId). IsNode s.graph.now.net z) (sym job.2) (c.requires.ready.keeps.shows.nodes Sink tt))
     c.own_way.ensures
 

@@ -3,7 +3,7 @@ use Rattle.firm_graph.specs.Graph.{Graph, Mirrors}
 use Rattle.firm_rules.specs.Limits.{TenantLimits}
 use Rattle.firm_net.specs.Edits.{IsEdit}
 use Rattle.firm_graph.specs.inner.Inside.{graph_of}
-use Rattle.firm_graph.specs.declared.parts.JobParts.{JobParts}
+use Rattle.firm_graph.specs.declared.ids.JobParts.{JobParts}
 use Rattle.firm_graph.proofs.Found.{sink-there, fresh-other}
 use Rattle.firm_graph.proofs.Additions.{job-added, job_added, room-left}
 use Rattle.firm_graph.proofs.Said.{said}

@@ -12,8 +12,8 @@ use Rattle.firm_rules.specs.Limits.{TenantLimits}
 use Rattle.firm_graph.specs.Parts.{MachineParts}
 use Rattle.firm_graph.specs.Graph.{Graph, Mirrors, machine_nodes, node_under, preferred_spans}
 use Rattle.firm_graph.specs.inner.Inside.{graph_of}
-use Rattle.firm_graph.specs.declared.parts.TaskParts.{TaskParts}
-use Rattle.firm_graph.specs.declared.parts.JobParts.{JobParts}
+use Rattle.firm_graph.specs.declared.ids.TaskParts.{TaskParts}
+use Rattle.firm_graph.specs.declared.ids.JobParts.{JobParts}
 use Rattle.firm_graph.proofs.Found.{hub-there, machines-there, fresh-other}
 use Rattle.firm_graph.proofs.Additions.{task-added, task_added, room-left, owner-read, weight-read, job-read}
 use Rattle.firm_graph.proofs.Said.{said}

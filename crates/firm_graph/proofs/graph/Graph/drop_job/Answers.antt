@@ -5,11 +5,11 @@ use Rattle.firm_net.specs.Row.{Row}
 use Rattle.firm_net.specs.Net.{Net, row_at}
 use Rattle.firm_net.specs.Edits.{IsEdit, span_of}
 use Rattle.firm_rules.specs.Book.{job_names, has_tasks}
-use Rattle.firm_rules.specs.declared.parts.Task.{Task}
+use Rattle.firm_rules.specs.declared.book.Task.{Task}
 use Rattle.firm_graph.specs.Graph.{Graph, Mirrors, graph_nodes, graph_spans}
 use Rattle.firm_graph.specs.inner.Inside.{graph_of}
 use Rattle.firm_graph.specs.inner.Steps.{Holds}
-use Rattle.firm_graph.specs.declared.parts.JobParts.{JobParts}
+use Rattle.firm_graph.specs.declared.ids.JobParts.{JobParts}
 use Rattle.firm_graph.proofs.Drops.{IsFree}
 use Rattle.firm_graph.proofs.Jobs.{job-unlinked, job-free, job-dropped, job_dropped}
 use Rattle.firm_graph.proofs.Names.{job-rows, none-of}

@@ -12,8 +12,8 @@ use Rattle.firm_net.specs.declared.row.NodeId.{NodeId}
 use Rattle.firm_net.specs.declared.row.ArcId.{ArcId}
 use Rattle.firm_rules.specs.Book.{machine_names, without_machine, evicted}
 use Rattle.firm_graph.specs.Parts.{MachineParts}
-use Rattle.firm_graph.specs.declared.parts.MachineIds.TheInside.{Inside}
-use Rattle.firm_graph.specs.declared.parts.TaskParts.{TaskParts}
+use Rattle.firm_graph.specs.declared.ids.MachineIds.TheInside.{Inside}
+use Rattle.firm_graph.specs.declared.ids.TaskParts.{TaskParts}
 use Rattle.firm_graph.specs.Graph.{Graph, Mirrors, graph_nodes, graph_spans, slot_spans}
 use Rattle.firm_graph.specs.inner.Steps.{Holds, refitted, forgetting_rows}
 use Rattle.firm_graph.specs.inner.Inside.{graph_of}

@@ -4,7 +4,7 @@ use Rattle.indexmap.proofs.SetLemmas.{map-remove}
 use Rattle.firm_net.specs.declared.row.NodeId.{NodeId}
 use Rattle.firm_graph.specs.Graph.{Graph, Mirrors, graph_nodes, graph_spans}
 use Rattle.firm_graph.specs.inner.Inside.{graph_of}
-use Rattle.firm_graph.specs.declared.parts.TaskParts.{TaskParts}
+use Rattle.firm_graph.specs.declared.ids.TaskParts.{TaskParts}
 use Rattle.firm_graph.specs.inner.Steps.{Holds}
 use Rattle.firm_graph.proofs.Drops.{IsFree, task-dropped, task_dropped, task-unlinked, task-free}
 use Rattle.firm_graph.proofs.Said.{said}

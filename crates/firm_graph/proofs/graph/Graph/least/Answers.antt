@@ -10,7 +10,7 @@ use Rattle.firm_flow.specs.Flow.{carried}
 use Rattle.firm_flow.specs.NetFlow.{places}
 use Rattle.firm_graph.specs.Graph.{Graph, task_nodes}
 use Rattle.firm_graph.specs.inner.Tables.{Lineup}
-use Rattle.firm_graph.specs.declared.parts.TaskParts.{TaskParts}
+use Rattle.firm_graph.specs.declared.ids.TaskParts.{TaskParts}
 use Rattle.firm_graph.specs.inner.Inside.{graph_of}
 use Rattle.firm_graph.proofs.Cuts.{no-cut, distinct}
 use Rattle.firm_graph.proofs.Lineups.{lined-up, waits-there}

@@ -1,7 +1,7 @@
 use Rattle.std.proofs.Common.{◌≡◌, ℕ, ap, ap₂, arith, sym, ◌∙◌, List, map, length}
 use Rattle.firm_net.specs.Net.{empty_net}
 use Rattle.firm_graph.specs.Graph.{Mirrors}
-use Rattle.firm_graph.specs.declared.parts.TaskParts.{TaskParts}
+use Rattle.firm_graph.specs.declared.ids.TaskParts.{TaskParts}
 use Rattle.firm_graph.proofs.Said.{said}
 use Rattle.firm_graph.proofs.Additions.{opened, opened_graph}
 use Rattle.firm_graph.proofs.graph.Graph.open.Goals as goal

@@ -4,7 +4,7 @@ use Rattle.std.proofs.lemmas.List.{length-map}
 use Rattle.firm_rules.specs.Placement.{IsLegal, IsPlace, is_legal}
 use Rattle.firm_rules.specs.Round.{case_of, demand_of}
 use Rattle.firm_rules.specs.Book.{TenantRows}
-use Rattle.firm_rules.specs.declared.parts.Machine.{Machine}
+use Rattle.firm_rules.specs.declared.book.Machine.{Machine}
 use Rattle.firm_rules.specs.declared.rounds.Choice.{Choice}
 use Rattle.firm_graph.specs.Graph.{Graph}
 use Rattle.firm_graph.specs.inner.Inside.{graph_of}

@@ -12,7 +12,7 @@ returns-clause-answers g c =
     let s = c.finish.new.self in
     let roster = c.args.self.now.setting.roster.now in
     on_ok_weaker c.finish.result
-    (λ both text written told. answers_all roster s.register s.seats s.answers s.output text written _
+    (λ both text written told. answers_all roster s.register s.desk_states s.answers s.output text written _
     both.1.answered both.1.none (both.0 roster text written told))
     (both_ok c.finish.result _ _ c.finish.ensures.told c.finish.ensures.finished)
 

@@ -15,6 +15,6 @@ loop-place-preserved g c =
           (λ (less : place < c.loop-place.place). e.others place (i.back place less))
           (λ (more : c.loop-place.place ≤ place).
           let same : c.loop-place.place ≡ place = omega arith in
-          subst (λ (p : ℕ). IsBackAt p c.come_home.new.self.seats) same e.back)
+          subst (λ (p : ℕ). IsBackAt p c.come_home.new.self.desk_states) same e.back)
           (cases_lt place c.loop-place.place);
     }

@@ -6,5 +6,5 @@ abbrev pub invariant-loop-place : goal.invariant-loop-place
 invariant-loop-place g l = record {
   follows : Follows l.initial.self l.self;
   keeps : Keeps l.initial.self l.self;
-  back : (place : ℕ) → place < l.place → IsBackAt place l.self.seats;
+  back : (place : ℕ) → place < l.place → IsBackAt place l.self.desk_states;
 }

@@ -12,33 +12,35 @@ pub retire-requires-2 : goal.retire-requires-2
 retire-requires-2 c =
     let s = c.self.inside in
     let found : place_in s.register c.args.name ≡ Some c.args.place = rw (← c.self.view_is) at c.requires.found in
-    let back : IsBackAt c.args.place s.seats.items = rw (← c.self.view_is) at c.requires.back in
+    let back : IsBackAt c.args.place s.desk_states.items = rw (← c.self.view_is) at c.requires.back in
     is_home s.hall.value.id c.index_mut.result.now
-    (home_of s.hall.value.id s.register s.held.answers s.seats.items c.self.invariant.seats c.self.invariant.fits
+    (home_of s.hall.value.id s.register s.held.answers s.desk_states.items c.self.invariant.desk_states
+    c.self.invariant.fits
     c.args.place c.index_mut.result.now _ c.requires.place c.index_mut.ensures.value c.args.name found back)
 
 pub invariant_of-self : goal.invariant_of-self
 invariant_of-self c =
     let s = c.self.inside in
     let found : place_in s.register c.args.name ≡ Some c.args.place = rw (← c.self.view_is) at c.requires.found in
-    let change = left s.hall.value.id s.register s.held.answers s.seats.items c.self.invariant.seats
+    let change = left s.hall.value.id s.register s.held.answers s.desk_states.items c.self.invariant.desk_states
     c.self.invariant.fits c.args.place c.index_mut.result.now _ c.requires.place c.index_mut.ensures.value
     c.retire-2.new.self c.retire-2.ensures in
     let same : c.in-Ok.field-0 ≡ c.args.place =
     some_once (sym found ∙ left_place (place_in s.register c.args.name) c.in-Ok.field-0 c.in-Ok.ensures.place) in
     rw (c.in-Ok.ensures.retired, same)
-    (record { seats = change.seats_are; fits = change.fits; placed = c.self.invariant.placed })
+    (record { desk_states = change.desk_states_are; fits = change.fits; placed = c.self.invariant.placed })
 
 pub returns-clause-obeys : goal.returns-clause-obeys
 returns-clause-obeys c =
     let s = c.self.inside in
     let found : place_in s.register c.args.name ≡ Some c.args.place = rw (← c.self.view_is) at c.requires.found in
-    let change = left s.hall.value.id s.register s.held.answers s.seats.items c.self.invariant.seats
+    let change = left s.hall.value.id s.register s.held.answers s.desk_states.items c.self.invariant.desk_states
     c.self.invariant.fits c.args.place c.index_mut.result.now _ c.requires.place c.index_mut.ensures.value
     c.retire-2.new.self c.retire-2.ensures in
     let same : c.in-Ok.field-0 ≡ c.args.place =
     some_once (sym found ∙ left_place (place_in s.register c.args.name) c.in-Ok.field-0 c.in-Ok.ensures.place) in
     rw (← c.self.view_is, c.in-Ok.ensures.retired, same)
     (λ roster. retirement_told c.answers_add_up.ensures.one_more c.answers_add_up.ensures.retired roster s.register
-    s.seats.items _ s.held.answers s.held.output c.args.name c.args.place c.retire.ensures.sound found change.asked
+    s.desk_states.items _ s.held.answers s.held.output c.args.name c.args.place c.retire.ensures.sound found
+    change.asked
     change.books)

@@ -1,6 +1,6 @@
 use Rattle.std.proofs.Common.{None, Some}
 use Rattle.firm_hall.specs.inner.Held.{FirstIsFor}
-use Rattle.firm_hall.specs.inner.Seats.{IsTurned}
+use Rattle.firm_hall.specs.inner.DeskStates.{IsTurned}
 use Rattle.firm_hall.proofs.Coming.{came_back, first_low, stayed_away}
 use Rattle.firm_hall.proofs.serving.Serving.look_at.Goals as goal
 
@@ -10,7 +10,8 @@ returns-in_default-clause-keeps c =
     let same : IsTurned c.index_mut.result.now c.look.new.self None = rw c.in_default.is at c.look.ensures in
     rw (
       ← c.self.view_is,
-      stayed_away s.seats.items c.args.place c.index_mut.result.now c.look.new.self _ c.index_mut.ensures.value same,
+      stayed_away s.desk_states.items c.args.place c.index_mut.result.now c.look.new.self _ c.index_mut.ensures.value
+          same,
     )
     (λ roster text written now told. told)
 
@@ -20,7 +21,7 @@ invariant_of-self-2 c =
     let here : FirstIsFor c.args.place s.held.answers = rw (← c.self.view_is) at c.requires in
     let turn : IsTurned c.index_mut.result.now c.look.new.self (Some c.in-Some.reply) =
     rw c.in-Some.is at c.look.ensures in
-    let came = came_back s.hall.value.id s.register s.seats.items s.held c.args.place c.index_mut.result.now
+    let came = came_back s.hall.value.id s.register s.desk_states.items s.held c.args.place c.index_mut.result.now
     c.look.new.self _ c.in-Some.reply c.self.invariant
     (first_low c.args.place s.held.answers here c.self.invariant.placed) c.index_mut.ensures.value turn in
     rw c.fill.ensures came.stands
@@ -31,7 +32,7 @@ returns-clause-follows c =
     let here : FirstIsFor c.args.place s.held.answers = rw (← c.self.view_is) at c.requires in
     let turn : IsTurned c.index_mut.result.now c.look.new.self (Some c.in-Some.reply) =
     rw c.in-Some.is at c.look.ensures in
-    let came = came_back s.hall.value.id s.register s.seats.items s.held c.args.place c.index_mut.result.now
+    let came = came_back s.hall.value.id s.register s.desk_states.items s.held c.args.place c.index_mut.result.now
     c.look.new.self _ c.in-Some.reply c.self.invariant
     (first_low c.args.place s.held.answers here c.self.invariant.placed) c.index_mut.ensures.value turn in
     rw (← c.self.view_is, c.fill.ensures) came.follows
@@ -42,7 +43,7 @@ returns-clause-keeps c =
     let here : FirstIsFor c.args.place s.held.answers = rw (← c.self.view_is) at c.requires in
     let turn : IsTurned c.index_mut.result.now c.look.new.self (Some c.in-Some.reply) =
     rw c.in-Some.is at c.look.ensures in
-    let came = came_back s.hall.value.id s.register s.seats.items s.held c.args.place c.index_mut.result.now
+    let came = came_back s.hall.value.id s.register s.desk_states.items s.held c.args.place c.index_mut.result.now
     c.look.new.self _ c.in-Some.reply c.self.invariant
     (first_low c.args.place s.held.answers here c.self.invariant.placed) c.index_mut.ensures.value turn in
     rw (← c.self.view_is, c.fill.ensures) came.keeps

@@ -8,7 +8,7 @@ use Rattle.firm_hall.proofs.serving.Serving.obey.Goals as goal
 pub returns-in-Faulty-clause-obeys : goal.returns-in-Faulty-clause-obeys
 returns-in-Faulty-clause-obeys g c roster text after written now more told =
     let s = c.args.self.now in
-    faulty_told c.answers_add_up.ensures.one_more roster s.register s.seats s.answers s.output
+    faulty_told c.answers_add_up.ensures.one_more roster s.register s.desk_states s.answers s.output
     c.in-Faulty.refusal text after written now
     (more ∙ ap (λ (request : OperatorLine). input_lines text ++ Operator request ∷ []) c.in-Faulty.is) told
 

@@ -12,13 +12,14 @@ loop-self-preserved c =
       follows = follows_then i.follows (record { same_hall = put.hall; fewer = omega (arith, put.fewer) });
       keeps = λ roster text written now told. put.keeps roster text written now
           (i.keeps roster text written now told);
-      back = rw put.seats i.back;
+      back = rw put.desk_states i.back;
     }
 
 pub put_first-requires : goal.put_first-requires
 put_first-requires c =
     let s = c.self.inside in
-    let back : AllBack s.seats.items = rw (← c.self.view_is) at c.loop-self.invariant.back in
+    let back : AllBack s.desk_states.items = rw (← c.self.view_is) at c.loop-self.invariant.back in
     rw (← c.self.view_is)
-    (all_known s.hall.value.id s.held.answers s.seats.items c.self.invariant.seats c.self.invariant.placed back
+    (all_known s.hall.value.id s.held.answers s.desk_states.items c.self.invariant.desk_states c.self.invariant.placed
+    back
     (search rules))

@@ -6,7 +6,7 @@ abbrev pub invariant-loop-self : goal.invariant-loop-self
 invariant-loop-self l = record {
   follows : Follows l.initial.self l.self;
   keeps : Keeps l.initial.self l.self;
-  back : AllBack l.self.seats;
+  back : AllBack l.self.desk_states;
 }
 
 abbrev pub decreases-loop-self : goal.decreases-loop-self

@@ -10,7 +10,7 @@ invariant_of-self c =
     let s = c.self.inside in
     let first = c.put_first.ensures.first in
     let known : FirstIsKnown s.held.answers = rw (← c.self.view_is) at c.requires in
-    popped_stands s.hall.value.id s.register s.seats.items s.held c.put_first.new.self first.0 c.self.invariant
+    popped_stands s.hall.value.id s.register s.desk_states.items s.held c.put_first.new.self first.0 c.self.invariant
     first.1 known
 
 pub returns-clause-keeps : goal.returns-clause-keeps
@@ -19,7 +19,7 @@ returns-clause-keeps c =
     let first = c.put_first.ensures.first in
     rw (← c.self.view_is)
     (on_ok_weaker c.put_first.result
-    (λ put. popped_keeps s.hall.value.id s.register s.seats.items s.held c.put_first.new.self first.0 first.1
+    (λ put. popped_keeps s.hall.value.id s.register s.desk_states.items s.held c.put_first.new.self first.0 first.1
     (put first.0 first.1)) c.put_first.ensures.put)
 
 pub returns-clause-fewer : goal.returns-clause-fewer

@@ -8,7 +8,8 @@ returns-in_default-clause-obeys g c =
     let s = c.self.inside in
     rw (← c.self.view_is)
     (λ roster. retirement_refused c.answers_add_up.ensures.one_more c.answers_add_up.ensures.not_retired roster
-    s.register s.seats.items s.held.answers s.held.output c.args.name (sym c.place_of.ensures.place ∙ c.in_default.is))
+    s.register s.desk_states.items s.held.answers s.held.output c.args.name
+    (sym c.place_of.ensures.place ∙ c.in_default.is))
 
 pub returns-clause-obeys : goal.returns-clause-obeys
 returns-clause-obeys g c roster text after written now more told =

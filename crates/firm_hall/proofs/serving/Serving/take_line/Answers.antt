@@ -10,42 +10,43 @@ use Rattle.firm_hall.proofs.serving.Serving.take_line.Goals as goal
 pub returns-in-Nothing-clause-takes : goal.returns-in-Nothing-clause-takes
 returns-in-Nothing-clause-takes g c roster =
     let s = c.args.self.now in
-    nothing_follows c.answers_add_up.ensures.one_more roster s.register s.seats s.answers s.answers s.output c.args.line
+    nothing_follows c.answers_add_up.ensures.one_more roster s.register s.desk_states s.answers s.answers s.output
+    c.args.line
     c.in-Nothing.is refl
 
 pub returns-in-Long-clause-takes : goal.returns-in-Long-clause-takes
 returns-in-Long-clause-takes g c =
     let s = c.self.inside in
     rw (← c.self.view_is, c.push.ensures)
-    (λ roster. long_follows c.answers_add_up.ensures.one_more roster s.register s.seats.items s.held.answers _
+    (λ roster. long_follows c.answers_add_up.ensures.one_more roster s.register s.desk_states.items s.held.answers _
     s.held.output c.args.line c.in-Long.is refl)
 
 pub invariant_of-self : goal.invariant_of-self
 invariant_of-self g c =
     let s = c.self.inside in
     rw c.push.ensures
-    (known_stands s.hall.value.id s.register s.seats.items s.held (Known LineTooLong) (λ place. refl) tt
+    (known_stands s.hall.value.id s.register s.desk_states.items s.held (Known LineTooLong) (λ place. refl) tt
     c.self.invariant)
 
 pub returns-in-Nameless-clause-takes : goal.returns-in-Nameless-clause-takes
 returns-in-Nameless-clause-takes g c =
     let s = c.self-in-Nameless.inside in
     rw (← c.self-in-Nameless.view_is, c.push-in-Nameless.ensures)
-    (λ roster. nameless_follows c.answers_add_up.ensures.one_more roster s.register s.seats.items s.held.answers _
+    (λ roster. nameless_follows c.answers_add_up.ensures.one_more roster s.register s.desk_states.items s.held.answers _
     s.held.output c.args.line c.in-Nameless.is refl)
 
 pub invariant_of-self-in-Nameless : goal.invariant_of-self-in-Nameless
 invariant_of-self-in-Nameless g c =
     let s = c.self-in-Nameless.inside in
     rw c.push-in-Nameless.ensures
-    (known_stands s.hall.value.id s.register s.seats.items s.held (Known UnknownTenant) (λ place. refl) tt
+    (known_stands s.hall.value.id s.register s.desk_states.items s.held (Known UnknownTenant) (λ place. refl) tt
     c.self-in-Nameless.invariant)
 
 pub returns-in-None-clause-takes : goal.returns-in-None-clause-takes
 returns-in-None-clause-takes g c =
     let s = c.self-in-For.inside in
     rw (← c.self-in-For.view_is, c.push-in-None.ensures)
-    (λ roster. stranger_follows c.answers_add_up.ensures.one_more roster s.register s.seats.items s.held.answers _
+    (λ roster. stranger_follows c.answers_add_up.ensures.one_more roster s.register s.desk_states.items s.held.answers _
     s.held.output c.args.line c.answers_add_up.ensures.unknown c.in-For.name c.in-For.command c.in-For.is
     (sym c.place_of.ensures.place ∙ c.in-None.is) refl)
 
@@ -53,7 +54,7 @@ pub invariant_of-self-in-None : goal.invariant_of-self-in-None
 invariant_of-self-in-None g c =
     let s = c.self-in-For.inside in
     rw c.push-in-None.ensures
-    (known_stands s.hall.value.id s.register s.seats.items s.held (Known UnknownTenant) (λ place. refl) tt
+    (known_stands s.hall.value.id s.register s.desk_states.items s.held (Known UnknownTenant) (λ place. refl) tt
     c.self-in-For.invariant)
 
 pub returns-in-Some-clause-takes : goal.returns-in-Some-clause-takes
@@ -72,6 +73,6 @@ pub invariant_of-self-in-Operator : goal.invariant_of-self-in-Operator
 invariant_of-self-in-Operator g c =
     let s = c.self-in-Operator.inside in
     rw c.push-in-Operator.ensures
-    (known_stands s.hall.value.id s.register s.seats.items s.held (Known (ToOperator c.obey-reply.result))
+    (known_stands s.hall.value.id s.register s.desk_states.items s.held (Known (ToOperator c.obey-reply.result))
     (λ place. refl)
     tt c.self-in-Operator.invariant)

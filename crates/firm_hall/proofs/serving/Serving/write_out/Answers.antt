@@ -6,7 +6,7 @@ use Rattle.firm_hall.proofs.serving.Serving.write_out.Goals as goal
 
 pub invariant_of-self : goal.invariant_of-self
 invariant_of-self g c = record {
-  seats = rw c.write.ensures.answers c.self.invariant.seats;
+  desk_states = rw c.write.ensures.answers c.self.invariant.desk_states;
   fits = c.self.invariant.fits;
   placed = rw c.write.ensures.answers c.self.invariant.placed;
 }
@@ -24,14 +24,16 @@ returns-clause-told g c =
     on_ok_weaker c.write.result
     (λ passes. λ roster text written told. passes roster text written
     (rw (← c.self.view_is) at (c.in-Ok.ensures.keeps roster text written _ told)))
-    (wrote c.write.result s.hall.value.id s.register s.seats.items s.held c.write.new.self _ _ e.ok e.empty e.answers
+    (wrote c.write.result s.hall.value.id s.register s.desk_states.items s.held c.write.new.self _ _ e.ok e.empty
+    e.answers
     e.err).passes
 
 pub returns-clause-begins : goal.returns-clause-begins
 returns-clause-begins g c roster text written told =
     let s = c.self.inside in
     let e = c.write.ensures in
-    (wrote c.write.result s.hall.value.id s.register s.seats.items s.held c.write.new.self _ _ e.ok e.empty e.answers
+    (wrote c.write.result s.hall.value.id s.register s.desk_states.items s.held c.write.new.self _ _ e.ok e.empty
+    e.answers
     e.err).begins roster text written
     (rw (← c.self.view_is) at (c.in-Ok.ensures.keeps roster text written _ told))
 

@@ -2,7 +2,7 @@ use Rattle.std.proofs.Common.{List, ℕ, remove, ap, ◌∙◌}
 use Rattle.std.specs.Map.{values_of}
 use Rattle.indexmap.proofs.SetLemmas.{map-remove}
 use Rattle.firm_rules.specs.Book.{TenantRows}
-use Rattle.firm_rules.specs.declared.parts.Job.{Job}
+use Rattle.firm_rules.specs.declared.book.Job.{Job}
 use Rattle.firm_rules.proofs.TableLemmas.{tables-without_job}
 use Rattle.firm_rules.proofs.tables.Rows.close.Goals as goal
 

@@ -2,7 +2,7 @@ use Rattle.std.proofs.Common.{List, ℕ, remove, sym, ap, ◌∙◌, arith}
 use Rattle.std.specs.Map.{values_of}
 use Rattle.indexmap.proofs.SetLemmas.{map-remove}
 use Rattle.firm_rules.specs.Book.{TenantRows, running_on}
-use Rattle.firm_rules.specs.declared.parts.Machine.{Machine}
+use Rattle.firm_rules.specs.declared.book.Machine.{Machine}
 use Rattle.firm_rules.proofs.TableLemmas.{tables-without_machine, arcs-at, running-drained, read-name}
 use Rattle.firm_rules.proofs.tables.Rows.drain.Goals as goal
 

@@ -2,7 +2,7 @@ use Rattle.std.proofs.Common.{List, ℕ, remove, sym, ap, ◌∙◌, arith}
 use Rattle.std.specs.Map.{values_of}
 use Rattle.indexmap.proofs.SetLemmas.{map-remove}
 use Rattle.firm_rules.specs.Book.{TenantRows}
-use Rattle.firm_rules.specs.declared.parts.Task.{Task}
+use Rattle.firm_rules.specs.declared.book.Task.{Task}
 use Rattle.firm_rules.proofs.SoundRows.{one_if, one_if-from_bool}
 use Rattle.firm_rules.proofs.TableLemmas.{tables-without_task, running-at, preferences-at}
 use Rattle.firm_rules.proofs.tables.Rows.remove_task.Goals as goal

@@ -1,6 +1,6 @@
 use Rattle.std.proofs.Common.{ap, ◌∙◌}
 use Rattle.firm_rules.specs.Book.{TenantRows, task_named}
-use Rattle.firm_rules.specs.declared.parts.Task.{Task}
+use Rattle.firm_rules.specs.declared.book.Task.{Task}
 use Rattle.firm_rules.proofs.NamedRows.{lookup-find}
 use Rattle.firm_rules.proofs.tables.Rows.task_named.Goals as goal
 

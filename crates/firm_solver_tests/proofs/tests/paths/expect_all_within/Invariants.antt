@@ -1,5 +1,5 @@
 use Rattle.std.proofs.Common.{◌≡◌}
 use Rattle.firm_solver_tests.proofs.tests.paths.expect_all_within.Given as goal
 
-abbrev pub invariant-loop-asked : goal.invariant-loop-asked
-invariant-loop-asked g l = (l.world.prices.limits ≡ (8, 16)) × (l.world.scratch.limits ≡ (8, 16))
+abbrev pub invariant-loop-query : goal.invariant-loop-query
+invariant-loop-query g l = (l.world.prices.limits ≡ (8, 16)) × (l.world.scratch.limits ≡ (8, 16))

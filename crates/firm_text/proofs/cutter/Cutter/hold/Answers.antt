@@ -1,5 +1,5 @@
 use Rattle.std.proofs.Common.{◌∙◌, ap, rules, ◌++◌, take}
-use Rattle.firm_text.specs.Cutters.{Cut, most_held}
+use Rattle.firm_text.specs.Cutters.{CutterIs, most_bytes_held}
 use Rattle.firm_text.proofs.Cutting.{held_more}
 use Rattle.firm_text.proofs.cutter.Cutter.hold.Goals as goal
 
@@ -8,4 +8,4 @@ returns-clause-held c =
     held_more c.self.inside.bytes c.copy_from_slice.new.self c.args.bytes.now c.self.inside.count c.min-begin.result
     c.min-fits.result c.min-self-inside.result
     (search rules) c.self.invariant c.min-begin.ensures c.min-fits.ensures c.min-self-inside.ensures (search rules)
-    ∙ ap (λ (k : Cut). take most_held (k.held ++ c.args.bytes.now)) c.self.view_is
+    ∙ ap (λ (k : CutterIs). take most_bytes_held (k.held ++ c.args.bytes.now)) c.self.view_is

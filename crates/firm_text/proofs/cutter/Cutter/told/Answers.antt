@@ -1,7 +1,7 @@
 use Rattle.std.proofs.Common.{◌∙◌, sym, ap, arith}
 use Rattle.std.proofs.lemmas.List.{take_all}
 use Rattle.std.specs.Str.Lines.{strip_carriage_return}
-use Rattle.firm_text.specs.Cutters.{Cut}
+use Rattle.firm_text.specs.Cutters.{CutterIs}
 use Rattle.firm_text.specs.Inputs.{line_of}
 use Rattle.firm_text.proofs.Cutting.{tells_counted, tells_held}
 use Rattle.firm_text.proofs.cutter.Cutter.told.Goals as goal
@@ -12,13 +12,13 @@ returns-then-self-eq-MOST_COUNTED c text stands =
     take_all c.self.inside.count c.self.inside.bytes
     (let n = c.self.told in let m = c.if-self-eq-MOST_COUNTED.true in omega arith) in
     tells_counted c.args.self.now text c.self.inside.bytes stands
-    (sym (ap (λ (k : Cut). k.count) c.self.view_is) ∙ c.if-self-eq-MOST_COUNTED.true)
-    (sym whole ∙ ap (λ (k : Cut). k.held) c.self.view_is)
+    (sym (ap (λ (k : CutterIs). k.count) c.self.view_is) ∙ c.if-self-eq-MOST_COUNTED.true)
+    (sym whole ∙ ap (λ (k : CutterIs). k.held) c.self.view_is)
 
 pub returns-else-self-eq-MOST_COUNTED : goal.returns-else-self-eq-MOST_COUNTED
 returns-else-self-eq-MOST_COUNTED c text stands =
-    let count = ap (λ (k : Cut). k.count) c.self.view_is in
-    let held = ap (λ (k : Cut). k.held) c.self.view_is in
+    let count = ap (λ (k : CutterIs). k.count) c.self.view_is in
+    let held = ap (λ (k : CutterIs). k.held) c.self.view_is in
     let most = c.self.invariant in
     let all =
     tells_held c.args.self.now text stands (omega arith) (λ e. c.if-self-eq-MOST_COUNTED.false (omega arith)) in

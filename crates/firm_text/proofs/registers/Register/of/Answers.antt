@@ -2,7 +2,7 @@ use Rattle.std.proofs.Common.{◌≡◌, ◌∙◌, ap, sym, subst, arith, lengt
 use Rattle.std.specs.Prelude.{set}
 use Rattle.std.proofs.lemmas.Option.{get_or_from_slice_get}
 use Rattle.firm_text.specs.Rosters.{RosterRow}
-use Rattle.firm_text.specs.Registers.{AreSound, occupied}
+use Rattle.firm_text.specs.Registers.{IsRegister, occupied}
 use Rattle.firm_text.specs.declared.registers.Entry.{Entry}
 use Rattle.firm_text.proofs.Places.{all_placed, next_place, places_to, sound_first}
 use Rattle.firm_text.proofs.registers.Register.of.Goals as goal
@@ -29,4 +29,4 @@ invariant_of-result c =
     let all =
     c.loop-at.invariant ∙ ap (λ (n : ℕ). places_to n c.args.roster.now) end ∙ all_placed c.args.roster.now
     in
-    subst AreSound (sym all) (sound_first c.args.roster.now c.len-at-end.ensures.differ (omega arith))
+    subst IsRegister (sym all) (sound_first c.args.roster.now c.len-at-end.ensures.differ (omega arith))

@@ -1,4 +1,4 @@
-//! The ways of the next task to the machines.
+//! How the next task approaches the machines.
 ghost use Rattle.std.specs.Prelude.{◌≡◌, ◌+◌, ◌-◌, ◌<◌, ◌≤◌, ◌==◌, ◌⊎◌, ℕ, length, true, false, nat_le, nat_lt};
 ghost use Rattle.std.specs.Prelude.{IfSome, IfNone, None};
 ghost use Rattle.std.specs.List.{list_any, position};
@@ -10,8 +10,8 @@ ghost use Rattle.firm_canon.specs.inner.Choosing.{HasRoom, IsPassed, IsShutOff, 
 ghost use Rattle.firm_canon.specs.inner.Classes.{IsMost, one_if};
 ghost use Rattle.firm_canon.specs.inner.State.{GoesOn, IsReady, prefix, price, view};
 ghost use Rattle.firm_canon.specs.inner.Looks.{LooksOn};
-ghost use Rattle.firm_canon.specs.inner.Ways.{IsWay, below, found_by};
-ghost use Rattle.firm_canon.specs.declared.ways.Way.TheVariants.{ByHub};
+ghost use Rattle.firm_canon.specs.inner.Approaches.{IsApproach, below, found_by};
+ghost use Rattle.firm_canon.specs.declared.approaches.Approach.TheVariants.{ByHub};
 ghost use Rattle.firm_rules.specs.declared.rounds.Choice.TheVariants.{On};
 ghost use Rattle.firm_graph.specs.Network.{leaving, preferred_at};
 ghost use Rattle.firm_graph.specs.declared.network.Key.TheVariants.{Wide, Prefer};
@@ -21,7 +21,7 @@ use crate::reads::{Wishes, machine_count};
 
 /// How a task comes to a machine that is not its own.
 #[derive(Clone, Copy)]
-pub(crate) enum Way {
+pub(crate) enum Approach {
     /// By the arc of its preference of this number, counted from 0.
     Preferred(usize),
     /// By the hub.
@@ -64,9 +64,9 @@ fn is_near(wishes: &Wishes, machine: u32) -> bool
 }
 
 /// How a task can come to the machine, if at all: not to its own, and by the hub only from `behind` on.
-fn way_to(wishes: &Wishes, behind: u32, machine: u32) -> Option<Way>
-    ensures some { IfSome result (λ way. (runs_at wishes.now.home machine ≡ false)
-        × IsWay wishes.now.places.items (nat_le behind machine) machine way) }
+fn approach_to(wishes: &Wishes, behind: u32, machine: u32) -> Option<Approach>
+    ensures some { IfSome result (λ approach. (runs_at wishes.now.home machine ≡ false)
+        × IsApproach wishes.now.places.items (nat_le behind machine) machine approach) }
     ensures none { IfNone result (runs_at wishes.now.home machine ≡ false
         → (position (λ place. place == machine) wishes.now.places.items ≡ None) × (nat_le behind machine ≡ false)) }
 {
@@ -74,10 +74,10 @@ fn way_to(wishes: &Wishes, behind: u32, machine: u32) -> Option<Way>
         return None;
     }
     if let Some(number) = preference_for(&wishes.places, machine) {
-        return Some(Way::Preferred(number));
+        return Some(Approach::Preferred(number));
     }
     if behind <= machine {
-        return Some(Way::ByHub);
+        return Some(Approach::ByHub);
     }
     None
 }
@@ -122,15 +122,16 @@ impl Choosing<'_> {
         self.send(arc)
     }
 
-    /// Tries to send the next task to a machine by this way.
-    fn try_way(&mut self, machine: u32, way: Way) -> bool
+    /// Tries to send the next task to a machine by this approach.
+    fn try_approach(&mut self, machine: u32, approach: Approach) -> bool
         requires ready { IsReady self.old }
         requires next { length (prefix self.old) < length (view self.old).case.tasks }
         requires machine { machine < length (view self.old).case.slots }
         requires other { runs_at (demand (view self.old).case (length (prefix self.old))).home machine ≡ false }
-        requires way { IsWay (demand (view self.old).case (length (prefix self.old))).preferred true machine way }
-        requires wide { way ≡ ByHub → flows (view self.old) (Wide (length (prefix self.old))) ≡ 1 }
-        ensures goes_on { GoesOn self.old self.new 1 (found_by way result) }
+        requires approach { IsApproach (demand (view self.old).case (length (prefix self.old))).preferred true machine
+            approach }
+        requires wide { approach ≡ ByHub → flows (view self.old) (Wide (length (prefix self.old))) ≡ 1 }
+        ensures goes_on { GoesOn self.old self.new 1 (found_by approach result) }
         ensures looked { LooksOn self.old self.new (one_if result) }
         ensures room { result ≡ true
             → HasRoom (view self.new).case (prefix self.old) (On machine) (flows (view self.new)) }
@@ -138,9 +139,9 @@ impl Choosing<'_> {
             (class_of self.new.scratch.now) true machine }
         ensures unchanged { result ≡ false → self.new.graph.now ≡ self.old.graph.now }
     {
-        match way {
-            Way::Preferred(number) => self.try_preferred(number),
-            Way::ByHub => self.seek_machine(machine),
+        match approach {
+            Approach::Preferred(number) => self.try_preferred(number),
+            Approach::ByHub => self.seek_machine(machine),
         }
     }
 
@@ -178,10 +179,10 @@ impl Choosing<'_> {
         while machine < stretch.end {
             let at = machine;
             machine = next_place(&wishes.places, at + 1, stretch.behind);
-            let Some(way) = way_to(wishes, stretch.behind, at) else {
+            let Some(approach) = approach_to(wishes, stretch.behind, at) else {
                 continue;
             };
-            if self.try_way(at, way) {
+            if self.try_approach(at, approach) {
                 return Some(at);
             }
         }

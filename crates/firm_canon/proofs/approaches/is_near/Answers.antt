@@ -2,7 +2,7 @@ use Rattle.std.specs.Prelude.{◌==◌}
 use Rattle.std.specs.List.{list_any}
 use Rattle.std.proofs.Common.{◌≡◌, ℕ, List, true, inl, inr, sym, subst, ◌∙◌}
 use Rattle.firm_canon.proofs.Nears.{position_some}
-use Rattle.firm_canon.proofs.ways.is_near.Goals as goal
+use Rattle.firm_canon.proofs.approaches.is_near.Goals as goal
 
 pub returns-in-Some : goal.returns-in-Some
 returns-in-Some c e =

@@ -1,6 +1,6 @@
 use Rattle.std.proofs.Common.{◌≡◌, ◌≤◌, map, take}
 use Rattle.std.specs.List.{All}
-use Rattle.firm_rents.proofs.cases.slots_of.Given as goal
+use Rattle.firm_rents.proofs.cases.slot_counts.Given as goal
 
 abbrev pub invariant-loop-place : goal.invariant-loop-place
 invariant-loop-place l = record {

@@ -1,9 +1,9 @@
 use Rattle.std.proofs.Common.{◌≤◌, sym, subst, ◌∙◌, List, ℕ}
 use Rattle.std.specs.List.{All}
 use Rattle.std.proofs.lemmas.List.Elements.{All-push}
-use Rattle.firm_rules.specs.declared.parts.Machine.{Machine}
+use Rattle.firm_rules.specs.declared.book.Machine.{Machine}
 use Rattle.firm_rents.proofs.Rows.{grown_by}
-use Rattle.firm_rents.proofs.cases.slots_of.Goals as goal
+use Rattle.firm_rents.proofs.cases.slot_counts.Goals as goal
 
 pub loop-place-preserved : goal.loop-place-preserved
 loop-place-preserved c = record {

@@ -1,8 +1,8 @@
 //! What stands at a tenant's place while the hall serves.
 ghost use Rattle.std.specs.Prelude.{◌≡◌, MatchBool, Some};
 ghost use Rattle.firm_hall.specs.Desks.{IsStep};
-ghost use Rattle.firm_hall.specs.inner.Seats.{IsSeated, IsBack, IsAway, IsHome, IsHomeOf, IsFree, IsTurned};
-ghost use Rattle.firm_hall.specs.inner.Seats.{IsAdmitted, IsRetired, IsTaken, IsTakenAt};
+ghost use Rattle.firm_hall.specs.inner.DeskStates.{IsPresent, IsBack, IsAway, IsHome, IsHomeOf, IsFree, IsTurned};
+ghost use Rattle.firm_hall.specs.inner.DeskStates.{IsAdmitted, IsRetired, IsTaken, IsTakenAt};
 ghost use Rattle.firm_rules.specs.declared.commands.Command.TheVariants.{Round};
 
 use crate::desks::{Asked, AskedPoll, Desk};
@@ -18,7 +18,7 @@ use std::sync::Wait;
 
 /// What stands at a place.
 #[derive(Drop)]
-pub(crate) enum Seat {
+pub(crate) enum DeskState {
     /// The tenant is at home.
     Home(Desk),
     /// The tenant's round is away.
@@ -29,14 +29,14 @@ pub(crate) enum Seat {
     Gone,
 }
 
-impl Seat {
+impl DeskState {
     // Whether no round is away from there.
     pub(crate) fn is_back(&self) -> bool
-        requires { IsSeated self.now }
+        requires { IsPresent self.now }
         ensures { MatchBool result (IsBack self.now) (IsAway self.now) }
     {
         match self {
-            Seat::Away(_) => false,
+            DeskState::Away(_) => false,
             _ => true,
         }
     }
@@ -47,11 +47,11 @@ impl Seat {
         ensures turned { IsTurned self.old self.new (Some result) }
         ensures back { IsBack self.new }
     {
-        let Seat::Away(asked) = mem::replace(self, Seat::Gone) else {
+        let DeskState::Away(asked) = mem::replace(self, DeskState::Gone) else {
             unreachable!()
         };
         let (desk, reply) = wait(setting, asked);
-        let _gone = mem::replace(self, Seat::Home(desk));
+        let _gone = mem::replace(self, DeskState::Home(desk));
         reply
     }
 
@@ -60,14 +60,14 @@ impl Seat {
         requires { IsAway self.old }
         ensures { IsTurned self.old self.new result }
     {
-        let Seat::Away(asked) = mem::replace(self, Seat::Gone) else {
+        let DeskState::Away(asked) = mem::replace(self, DeskState::Gone) else {
             unreachable!()
         };
-        let (seat, reply) = match asked.poll() {
-            AskedPoll::Back(desk, reply) => (Seat::Home(desk), Some(reply)),
-            AskedPoll::Not(same) => (Seat::Away(same), None),
+        let (desk_state, reply) = match asked.poll() {
+            AskedPoll::Back(desk, reply) => (DeskState::Home(desk), Some(reply)),
+            AskedPoll::Not(same) => (DeskState::Away(same), None),
         };
-        let _gone = mem::replace(self, seat);
+        let _gone = mem::replace(self, desk_state);
         reply
     }
 
@@ -85,7 +85,7 @@ impl Seat {
         if command == Command::Round {
             return self.ask(setting, place, name);
         }
-        let Seat::Home(desk) = self else {
+        let DeskState::Home(desk) = self else {
             unreachable!()
         };
         let reply = desk.command(setting.alloc, command);
@@ -98,11 +98,11 @@ impl Seat {
         requires { IsHomeOf setting.now.hall.now.id self.old }
         ensures { IsTakenAt self.old place name Round self.new result }
     {
-        let Seat::Home(desk) = mem::replace(self, Seat::Gone) else {
+        let DeskState::Home(desk) = mem::replace(self, DeskState::Gone) else {
             unreachable!()
         };
-        let (seat, answer) = ask(setting, desk, place, name);
-        let _gone = mem::replace(self, seat);
+        let (desk_state, answer) = ask(setting, desk, place, name);
+        let _gone = mem::replace(self, desk_state);
         answer
     }
 
@@ -112,15 +112,15 @@ impl Seat {
         requires { IsFree self.old }
         ensures { IsAdmitted self.old limits result self.new }
     {
-        let Seat::Empty(place) = mem::replace(self, Seat::Gone) else {
+        let DeskState::Empty(place) = mem::replace(self, DeskState::Gone) else {
             unreachable!()
         };
-        let (seat, came) = match place.admit(alloc, limits) {
-            Ok(desk) => (Seat::Home(desk), true),
-            Err(AdmitFault::Memory(place)) => (Seat::Empty(place), false),
+        let (desk_state, came) = match place.admit(alloc, limits) {
+            Ok(desk) => (DeskState::Home(desk), true),
+            Err(AdmitFault::Memory(place)) => (DeskState::Empty(place), false),
             Err(AdmitFault::Worn(_)) => unreachable!(),
         };
-        let _gone = mem::replace(self, seat);
+        let _gone = mem::replace(self, desk_state);
         came
     }
 
@@ -129,10 +129,10 @@ impl Seat {
         requires { IsHome self.old }
         ensures { IsRetired self.old self.new }
     {
-        let Seat::Home(desk) = mem::replace(self, Seat::Gone) else {
+        let DeskState::Home(desk) = mem::replace(self, DeskState::Gone) else {
             unreachable!()
         };
-        let _gone = mem::replace(self, Seat::Empty(desk.retire()));
+        let _gone = mem::replace(self, DeskState::Empty(desk.retire()));
     }
 }
 
@@ -142,17 +142,17 @@ fn ask<R: Wait>(
     desk: Desk,
     place: usize,
     name: Name,
-) -> (Seat, HeldAnswer)
+) -> (DeskState, HeldAnswer)
     requires { desk.queue ≡ setting.now.hall.now.id }
     ensures { IsTaken desk place name Round result.0 result.1 }
 {
     match desk.ask_unrung(setting.rt, setting.alloc, setting.hall) {
         Ok(asked) => {
             let answer = HeldAnswer::Waiting(place, name, Snapshot::of(&asked));
-            (Seat::Away(asked), answer)
+            (DeskState::Away(asked), answer)
         }
         Err((desk, reply)) => (
-            Seat::Home(desk),
+            DeskState::Home(desk),
             HeldAnswer::Known(LineAnswer::Replied(name, reply)),
         ),
     }

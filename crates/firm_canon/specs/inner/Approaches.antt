@@ -4,16 +4,16 @@ use Rattle.std.specs.List.{position}
 use Rattle.firm_rules.specs.Placement.{Case, total}
 use Rattle.firm_graph.specs.Network.{demand}
 use Rattle.firm_canon.specs.inner.Classes.{one_if}
-use Rattle.firm_canon.specs.declared.ways.Way.{Way}
-use Rattle.firm_canon.specs.declared.ways.Way.TheVariants.{Preferred, ByHub}
+use Rattle.firm_canon.specs.declared.approaches.Approach.{Approach}
+use Rattle.firm_canon.specs.declared.approaches.Approach.TheVariants.{Preferred, ByHub}
 
 -- the way leads to the machine: by the first preference for it, or, without one, by the hub where that may be tried
-abbrev pub IsWay : List ℕ → Bool → ℕ → Way → Type 0
-IsWay places tried j (Preferred k) = position (λ place. place == j) places ≡ Some k
-IsWay places tried j ByHub = (position (λ place. place == j) places ≡ None) × (tried ≡ true)
+abbrev pub IsApproach : List ℕ → Bool → ℕ → Approach → Type 0
+IsApproach places tried j (Preferred k) = position (λ place. place == j) places ≡ Some k
+IsApproach places tried j ByHub = (position (λ place. place == j) places ≡ None) × (tried ≡ true)
 
 -- how many attempts by the way made no cut known: each by a preference, and one by the hub that succeeded
-abbrev pub found_by : Way → Bool → ℕ
+abbrev pub found_by : Approach → Bool → ℕ
 found_by (Preferred k) result = 1
 found_by ByHub result = one_if result
 

@@ -1,7 +1,7 @@
 use Rattle.std.proofs.Common.{◌≡◌, ◌<◌, ℕ, map}
 use Rattle.std.specs.Prelude.{◌≢◌, slice_index_or}
 use Rattle.firm_net.specs.declared.row.NodeId.{NodeId}
-use Rattle.firm_graph.proofs.parts.find_machine.Given as goal
+use Rattle.firm_graph.proofs.ids.find_machine.Given as goal
 
 abbrev pub invariant-loop-place : goal.invariant-loop-place
 invariant-loop-place l =

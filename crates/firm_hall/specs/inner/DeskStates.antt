@@ -11,56 +11,56 @@ use Rattle.firm_rules.specs.declared.replies.Refusal.TheVariants.{Worn, Memory}
 use Rattle.firm_text.specs.Registers.{most_admissions}
 use Rattle.firm_rounds.specs.Passes.{QueueId}
 use Rattle.firm_hall.specs.Desks.{DeskIs, desk_is, place_is, IsStep}
-use Rattle.firm_hall.specs.declared.seats.Seat.{Seat}
-use Rattle.firm_hall.specs.declared.seats.Seat.TheVariants.{Home, Away, Empty, Gone}
+use Rattle.firm_hall.specs.declared.desk_states.DeskState.{DeskState}
+use Rattle.firm_hall.specs.declared.desk_states.DeskState.TheVariants.{Home, Away, Empty, Gone}
 use Rattle.firm_table.specs.declared.answers.LineAnswer.TheVariants.{Replied}
 use Rattle.firm_hall.specs.declared.held.HeldAnswer.{HeldAnswer}
 use Rattle.firm_hall.specs.declared.held.HeldAnswer.TheVariants.{Known, Waiting}
 
 -- something stands there
-abbrev pub IsSeated : Seat → Type 0
-IsSeated (Home desk) = Unit {0}
-IsSeated (Away asked) = Unit {0}
-IsSeated (Empty place) = Unit {0}
-IsSeated Gone = ⊥
+abbrev pub IsPresent : DeskState → Type 0
+IsPresent (Home desk) = Unit {0}
+IsPresent (Away asked) = Unit {0}
+IsPresent (Empty place) = Unit {0}
+IsPresent Gone = ⊥
 
 -- no round is away from there
-abbrev pub IsBack : Seat → Type 0
+abbrev pub IsBack : DeskState → Type 0
 IsBack (Home desk) = Unit {0}
 IsBack (Away asked) = ⊥
 IsBack (Empty place) = Unit {0}
 IsBack Gone = ⊥
 
 -- a round is away from there
-abbrev pub IsAway : Seat → Type 0
+abbrev pub IsAway : DeskState → Type 0
 IsAway (Home desk) = ⊥
 IsAway (Away asked) = Unit {0}
 IsAway (Empty place) = ⊥
 IsAway Gone = ⊥
 
 -- a desk at home
-abbrev pub IsHome : Seat → Type 0
+abbrev pub IsHome : DeskState → Type 0
 IsHome (Home desk) = Unit {0}
 IsHome (Away asked) = ⊥
 IsHome (Empty place) = ⊥
 IsHome Gone = ⊥
 
 -- and one of this hall
-abbrev pub IsHomeOf : QueueId → Seat → Type 0
+abbrev pub IsHomeOf : QueueId → DeskState → Type 0
 IsHomeOf queue (Home desk) = desk.queue ≡ queue
 IsHomeOf queue (Away asked) = ⊥
 IsHomeOf queue (Empty place) = ⊥
 IsHomeOf queue Gone = ⊥
 
 -- nobody is there, and the place has an admission left
-abbrev pub IsFree : Seat → Type 0
+abbrev pub IsFree : DeskState → Type 0
 IsFree (Home desk) = ⊥
 IsFree (Away asked) = ⊥
 IsFree (Empty place) = place.admissions < most_admissions
 IsFree Gone = ⊥
 
 -- what stands at a place later: the same, or the desk that came back with the round's reply
-abbrev pub IsTurned : Seat → Seat → Option Reply → Type 0
+abbrev pub IsTurned : DeskState → DeskState → Option Reply → Type 0
 IsTurned before after None = after ≡ before
 IsTurned (Away asked) (Home desk) (Some reply) = IsStep asked Round reply desk
 IsTurned (Away asked) (Away other) (Some reply) = ⊥
@@ -71,7 +71,7 @@ IsTurned (Empty place) after (Some reply) = ⊥
 IsTurned Gone after (Some reply) = ⊥
 
 -- where a tenant came, its desk stands in place of the empty one, with the opening book; else all is as it was
-abbrev pub IsAdmitted : Seat → TenantLimits → Bool → Seat → Type 0
+abbrev pub IsAdmitted : DeskState → TenantLimits → Bool → DeskState → Type 0
 IsAdmitted (Home desk) limits came after = ⊥
 IsAdmitted (Away asked) limits came after = ⊥
 IsAdmitted (Empty place) limits true after =
@@ -80,7 +80,7 @@ IsAdmitted (Empty place) limits false after = after ≡ Empty place
 IsAdmitted Gone limits came after = ⊥
 
 -- the empty desk stands there in place of the tenant's
-abbrev pub IsRetired : Seat → Seat → Type 0
+abbrev pub IsRetired : DeskState → DeskState → Type 0
 IsRetired (Home desk) after = after ≡ Empty (place_is desk.queue desk.place desk.put desk.admissions)
 IsRetired (Away asked) after = ⊥
 IsRetired (Empty place) after = ⊥
@@ -102,7 +102,7 @@ pub record Went (before : DeskIs) (place : ℕ) (name : List ℕ) (command : Com
   pub known_is : known ≡ asked
 
 -- what a command made of a desk of the place, and the answer to its line
-abbrev pub IsTaken : DeskIs → ℕ → List ℕ → Command → Seat → HeldAnswer → Type 0
+abbrev pub IsTaken : DeskIs → ℕ → List ℕ → Command → DeskState → HeldAnswer → Type 0
 IsTaken before place name command (Home after) (Known answer) =
     (reply : Reply) × (answer ≡ Replied name reply) × Answered before command after reply
 IsTaken before place name command (Away asked) (Waiting at tenant known) =
@@ -112,8 +112,8 @@ IsTaken before place name command (Away asked) (Known answer) = ⊥
 IsTaken before place name command (Empty after) answer = ⊥
 IsTaken before place name command Gone answer = ⊥
 
--- the same of the seat where the desk was home
-abbrev pub IsTakenAt : Seat → ℕ → List ℕ → Command → Seat → HeldAnswer → Type 0
+-- the same of the place where the desk was home
+abbrev pub IsTakenAt : DeskState → ℕ → List ℕ → Command → DeskState → HeldAnswer → Type 0
 IsTakenAt (Home before) place name command after answer = IsTaken before place name command after answer
 IsTakenAt (Away asked) place name command after answer = ⊥
 IsTakenAt (Empty before) place name command after answer = ⊥
