@@ -418,3 +418,11 @@ step_row net n s is c = by_way s.way refl
         let same : s ≡ along Backward s.arc = ap (λ (w : Way). along w s.arc) e in
         let own = is.incoming.arcs n s.arc (listed_in net n s.arc (subst (Contains (steps_from net n)) same c)) in
         (own.0, own.1, subst (λ (w : Way). start_of w own.0 ≡ n) (sym e) own.2)
+
+-- the row of a step that leaves a node starts where the node is
+pub step_start : (net : Net) (n : NodeId) (s : Step) (row : Row) → IsNet net → Contains (steps_from net n) s
+    → row_at net s.arc ≡ Some row → (start_of s.way row).id.place ≡ n.id.place
+step_start net n s row is c at =
+    let own = step_row net n s is c in
+    let same : own.0 ≡ row = let e : Some own.0 ≡ Some row = sym own.1 ∙ at in cc in
+    ap (λ (r : Row). (start_of s.way r).id.place) (sym same) ∙ ap (λ (m : NodeId). m.id.place) own.2

@@ -12,12 +12,11 @@ use Rattle.firm_net.specs.declared.row.Way.{Way}
 use Rattle.firm_net.specs.declared.row.Way.TheVariants.{Forward, Backward}
 use Rattle.firm_paths.specs.Network.{AreValid, IsValidAt, StaysInside}
 use Rattle.firm_paths.specs.NetArcs.{arc_of, arcs_of}
-use Rattle.firm_paths.specs.Paths.{IsTightPath, IsHighest, IsCut}
-use Rattle.firm_paths.specs.inner.Search.{visit, state, IsTree, known, settled, label, IsReached, IsEnd, AreRaised}
+use Rattle.firm_paths.specs.Paths.{IsHighest, IsCut}
+use Rattle.firm_paths.specs.inner.Search.{visit, state, known, settled, label, IsReached, IsEnd, AreRaised}
 use Rattle.firm_paths.specs.inner.Search.{IsRaised, IsNotNegative, start_of, end_of}
-use Rattle.firm_paths.specs.inner.Walk.{LeadsTo}
+use Rattle.firm_paths.specs.inner.Spread.{IsReachedBy}
 use Rattle.firm_paths.specs.declared.search.NodeState.{NodeState}
-use Rattle.firm_paths.specs.declared.search.Step.{Step}
 use Rattle.firm_paths.specs.declared.search.Visit.{Visit}
 use Rattle.firm_paths.specs.Laws.{all_arcs, at_row}
 use Rattle.firm_paths.proofs.Listed.{node_listed}
@@ -122,26 +121,25 @@ module _ (net : Net) (old new : List ℕ) (from goal : ℕ) (ms : List NodeState
       (λ (s : settled ms n.id.place ≡ false). omega (arith, at_open n there s))
       (cases_Bool (settled ms n.id.place))
 
-  raised_path : (steps : List Step) → LeadsTo vs number steps → IsTightPath net (slice_index new) from goal steps
-  raised_path steps leads =
-      let tree : IsTree net (slice_index new) [] vs from =
-      tree_kept net (label ms) (slice_index new) [] vs from (λ i l. ⊎_elim
-      (λ (s : settled ms (visit vs i).place ≡ true).
-      lifted.at_settled (visit vs i).place
-      (omega (
-        arith,
-        known_listed ms (visit vs i).place (reached.near_by.within (visit vs i).place s).0,
-        lengths.0,
-        lengths.1,
-      ))
-      s
-      (omega (arith, (reached.near_by.within (visit vs i).place s).2, low (visit vs i).place s)))
-      (λ (e : (visit vs i).place ≡ goal). ap (slice_index new) e
-      ∙ (let at : slice_index new goal ≡ label ms goal =
-      omega (arith, at_goal, goal_ahead) in at ∙ ap (label ms) (sym e)))
-      (reached.visited i l)) reached.tree in
-      subst (λ (to : ℕ). IsTightPath net (slice_index new) from to steps) reached.last.1
-      (leads net (slice_index new) [] from tree).0
+  raised_reached : IsReachedBy net (slice_index new) [] from goal vs number
+  raised_reached = record {
+    tree = tree_kept net (label ms) (slice_index new) [] vs from (λ i l. ⊎_elim
+        (λ (s : settled ms (visit vs i).place ≡ true).
+        lifted.at_settled (visit vs i).place
+        (omega (
+          arith,
+          known_listed ms (visit vs i).place (reached.near_by.within (visit vs i).place s).0,
+          lengths.0,
+          lengths.1,
+        ))
+        s
+        (omega (arith, (reached.near_by.within (visit vs i).place s).2, low (visit vs i).place s)))
+        (λ (e : (visit vs i).place ≡ goal). ap (slice_index new) e
+        ∙ (let at : slice_index new goal ≡ label ms goal =
+        omega (arith, at_goal, goal_ahead) in at ∙ ap (label ms) (sym e)))
+        (reached.visited i l)) reached.tree;
+    last = reached.last;
+  }
 
   all_raised : AreValid (arcs_of net) (slice_index old) → IsRaised net old new goal
   all_raised valid =
@@ -149,26 +147,25 @@ module _ (net : Net) (old new : List ℕ) (from goal : ℕ) (ms : List NodeState
 
 -- the same, told by the nodes
 pub raise_found : (net : Net) (old new : List ℕ) (from to : NodeId) (place goal : ℕ) (ms : List NodeState)
-    (vs : List Visit) (number : ℕ) (steps : List Step) → place ≡ from.id.place → goal ≡ to.id.place → IsNet net
-    → IsNode net from
+    (vs : List Visit) (number : ℕ) → place ≡ from.id.place → goal ≡ to.id.place → IsNet net → IsNode net from
     → (length old ≡ capacity_of net.nodes) × (length ms ≡ capacity_of net.nodes) → goal < capacity_of net.nodes
     → IsReached net (slice_index old) place goal ms vs number
-    → AreRaised old ms goal (label ms goal - slice_index old goal) new → LeadsTo vs number steps
+    → AreRaised old ms goal (label ms goal - slice_index old goal) new
     → AreValid (arcs_of net) (slice_index old) → IsHighest net (slice_index old) to.id.place
     → slice_index old to.id.place ≤ 2 ^ 60
-    → IsRaised net old new to.id.place × IsTightPath net (slice_index new) from.id.place to.id.place steps
-raise_found net old new from to place goal ms vs number steps is_from is_to net_is there lengths listed reached raises
-    leads valid highest room =
+    → IsRaised net old new to.id.place
+    × IsReachedBy net (slice_index new) [] from.id.place to.id.place vs number
+raise_found net old new from to place goal ms vs number is_from is_to net_is there lengths listed reached raises
+    valid highest room =
     let high : IsHighest net (slice_index old) goal = subst (IsHighest net (slice_index old)) (sym is_to) highest in
     let start : slice_index old place ≤ slice_index old goal =
     omega (arith, high from there, ap (slice_index old) is_from) in
     let low : slice_index old goal ≤ 2 ^ 60 = omega (arith, room, ap (slice_index old) is_to) in (
       subst (IsRaised net old new) is_to
           (all_raised net old new place goal ms vs number net_is lengths reached raises start listed high low valid),
-      subst (λ (f : ℕ). IsTightPath net (slice_index new) f to.id.place steps) is_from
-          (subst (λ (t : ℕ). IsTightPath net (slice_index new) place t steps) is_to
-          (raised_path net old new place goal ms vs number net_is lengths reached raises start listed high low steps
-          leads)),
+      subst (λ (f : ℕ). IsReachedBy net (slice_index new) [] f to.id.place vs number) is_from
+          (subst (λ (t : ℕ). IsReachedBy net (slice_index new) [] place t vs number) is_to
+          (raised_reached net old new place goal ms vs number net_is lengths reached raises start listed high low)),
     )
 
 -- the known nodes are a cut

@@ -129,7 +129,9 @@ impl Prices {
         ensures limits { self.new.limits ≡ self.old.limits }
         ensures raises { AreRaised self.old.prices states.now goal distance self.new.prices }
     {
-        self.base = raise_table(self.base, &mut self.less, states, visits, goal, distance);
+        let base = self.at(goal) + distance;
+        raise_table(base, &mut self.less, states, visits, goal);
+        self.base = base;
     }
 
     /// How many places have a price.
@@ -142,44 +144,31 @@ impl Prices {
 }
 
 /// Makes the base the price of the goal.
-fn rebase(base: u64, less: &mut [u64], goal: usize) -> u64
+fn rebase(less: &mut [u64], goal: usize)
     requires goal { goal < length less.old }
-    requires below { slice_index less.old goal ≤ base }
-    ensures base { result ≡ base - slice_index less.old goal }
-    ensures less { (v : ℕ) → slice_index less.new v ≡ slice_index less.old v - slice_index less.old goal }
+    ensures { (v : ℕ) → slice_index less.new v ≡ slice_index less.old v - slice_index less.old goal }
 {
     let shift = less[goal];
     if shift != 0 {
         lower_all(less, shift);
     }
-    base - shift
 }
 
-/// What `raise` does, on the base and what each price lacks to it; gives the new base.
-fn raise_table(
-    base: u64,
-    less: &mut [u64],
-    states: &[NodeState],
-    visits: &[Visit],
-    goal: usize,
-    distance: u64,
-) -> u64
+/// What `raise` does, on what each price lacks to the base; `base` is the new one.
+fn raise_table(base: u64, less: &mut [u64], states: &[NodeState], visits: &[Visit], goal: usize)
     requires length { length states.now ≡ length less.old }
     requires goal { goal < length less.old }
-    requires below { (v : ℕ) → slice_index less.old v ≤ base }
-    requires room { base - slice_index less.old goal + distance < 2 ^ 64 }
+    requires below { (v : ℕ) → slice_index less.old v ≤ base + slice_index less.old goal }
     requires visited { AreVisited states.now visits.now }
-    ensures below { (v : ℕ) → slice_index less.new v ≤ result }
-    ensures settled { (v : ℕ) → v < length less.old → settled states.now v ≡ true
-        → label states.now v ≤ base - slice_index less.old goal + distance
-        → result - slice_index less.new v ≡ label states.now v }
+    ensures below { (v : ℕ) → slice_index less.new v ≤ base }
+    ensures settled { (v : ℕ) → v < length less.old → settled states.now v ≡ true → label states.now v ≤ base
+        → base - slice_index less.new v ≡ label states.now v }
     ensures others { (v : ℕ) → v < length less.old → settled states.now v ≡ false
         → slice_index less.old goal ≤ slice_index less.old v
-        → result - slice_index less.new v ≡ base - slice_index less.old v + distance }
+        → base - slice_index less.new v ≡ base + slice_index less.old goal - slice_index less.old v }
 {
-    let base = rebase(base, less, goal) + distance;
+    rebase(less, goal);
     settle_all(less, states, visits, base);
-    base
 }
 
 /// Lowers every number, down to 0.

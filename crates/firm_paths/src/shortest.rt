@@ -1,9 +1,10 @@
 //! Prices raised until a tight path leads from one node to another.
 ghost use Rattle.std.specs.Prelude.{◌≡◌, ◌≢◌, ℕ, ◌+◌, ◌-◌, ◌*◌, ◌<◌, ◌≤◌, ◌^◌, ◌++◌, ◌∷◌, Bool, true, false};
-ghost use Rattle.std.specs.Prelude.{[], length, ◌↔◌, IsTrue};
+ghost use Rattle.std.specs.Prelude.{[], length, Contains, ◌↔◌, IsTrue};
 ghost use Rattle.std.specs.Prelude.{Some, None, is_some, IfSome, IfNone, slice_index, slice_set, vec_capacity};
 ghost use Rattle.std.specs.Borrow.{sem};
 ghost use Rattle.firm_arena.specs.Arena.{capacity_of};
+ghost use Rattle.firm_net.specs.Row.{Row};
 ghost use Rattle.firm_net.specs.Net.{IsNode, IsNet, arc_count, row_at, rows_of, arcs_on};
 ghost use Rattle.firm_net.specs.declared.links.Side.TheVariants.{Out, In};
 ghost use Rattle.firm_paths.specs.Network.{AreValid};
@@ -16,7 +17,8 @@ ghost use Rattle.firm_paths.specs.inner.Search.{IsReady, IsReached, IsEnd, IsRai
 ghost use Rattle.firm_paths.specs.inner.Queue.{IsQueued, IsWaiting, KeepsSettled, IsIdle, AreVisited, AreLeft, AreOpen};
 ghost use Rattle.firm_paths.specs.inner.Queue.{waiting_key};
 ghost use Rattle.firm_paths.specs.inner.Going.{IsGoing};
-ghost use Rattle.firm_paths.specs.inner.Turn.{IsTurning, turn_at};
+ghost use Rattle.firm_paths.specs.inner.Spread.{IsReachedBy};
+ghost use Rattle.firm_paths.specs.inner.Turn.{IsTurning, turn_at, steps_from};
 ghost use Rattle.firm_paths.specs.Lending.{Rests};
 
 use crate::prices::Prices;
@@ -26,7 +28,7 @@ use crate::search::{
     Current, NodeState, Predecessor, Step, Visit, entered, is_residual, walk_back,
 };
 use crate::turn::{Turn, step_round, walk_start};
-use firm_net::{ArcRow, Net, NodeId, Way};
+use firm_net::{Net, NodeId, Way};
 
 /// What the search by labels fills: the state of each place and where its walk stands, the nodes that are open or wait
 /// in the midst of their walks, in a queue, the nodes in the order of their visits, and how many arcs were looked at.
@@ -72,28 +74,32 @@ impl Labels {
         prices: &Prices,
         current: Current,
         step: Step,
-        row: ArcRow,
     ) -> Option<usize>
         requires length { (length self.old.states.items ≡ capacity_of net.now.nodes)
             × (length prices.now.prices ≡ capacity_of net.now.nodes) }
         requires place { current.place < length self.old.states.items }
-        requires row { row_at net.now step.arc ≡ Some row }
-        requires start { (start_of step.way row).id.place ≡ current.place }
+        requires node { current.node.id.place ≡ current.place }
+        requires step { Contains (steps_from net.now current.node) step }
+        requires net { IsNet net.now }
         requires ready { IsReady net.now current self.old.states.items }
         requires queued { IsQueued (slice_index prices.now.prices) self.old.states.items self.old.queue }
         ensures lowers { IsLowered self.old.states.items self.new.states.items }
-        ensures looks { Looks net.now current step.way row self.old.states.items self.new.states.items }
+        ensures looks { (row : Row) → row_at net.now step.arc ≡ Some row
+            → Looks net.now current step.way row self.old.states.items self.new.states.items }
         ensures queued { IsQueued (slice_index prices.now.prices) self.new.states.items self.new.queue }
         ensures keeps { KeepsSettled self.old.states.items self.old.queue self.new.queue }
         ensures others { (self.new.turns ≡ self.old.turns) × (self.new.visits ≡ self.old.visits)
             × (self.new.looks ≡ self.old.looks) }
     {
+        let Some(row) = net.arc(step.arc) else {
+            unreachable!()
+        };
         if !is_residual(row, step.way) {
             return None;
         }
         let node = entered(row, step.way);
         let Some(place) = net.place(node) else {
-            return None;
+            unreachable!()
         };
         let from = self.states[current.place].label;
         let cost = u64::from(row.cost());
@@ -189,13 +195,10 @@ impl Labels {
     {
         let turn = self.turns[place];
         let Some(step) = turn.next else {
-            return place;
+            unreachable!()
         };
         let Some(node) = self.states[place].node else {
-            return place;
-        };
-        let Some(row) = net.arc(step.arc) else {
-            return place;
+            unreachable!()
         };
         let current = Current {
             node,
@@ -203,7 +206,7 @@ impl Labels {
             number: turn.number,
         };
         self.looks += 1;
-        let led = self.relax_arc(net, prices, current, step, row);
+        let led = self.relax_arc(net, prices, current, step);
         let again = if led.is_some() {
             Some(step)
         } else {
@@ -358,7 +361,7 @@ impl Labels {
         None
     }
 
-    /// What `raise` does, with the tables of the search; `steps` is then the path, where there is one.
+    /// Searches and raises the prices as `raise` does; says as which number the node at the end was visited.
     #[tactic(auto, using(crate::proofs::ArcRows::as_many_as_counted))]
     fn find_shortest(
         &mut self,
@@ -366,14 +369,12 @@ impl Labels {
         prices: &mut Prices,
         from: NodeId,
         to: NodeId,
-        steps: &mut Vec<Step>,
-    ) -> bool
+    ) -> Option<usize>
         requires nodes { IsNode net.now from × IsNode net.now to × (from ≢ to) }
         requires length { (length prices.old.prices ≡ capacity_of net.now.nodes)
             × (length self.old.states.items ≡ capacity_of net.now.nodes)
             × (length self.old.turns.items ≡ capacity_of net.now.nodes) }
-        requires capacity { (capacity_of net.now.nodes ≤ vec_capacity self.old.visits)
-            × (capacity_of net.now.nodes ≤ vec_capacity steps.old) }
+        requires capacity { capacity_of net.now.nodes ≤ vec_capacity self.old.visits }
         requires valid { AreValid (arcs_of net.now) (slice_index prices.old.prices) }
         requires highest { IsHighest net.now (slice_index prices.old.prices) to.id.place }
         requires room { slice_index prices.old.prices to.id.place ≤ 2 ^ 60 }
@@ -383,15 +384,16 @@ impl Labels {
         ensures size { (length self.new.states.items ≡ length self.old.states.items)
             × (length self.new.turns.items ≡ length self.old.turns.items) }
         ensures limits { prices.new.limits ≡ prices.old.limits }
-        ensures found { result ≡ true → IsRaised net.now prices.old.prices prices.new.prices to.id.place
-            × IsTightPath net.now (slice_index prices.new.prices) from.id.place to.id.place steps.new.items }
-        ensures unchanged { result ≡ false → prices.new ≡ prices.old }
-        ensures none { result ≡ false → (inside : ℕ → Bool) × IsCut net.now from.id.place to.id.place inside }
-        ensures capacity { (vec_capacity self.new.visits ≡ vec_capacity self.old.visits)
-            × (vec_capacity steps.new ≡ vec_capacity steps.old) }
+        ensures found { IfSome result (λ end. IsRaised net.now prices.old.prices prices.new.prices to.id.place
+            × IsReachedBy net.now (slice_index prices.new.prices) [] from.id.place to.id.place
+            self.new.visits.items end) }
+        ensures few { IfSome result (λ _. length self.new.visits.items ≤ capacity_of net.now.nodes) }
+        ensures unchanged { IfNone result (prices.new ≡ prices.old) }
+        ensures none { IfNone result ((inside : ℕ → Bool) × IsCut net.now from.id.place to.id.place inside) }
+        ensures capacity { vec_capacity self.new.visits ≡ vec_capacity self.old.visits }
     {
         let (Some(place), Some(goal)) = (net.place(from), net.place(to)) else {
-            return false;
+            unreachable!()
         };
         let (place, goal) = (place as usize, goal as usize);
         let start = Visit {
@@ -401,13 +403,12 @@ impl Labels {
         };
         let Some(end) = self.dijkstra(net, prices, start, goal) else {
             self.forget();
-            return false;
+            return None;
         };
         let distance = self.states[goal].label - prices.at(goal);
         prices.raise(&self.states, &self.visits, goal, distance);
-        walk_back(&self.visits, end, steps);
         self.forget();
-        true
+        Some(end)
     }
 }
 
@@ -466,13 +467,12 @@ pub fn raise<'s>(
     ensures none { IfNone result ((inside : ℕ → Bool) × IsCut net.now from.id.place to.id.place inside) }
 {
     let _places = prices.places();
-    let found = scratch
-        .labels
-        .find_shortest(net, prices, from, to, &mut scratch.steps);
+    let found = scratch.labels.find_shortest(net, prices, from, to);
     scratch.searches = scratch.searches.saturating_add(1);
     scratch.looks = scratch.looks.saturating_add(scratch.labels.looks);
-    if !found {
+    let Some(end) = found else {
         return None;
-    }
+    };
+    walk_back(&scratch.labels.visits, end, &mut scratch.steps);
     Some(&scratch.steps[..])
 }

@@ -22,6 +22,15 @@ use crate::search::{
 };
 use firm_net::{ArcId, ArcRow, Net, NodeId, Way};
 
+/// The arcs that a search for a tight path follows: residual ones of a net, of reduced cost 0 by these prices, that are
+/// not barred.
+#[derive(Clone, Copy)]
+pub struct TightArcs<'a> {
+    pub net: &'a Net,
+    pub prices: &'a Prices,
+    pub barred: &'a [ArcId],
+}
+
 /// What the search for a tight path fills: whether the node of each place was seen, the nodes in the order of their
 /// visits, and how many arcs were looked at.
 #[derive(Drop)]
@@ -88,36 +97,31 @@ impl Reach {
     }
 
     /// Follows one arc: visits the node to which a step along it leads, if the step is tight and not barred.
-    fn follow_arc(
-        &mut self,
-        net: &Net,
-        prices: &Prices,
-        barred: &[ArcId],
-        current: Current,
-        step: Step,
-        row: ArcRow,
-    )
-        requires length { (length prices.now.prices ≡ capacity_of net.now.nodes)
-            × (length self.old.seen.items ≡ capacity_of net.now.nodes) }
-        requires place { current.place < capacity_of net.now.nodes }
+    fn follow_arc(&mut self, arcs: &TightArcs<'_>, current: Current, step: Step, row: ArcRow)
+        requires length { (length arcs.now.prices.now.prices ≡ capacity_of arcs.now.net.now.nodes)
+            × (length self.old.seen.items ≡ capacity_of arcs.now.net.now.nodes) }
+        requires place { current.place < capacity_of arcs.now.net.now.nodes }
         requires counted { IsCounted self.old.seen.items self.old.visits.items (vec_capacity self.old.visits) }
-        requires row { row_at net.now step.arc ≡ Some row }
+        requires net { IsNet arcs.now.net.now }
+        requires row { row_at arcs.now.net.now step.arc ≡ Some row }
         requires start { (start_of step.way row).id.place ≡ current.place }
         ensures grown { IsGrown self.old.seen.items self.old.visits.items self.new.seen.items self.new.visits.items }
         ensures counted { IsCounted self.new.seen.items self.new.visits.items (vec_capacity self.new.visits) }
-        ensures spreads { Spreads net.now (slice_index prices.now.prices) barred.now current step.way step.arc row
-            self.old.seen.items self.old.visits.items self.new.seen.items self.new.visits.items }
+        ensures spreads { Spreads arcs.now.net.now (slice_index arcs.now.prices.now.prices) arcs.now.barred.now
+            current step.way step.arc row self.old.seen.items self.old.visits.items self.new.seen.items
+            self.new.visits.items }
         ensures capacity { vec_capacity self.new.visits ≡ vec_capacity self.old.visits }
         ensures looks { self.new.looks ≡ self.old.looks }
     {
-        if is_barred(barred, step.arc) || !is_residual(row, step.way) {
+        if is_barred(arcs.barred, step.arc) || !is_residual(row, step.way) {
             return;
         }
         let node = entered(row, step.way);
-        let Some(place) = net.place(node) else {
-            return;
+        let Some(place) = arcs.net.place(node) else {
+            unreachable!()
         };
         let place = place as usize;
+        let prices = arcs.prices;
         let tight = match step.way {
             Way::Forward => is_tight(prices.at(current.place), prices.at(place), row.cost()),
             Way::Backward => is_tight(prices.at(place), prices.at(current.place), row.cost()),
@@ -133,80 +137,67 @@ impl Reach {
     }
 
     /// Follows every arc by which a step this way leaves the node where the search stands.
-    fn follow_arcs(
-        &mut self,
-        net: &Net,
-        prices: &Prices,
-        barred: &[ArcId],
-        current: Current,
-        way: Way,
-    )
-        requires length { (length prices.now.prices ≡ capacity_of net.now.nodes)
-            × (length self.old.seen.items ≡ capacity_of net.now.nodes) }
-        requires node { IsNode net.now current.node × (current.node.id.place ≡ current.place) }
+    fn follow_arcs(&mut self, arcs: &TightArcs<'_>, current: Current, way: Way)
+        requires length { (length arcs.now.prices.now.prices ≡ capacity_of arcs.now.net.now.nodes)
+            × (length self.old.seen.items ≡ capacity_of arcs.now.net.now.nodes) }
+        requires node { IsNode arcs.now.net.now current.node × (current.node.id.place ≡ current.place) }
         requires counted { IsCounted self.old.seen.items self.old.visits.items (vec_capacity self.old.visits) }
         requires count { self.old.looks ≤ 2 ^ 62 }
         ensures grown { IsGrown self.old.seen.items self.old.visits.items self.new.seen.items self.new.visits.items }
         ensures counted { IsCounted self.new.seen.items self.new.visits.items (vec_capacity self.new.visits) }
-        ensures spreads { SpreadsAll net.now (slice_index prices.now.prices) barred.now current way
-            self.old.seen.items self.old.visits.items self.new.seen.items self.new.visits.items }
+        ensures spreads { SpreadsAll arcs.now.net.now (slice_index arcs.now.prices.now.prices) arcs.now.barred.now
+            current way self.old.seen.items self.old.visits.items self.new.seen.items self.new.visits.items }
         ensures capacity { vec_capacity self.new.visits ≡ vec_capacity self.old.visits }
         ensures counts { self.new.looks
-            ≡ self.old.looks + length (rows_of net.now (arcs_on (side_of way) net.now current.node)) }
-        ensures net { IsNet net.now }
+            ≡ self.old.looks + length (rows_of arcs.now.net.now (arcs_on (side_of way) arcs.now.net.now current.node)) }
+        ensures net { IsNet arcs.now.net.now }
     {
-        for (arc, row) in arcs_leaving(net, current.node, way) {
-            self.follow_arc(net, prices, barred, current, Step { arc, way }, row);
+        for (arc, row) in arcs_leaving(arcs.net, current.node, way) {
+            self.follow_arc(arcs, current, Step { arc, way }, row);
             self.looks += 1;
         }
     }
 
     /// Follows every arc of the residual network that leaves the node where the search stands.
-    fn follow_node(&mut self, net: &Net, prices: &Prices, barred: &[ArcId], current: Current)
-        requires length { (length prices.now.prices ≡ capacity_of net.now.nodes)
-            × (length self.old.seen.items ≡ capacity_of net.now.nodes) }
-        requires node { IsNode net.now current.node × (current.node.id.place ≡ current.place) }
+    fn follow_node(&mut self, arcs: &TightArcs<'_>, current: Current)
+        requires length { (length arcs.now.prices.now.prices ≡ capacity_of arcs.now.net.now.nodes)
+            × (length self.old.seen.items ≡ capacity_of arcs.now.net.now.nodes) }
+        requires node { IsNode arcs.now.net.now current.node × (current.node.id.place ≡ current.place) }
         requires counted { IsCounted self.old.seen.items self.old.visits.items (vec_capacity self.old.visits) }
         requires count { self.old.looks ≤ 2 ^ 61 }
         ensures grown { IsGrown self.old.seen.items self.old.visits.items self.new.seen.items self.new.visits.items }
         ensures counted { IsCounted self.new.seen.items self.new.visits.items (vec_capacity self.new.visits) }
-        ensures spreads { SpreadsBoth net.now (slice_index prices.now.prices) barred.now current
-            self.old.seen.items self.old.visits.items self.new.seen.items self.new.visits.items }
+        ensures spreads { SpreadsBoth arcs.now.net.now (slice_index arcs.now.prices.now.prices) arcs.now.barred.now
+            current self.old.seen.items self.old.visits.items self.new.seen.items self.new.visits.items }
         ensures capacity { vec_capacity self.new.visits ≡ vec_capacity self.old.visits }
         ensures counts { self.new.looks
-            ≡ self.old.looks + length (rows_of net.now (arcs_on Out net.now current.node))
-            + length (rows_of net.now (arcs_on In net.now current.node)) }
-        ensures net { IsNet net.now }
+            ≡ self.old.looks + length (rows_of arcs.now.net.now (arcs_on Out arcs.now.net.now current.node))
+            + length (rows_of arcs.now.net.now (arcs_on In arcs.now.net.now current.node)) }
+        ensures net { IsNet arcs.now.net.now }
     {
-        self.follow_arcs(net, prices, barred, current, Way::Forward);
-        self.follow_arcs(net, prices, barred, current, Way::Backward);
+        self.follow_arcs(arcs, current, Way::Forward);
+        self.follow_arcs(arcs, current, Way::Backward);
     }
 
     /// Visits nodes from the start on, in the order in which they are found; says as which number the goal was visited.
-    fn breadth_first(
-        &mut self,
-        net: &Net,
-        prices: &Prices,
-        barred: &[ArcId],
-        start: Visit,
-        goal: usize,
-    ) -> Option<usize>
-        requires length { (length prices.now.prices ≡ capacity_of net.now.nodes)
-            × (length self.old.seen.items ≡ capacity_of net.now.nodes) }
-        requires room { capacity_of net.now.nodes ≤ vec_capacity self.old.visits }
-        requires start { IsNode net.now start.node × (start.node.id.place ≡ start.place) × (start.predecessor ≡ None) }
-        requires goal { goal < capacity_of net.now.nodes }
-        requires net { IsNet net.now }
+    fn breadth_first(&mut self, arcs: &TightArcs<'_>, start: Visit, goal: usize) -> Option<usize>
+        requires length { (length arcs.now.prices.now.prices ≡ capacity_of arcs.now.net.now.nodes)
+            × (length self.old.seen.items ≡ capacity_of arcs.now.net.now.nodes) }
+        requires room { capacity_of arcs.now.net.now.nodes ≤ vec_capacity self.old.visits }
+        requires start { IsNode arcs.now.net.now start.node × (start.node.id.place ≡ start.place)
+            × (start.predecessor ≡ None) }
+        requires goal { goal < capacity_of arcs.now.net.now.nodes }
+        requires net { IsNet arcs.now.net.now }
         requires marked { AreMarked self.old.seen.items self.old.visits.items 0 }
         ensures marked { AreMarked self.new.seen.items self.new.visits.items 0 }
-        ensures found { IfSome result (IsReachedBy net.now (slice_index prices.now.prices) barred.now
-            start.place goal self.new.visits.items) }
-        ensures few { length self.new.visits.items ≤ capacity_of net.now.nodes }
-        ensures none { IfNone result (IsSpent net.now (slice_index prices.now.prices) barred.now
-            start.place goal self.new.seen.items) }
+        ensures found { IfSome result (IsReachedBy arcs.now.net.now (slice_index arcs.now.prices.now.prices)
+            arcs.now.barred.now start.place goal self.new.visits.items) }
+        ensures few { length self.new.visits.items ≤ capacity_of arcs.now.net.now.nodes }
+        ensures none { IfNone result (IsSpent arcs.now.net.now (slice_index arcs.now.prices.now.prices)
+            arcs.now.barred.now start.place goal self.new.seen.items) }
         ensures size { length self.new.seen.items ≡ length self.old.seen.items }
         ensures capacity { vec_capacity self.new.visits ≡ vec_capacity self.old.visits }
-        ensures counts { self.new.looks ≤ 2 * length (arcs_of net.now) }
+        ensures counts { self.new.looks ≤ 2 * length (arcs_of arcs.now.net.now) }
     {
         self.clear();
         self.visit_once(start);
@@ -226,52 +217,39 @@ impl Reach {
                 place,
                 number,
             };
-            self.follow_node(net, prices, barred, current);
+            self.follow_node(arcs, current);
             number += 1;
         }
         None
     }
 
-    /// What `tight_path` does, with the tables of the search; `steps` is then the path, where there is one.
+    /// Searches as `tight_path` does; says as which number the node at the end was visited.
     #[tactic(auto, using(crate::proofs::ArcRows::as_many_as_counted))]
-    fn find_tight(
-        &mut self,
-        net: &Net,
-        prices: &Prices,
-        barred: &[ArcId],
-        from: NodeId,
-        to: NodeId,
-        steps: &mut Vec<Step>,
-    ) -> bool
-        requires nodes { IsNode net.now from × IsNode net.now to × (from ≢ to) }
-        requires length { (length prices.now.prices ≡ capacity_of net.now.nodes)
-            × (length self.old.seen.items ≡ capacity_of net.now.nodes) }
-        requires capacity { (capacity_of net.now.nodes ≤ vec_capacity self.old.visits)
-            × (capacity_of net.now.nodes ≤ vec_capacity steps.old) }
+    fn find_tight(&mut self, arcs: &TightArcs<'_>, from: NodeId, to: NodeId) -> Option<usize>
+        requires nodes { IsNode arcs.now.net.now from × IsNode arcs.now.net.now to × (from ≢ to) }
+        requires length { (length arcs.now.prices.now.prices ≡ capacity_of arcs.now.net.now.nodes)
+            × (length self.old.seen.items ≡ capacity_of arcs.now.net.now.nodes) }
+        requires room { capacity_of arcs.now.net.now.nodes ≤ vec_capacity self.old.visits }
         requires marked { AreMarked self.old.seen.items self.old.visits.items 0 }
         ensures marked { AreMarked self.new.seen.items self.new.visits.items 0 }
-        ensures counts { self.new.looks ≤ 2 * arc_count net.now }
-        ensures path { result ≡ true → IsTightPath net.now (slice_index prices.now.prices)
-            from.id.place to.id.place steps.new.items × Avoids barred.now steps.new.items }
-        ensures none { result ≡ false → (inside : ℕ → Bool) × IsTightCut net.now (slice_index prices.now.prices)
-            barred.now from.id.place to.id.place inside }
+        ensures counts { self.new.looks ≤ 2 * arc_count arcs.now.net.now }
+        ensures found { IfSome result (IsReachedBy arcs.now.net.now (slice_index arcs.now.prices.now.prices)
+            arcs.now.barred.now from.id.place to.id.place self.new.visits.items) }
+        ensures few { length self.new.visits.items ≤ capacity_of arcs.now.net.now.nodes }
+        ensures none { IfNone result ((inside : ℕ → Bool) × IsTightCut arcs.now.net.now
+            (slice_index arcs.now.prices.now.prices) arcs.now.barred.now from.id.place to.id.place inside) }
         ensures size { length self.new.seen.items ≡ length self.old.seen.items }
-        ensures capacity { (vec_capacity self.new.visits ≡ vec_capacity self.old.visits)
-            × (vec_capacity steps.new ≡ vec_capacity steps.old) }
+        ensures capacity { vec_capacity self.new.visits ≡ vec_capacity self.old.visits }
     {
-        let (Some(place), Some(goal)) = (net.place(from), net.place(to)) else {
-            return false;
+        let (Some(place), Some(goal)) = (arcs.net.place(from), arcs.net.place(to)) else {
+            unreachable!()
         };
         let start = Visit {
             node: from,
             place: place as usize,
             predecessor: None,
         };
-        let Some(end) = self.breadth_first(net, prices, barred, start, goal as usize) else {
-            return false;
-        };
-        walk_back(&self.visits, end, steps);
-        true
+        self.breadth_first(arcs, start, goal as usize)
     }
 }
 
@@ -296,13 +274,17 @@ pub fn tight_path<'s>(
         × IsTightCut net.now (price_of prices.now) barred.now from.id.place to.id.place inside) }
 {
     let _places = prices.places();
-    let found = scratch
-        .reach
-        .find_tight(net, prices, barred, from, to, &mut scratch.steps);
+    let arcs = TightArcs {
+        net,
+        prices,
+        barred,
+    };
+    let found = scratch.reach.find_tight(&arcs, from, to);
     scratch.searches = scratch.searches.saturating_add(1);
     scratch.looks = scratch.looks.saturating_add(scratch.reach.looks);
-    if !found {
+    let Some(end) = found else {
         return None;
-    }
+    };
+    walk_back(&scratch.reach.visits, end, &mut scratch.steps);
     Some(&scratch.steps[..])
 }

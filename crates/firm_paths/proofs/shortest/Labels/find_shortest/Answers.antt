@@ -3,8 +3,6 @@ use Rattle.std.specs.Prelude.{slice_index}
 use Rattle.firm_net.specs.Net.{lists_at}
 use Rattle.firm_paths.specs.Paths.{IsCut}
 use Rattle.firm_paths.specs.inner.Search.{known, state, label, AreRaised}
-use Rattle.firm_paths.specs.declared.search.Visit.{Visit}
-use Rattle.firm_paths.specs.inner.Walk.{LeadsTo}
 use Rattle.firm_paths.specs.declared.search.NodeState.{NodeState}
 use Rattle.std.proofs.lemmas.List.{get_or_default}
 use Rattle.firm_paths.proofs.Looks.{place_value}
@@ -13,7 +11,7 @@ use Rattle.firm_paths.proofs.Queues.{all_left}
 use Rattle.firm_paths.proofs.shortest.Labels.find_shortest.Goals as goal
 
 pub returns-in_default-dijkstra-clause-none : goal.returns-in_default-dijkstra-clause-none
-returns-in_default-dijkstra-clause-none c e =
+returns-in_default-dijkstra-clause-none c =
     let ms = c.dijkstra.new.self.states.items in
     let from =
     (place_value c.args.from (lists_at c.args.net.now c.args.from) c.in-Some-Some.place
@@ -26,19 +24,13 @@ returns-in_default-dijkstra-clause-none c e =
           (end_cut c.args.net.now c.in-Some-Some.place c.in-Some-Some.goal ms c.in_default-dijkstra.ensures.none)),
     )
 
-pub walk_back-requires-clause-room : goal.walk_back-requires-clause-room
-walk_back-requires-clause-room c =
-    omega (
-      arith,
-      ap (λ (z : List Visit). length z) c.deref-3.ensures.value,
-      c.in-Some.ensures.found.few,
-      c.requires.capacity.1,
-      c.requires.length.1,
-      c.dijkstra.ensures.size.0,
-    )
+pub returns-clause-few : goal.returns-clause-few
+returns-clause-few c =
+    rw c.forget-2.ensures.others.1
+    (omega (arith, c.in-Some.ensures.found.few, c.requires.length.1, c.dijkstra.ensures.size.0))
 
 pub returns-clause-found : goal.returns-clause-found
-returns-clause-found c e =
+returns-clause-found c =
     let old = c.args.prices.now.prices in
     let new = c.raise.new.self.prices in
     let ms = c.dijkstra.new.self.states.items in
@@ -49,8 +41,8 @@ returns-clause-found c e =
     let here : c.index.result.now ≡ state ms goal = c.index.ensures ∙ get_or_default ms goal _ _ known in
     let distance : c.index.result.now.label - c.at.result ≡ label ms goal - slice_index old goal =
     omega (arith, c.at.ensures, ap (λ (m : NodeState). m.label) here) in
-    raise_found c.args.net.now old new c.args.from c.args.to c.in-Some-Some.place goal ms vs c.in-Some.end
-    c.walk_back.new.steps.items
+    rw c.forget-2.ensures.others.1
+    (raise_found c.args.net.now old new c.args.from c.args.to c.in-Some-Some.place goal ms vs c.in-Some.end
     (place_value c.args.from (lists_at c.args.net.now c.args.from) c.in-Some-Some.place c.in-Some-Some.ensures.value).1
     (place_value c.args.to (lists_at c.args.net.now c.args.to) goal c.in-Some-Some.ensures'.value).1
     c.in-Some-Some.ensures.net c.requires.nodes.0
@@ -59,9 +51,7 @@ returns-clause-found c e =
     (subst (λ (z : ℕ). AreRaised old ms goal z new) distance
     (subst (λ (z : List NodeState). AreRaised old z goal (c.index.result.now.label - c.at.result) new)
     c.deref.ensures.value c.raise.ensures.raises))
-    (subst (λ (z : List Visit). LeadsTo z c.in-Some.end c.walk_back.new.steps.items) c.deref-3.ensures.value
-    c.walk_back.ensures.path)
-    c.requires.valid c.requires.highest c.requires.room
+    c.requires.valid c.requires.highest c.requires.room)
 
 pub forget-requires-clause-left : goal.forget-requires-clause-left
 forget-requires-clause-left c =

@@ -1,11 +1,9 @@
-use Rattle.std.proofs.Common.{◌≡◌, ◌∙◌, set, Some, None, true, false, arith, refl, sym, ap}
+use Rattle.std.proofs.Common.{◌≡◌, ◌∙◌, set, true, false, arith, refl, sym, ap}
 use Rattle.std.proofs.Common.{inl, inr, ◌⊎◌, ⊎_elim}
 use Rattle.std.specs.Prelude.{slice_index}
 use Rattle.std.proofs.lemmas.Bool.{cases_Bool, both_ways}
 use Rattle.std.proofs.lemmas.List.{get_or_default}
-use Rattle.firm_net.specs.Row.{Row}
-use Rattle.firm_net.specs.declared.row.NodeId.{NodeId}
-use Rattle.firm_paths.specs.inner.Search.{state, start_of}
+use Rattle.firm_paths.specs.inner.Search.{state}
 use Rattle.firm_paths.specs.inner.Turn.{turn_at}
 use Rattle.firm_paths.specs.declared.search.NodeState.{NodeState}
 use Rattle.firm_paths.specs.declared.turn.Turn.{Turn}
@@ -14,8 +12,8 @@ use Rattle.firm_paths.proofs.Circles.{step_row}
 use Rattle.firm_paths.proofs.Looking.{going_ready, going_next, going_leaves, going_looked}
 use Rattle.firm_paths.proofs.shortest.Labels.look.Goals as goal
 
-pub returns-in_default-clause-looks : goal.returns-in_default-clause-looks
-returns-in_default-clause-looks c =
+pub unreachable-requires : goal.unreachable-requires
+unreachable-requires c =
     let g = c.requires.going.3 in
     let turns = c.args.self.now.turns.items in
     let turn_here : c.index-turn.result.now ≡ turn_at turns c.args.place =
@@ -26,32 +24,19 @@ returns-in_default-clause-looks c =
     c.args.place g c.requires.waiting
     (ap (λ (t : Turn). t.next) (sym turn_here) ∙ c.in_default.is))
 
-pub returns-in_default-arc-clause-looks : goal.returns-in_default-arc-clause-looks
-returns-in_default-arc-clause-looks c =
+pub relax_arc-led-requires-clause-node : goal.relax_arc-led-requires-clause-node
+relax_arc-led-requires-clause-node c =
     let g = c.requires.going.3 in
     let ms = c.args.self.now.states.items in
-    let turns = c.args.self.now.turns.items in
     let u = c.args.place in
-    let turn_here : c.index-turn.result.now ≡ turn_at turns u =
-    c.index-turn.ensures
-    ∙ get_or_default turns u _ _ (omega (arith, g.turn_size, g.queued.size, c.requires.waiting.1)) in
     let here : c.index.result.now ≡ state ms u =
     c.index.ensures ∙ get_or_default ms u _ _ (omega (arith, g.queued.size, c.requires.waiting.1)) in
-    let there =
-    named_at c.args.net.now ms u c.in-Some-node.node
+    (named_at c.args.net.now ms u c.in-Some-node.node
     (sym c.in-Some-node.is ∙ ap (λ (m : NodeState). m.node) here)
-    (g.searching.labelled.named u (g.queued.shut u c.requires.waiting.1 c.requires.waiting.2)) in
-    let leaves =
-    going_leaves c.args.net.now (slice_index c.args.prices.now.prices) c.requires.going.0 c.requires.going.1 ms turns
-    c.args.self.now.queue c.args.self.now.visits.items c.args.self.now.looks u g c.requires.waiting
-    c.in-Some-node.node there c.in-Some.step
-    (ap (λ (t : Turn). t.next) (sym turn_here) ∙ c.in-Some.is) in
-    let own = step_row c.args.net.now c.in-Some-node.node c.in-Some.step c.requires.net leaves in
-    let none : None ≡ Some own.0 = c.in_default-arc.ensures.row ∙ own.1 in
-    absurd cc
+    (g.searching.labelled.named u (g.queued.shut u c.requires.waiting.1 c.requires.waiting.2))).1
 
-pub relax_arc-led-requires-clause-start : goal.relax_arc-led-requires-clause-start
-relax_arc-led-requires-clause-start c =
+pub relax_arc-led-requires-clause-step : goal.relax_arc-led-requires-clause-step
+relax_arc-led-requires-clause-step c =
     let g = c.requires.going.3 in
     let ms = c.args.self.now.states.items in
     let turns = c.args.self.now.turns.items in
@@ -65,16 +50,10 @@ relax_arc-led-requires-clause-start c =
     named_at c.args.net.now ms u c.in-Some-node.node
     (sym c.in-Some-node.is ∙ ap (λ (m : NodeState). m.node) here)
     (g.searching.labelled.named u (g.queued.shut u c.requires.waiting.1 c.requires.waiting.2)) in
-    let leaves =
     going_leaves c.args.net.now (slice_index c.args.prices.now.prices) c.requires.going.0 c.requires.going.1 ms turns
     c.args.self.now.queue c.args.self.now.visits.items c.args.self.now.looks u g c.requires.waiting
     c.in-Some-node.node there c.in-Some.step
-    (ap (λ (t : Turn). t.next) (sym turn_here) ∙ c.in-Some.is) in
-    let own = step_row c.args.net.now c.in-Some-node.node c.in-Some.step c.requires.net leaves in
-    let same : own.0 ≡ c.in-Some-arc.row =
-    let e : Some own.0 ≡ Some c.in-Some-arc.row = sym own.1 ∙ sym c.in-Some-arc.ensures.row in cc in
-    ap (λ (r : Row). (start_of c.in-Some.step.way r).id.place) (sym same)
-    ∙ (ap (λ (n : NodeId). n.id.place) own.2 ∙ there.1)
+    (ap (λ (t : Turn). t.next) (sym turn_here) ∙ c.in-Some.is)
 
 pub relax_arc-led-requires-clause-ready : goal.relax_arc-led-requires-clause-ready
 relax_arc-led-requires-clause-ready c =
@@ -122,6 +101,11 @@ returns-clause-going c from goal low g =
     named_at c.args.net.now ms u c.in-Some-node.node
     (sym c.in-Some-node.is ∙ ap (λ (m : NodeState). m.node) here)
     (g.searching.labelled.named u (g.queued.shut u c.requires.waiting.1 c.requires.waiting.2)) in
+    let own =
+    step_row c.args.net.now c.in-Some-node.node c.in-Some.step c.requires.net
+    (going_leaves c.args.net.now (slice_index c.args.prices.now.prices) from goal ms turns c.args.self.now.queue
+    c.args.self.now.visits.items c.args.self.now.looks u g c.requires.waiting c.in-Some-node.node there c.in-Some.step
+    (ap (λ (t : Turn). t.next) (sym turn_here) ∙ c.in-Some.is)) in
     let first_here : c.index-turn.result.now.first ≡ (turn_at turns u).first =
     ap (λ (t : Turn). t.first) turn_here in
     let decided : ((next ≡ (turn_at turns u).first)
@@ -154,8 +138,8 @@ returns-clause-going c from goal low g =
     c.args.self.now.visits.items c.args.self.now.looks u c.in-Some-node.node
     (record { node = c.in-Some-node.node; place = u; number = c.index-turn.result.now.number })
     c.requires.net g c.requires.waiting c.requires.valid there refl (ap (λ (t : Turn). t.number) turn_here)
-    c.in-Some.step c.in-Some-arc.row next again c.relax_arc-led.new.self.states.items c.relax_arc-led.new.self.queue
+    c.in-Some.step own.0 next again c.relax_arc-led.new.self.states.items c.relax_arc-led.new.self.queue
     c.turn_on-ended.new.self.queue
-    (ap (λ (t : Turn). t.next) (sym turn_here) ∙ c.in-Some.is) (sym c.in-Some-arc.ensures.row)
-    c.step_round-next.ensures.round c.relax_arc-led.ensures.lowers c.relax_arc-led.ensures.looks
+    (ap (λ (t : Turn). t.next) (sym turn_here) ∙ c.in-Some.is) own.1
+    c.step_round-next.ensures.round c.relax_arc-led.ensures.lowers (c.relax_arc-led.ensures.looks own.0 own.1)
     c.relax_arc-led.ensures.queued c.relax_arc-led.ensures.keeps decided)

@@ -22,7 +22,7 @@ loop-number-init c =
     let listed : c.args.start.place < length seen =
     omega (
       arith,
-      node_listed c.args.net.now c.args.start.node c.requires.start.0,
+      node_listed c.args.arcs.now.net.now c.args.start.node c.requires.start.0,
       c.requires.start.1,
       c.clear.ensures.size,
       c.requires.length.1,
@@ -44,7 +44,8 @@ loop-number-init c =
       capacity = omega (arith, c.visit_once.ensures.capacity, c.clear.ensures.capacity);
       looked = omega (arith, c.visit_once.ensures.looks, c.clear.ensures.looks);
       out = rw (c.visit_once.ensures.seen, items)
-          (out_start c.args.net.now (slice_index c.args.prices.now.prices) c.args.barred.now c.args.goal seen
+          (out_start c.args.arcs.now.net.now (slice_index c.args.arcs.now.prices.now.prices)
+          c.args.arcs.now.barred.now c.args.goal seen
           c.args.start
           listed c.clear.ensures.none c.requires.start.0 c.requires.start.1 c.requires.start.2);
     }
@@ -61,14 +62,15 @@ loop-number-preserved c =
       counted = c.follow_node.ensures.counted;
       capacity = omega (arith, c.loop-number.invariant.capacity, c.follow_node.ensures.capacity);
       looked =
-          let more = turn_counted c.args.net.now vs c.follow_node.new.self.visits.items n (n + 1)
+          let more = turn_counted c.args.arcs.now.net.now vs c.follow_node.new.self.visits.items n (n + 1)
           c.index.result.now.place c.index.result.now.node c.loop-number.self.looks c.requires.net
           (ap (λ (y : Visit). y.node.id.place) is_visit ∙ ((c.loop-number.invariant.out.spread.named n within).1
           ∙ sym (ap (λ (y : Visit). y.place) is_visit)))
           refl (sym (ap (λ (y : Visit). y.place) is_visit)) within c.loop-number.invariant.out.spread.tree.apart
           c.follow_node.ensures.grown.visits c.loop-number.invariant.looked in
           omega (arith, more, c.follow_node.ensures.counts);
-      out = out_more c.args.net.now (slice_index c.args.prices.now.prices) c.args.barred.now c.args.start.place
+      out = out_more c.args.arcs.now.net.now (slice_index c.args.arcs.now.prices.now.prices)
+          c.args.arcs.now.barred.now c.args.start.place
           c.args.goal c.loop-number.self.seen.items vs c.follow_node.new.self.seen.items
           c.follow_node.new.self.visits.items n
           (record { node = c.index.result.now.node; place = c.index.result.now.place; number = n })
@@ -81,27 +83,31 @@ pub follow_node-requires-clause-count : goal.follow_node-requires-clause-count
 follow_node-requires-clause-count c =
     omega (
       arith,
-      turns_counted c.args.net.now c.loop-number.self.visits.items c.loop-number.number c.loop-number.self.looks
+      turns_counted c.args.arcs.now.net.now c.loop-number.self.visits.items c.loop-number.number
+          c.loop-number.self.looks
           c.loop-number.invariant.looked,
-      arcs_few c.args.net.now,
+      arcs_few c.args.arcs.now.net.now,
       c.requires.net.arc_limit,
     )
 
 pub returns-clause-none : goal.returns-clause-none
 returns-clause-none c =
-    out_done c.args.net.now (slice_index c.args.prices.now.prices) c.args.barred.now c.args.start.place c.args.goal
+    out_done c.args.arcs.now.net.now (slice_index c.args.arcs.now.prices.now.prices) c.args.arcs.now.barred.now
+    c.args.start.place c.args.goal
     c.loop-number.self.seen.items c.loop-number.self.visits.items c.loop-number.number
     c.loop-number.invariant.out (omega (arith, c.loop-number-test.false, c.len.ensures, c.loop-number.self.visits.ok.0))
 
 pub returns-then-place-goal-clause-marked : goal.returns-then-place-goal-clause-marked
 returns-then-place-goal-clause-marked c =
-    spread_marked c.args.net.now (slice_index c.args.prices.now.prices) c.args.barred.now c.args.start.place
+    spread_marked c.args.arcs.now.net.now (slice_index c.args.arcs.now.prices.now.prices) c.args.arcs.now.barred.now
+    c.args.start.place
     c.loop-number.self.seen.items c.loop-number.self.visits.items c.loop-number.invariant.length
     c.loop-number.invariant.out.spread
 
 pub returns-clause-marked : goal.returns-clause-marked
 returns-clause-marked c =
-    spread_marked c.args.net.now (slice_index c.args.prices.now.prices) c.args.barred.now c.args.start.place
+    spread_marked c.args.arcs.now.net.now (slice_index c.args.arcs.now.prices.now.prices) c.args.arcs.now.barred.now
+    c.args.start.place
     c.loop-number.self.seen.items c.loop-number.self.visits.items c.loop-number.invariant.length
     c.loop-number.invariant.out.spread
 
@@ -121,14 +127,15 @@ loop-number-preserved-then-index c =
       counted = c.loop-number.invariant.counted;
       capacity = c.loop-number.invariant.capacity;
       looked =
-          let more = turn_counted c.args.net.now vs vs n (n + 1)
+          let more = turn_counted c.args.arcs.now.net.now vs vs n (n + 1)
           c.index.result.now.place c.index.result.now.node c.loop-number.self.looks c.requires.net
           (ap (λ (y : Visit). y.node.id.place) is_visit ∙ ((c.loop-number.invariant.out.spread.named n within).1
           ∙ sym (ap (λ (y : Visit). y.place) is_visit)))
           refl (sym (ap (λ (y : Visit). y.place) is_visit)) within c.loop-number.invariant.out.spread.tree.apart
           (λ i l. refl) c.loop-number.invariant.looked in
           omega (arith, more);
-      out = out_past c.args.net.now (slice_index c.args.prices.now.prices) c.args.barred.now c.args.start.place
+      out = out_past c.args.arcs.now.net.now (slice_index c.args.arcs.now.prices.now.prices)
+          c.args.arcs.now.barred.now c.args.start.place
           c.args.goal seen vs n c.loop-number.invariant.out within
           (λ e. c.if-place-goal.false (ap (λ (y : Visit). y.place) is_visit ∙ e)) seen_goal;
     }

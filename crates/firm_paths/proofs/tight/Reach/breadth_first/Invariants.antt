@@ -9,15 +9,17 @@ use Rattle.firm_paths.proofs.tight.Reach.breadth_first.Given as goal
 
 abbrev pub invariant-loop-number : goal.invariant-loop-number
 invariant-loop-number l = record {
-  length : length l.self.seen.items ≡ capacity_of l.net.nodes;
+  length : length l.self.seen.items ≡ capacity_of l.arcs.net.now.nodes;
   counted : IsCounted l.self.seen.items l.self.visits.items (vec_capacity l.self.visits);
   capacity : vec_capacity l.self.visits ≡ vec_capacity l.fn.self.visits;
   looked : l.self.looks
-      ≤ turned_from Forward l.net l.self.visits.items l.number + turned_from Backward l.net l.self.visits.items
+      ≤ turned_from Forward l.arcs.net.now l.self.visits.items l.number + turned_from Backward l.arcs.net.now
+      l.self.visits.items
       l.number;
-  out : IsSpreadOut l.net (slice_index l.prices.prices) l.barred l.fn.start.place l.goal l.self.seen.items
+  out : IsSpreadOut l.arcs.net.now (slice_index l.arcs.prices.now.prices) l.arcs.barred.now l.fn.start.place l.goal
+      l.self.seen.items
       l.self.visits.items l.number;
 }
 
 abbrev pub decreases-loop-number : goal.decreases-loop-number
-decreases-loop-number l = capacity_of l.net.nodes - l.number
+decreases-loop-number l = capacity_of l.arcs.net.now.nodes - l.number

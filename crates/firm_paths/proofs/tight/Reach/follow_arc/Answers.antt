@@ -14,13 +14,13 @@ use Rattle.firm_paths.proofs.tight.Reach.follow_arc.Goals.{in-Forward, in-Backwa
 pub returns-then-tight-clause-spreads : goal.returns-then-tight-clause-spreads
 returns-then-tight-clause-spreads c from number place old =
     let there =
-    place_value c.entered-node.result (lists_at c.args.net.now c.entered-node.result) c.in-Some.place
+    place_value c.entered-node.result (lists_at c.args.arcs.now.net.now c.entered-node.result) c.in-Some.place
     c.in-Some.ensures.value in
     let open_ : IsOpen c.args.step.way c.args.row = c.if-not-is_residual.ensures.0 refl in
     let ends : c.in-Some.place ≡ (end_of c.args.step.way c.args.row).id.place =
     there.1 ∙ ap (λ (n : NodeId). n.id.place) c.entered-node.ensures in
-    let tight : c.args.row.cost + slice_index c.args.prices.now.prices c.args.row.tail.id.place
-    ≡ slice_index c.args.prices.now.prices c.args.row.head.id.place =
+    let tight : c.args.row.cost + slice_index c.args.arcs.now.prices.now.prices c.args.row.tail.id.place
+    ≡ slice_index c.args.arcs.now.prices.now.prices c.args.row.head.id.place =
     elim c.match-step.branch [
       | in-Forward w ↦
           let start : c.args.row.tail.id.place ≡ c.args.current.place =
@@ -33,8 +33,8 @@ returns-then-tight-clause-spreads c from number place old =
             arith,
             t,
             w.cost.ensures.value,
-            ap (slice_index c.args.prices.now.prices) start,
-            ap (slice_index c.args.prices.now.prices) end,
+            ap (slice_index c.args.arcs.now.prices.now.prices) start,
+            ap (slice_index c.args.arcs.now.prices.now.prices) end,
           )
       | in-Backward w ↦
           let start : c.args.row.head.id.place ≡ c.args.current.place =
@@ -47,18 +47,20 @@ returns-then-tight-clause-spreads c from number place old =
             arith,
             t,
             w.cost-in-Backward.ensures.value,
-            ap (slice_index c.args.prices.now.prices) start,
-            ap (slice_index c.args.prices.now.prices) end,
+            ap (slice_index c.args.arcs.now.prices.now.prices) start,
+            ap (slice_index c.args.arcs.now.prices.now.prices) end,
           )
     ] in
-    let predecessor : IsPredecessor c.args.net.now (slice_index c.args.prices.now.prices) c.args.barred.now
+    let predecessor : IsPredecessor c.args.arcs.now.net.now (slice_index c.args.arcs.now.prices.now.prices)
+    c.args.arcs.now.barred.now
     c.args.self.now.visits.items c.in-Some.place
     (record { step = c.args.step; after = c.args.current.number }) =
-    subst (λ (z : ℕ). IsPredecessor c.args.net.now (slice_index
-    c.args.prices.now.prices) c.args.barred.now c.args.self.now.visits.items
+    subst (λ (z : ℕ). IsPredecessor c.args.arcs.now.net.now (slice_index
+    c.args.arcs.now.prices.now.prices) c.args.arcs.now.barred.now c.args.self.now.visits.items
     z (record { step = c.args.step; after = c.args.current.number }))
     (sym ends)
-    (make_hop c.args.net.now (slice_index c.args.prices.now.prices) c.args.barred.now c.args.self.now.visits.items
+    (make_hop c.args.arcs.now.net.now (slice_index c.args.arcs.now.prices.now.prices) c.args.arcs.now.barred.now
+    c.args.self.now.visits.items
     c.args.step.arc c.args.row c.args.step.way c.args.current.number
     c.requires.row open_ number (c.requires.start ∙ sym place) tight
     (λ b. let t : c.is_barred.result ≡ true = c.is_barred.ensures.1 b in absurd (cc (t, c.if-is_barred.false)))) in
@@ -71,8 +73,9 @@ returns-then-tight-clause-spreads c from number place old =
     } in
     let spread =
     visit_spread c.args.self.now.seen.items c.args.self.now.visits.items x
-    (omega (arith, c.in-Some.ensures.below, c.requires.length.1)) c.args.net.now (slice_index c.args.prices.now.prices)
-    c.args.barred.now from
+    (omega (arith, c.in-Some.ensures.below, c.requires.length.1)) c.args.arcs.now.net.now (slice_index
+    c.args.arcs.now.prices.now.prices)
+    c.args.arcs.now.barred.now from
     there.0 (sym there.1) predecessor old in
     rw (c.visit_once.ensures.seen, c.visit_once.ensures.visits)
     (spread.0, inr (λ o t. ap (is _) (sym ends) ∙ spread.1))

@@ -17,7 +17,8 @@ loop-arc-init c = record {
     ap (λ (z : List (ArcId × Row)). length z)
         (c.into_iter-arc-iterator.ensures.into_iter_gives ∙ c.arcs_leaving-arc-items.ensures.arcs),
   );
-  spreading = spreading_start c.args.net.now (slice_index c.args.prices.now.prices) c.args.barred.now c.args.current
+  spreading = spreading_start c.args.arcs.now.net.now (slice_index c.args.arcs.now.prices.now.prices)
+      c.args.arcs.now.barred.now c.args.current
       c.args.way c.args.self.now.seen.items c.args.self.now.visits.items c.args.current.node _
       c.arcs_leaving-arc-items.ensures.net c.requires.node.0 c.requires.node.1
       (c.into_iter-arc-iterator.ensures.into_iter_gives ∙ c.arcs_leaving-arc-items.ensures.arcs);
@@ -43,7 +44,8 @@ loop-arc-preserved c = record {
     c.follow_arc.ensures.looks,
     ap (λ (z : List (ArcId × Row)). length z) c.in-Some.ensures.steps,
   );
-  spreading = spreading_more c.args.net.now (slice_index c.args.prices.now.prices) c.args.barred.now c.args.current
+  spreading = spreading_more c.args.arcs.now.net.now (slice_index c.args.arcs.now.prices.now.prices)
+      c.args.arcs.now.barred.now c.args.current
       c.args.way c.args.self.now.seen.items c.args.self.now.visits.items c.loop-arc.self.seen.items
       c.loop-arc.self.visits.items c.follow_arc.new.self.seen.items c.follow_arc.new.self.visits.items
       c.loop-arc.arc-iterator c.next.new.self c.in-Some.arc c.in-Some.row
@@ -52,6 +54,7 @@ loop-arc-preserved c = record {
 
 pub returns-clause-spreads : goal.returns-clause-spreads
 returns-clause-spreads c =
-    spreading_done c.args.net.now (slice_index c.args.prices.now.prices) c.args.barred.now c.args.current c.args.way
+    spreading_done c.args.arcs.now.net.now (slice_index c.args.arcs.now.prices.now.prices) c.args.arcs.now.barred.now
+    c.args.current c.args.way
     c.args.self.now.seen.items c.args.self.now.visits.items c.loop-arc.self.seen.items c.loop-arc.self.visits.items
     c.loop-arc.arc-iterator c.loop-arc.invariant.spreading c.in-None.ensures.steps.0

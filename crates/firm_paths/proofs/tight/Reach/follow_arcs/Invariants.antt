@@ -13,7 +13,9 @@ invariant-loop-arc l = record {
   counted : IsCounted l.self.seen.items l.self.visits.items (vec_capacity l.self.visits);
   capacity : vec_capacity l.self.visits ≡ vec_capacity l.initial.self.visits;
   looked : l.self.looks + length l.arc-iterator
-      ≡ l.initial.self.looks + length (rows_of l.net (arcs_on (side_of l.fn.way) l.net l.fn.current.node));
-  spreading : IsSpreading l.net (slice_index l.prices.prices) l.barred l.current l.way l.initial.self.seen.items
+      ≡ l.initial.self.looks + length (rows_of l.arcs.net.now (arcs_on (side_of l.fn.way) l.arcs.net.now
+      l.fn.current.node));
+  spreading : IsSpreading l.arcs.net.now (slice_index l.arcs.prices.now.prices) l.arcs.barred.now l.current l.way
+      l.initial.self.seen.items
       l.initial.self.visits.items l.self.seen.items l.self.visits.items l.arc-iterator;
 }

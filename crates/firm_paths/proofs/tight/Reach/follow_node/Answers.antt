@@ -11,8 +11,8 @@ follow_arcs-requires-2-clause-count c =
       arith,
       c.requires.count,
       c.follow_arcs.ensures.counts,
-      degree_few Forward c.args.net.now c.args.current.node c.follow_arcs.ensures.net,
-      arcs_few c.args.net.now,
+      degree_few Forward c.args.arcs.now.net.now c.args.current.node c.follow_arcs.ensures.net,
+      arcs_few c.args.arcs.now.net.now,
       c.follow_arcs.ensures.net.arc_limit,
     )
 
@@ -24,7 +24,8 @@ returns-clause-grown c =
 
 pub returns-clause-spreads : goal.returns-clause-spreads
 returns-clause-spreads c =
-    spreads_both c.args.net.now (slice_index c.args.prices.now.prices) c.args.barred.now c.args.current
+    spreads_both c.args.arcs.now.net.now (slice_index c.args.arcs.now.prices.now.prices) c.args.arcs.now.barred.now
+    c.args.current
     c.args.self.now.seen.items c.args.self.now.visits.items c.follow_arcs.new.self.seen.items
     c.follow_arcs.new.self.visits.items c.follow_arcs-2.new.self.seen.items c.follow_arcs-2.new.self.visits.items
     c.follow_arcs.ensures.grown c.follow_arcs.ensures.spreads c.follow_arcs-2.ensures.grown
