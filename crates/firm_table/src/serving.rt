@@ -1,9 +1,9 @@
 //! The service on one thread: the lines of an input are answered in turn.
 
-ghost use Rattle.std.specs.Prelude.{◌≡◌, ◌≤◌, ◌^◌, [], false, OnOk, IfOk, IfErr};
+ghost use Rattle.std.specs.Prelude.{◌≡◌, ◌≤◌, ◌^◌, [], false, option_map, OnOk, IfOk, IfErr};
 ghost use Rattle.firm_table.specs.Service.{Answers, Served, Stopped, UpToDate, device};
 ghost use Rattle.firm_table.specs.declared.faults.ServeFault.TheVariants.{Read};
-ghost use Rattle.firm_table.specs.inner.Line.{opening_tenants, state_is};
+ghost use Rattle.firm_table.specs.inner.Line.{book_named, opening_tenants, state_is};
 ghost use Rattle.firm_table.specs.inner.Progress.{Told, state_of};
 
 use crate::clerk::Clerk;
@@ -80,7 +80,10 @@ impl<'a> Service<'a> {
     }
 
     // The rows of the tenant of this name, if it is there.
-    pub(crate) fn rows_of(&self, name: Name) -> Option<&Rows> {
+    pub(crate) fn rows_of(&self, name: Name) -> Option<&Rows>
+        ensures { option_map (λ rows. rows.now) result
+            ≡ option_map (λ book. book.rows) (book_named self.now.tenants name) }
+    {
         self.tenants.rows_of(name)
     }
 }

@@ -6,7 +6,7 @@ ghost use Rattle.firm_rules.specs.Book.{opening_book};
 ghost use Rattle.firm_text.specs.declared.inputs.Line.TheVariants.{For, Operator};
 ghost use Rattle.firm_text.specs.declared.operator.OperatorLine.TheVariants.{Admit, Retire};
 ghost use Rattle.firm_table.specs.declared.answers.LineAnswer.TheVariants.{ToOperator};
-ghost use Rattle.firm_table.specs.inner.Line.{IsAnswer, IsRight, opening_books, opening_tenants};
+ghost use Rattle.firm_table.specs.inner.Line.{IsAnswer, IsRight, book_named, opening_books, opening_tenants};
 
 use crate::answers::LineAnswer;
 use firm_rules::{Command, Limits, Name, Reply, Rows};
@@ -70,11 +70,14 @@ impl Tenants {
     }
 
     /// The machines, jobs and tasks of the tenant of this name, if it is there.
-    pub fn rows_of(&self, name: Name) -> Option<&Rows> {
-        match self.places.get(self.register.place_of(name)?) {
-            Some(Some(tenant)) => Some(tenant.rows()),
-            _ => None,
-        }
+    pub fn rows_of(&self, name: Name) -> Option<&Rows>
+        ensures { option_map (λ rows. rows.now) result ≡ option_map (λ book. book.rows) (book_named self.now name) }
+    {
+        let place = self.register.place_of(name)?;
+        let Some(tenant) = &self.places[place] else {
+            unreachable!()
+        };
+        Some(tenant.rows())
     }
 
     // The answer to a line.

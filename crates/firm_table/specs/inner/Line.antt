@@ -1,9 +1,10 @@
 -- What a service keeps of its tenants, and what one line makes of that.
 use Rattle.std.specs.Prelude.{◌≡◌, ℕ, ◌-◌, List, ◌++◌, Option, Some, None, length, map, option_map, replicate}
+use Rattle.std.specs.Prelude.{slice_index_or}
 use Rattle.std.specs.Option.{is_some}
 use Rattle.firm_rules.specs.Book.{Book, opening_book}
 use Rattle.firm_tenant.specs.Alone.{book_after}
-use Rattle.firm_text.specs.Registers.{first_places}
+use Rattle.firm_text.specs.Registers.{first_places, place_in}
 use Rattle.firm_text.specs.Rosters.{RosterRow, most_places}
 use Rattle.firm_text.specs.declared.inputs.Line.{Line}
 use Rattle.firm_text.specs.declared.registers.Entry.{Entry}
@@ -19,6 +20,15 @@ pub record TenantsState : Type 0 where
 -- the tenants of these parts
 abbrev pub tenants_are : List Entry → List (Option Book) → TenantsState
 tenants_are register books = record { register = register; books = books }
+
+-- the book at a place, where there is one
+abbrev pub book_at : List (Option Book) → Option ℕ → Option Book
+book_at books None = None
+book_at books (Some place) = slice_index_or books place None
+
+-- the book of the tenant of this name, if it is there
+abbrev pub book_named : TenantsState → List ℕ → Option Book
+book_named tenants name = book_at tenants.books (place_in tenants.register name)
 
 -- the books before the first line: those of the roster's tenants, which have just opened
 abbrev pub opening_books : List RosterRow → List (Option Book)
