@@ -7,7 +7,9 @@ use native.Mathlib.Decide.{ℕ_discrete}
 use Rattle.firm_rules.specs.declared.tickets.Ticket.{Ticket}
 use Rattle.firm_rounds.specs.declared.protocol.Share.{Share}
 use Rattle.firm_rounds.specs.declared.protocol.Sight.{Sight}
-use Rattle.firm_rounds.specs.Rounds.{weigh, weigh_shares, share, numbered, put_by, cap, excess, fresh}
+use Rattle.firm_rounds.specs.Rounds.{weigh, share, numbered, put_by}
+use Rattle.firm_rounds.specs.inner.Rule.{weigh_shares, cap, excess}
+use Rattle.firm_rounds.specs.inner.Seats.{fresh}
 use Rattle.firm_rounds.specs.Turning.{weigh-append}
 
 -- the cap of a place is 2 ^ 55

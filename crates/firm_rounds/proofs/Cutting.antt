@@ -2,9 +2,9 @@
 use Rattle.std.proofs.Common.{◌≡◌, ℕ, zero, suc, ◌+◌, ◌-◌, ◌<◌, List, [], ◌∷◌, ◌++◌, sym, ap, ◌∙◌, arith}
 use Rattle.firm_rounds.specs.declared.protocol.Share.{Share}
 use Rattle.firm_rounds.specs.declared.protocol.Sight.{Sight}
-use Rattle.firm_rounds.specs.Rounds.{share, sight, beyond, fresh, with_new_share, grown_to, held_from, without_second}
-use Rattle.firm_rounds.specs.Rounds.{second}
-use Rattle.firm_rounds.specs.Rounds.{left_over, cut_off}
+use Rattle.firm_rounds.specs.Rounds.{share, beyond}
+use Rattle.firm_rounds.specs.inner.Seats.{sight, fresh, with_new_share, grown_to, held_from, without_second, second}
+use Rattle.firm_rounds.specs.inner.Seats.{left_over, cut_off}
 use Rattle.firm_rounds.proofs.Fairs.{grown_to_more}
 
 pub fresh_cons : (k m : ℕ) → fresh k (suc m) ≡ share k 0 [] ∷ fresh (k + 1) m

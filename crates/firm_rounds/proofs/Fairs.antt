@@ -15,11 +15,14 @@ use Rattle.firm_rules.specs.declared.tickets.Ticket.{Ticket}
 use Rattle.firm_rounds.specs.declared.protocol.JobParts.{JobParts}
 use Rattle.firm_rounds.specs.declared.protocol.Share.{Share}
 use Rattle.firm_rounds.specs.declared.protocol.Sight.{Sight}
-use Rattle.firm_rounds.specs.Rounds.{weigh, weigh_shares, count, tickets, ticket, share, sight, numbered, put_by}
+use Rattle.firm_rounds.specs.Rounds.{weigh, ticket, share, numbered, put_by}
+use Rattle.firm_rounds.specs.inner.Rule.{weigh_shares, count, tickets, cap, excess, FewGot, Fair, Holds}
+use Rattle.firm_rounds.specs.inner.Seats.{sight, fresh, grown_to, nothing, with_new_share}
 use Rattle.firm_rounds.specs.Rounds.{got_by}
-use Rattle.firm_rounds.specs.Rounds.{is_at, beyond, cap, excess, FewGot, Fair, fresh, grown_to, nothing, with_new_share}
-use Rattle.firm_rounds.specs.Rounds.{left_over, cut_off, given_away, joined, without_second, second, after_put}
-use Rattle.firm_rounds.specs.Rounds.{got_more, after_pop, Holds, IsShareOf, share_of}
+use Rattle.firm_rounds.specs.Rounds.{is_at, beyond}
+use Rattle.firm_rounds.specs.inner.Seats.{left_over, cut_off, given_away, joined, without_second, second, after_put}
+use Rattle.firm_rounds.specs.Rounds.{share_of}
+use Rattle.firm_rounds.specs.inner.Seats.{got_more, after_pop, IsShareOf}
 use Rattle.firm_rounds.specs.Turning.{weigh-append}
 use Rattle.firm_rounds.proofs.Weighs.{weigh-set, weigh-at, total_one, other_none}
 

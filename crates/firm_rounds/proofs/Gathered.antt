@@ -3,10 +3,12 @@ use Rattle.std.proofs.Common.{◌≡◌, ℕ, ◌+◌, ◌<◌, ◌≤◌, List,
 use Rattle.std.proofs.Common.{length-append}
 use Rattle.firm_rounds.specs.declared.protocol.Share.{Share}
 use Rattle.firm_rounds.specs.declared.protocol.Sight.{Sight}
-use Rattle.firm_rounds.specs.Rounds.{weigh, share, sight, joined, put_by, got_by, is_at, beyond}
+use Rattle.firm_rounds.specs.Rounds.{weigh, share, put_by, got_by, is_at, beyond}
+use Rattle.firm_rounds.specs.inner.Seats.{sight, joined}
 use Rattle.firm_rules.specs.declared.tickets.Ticket.{Ticket}
 use Rattle.firm_rounds.specs.Passes.{PutIs, PopIs, JobIs}
-use Rattle.firm_rounds.specs.Closed.{AddsPops, HasAll, AsOften, job_weight}
+use Rattle.firm_rounds.specs.Closed.{AsOften, job_weight}
+use Rattle.firm_rounds.specs.inner.Gathered.{AddsPops, HasAll}
 use Rattle.firm_rounds.specs.Turning.{weigh-append}
 
 pub joined_weigh : (f : Share → ℕ) (v w n : Sight) (all : ℕ) (x : Share) → n ≡ joined v w → w ≡ sight all (x ∷ [])

@@ -1,7 +1,6 @@
 -- What the passes that are handed in have put and got.
-use Rattle.std.specs.Prelude.{◌≡◌, ℕ, ◌+◌, ◌<◌, ◌≤◌, ◌^◌, List, [], length}
+use Rattle.std.specs.Prelude.{◌≡◌, ℕ, ◌+◌, ◌<◌, ◌≤◌, ◌^◌, List, []}
 use Rattle.firm_rules.specs.declared.tickets.Ticket.{Ticket}
-use Rattle.firm_rounds.specs.declared.protocol.Sight.{Sight}
 use Rattle.firm_rounds.specs.declared.protocol.Share.{Share}
 use Rattle.firm_rounds.specs.Rounds.{weigh, share, numbered, put_by, got_by, is_at, beyond}
 use Rattle.firm_rounds.specs.Passes.{PutIs, PopIs, JobIs}
@@ -26,20 +25,6 @@ pub record Settled (shares : List Share) (jobs : List JobIs) : Type 0 where
   pub balanced : (h : Ticket → ℕ) → weigh (put_by h) shares ≡ weigh (got_by h) shares + job_weight h jobs
   pub placed : (place : ℕ) → place < beyond → weigh (is_at place) shares ≤ 1
   pub few : weigh (got_by (λ t. 1)) shares ≤ 2 ^ 61
-
--- one seat's shares are another's and those of these passes that got
-pub record AddsPops (v w : Sight) (pops : List PopIs) : Type 0 where
-  pub puts : (h : Ticket → ℕ) → weigh (put_by h) w.shares ≡ weigh (put_by h) v.shares
-  pub gots : (h : Ticket → ℕ) → weigh (got_by h) w.shares ≡ weigh (got_by h) v.shares + got_weight h pops
-  pub count : weigh (λ x. 1) w.shares ≡ weigh (λ x. 1) v.shares + length pops
-  pub places : (place : ℕ) → weigh (is_at place) v.shares ≤ weigh (is_at place) w.shares
-
--- a seat has the shares of these passes
-pub record HasAll (v : Sight) (puts : List PutIs) (pops : List PopIs) : Type 0 where
-  pub put : (h : Ticket → ℕ) → weigh (put_by h) v.shares ≡ put_weight h puts
-  pub got : (h : Ticket → ℕ) → weigh (got_by h) v.shares ≡ got_weight h pops
-  pub count : length v.shares ≡ length puts + length pops
-  pub places : (place : ℕ) → of_place place puts ≤ weigh (is_at place) v.shares
 
 -- each ticket put was got or is left, as often as it was put; each place has at most one pass
 pub record AsOften (puts : List PutIs) (pops : List PopIs) (jobs : List JobIs) : Type 0 where

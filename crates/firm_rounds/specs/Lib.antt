@@ -3,3 +3,4 @@ pub mod Passes
 pub mod Closed
 pub mod Faults
 pub mod Turning
+pub mod inner

@@ -1,7 +1,8 @@
 //! How the opening seat is cut into one for each pass.
 ghost use Rattle.std.specs.Prelude.{◌≡◌, ◌+◌, ◌-◌, ◌<◌, ◌≤◌, [], ◌∷◌, IfOk};
 ghost use Rattle.crossbeam_queue.specs.Passes.{view, IsPassOf};
-ghost use Rattle.firm_rounds.specs.Rounds.{grown_to, held_from, sight, share};
+ghost use Rattle.firm_rounds.specs.Rounds.{share};
+ghost use Rattle.firm_rounds.specs.inner.Seats.{grown_to, held_from, sight};
 ghost use Rattle.firm_rounds.specs.Passes.{queue_of, new_puts, new_pops};
 
 use crate::passes::{PopPass, PutPass};

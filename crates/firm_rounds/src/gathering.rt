@@ -3,9 +3,11 @@ ghost use Rattle.std.specs.Prelude.{◌≡◌, ℕ, ◌+◌, ◌<◌, ◌≤◌,
 ghost use Rattle.crossbeam_queue.specs.Passes.{view, IsPassOf};
 ghost use Rattle.firm_rounds.specs.declared.protocol.Share.{Share};
 ghost use Rattle.firm_rules.specs.declared.tickets.Ticket.{Ticket};
-ghost use Rattle.firm_rounds.specs.Rounds.{weigh, share, put_by, got_by, is_at, beyond, FewGot};
+ghost use Rattle.firm_rounds.specs.Rounds.{weigh, share, put_by, got_by, is_at, beyond};
+ghost use Rattle.firm_rounds.specs.inner.Rule.{FewGot};
 ghost use Rattle.firm_rounds.specs.Passes.{spent_put, spent_pop};
-ghost use Rattle.firm_rounds.specs.Closed.{AddsPops, HasAll, job_weight};
+ghost use Rattle.firm_rounds.specs.Closed.{job_weight};
+ghost use Rattle.firm_rounds.specs.inner.Gathered.{AddsPops, HasAll};
 
 use crate::job::Job;
 use crate::passes::{PopPass, PutPass};

@@ -1,7 +1,8 @@
 //! The passes by which jobs are put and got.
 ghost use Rattle.std.specs.Prelude.{◌≡◌, ℕ, ◌+◌, ◌<◌, ◌^◌, [], ◌∷◌, ◌++◌, length, MatchOption, MatchResult};
 ghost use Rattle.crossbeam_queue.specs.Passes.{view, IsPassOf, ruled_capacity};
-ghost use Rattle.firm_rounds.specs.Rounds.{ticket, share, sight, after_pop};
+ghost use Rattle.firm_rounds.specs.Rounds.{ticket, share};
+ghost use Rattle.firm_rounds.specs.inner.Seats.{sight, after_pop};
 ghost use Rattle.firm_rounds.specs.Passes.{put_is, pop_is, spent_put, spent_pop};
 
 use crate::protocol::{Give, JobParts, Pops, Puts, QueueSeat, Ring};
@@ -21,7 +22,8 @@ pub struct PutPass {
 impl Model for PutPass {
     ghost use Rattle.std.specs.Prelude.{◌≡◌, ◌<◌, ◌≤◌, ◌^◌, [], ◌∷◌};
     ghost use Rattle.crossbeam_queue.specs.Passes.{view as sees};
-    ghost use Rattle.firm_rounds.specs.Rounds.{share, IsShareOf};
+    ghost use Rattle.firm_rounds.specs.Rounds.{share};
+    ghost use Rattle.firm_rounds.specs.inner.Seats.{IsShareOf};
     ghost use Rattle.firm_rounds.specs.Passes.{PutIs};
 
     ghost Value = { PutIs };
@@ -47,7 +49,8 @@ pub struct PopPass {
 impl Model for PopPass {
     ghost use Rattle.std.specs.Prelude.{◌≡◌, ◌≤◌, ◌^◌, [], ◌∷◌, length};
     ghost use Rattle.crossbeam_queue.specs.Passes.{view as sees};
-    ghost use Rattle.firm_rounds.specs.Rounds.{share, share_of, IsShareOf};
+    ghost use Rattle.firm_rounds.specs.Rounds.{share, share_of};
+    ghost use Rattle.firm_rounds.specs.inner.Seats.{IsShareOf};
     ghost use Rattle.firm_rounds.specs.Passes.{PopIs};
 
     ghost Value = { PopIs };

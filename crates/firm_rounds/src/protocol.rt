@@ -35,7 +35,8 @@ pub struct Sight {
 pub struct TicketRule;
 
 impl Protocol<JobParts, Sight> for TicketRule {
-    ghost use Rattle.firm_rounds.specs.Rounds.{Fair, opening};
+    ghost use Rattle.firm_rounds.specs.inner.Rule.{Fair};
+    ghost use Rattle.firm_rounds.specs.inner.Seats.{opening};
 
     ghost holds = { Fair };
 
@@ -46,7 +47,7 @@ impl Protocol<JobParts, Sight> for TicketRule {
 pub struct Grow;
 
 impl Split<Sight> for Grow {
-    ghost use Rattle.firm_rounds.specs.Rounds.{with_new_share, nothing};
+    ghost use Rattle.firm_rounds.specs.inner.Seats.{with_new_share, nothing};
 
     ghost left = { with_new_share };
 
@@ -57,7 +58,7 @@ impl Split<Sight> for Grow {
 pub struct Cut;
 
 impl Split<Sight> for Cut {
-    ghost use Rattle.firm_rounds.specs.Rounds.{left_over, cut_off};
+    ghost use Rattle.firm_rounds.specs.inner.Seats.{left_over, cut_off};
 
     ghost left = { left_over };
 
@@ -68,7 +69,7 @@ impl Split<Sight> for Cut {
 pub struct Give;
 
 impl Split<Sight> for Give {
-    ghost use Rattle.firm_rounds.specs.Rounds.{given_away};
+    ghost use Rattle.firm_rounds.specs.inner.Seats.{given_away};
 
     ghost left = { given_away };
 
@@ -79,7 +80,7 @@ impl Split<Sight> for Give {
 pub struct Whole;
 
 impl Join<Sight> for Whole {
-    ghost use Rattle.firm_rounds.specs.Rounds.{joined, nothing};
+    ghost use Rattle.firm_rounds.specs.inner.Seats.{joined, nothing};
 
     ghost both = { joined };
 
@@ -90,7 +91,7 @@ pub struct Puts;
 
 impl Outcome<JobParts, Sight> for Puts {
     ghost use Rattle.std.specs.Prelude.{◌≡◌};
-    ghost use Rattle.firm_rounds.specs.Rounds.{after_put};
+    ghost use Rattle.firm_rounds.specs.inner.Seats.{after_put};
 
     ghost then = { λ v x w. w ≡ after_put v };
 }
@@ -103,7 +104,8 @@ pub struct Pops;
 
 impl Outcome<JobParts, Sight> for Pops {
     ghost use Rattle.std.specs.Prelude.{◌≡◌};
-    ghost use Rattle.firm_rounds.specs.Rounds.{after_pop, FewGot};
+    ghost use Rattle.firm_rounds.specs.inner.Seats.{after_pop};
+    ghost use Rattle.firm_rounds.specs.inner.Rule.{FewGot};
 
     ghost then = { λ v x w. (w ≡ after_pop x.ticket v) × FewGot w };
 }
@@ -117,13 +119,13 @@ pub struct Ends;
 
 impl Outcome<JobParts, Sight> for Ends {
     ghost use Rattle.std.specs.Prelude.{◌≡◌};
-    ghost use Rattle.firm_rounds.specs.Rounds.{after_pop};
+    ghost use Rattle.firm_rounds.specs.inner.Seats.{after_pop};
 
     ghost then = { λ v x w. w ≡ after_pop x.ticket v };
 }
 
 impl Lesson<JobParts, Sight> for Ends {
-    ghost use Rattle.firm_rounds.specs.Rounds.{Holds};
+    ghost use Rattle.firm_rounds.specs.inner.Rule.{Holds};
 
     ghost fact = { Holds };
 }

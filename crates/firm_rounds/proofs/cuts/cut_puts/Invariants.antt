@@ -1,6 +1,6 @@
 use Rattle.std.proofs.Common.{◌≡◌, ◌-◌}
 use Rattle.crossbeam_queue.specs.Passes.{view, IsPassOf}
-use Rattle.firm_rounds.specs.Rounds.{held_from}
+use Rattle.firm_rounds.specs.inner.Seats.{held_from}
 use Rattle.firm_rounds.specs.Passes.{queue_of, new_puts}
 use Rattle.firm_rounds.proofs.cuts.cut_puts.Given as goal
 

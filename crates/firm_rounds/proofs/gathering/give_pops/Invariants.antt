@@ -1,6 +1,6 @@
 use Rattle.std.proofs.Common.{◌≡◌, ℕ, ◌+◌, ◌<◌, [], length, take}
 use Rattle.crossbeam_queue.specs.Passes.{view, IsPassOf}
-use Rattle.firm_rounds.specs.Closed.{AddsPops}
+use Rattle.firm_rounds.specs.inner.Gathered.{AddsPops}
 use Rattle.firm_rounds.specs.Passes.{spent_pop}
 use Rattle.firm_rounds.specs.Turning.{turned}
 use Rattle.firm_rounds.proofs.gathering.give_pops.Given as goal

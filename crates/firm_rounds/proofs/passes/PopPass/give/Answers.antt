@@ -1,6 +1,7 @@
 use Rattle.std.proofs.Common.{rules, [], ◌∷◌, ap, ◌∙◌, arith}
 use Rattle.crossbeam_queue.specs.Passes.{view}
-use Rattle.firm_rounds.specs.Rounds.{share, sight, share_of}
+use Rattle.firm_rounds.specs.Rounds.{share, share_of}
+use Rattle.firm_rounds.specs.inner.Seats.{sight}
 use Rattle.firm_rounds.specs.Passes.{PopIs}
 use Rattle.firm_rounds.proofs.Fairs.{gives, some_of}
 use Rattle.firm_rounds.proofs.passes.PopPass.give.Goals as goal
