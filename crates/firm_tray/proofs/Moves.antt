@@ -14,7 +14,7 @@ use Rattle.firm_tray.specs.declared.protocol.Solved.{Solved}
 use Rattle.firm_tray.specs.Solved.{IsSolved}
 use Rattle.firm_tray.specs.Rule.{tray_sight, Phase, fresh, dealt, waiting, answered, gone, Tray, tray_at, IsFair}
 use Rattle.firm_tray.specs.Rule.{KeepsRule}
-use Rattle.firm_tray.specs.Rule.{Hand, takes_slot, gives_answer, looks}
+use Rattle.firm_tray.specs.inner.Steps.{Hand, takes_slot, gives_answer, looks}
 
 -- what a step at the word owes in the state s
 abbrev Goes : Book → ℕ → Hand → (ℕ → ℕ) → (ℕ → Hand → Type 0) → Tray → Type 0

@@ -3,3 +3,4 @@ pub mod Sides
 pub mod Polls
 pub mod Rule
 pub mod Reading
+pub mod inner

@@ -32,7 +32,8 @@ pub struct TraySight {
 pub struct TrayRule;
 
 impl TableRule<Option<Solved>, TraySight, Tenant> for TrayRule {
-    ghost use Rattle.firm_tray.specs.Rule.{KeepsRule, opening_sight};
+    ghost use Rattle.firm_tray.specs.Rule.{KeepsRule};
+    ghost use Rattle.firm_tray.specs.inner.Steps.{opening_sight};
 
     ghost holds = { KeepsRule };
 
@@ -47,7 +48,7 @@ pub type TraySeat = Seat<Option<Solved>, TraySight>;
 pub struct TakesSlot;
 
 impl Play<Option<Solved>, TraySight> for TakesSlot {
-    ghost use Rattle.firm_tray.specs.Rule.{takes_slot};
+    ghost use Rattle.firm_tray.specs.inner.Steps.{takes_slot};
 
     ghost then = { takes_slot };
 }
@@ -56,7 +57,7 @@ impl Play<Option<Solved>, TraySight> for TakesSlot {
 pub struct GivesAnswer;
 
 impl Play<Option<Solved>, TraySight> for GivesAnswer {
-    ghost use Rattle.firm_tray.specs.Rule.{gives_answer};
+    ghost use Rattle.firm_tray.specs.inner.Steps.{gives_answer};
 
     ghost then = { gives_answer };
 }
@@ -65,7 +66,7 @@ impl Play<Option<Solved>, TraySight> for GivesAnswer {
 pub struct Looks;
 
 impl Play<Option<Solved>, TraySight> for Looks {
-    ghost use Rattle.firm_tray.specs.Rule.{looks};
+    ghost use Rattle.firm_tray.specs.inner.Steps.{looks};
 
     ghost then = { looks };
 }
@@ -74,7 +75,7 @@ impl Play<Option<Solved>, TraySight> for Looks {
 pub struct Sides;
 
 impl Split<TraySight> for Sides {
-    ghost use Rattle.firm_tray.specs.Rule.{open_sight, asked_sight};
+    ghost use Rattle.firm_tray.specs.inner.Steps.{open_sight, asked_sight};
 
     ghost left = { open_sight };
 

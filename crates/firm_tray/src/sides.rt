@@ -31,7 +31,8 @@ impl Model for AskSide {
 
     ghost Value = { Side };
 
-    ghost use Rattle.firm_tray.specs.Rule.{tray_sight, IsSeated};
+    ghost use Rattle.firm_tray.specs.Rule.{tray_sight};
+    ghost use Rattle.firm_tray.specs.inner.Steps.{IsSeated};
     ghost use Rattle.firm_tray.specs.declared.protocol.Stage.TheVariants.{Asked};
 
     ghost view = { λ a. record { tray = a.seat.table_id; book = a.seat.me.0.book } };
@@ -54,7 +55,8 @@ impl Model for AnswerSide {
 
     ghost Value = { Side };
 
-    ghost use Rattle.firm_tray.specs.Rule.{tray_sight, IsSeated};
+    ghost use Rattle.firm_tray.specs.Rule.{tray_sight};
+    ghost use Rattle.firm_tray.specs.inner.Steps.{IsSeated};
     ghost use Rattle.firm_tray.specs.declared.protocol.Stage.TheVariants.{Open};
 
     ghost view = { λ a. record { tray = a.seat.table_id; book = a.seat.me.0.book } };
