@@ -4,7 +4,7 @@ ghost use Rattle.std.specs.Prelude.{◌≡◌, ◌≤◌, ◌∷◌, [], false, 
 ghost use Rattle.std.specs.Option.{option_to_list};
 ghost use Rattle.std.specs.List.{position_or_len, slice_split};
 ghost use Rattle.firm_text.specs.OperatorLines.{is_comma};
-ghost use Rattle.firm_text.specs.Rosters.{all_fields, are_fields};
+ghost use Rattle.firm_text.specs.inner.Fields.{all_fields, are_fields};
 
 use crate::records::Fields;
 

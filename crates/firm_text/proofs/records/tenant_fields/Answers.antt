@@ -1,7 +1,7 @@
 use Rattle.std.proofs.Common.{◌≡◌, List, ℕ, Bor, true, rules}
 use Rattle.std.specs.Prelude.{option_map}
 use Rattle.csv.specs.Records.{fields_of}
-use Rattle.firm_text.specs.Rosters.{are_fields}
+use Rattle.firm_text.specs.inner.Fields.{are_fields}
 use Rattle.firm_text.proofs.Fields.{field_at-all}
 use Rattle.firm_text.proofs.records.tenant_fields.Goals as goal
 

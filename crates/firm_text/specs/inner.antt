@@ -1,0 +1,2 @@
+-- What no public clause cites: the fields of a row, one by one.
+pub mod Fields
