@@ -131,9 +131,13 @@ fn serve_with<S: Source, W: Sink, R: Threads + Wait + Sync, G: Gate + Sync>(
             ensures reports { All (λ report. report.queue ≡ team.entry.hall.now.id) result.1.items }
             ensures all { OnOk result.0 (length result.1.items ≡ length team.entry.passes.items) }
         {
-            let (running, are_all) = team.start(scope);
-            let served = serve_all(clerk, are_all, reader, writer, most);
-            (served, running.join(), reader, writer)
+            match team.start(scope) {
+                Ok(running) => {
+                    let served = serve_all(clerk, reader, writer, most);
+                    (served, running.join(), reader, writer)
+                }
+                Err(running) => (Err(ServeFault::Memory), running.join(), reader, writer),
+            }
         },
     );
     keep(back);
@@ -141,10 +145,9 @@ fn serve_with<S: Source, W: Sink, R: Threads + Wait + Sync, G: Gate + Sync>(
     (served, reports)
 }
 
-// Serves from the first byte to the last, where all workers run.
+// Serves from the first byte to the last.
 fn serve_all<S: Source, W: Sink, R: Wait>(
     mut clerk: HallClerk<'_, R>,
-    are_all: bool,
     reader: &mut S,
     writer: &mut W,
     most: u64,
@@ -159,11 +162,7 @@ fn serve_all<S: Source, W: Sink, R: Wait>(
         (device (W.written writer.old) (W.written writer.new) (W.write_failed writer.new)) result }
     ensures desks { IfOk result (λ ended. AreOf clerk.entry.setting.hall.now.id ended.desks.items ended.empty.items) }
     ensures places { IfOk result (λ ended. length ended.desks.items + length ended.empty.items ≡ most_places) }
-    ensures all { OnOk result (are_all ≡ true) }
 {
-    if !are_all {
-        return Err(ServeFault::Memory);
-    }
     serve_lines(reader, writer, &mut clerk, most)?;
     Ok(clerk.end())
 }

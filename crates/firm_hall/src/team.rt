@@ -1,5 +1,5 @@
 //! One to eight workers, each on a thread of its own.
-ghost use Rattle.std.specs.Prelude.{◌≡◌, ◌≤◌, [], All, IfOk, length, true, vec_capacity, vec_len};
+ghost use Rattle.std.specs.Prelude.{◌≡◌, ◌≤◌, [], All, IfOk, IfErr, length, vec_capacity, vec_len};
 ghost use Rattle.std.specs.Thread.{IsSync};
 
 use crate::halls::Hall;
@@ -73,10 +73,11 @@ impl<'s, R: Threads + Wait + Sync, G: Gate + Sync> Team<'s, R, G> {
         })
     }
 
-    // Starts a worker for each pass. Where one cannot be started, those before it run. Tells whether all do.
-    pub(crate) fn start<E: 's>(self, scope: &Scope<'s, E>) -> (Running<'s, R>, bool)
-        ensures hall { result.0.hall.now ≡ self.entry.hall.now }
-        ensures all { result.1 ≡ true → vec_len result.0.handles ≡ vec_len self.entry.passes }
+    // Starts a worker for each pass. The error, where one cannot be started, is those that run.
+    pub(crate) fn start<E: 's>(self, scope: &Scope<'s, E>) -> Result<Running<'s, R>, Running<'s, R>>
+        ensures hall { IfOk result (λ running. running.hall.now ≡ self.entry.hall.now) }
+        ensures some { IfErr result (λ running. running.hall.now ≡ self.entry.hall.now) }
+        ensures all { IfOk result (λ running. vec_len running.handles ≡ vec_len self.entry.passes) }
     {
         let Team {
             rt,
@@ -96,23 +97,21 @@ impl<'s, R: Threads + Wait + Sync, G: Gate + Sync> Team<'s, R, G> {
                     ensures { result.queue ≡ hall.entry.now.id }
                 { worker(rt, alloc, hall, pass, gate) },
             ) else {
-                let running = Running {
+                return Err(Running {
                     rt,
                     hall,
                     handles,
                     reports,
-                };
-                return (running, false);
+                });
             };
             handles.push_reserved(handle);
         }
-        let running = Running {
+        Ok(Running {
             rt,
             hall,
             handles,
             reports,
-        };
-        (running, true)
+        })
     }
 }
 

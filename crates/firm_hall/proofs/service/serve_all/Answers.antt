@@ -1,5 +1,5 @@
 use Rattle.std.proofs.Common.{refl}
-use Rattle.firm_hall.proofs.Serves.{unread, served_by}
+use Rattle.firm_hall.proofs.Serves.{served_by}
 use Rattle.firm_hall.proofs.service.serve_all.Goals as goal
 
 pub serve_lines-requires-clause-opening : goal.serve_lines-requires-clause-opening
@@ -13,8 +13,3 @@ returns-clause-ran g c =
     served_by own own c.serve_lines.new.clerk.setting.roster.now s.register s.desk_states s.answers s.output
     c.args.most _ _ _
     refl c.serve_lines.ensures.roster c.end.ensures.rounds e.finished.answered e.finished.none e.told e.served
-
-pub returns-then-not-are_all-clause-ran : goal.returns-then-not-are_all-clause-ran
-returns-then-not-are_all-clause-ran g c =
-    unread c.args.clerk.setting.roster.now c.args.most (g.S.Source.left c.args.reader.now)
-    (g.W.Sink.written c.args.writer.now) _ _ c.requires.reader c.requires.writer

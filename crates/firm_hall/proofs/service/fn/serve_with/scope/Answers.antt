@@ -1,0 +1,15 @@
+use Rattle.std.proofs.Common.{refl}
+use Rattle.firm_hall.proofs.Serves.{unread}
+use Rattle.firm_hall.proofs.service.fn.serve_with.scope.Goals as goal
+
+pub returns : goal.returns
+returns g c = record {
+  reads = refl;
+  writes = refl;
+  ran = unread c.captures.clerk.setting.roster.now c.captures.most (g.S.Source.left c.captures.reader.now)
+      (g.W.Sink.written c.captures.writer.now) _ _ c.requires.reader c.requires.writer;
+  desks = tt;
+  places = tt;
+  reports = rw (← c.in-Err.ensures.some) c.join-in-Err.ensures.reports;
+  all = tt;
+}
