@@ -1,6 +1,6 @@
 //! Worked services, and devices that fail, asked of one thread and of one to eight workers.
 
-ghost use Rattle.std.specs.Prelude.{◌≡◌, ◌≤◌, ◌^◌, false};
+ghost use Rattle.std.specs.Prelude.{◌≡◌, ◌≤◌, ◌^◌, IfSome, false};
 
 mod devices;
 mod formats;
@@ -31,6 +31,20 @@ enum Way {
     EightWorkers,
 }
 
+impl Way {
+    /// The number of workers; none where one thread serves.
+    fn workers(self) -> Option<usize>
+        ensures { IfSome result (λ workers. (1 ≤ workers) × (workers ≤ 8)) }
+    {
+        match self {
+            Way::OneThread => None,
+            Way::OneWorker => Some(1),
+            Way::TwoWorkers => Some(2),
+            Way::EightWorkers => Some(8),
+        }
+    }
+}
+
 const WAYS: [Way; 4] = [
     Way::OneThread,
     Way::OneWorker,
@@ -48,45 +62,45 @@ fn roster_of(alloc: Global, records: &str) -> Result<Roster, Fail> {
     roster(alloc, &text).map_err(|_| Fail::from("a roster"))
 }
 
-/// How a service with `workers` workers ends.
-fn serve_with<S: Source, W: Sink, R: Threads + Wait + Sync>(
-    rt: &R,
-    alloc: Global,
-    workers: usize,
-    reader: &mut S,
-    writer: &mut W,
-    roster: &Roster,
+/// The tenants of a service, the way in which it is served, and the most bytes that it reads.
+#[derive(Clone, Copy)]
+struct Service<'a> {
+    roster: &'a Roster,
+    way: Way,
     most: u64,
-) -> Result<(), ServeFault>
-    requires workers { (1 ≤ workers) × (workers ≤ 8) }
-    requires most { (1 ≤ most) × (most ≤ 2 ^ 32) }
-    requires reader { S.read_failed reader.old ≡ false }
-    requires writer { W.write_failed writer.old ≡ false }
-{
-    let served = serve(rt, alloc, reader, writer, roster, workers, &Open, most);
-    served.map(|_totals| ())
 }
 
-/// How a service ends that is served in this way.
+impl<'a> Service<'a> {
+    /// A service that reads as much as a service may.
+    fn new(roster: &'a Roster, way: Way) -> Service<'a>
+        ensures { (1 ≤ result.most) × (result.most ≤ 2 ^ 32) }
+    {
+        Service {
+            roster,
+            way,
+            most: MOST,
+        }
+    }
+}
+
+/// How a service ends.
 fn serve_by<S: Source, W: Sink, R: Threads + Wait + Sync>(
     rt: &R,
     alloc: Global,
-    way: Way,
+    service: Service,
     reader: &mut S,
     writer: &mut W,
-    roster: &Roster,
-    most: u64,
 ) -> Result<(), ServeFault>
-    requires most { (1 ≤ most) × (most ≤ 2 ^ 32) }
+    requires most { (1 ≤ service.most) × (service.most ≤ 2 ^ 32) }
     requires reader { S.read_failed reader.old ≡ false }
     requires writer { W.write_failed writer.old ≡ false }
 {
-    match way {
-        Way::OneThread => serve_one(alloc, reader, writer, roster, most),
-        Way::OneWorker => serve_with(rt, alloc, 1, reader, writer, roster, most),
-        Way::TwoWorkers => serve_with(rt, alloc, 2, reader, writer, roster, most),
-        Way::EightWorkers => serve_with(rt, alloc, 8, reader, writer, roster, most),
-    }
+    let Service { roster, way, most } = service;
+    let Some(workers) = way.workers() else {
+        return serve_one(alloc, reader, writer, roster, most);
+    };
+    let served = serve(rt, alloc, reader, writer, roster, workers, &Open, most);
+    served.map(|_totals| ())
 }
 
 /// Gives its bytes a few at a time, and then fails or ends.

@@ -2,7 +2,7 @@
 
 ghost use Rattle.std.specs.Prelude.{◌≡◌, false};
 
-use super::{Dripping, MOST, WAYS, Way, roster_of, serve_by};
+use super::{Dripping, Service, WAYS, Way, roster_of, serve_by};
 use firm_table::ServeFault;
 use firm_text::{Bytes, Failed, Sink};
 use std::alloc::Global;
@@ -18,25 +18,36 @@ const INPUT: &[u8] = b"alpha machine m1 2\nalpha job j 5\nalpha task j a\nalpha 
 const OUTPUT: &[u8] =
     b"alpha 1 ok\nalpha 2 ok\nalpha 3 ok\nalpha 4 ok machines 1 jobs 1 tasks 1 running 0 nodes 5 of 6 arcs 7 of 11\n";
 
-/// Takes a few bytes a call, `room` in all, and then fails; it may fail its flush.
-#[derive(Drop)]
-struct Choking {
-    taken: Vec<u8>,
+/// How many bytes a sink takes a call, how many in all, and whether it flushes.
+#[derive(Clone, Copy)]
+struct Intake {
     piece: usize,
     room: usize,
     flushes: bool,
+}
+
+/// As much as the service writes, in one piece.
+const AMPLE: Intake = Intake {
+    piece: OUTPUT.len(),
+    room: OUTPUT.len(),
+    flushes: true,
+};
+
+/// Takes its intake, and then fails.
+#[derive(Drop)]
+struct Choking {
+    taken: Vec<u8>,
+    intake: Intake,
     failed: bool,
 }
 
 impl Choking {
-    fn new(alloc: Global, piece: usize, room: usize, flushes: bool) -> Choking
+    fn new(alloc: Global, intake: Intake) -> Choking
         ensures { result.failed ≡ false }
     {
         Choking {
             taken: Vec::new(alloc),
-            piece,
-            room,
-            flushes,
+            intake,
             failed: false,
         }
     }
@@ -46,18 +57,19 @@ impl Sink for Choking {
     ghost write_failed = { λ sink. sink.failed };
 
     fn write(&mut self, bytes: &[u8]) -> Result<usize, Failed> {
-        let count = self.piece.min(self.room).min(bytes.len());
+        let Intake { piece, room, .. } = self.intake;
+        let count = piece.min(room).min(bytes.len());
         let taken = self.taken.extend_from_slice(&bytes[..count]);
         if (count == 0 && !bytes.is_empty()) || taken.is_err() {
             self.failed = true;
             return Err(Failed);
         }
-        self.room -= count;
+        self.intake.room = room - count;
         Ok(count)
     }
 
     fn flush(&mut self) -> Result<(), Failed> {
-        if self.flushes {
+        if self.intake.flushes {
             return Ok(());
         }
         self.failed = true;
@@ -75,25 +87,25 @@ fn serve_until_read_fails<R: Threads + Wait + Sync>(
 ) -> Result<(Vec<u8>, Result<(), ServeFault>), Fail> {
     let rest = INPUT.get(..count).ok_or("a count within the input")?;
     let mut reader = Dripping::new(rest, piece, true);
-    let mut writer = Choking::new(alloc, OUTPUT.len(), OUTPUT.len(), true);
+    let mut writer = Choking::new(alloc, AMPLE);
     let roster = roster_of(alloc, RECORD)?;
-    let ended = serve_by(rt, alloc, way, &mut reader, &mut writer, &roster, MOST);
+    let service = Service::new(&roster, way);
+    let ended = serve_by(rt, alloc, service, &mut reader, &mut writer);
     Ok((writer.taken, ended))
 }
 
-/// How the service ends where the writer takes `room` bytes, `piece` a call, and then fails.
+/// How the service ends where the writer takes its intake, and then fails.
 fn serve_until_write_fails<R: Threads + Wait + Sync>(
     rt: &R,
     alloc: Global,
     way: Way,
-    piece: usize,
-    room: usize,
-    flushes: bool,
+    intake: Intake,
 ) -> Result<(Vec<u8>, Result<(), ServeFault>), Fail> {
     let mut reader = Dripping::new(INPUT, 7, false);
-    let mut writer = Choking::new(alloc, piece, room, flushes);
+    let mut writer = Choking::new(alloc, intake);
     let roster = roster_of(alloc, RECORD)?;
-    let ended = serve_by(rt, alloc, way, &mut reader, &mut writer, &roster, MOST);
+    let service = Service::new(&roster, way);
+    let ended = serve_by(rt, alloc, service, &mut reader, &mut writer);
     Ok((writer.taken, ended))
 }
 
@@ -129,7 +141,12 @@ fn stops_at_write<R: Threads + Wait + Sync>(
     way: Way,
     room: usize,
 ) -> Result<bool, Fail> {
-    let (written, ended) = serve_until_write_fails(rt, alloc, way, 3, room, true)?;
+    let intake = Intake {
+        piece: 3,
+        room,
+        flushes: true,
+    };
+    let (written, ended) = serve_until_write_fails(rt, alloc, way, intake)?;
     Ok(ended == Err(ServeFault::Write) && Some(written.as_slice()) == OUTPUT.get(..room))
 }
 
@@ -157,9 +174,9 @@ fn stops_at_each_failed_write(rt: HostRuntime) -> Result<(), Fail> {
 
 #[test]
 fn writes_all_through_a_narrow_writer(rt: HostRuntime) -> Result<(), Fail> {
+    let narrow = Intake { piece: 1, ..AMPLE };
     for way in WAYS {
-        let room = OUTPUT.len();
-        let (written, ended) = serve_until_write_fails(&rt, rt.alloc(), way, 1, room, true)?;
+        let (written, ended) = serve_until_write_fails(&rt, rt.alloc(), way, narrow)?;
         assert_eq!(rt; ended, Ok(()), "{way:?}");
         assert!(rt; written.as_slice() == OUTPUT, "{way:?}");
     }
@@ -168,9 +185,13 @@ fn writes_all_through_a_narrow_writer(rt: HostRuntime) -> Result<(), Fail> {
 
 #[test]
 fn tells_a_failed_flush(rt: HostRuntime) -> Result<(), Fail> {
+    let unflushed = Intake {
+        piece: 9,
+        flushes: false,
+        ..AMPLE
+    };
     for way in WAYS {
-        let room = OUTPUT.len();
-        let (written, ended) = serve_until_write_fails(&rt, rt.alloc(), way, 9, room, false)?;
+        let (written, ended) = serve_until_write_fails(&rt, rt.alloc(), way, unflushed)?;
         assert_eq!(rt; ended, Err(ServeFault::Write), "{way:?}");
         assert!(rt; written.as_slice() == OUTPUT, "{way:?}");
     }
@@ -225,7 +246,8 @@ fn serve_once<R: Threads + Wait + Sync>(
         taken: Vec::new(alloc),
     });
     let roster = roster_of(alloc, RECORD)?;
-    let ended = serve_by(rt, alloc, way, &mut reader, &mut writer, &roster, MOST);
+    let service = Service::new(&roster, way);
+    let ended = serve_by(rt, alloc, service, &mut reader, &mut writer);
     Ok((writer.into_inner().taken, ended))
 }
 

@@ -3,7 +3,7 @@
 ghost use Rattle.std.specs.Prelude.{◌≡◌, ◌≤◌, ◌^◌, false};
 
 use super::{
-    Dripping, MOST, WAYS, Way, Worked, formats, roster_of, rounds, rows, serve_by, stays,
+    Dripping, MOST, Service, WAYS, Way, Worked, formats, roster_of, rounds, rows, serve_by, stays,
     worked_from,
 };
 use crossbeam_utils::sync::EventCount;
@@ -15,22 +15,33 @@ use std::sync::{Arc, Wait};
 use std::test::Fail;
 use std::thread::Threads;
 
-/// How a service ends whose input comes in such pieces, and what it wrote.
+/// The records of a roster, the input of its service, and how many bytes of it come a read.
+#[derive(Clone, Copy)]
+struct Session<'a> {
+    records: &'a str,
+    input: &'a [u8],
+    piece: usize,
+}
+
+/// The end of a service that reads at most this many bytes, and its output.
 fn serve_pieces<R: Threads + Wait + Sync>(
     rt: &R,
     alloc: Global,
     way: Way,
-    records: &str,
-    input: &[u8],
-    piece: usize,
+    session: Session,
     most: u64,
 ) -> Result<(Vec<u8>, Result<(), ServeFault>), Fail>
     requires most { (1 ≤ most) × (most ≤ 2 ^ 32) }
 {
-    let mut reader = Dripping::new(input, piece, false);
+    let mut reader = Dripping::new(session.input, session.piece, false);
     let mut writer = Bytes::new(Vec::new(alloc));
-    let roster = roster_of(alloc, records)?;
-    let ended = serve_by(rt, alloc, way, &mut reader, &mut writer, &roster, most);
+    let roster = roster_of(alloc, session.records)?;
+    let service = Service {
+        roster: &roster,
+        way,
+        most,
+    };
+    let ended = serve_by(rt, alloc, service, &mut reader, &mut writer);
     Ok((writer.into_inner(), ended))
 }
 
@@ -43,8 +54,12 @@ fn answers_alike<R: Threads + Wait + Sync>(
 ) -> Result<bool, Fail> {
     let mut alike = true;
     for piece in [1, 2, 7, 257, 4_096] {
-        let input = worked.input.as_slice();
-        let (written, ended) = serve_pieces(rt, alloc, way, worked.records, input, piece, MOST)?;
+        let session = Session {
+            records: worked.records,
+            input: &worked.input,
+            piece,
+        };
+        let (written, ended) = serve_pieces(rt, alloc, way, session, MOST)?;
         alike = alike && ended.is_ok() && written.as_slice() == worked.output.as_slice();
     }
     Ok(alike)
@@ -109,39 +124,35 @@ fn answers_lines_of_each_form(rt: HostRuntime) -> Result<(), Fail> {
 #[test]
 fn takes_no_more_than_the_most(rt: HostRuntime) -> Result<(), Fail> {
     let shown = b"a 1 ok machines 0 jobs 0 tasks 0 running 0 nodes 2 of 2 arcs 0 of 0\n";
+    let one_line = Session {
+        records: "a,2,0,1,0,0",
+        input: b"a show\n",
+        piece: 4_096,
+    };
     for way in WAYS {
-        let (written, ended) = serve_pieces(
-            &rt,
-            rt.alloc(),
-            way,
-            "a,2,0,1,0,0",
-            b"a show\n",
-            4_096,
-            6,
-        )?;
+        let (written, ended) = serve_pieces(&rt, rt.alloc(), way, one_line, 6)?;
         assert_eq!(rt; ended, Err(ServeFault::TooLong), "{way:?}");
         assert!(rt; written.is_empty(), "{way:?}");
-        let (written, ended) = serve_pieces(
-            &rt,
-            rt.alloc(),
-            way,
-            "a,2,0,1,0,0",
-            b"a show\n",
-            4_096,
-            7,
-        )?;
+        let (written, ended) = serve_pieces(&rt, rt.alloc(), way, one_line, 7)?;
         assert_eq!(rt; ended, Ok(()), "{way:?}");
         assert!(rt; written.as_slice() == shown.as_slice(), "{way:?}");
     }
     Ok(())
 }
 
+/// The records of a roster, the lines that its service reads, and how many bytes of replies are due before each.
+#[derive(Clone, Copy)]
+struct Dialogue<'a> {
+    records: &'a str,
+    lines: &'a [&'static str],
+    due: &'a [usize],
+}
+
 /// Gives one line a read, and notes how many bytes were written by then. It is ready for a read once as many as are due
 /// were written: only the writer makes it ready, so it notifies nobody.
 #[derive(Drop)]
 struct LineByLine<'a> {
-    lines: &'a [&'static str],
-    due: &'a [usize],
+    dialogue: Dialogue<'a>,
     next: usize,
     written: &'a Cell<usize>,
     noted: Vec<usize>,
@@ -152,7 +163,7 @@ impl Source for LineByLine<'_> {
 
     fn read(&mut self, buffer: &mut [u8]) -> Result<usize, Failed> {
         let _ = self.noted.push(self.written.get());
-        let Some(line) = self.lines.get(self.next) else {
+        let Some(line) = self.dialogue.lines.get(self.next) else {
             return Ok(0);
         };
         let bytes = line.as_bytes();
@@ -163,8 +174,8 @@ impl Source for LineByLine<'_> {
     }
 
     fn is_ready(&self, _waker: Option<&Arc<EventCount, Global>>) -> bool {
-        let due = self.due.get(self.next).copied().unwrap_or(0);
-        due <= self.written.get()
+        let due = self.dialogue.due.get(self.next).copied();
+        due.unwrap_or(0) <= self.written.get()
     }
 }
 
@@ -204,35 +215,38 @@ const LINES_WITH_ROUNDS: [&str; 5] = [
     "alpha round\n",
 ];
 
-/// The number of bytes written at each read of an input that gives one line a read, each only once as many bytes as are
-/// due before it were written.
+/// The number of bytes written at each read of a dialogue, which gives one line a read, each only once what is due
+/// before it was written.
 fn written_by_reads<R: Threads + Wait + Sync>(
     rt: &R,
     alloc: Global,
     way: Way,
-    records: &str,
-    lines: &[&'static str],
-    due: &[usize],
+    dialogue: Dialogue,
 ) -> Result<Vec<usize>, Fail> {
     let written = Cell::new(0);
     let mut reader = LineByLine {
-        lines,
-        due,
+        dialogue,
         next: 0,
         written: &written,
         noted: Vec::new(alloc),
     };
     let mut writer = Counting { written: &written };
-    let roster = roster_of(alloc, records)?;
-    let ended = serve_by(rt, alloc, way, &mut reader, &mut writer, &roster, MOST);
+    let roster = roster_of(alloc, dialogue.records)?;
+    let service = Service::new(&roster, way);
+    let ended = serve_by(rt, alloc, service, &mut reader, &mut writer);
     ended.map_err(|_| Fail::from("a service without faults"))?;
     Ok(reader.noted)
 }
 
 #[test]
 fn writes_each_reply_before_the_next_read(rt: HostRuntime) -> Result<(), Fail> {
+    let dialogue = Dialogue {
+        records: "alpha,6,11,100,1,2",
+        lines: &LINES,
+        due: &[],
+    };
     for way in WAYS {
-        let noted = written_by_reads(&rt, rt.alloc(), way, "alpha,6,11,100,1,2", &LINES, &[])?;
+        let noted = written_by_reads(&rt, rt.alloc(), way, dialogue)?;
         assert!(rt;
             noted.as_slice() == [0, 11, 22, 33, 106].as_slice(),
             "{way:?}"
@@ -244,9 +258,13 @@ fn writes_each_reply_before_the_next_read(rt: HostRuntime) -> Result<(), Fail> {
 #[test]
 fn writes_the_replies_to_rounds_while_no_line_comes(rt: HostRuntime) -> Result<(), Fail> {
     let due = [0, 11, 35, 58, 130, 154];
+    let dialogue = Dialogue {
+        records: "alpha,6,11,100,1,2\nbeta,6,11,100,1,2",
+        lines: &LINES_WITH_ROUNDS,
+        due: &due,
+    };
     for way in WAYS {
-        let records = "alpha,6,11,100,1,2\nbeta,6,11,100,1,2";
-        let noted = written_by_reads(&rt, rt.alloc(), way, records, &LINES_WITH_ROUNDS, &due)?;
+        let noted = written_by_reads(&rt, rt.alloc(), way, dialogue)?;
         assert!(rt; noted.as_slice() == due.as_slice(), "{way:?}");
     }
     Ok(())
@@ -271,8 +289,13 @@ fn sixty_four(alloc: Global) -> Result<(String, Vec<u8>, Vec<u8>), Fail> {
 #[test]
 fn serves_sixty_four_tenants(rt: HostRuntime) -> Result<(), Fail> {
     let (records, input, output) = sixty_four(rt.alloc())?;
+    let session = Session {
+        records: &records,
+        input: &input,
+        piece: 4_096,
+    };
     for way in WAYS {
-        let (written, ended) = serve_pieces(&rt, rt.alloc(), way, &records, &input, 4_096, MOST)?;
+        let (written, ended) = serve_pieces(&rt, rt.alloc(), way, session, MOST)?;
         assert_eq!(rt; ended, Ok(()), "{way:?}");
         assert!(rt; written.as_slice() == output.as_slice(), "{way:?}");
     }
@@ -296,8 +319,13 @@ fn a_65th_tenant_waits_until_one_is_retired(rt: HostRuntime) -> Result<(), Fail>
         input.extend_from_slice(line)?;
         output.extend_from_slice(answer)?;
     }
+    let session = Session {
+        records: &records,
+        input: &input,
+        piece: 4_096,
+    };
     for way in WAYS {
-        let (written, ended) = serve_pieces(&rt, rt.alloc(), way, &records, &input, 4_096, MOST)?;
+        let (written, ended) = serve_pieces(&rt, rt.alloc(), way, session, MOST)?;
         assert_eq!(rt; ended, Ok(()), "{way:?}");
         assert!(rt; written.as_slice() == output.as_slice(), "{way:?}");
     }
@@ -324,16 +352,13 @@ fn one_after_the_other(alloc: Global) -> Result<(Vec<u8>, Vec<u8>), Fail> {
 #[test]
 fn a_place_goes_from_tenant_to_tenant(rt: HostRuntime) -> Result<(), Fail> {
     let (input, output) = one_after_the_other(rt.alloc())?;
+    let session = Session {
+        records: "a,2,0,1,0,0",
+        input: &input,
+        piece: 4_096,
+    };
     for way in WAYS {
-        let (written, ended) = serve_pieces(
-            &rt,
-            rt.alloc(),
-            way,
-            "a,2,0,1,0,0",
-            &input,
-            4_096,
-            MOST,
-        )?;
+        let (written, ended) = serve_pieces(&rt, rt.alloc(), way, session, MOST)?;
         assert_eq!(rt; ended, Ok(()), "{way:?}");
         assert!(rt; written.as_slice() == output.as_slice(), "{way:?}");
     }

@@ -2,9 +2,9 @@
 //! `rt try --test --fail-alloc N -- finds_no_memory`, where the Nth request is refused, one of them meets the refusal
 //! for some N.
 
-ghost use Rattle.std.specs.Prelude.{◌≡◌, false};
+ghost use Rattle.std.specs.Prelude.{◌≡◌, ◌≤◌, ◌^◌, false};
 
-use super::{Dripping, MOST, WAYS, Way, roster_of, serve_by};
+use super::{Dripping, Service, WAYS, roster_of, serve_by};
 use firm_rules::{Command, Limits};
 use firm_table::{Answer, Event, ServeFault, Table};
 use firm_text::{Failed, PLACES, Roster, Sink};
@@ -98,12 +98,13 @@ impl Sink for Slate {
 fn serve_input<R: Threads + Wait + Sync>(
     rt: &R,
     alloc: Global,
-    way: Way,
-    roster: &Roster,
-) -> (Slate, Result<(), ServeFault>) {
+    service: Service,
+) -> (Slate, Result<(), ServeFault>)
+    requires most { (1 ≤ service.most) × (service.most ≤ 2 ^ 32) }
+{
     let mut reader = Dripping::new(INPUT, 4_096, false);
     let mut writer = Slate::new();
-    let ended = serve_by(rt, alloc, way, &mut reader, &mut writer, roster, MOST);
+    let ended = serve_by(rt, alloc, service, &mut reader, &mut writer);
     (writer, ended)
 }
 
@@ -111,7 +112,8 @@ fn serve_input<R: Threads + Wait + Sync>(
 fn an_admission_that_finds_no_memory_is_refused(rt: HostRuntime) -> Result<(), Fail> {
     let roster = roster_of(rt.alloc(), "a,2,0,1,0,0")?;
     for way in WAYS {
-        let (slate, ended) = serve_input(&rt, rt.alloc(), way, &roster);
+        let service = Service::new(&roster, way);
+        let (slate, ended) = serve_input(&rt, rt.alloc(), service);
         let written = slate.written();
         assert!(rt;
             may_end_so(written, ended),
