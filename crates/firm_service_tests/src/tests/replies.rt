@@ -62,17 +62,11 @@ fn the_costs_of_rounds_are_printed(rt: HostRuntime) {
     expect_text(&rt, alloc, 12, eight, line);
 }
 
-fn expect_round(
-    rt: &impl Abort,
-    alloc: Global,
-    number: u64,
-    cost: i64,
-    changes: &[Change],
-    wanted: &[u8],
-) {
+/// The outcome of a round of this cost, with these changes.
+fn round(rt: &impl Abort, alloc: Global, cost: i64, changes: &[Change]) -> Outcome {
     let list = Vec::from_slice(alloc, changes).ok().expect(rt, "memory");
     let changes = Changes::from(list);
-    expect_text(rt, alloc, number, Outcome::Round { cost, changes }, wanted);
+    Outcome::Round { cost, changes }
 }
 
 #[test]
@@ -80,14 +74,17 @@ fn rounds_are_printed(rt: HostRuntime) {
     let alloc = rt.alloc();
     let (l, h) = (name(&rt, b"l"), name(&rt, b"h"));
     let (m1, m2) = (name(&rt, b"m1"), name(&rt, b"m2"));
-    expect_round(&rt, alloc, 3, 0, &[], b"alpha 3 ok round cost 0");
-    let swapped = [Change::Preempt(l, m1), Change::Start(h, m1)];
+    let idle = round(&rt, alloc, 0, &[]);
+    expect_text(&rt, alloc, 3, idle, b"alpha 3 ok round cost 0");
+    let swaps = [Change::Preempt(l, m1), Change::Start(h, m1)];
+    let swapped = round(&rt, alloc, 5, &swaps);
     let line = b"alpha 7 ok round cost 5 preempt l m1 start h m1";
-    expect_round(&rt, alloc, 7, 5, &swapped, line);
-    let moved = [Change::Move(l, m1, m2)];
+    expect_text(&rt, alloc, 7, swapped, line);
+    let moved = round(&rt, alloc, 1_003, &[Change::Move(l, m1, m2)]);
     let line = b"alpha 8 ok round cost 1003 move l m1 m2";
-    expect_round(&rt, alloc, 8, 1_003, &moved, line);
-    expect_round(&rt, alloc, 9, -1, &[], b"alpha 9 ok round cost -1");
+    expect_text(&rt, alloc, 8, moved, line);
+    let below_zero = round(&rt, alloc, -1, &[]);
+    expect_text(&rt, alloc, 9, below_zero, b"alpha 9 ok round cost -1");
 }
 
 #[test]

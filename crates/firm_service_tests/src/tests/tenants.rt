@@ -37,16 +37,14 @@ fn shown(counts: [u64; 4], nodes: (u64, u64), arcs: (u64, u64)) -> Outcome {
     }
 }
 
-fn expect(
-    rt: &impl Abort,
-    tenant: &mut Tenant,
-    alloc: Global,
-    command: Command,
-    number: u64,
-    outcome: Outcome,
-) {
+/// The reply of this number.
+fn replied(number: u64, outcome: Outcome) -> Reply {
+    Reply { number, outcome }
+}
+
+/// Expects this reply to a command.
+fn expect(rt: &impl Abort, tenant: &mut Tenant, alloc: Global, command: Command, wanted: Reply) {
     let reply = tenant.step(alloc, command);
-    let wanted = Reply { number, outcome };
     assert!(rt; reply == wanted, "{reply:?} and not {wanted:?}");
 }
 
@@ -57,13 +55,13 @@ fn expect_life(rt: &impl Abort, tenant: &Tenant, wanted: u64) {
 fn answers_until_worn(rt: &impl Abort, tenant: &mut Tenant, alloc: Global) {
     let faulty = Command::Faulty(LineFault::BadName);
     let bad_name = Outcome::Refused(Refusal::BadName);
-    expect(rt, tenant, alloc, faulty, 1, bad_name);
+    expect(rt, tenant, alloc, faulty, replied(1, bad_name));
     expect_life(rt, tenant, 1);
     let empty = shown([0; 4], (2, 2), (0, 0));
-    expect(rt, tenant, alloc, Command::Show, 2, empty);
+    expect(rt, tenant, alloc, Command::Show, replied(2, empty));
     for _ in 0..3 {
         let worn = Outcome::Refused(Refusal::Worn);
-        expect(rt, tenant, alloc, Command::Show, 3, worn);
+        expect(rt, tenant, alloc, Command::Show, replied(3, worn));
         expect_life(rt, tenant, 0);
     }
 }
@@ -85,16 +83,16 @@ fn numbered(rt: &impl Abort, alloc: Global, number: u64, slots: u64) -> Command 
 fn add_machines(rt: &impl Abort, tenant: &mut Tenant, alloc: Global, count: u64, slots: u64) {
     for number in 1..=count {
         let command = numbered(rt, alloc, number, slots);
-        expect(rt, tenant, alloc, command, number, Outcome::Plain);
+        expect(rt, tenant, alloc, command, replied(number, Outcome::Plain));
     }
 }
 
 fn fills_every_node(rt: &impl Abort, tenant: &mut Tenant, alloc: Global) {
     add_machines(rt, tenant, alloc, 4_094, 1);
     let full = Outcome::Refused(Refusal::ArenaNodes);
-    expect(rt, tenant, alloc, job(rt, b"j", 1), 4_095, full);
+    expect(rt, tenant, alloc, job(rt, b"j", 1), replied(4_095, full));
     let counts = shown([4_094, 0, 0, 0], (4_096, 4_096), (8_188, 65_536));
-    expect(rt, tenant, alloc, Command::Show, 4_096, counts);
+    expect(rt, tenant, alloc, Command::Show, replied(4_096, counts));
 }
 
 #[test]
@@ -105,15 +103,16 @@ fn a_tenant_fills_every_node(rt: HostRuntime) {
 
 fn fills_every_arc(rt: &impl Abort, tenant: &mut Tenant, alloc: Global) {
     add_machines(rt, tenant, alloc, 1_008, 64);
-    expect(rt, tenant, alloc, job(rt, b"j", 1), 1_009, Outcome::Plain);
+    let added = replied(1_009, Outcome::Plain);
+    expect(rt, tenant, alloc, job(rt, b"j", 1), added);
     for (number, bytes) in (1_010..).zip([b"a", b"b", b"c", b"d", b"e"]) {
         let command = task(rt, b"j", bytes);
-        expect(rt, tenant, alloc, command, number, Outcome::Plain);
+        expect(rt, tenant, alloc, command, replied(number, Outcome::Plain));
     }
     let full = Outcome::Refused(Refusal::ArenaArcs);
-    expect(rt, tenant, alloc, job(rt, b"k", 1), 1_015, full);
+    expect(rt, tenant, alloc, job(rt, b"k", 1), replied(1_015, full));
     let counts = shown([1_008, 1, 5, 0], (1_016, 4_096), (65_536, 65_536));
-    expect(rt, tenant, alloc, Command::Show, 1_016, counts);
+    expect(rt, tenant, alloc, Command::Show, replied(1_016, counts));
 }
 
 #[test]
@@ -124,11 +123,10 @@ fn a_tenant_fills_every_arc(rt: HostRuntime) {
 
 fn counts_a_round_without_memory(rt: &impl Abort, tenant: &mut Tenant, alloc: Global) {
     assert!(rt; 0 < tenant.life_left());
-    let reply = tenant.no_memory();
-    let outcome = Outcome::Refused(Refusal::Memory);
-    assert_eq!(rt; reply, Reply { number: 1, outcome });
+    let refused = replied(1, Outcome::Refused(Refusal::Memory));
+    assert_eq!(rt; tenant.no_memory(), refused);
     let none = Outcome::Costs(RecentCosts::new());
-    expect(rt, tenant, alloc, Command::Costs, 2, none);
+    expect(rt, tenant, alloc, Command::Costs, replied(2, none));
     expect_life(rt, tenant, 0);
 }
 
