@@ -1,4 +1,4 @@
--- What the passes that are handed in have put and got.
+-- What the passes handed in have put and got.
 use Rattle.std.specs.Prelude.{◌≡◌, ℕ, ◌+◌, ◌<◌, ◌≤◌, ◌^◌, List, []}
 use Rattle.firm_rules.specs.declared.tickets.Ticket.{Ticket}
 use Rattle.firm_rounds.specs.declared.protocol.Share.{Share}
@@ -20,7 +20,8 @@ job_weight h jobs = weigh (λ j. h j.ticket) jobs
 abbrev pub of_place : ℕ → List PutIs → ℕ
 of_place place puts = weigh (λ p. is_at place (share p.place p.put [])) puts
 
--- each ticket that these shares put they got or it is left, as often as it was put; each place has at most one of them
+-- each ticket that these shares put was got by them or is left, as often as it was put; each place has at most one
+-- share
 pub record Settled (shares : List Share) (jobs : List JobIs) : Type 0 where
   pub balanced : (h : Ticket → ℕ) → weigh (put_by h) shares ≡ weigh (got_by h) shares + job_weight h jobs
   pub placed : (place : ℕ) → place < beyond → weigh (is_at place) shares ≤ 1

@@ -1,4 +1,4 @@
--- What a queue answers that is not closed, or not empty.
+-- The fault of a queue that is not closed, or was not empty.
 use Rattle.std.specs.Prelude.{◌≡◌, ℕ, ◌<◌, ◌⊎◌, List, map, length}
 use Rattle.firm_rounds.specs.Passes.{QueueIs, PutIs, PopIs, spent_put, spent_pop}
 use Rattle.firm_rounds.specs.Closed.{AsOften}

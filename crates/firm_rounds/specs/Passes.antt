@@ -20,7 +20,7 @@ pub record QueueIs : Type 0 where
   pub puts : ℕ
   pub pops : ℕ
 
--- a queue whose passes are handed in, and the shares that it has so far
+-- a queue whose passes are being handed in, and the shares it has so far
 pub record ClosingIs : Type 0 where
   pub id : QueueId
   pub shares : List Share
@@ -49,7 +49,7 @@ put_is queue place put = record { queue = queue; place = place; put = put }
 abbrev pub pop_is : QueueId → List Ticket → PopIs
 pop_is queue got = record { queue = queue; got = got }
 
--- passes of the first places that put nothing yet
+-- passes of the first places, which have put nothing yet
 abbrev pub new_puts : QueueId → ℕ → List PutIs
 new_puts queue zero = []
 new_puts queue (suc n) = new_puts queue n ++ put_is queue n 0 ∷ []

@@ -1,5 +1,5 @@
--- Laws for callers that turn the passes of a list one by one, and weigh them. No contract names them, and each has its
--- proof.
+-- Laws for callers that turn the passes of a list one by one, and weigh them. No contract names these laws, and each is
+-- proved here.
 use Rattle.std.proofs.Common.{◌≡◌, ℕ, zero, suc, ◌+◌, ◌<◌, List, [], ◌∷◌, ◌++◌, map, length, get_or, set, take, drop}
 use Rattle.std.proofs.Common.{sym, refl, ap, ◌∙◌, arith, add-one}
 use Rattle.firm_rounds.specs.Rounds.{weigh}

@@ -12,7 +12,7 @@ use crate::queue::Room;
 use std::marker::Model;
 use std::sync::{Mutex, Wait};
 
-/// A queue whose passes are handed in. Contracts see the shares that it has so far.
+/// A queue whose passes are being handed in. Contracts see the shares it has so far.
 #[derive(Drop)]
 pub struct Closing {
     pub(crate) ring: Ring,
@@ -55,7 +55,7 @@ impl Closing {
         self.ring.absorb::<Whole>(&mut self.keep, got);
     }
 
-    /// Ends the queue, and gives the jobs that it still held, front first.
+    /// Ends the queue, and returns the jobs that it still held, front first.
     pub fn end<R: Wait>(self, rt: &R) -> Vec<Job>
         requires { self.id.all ≤ length self.shares }
         ensures { Settled self.shares result.items }

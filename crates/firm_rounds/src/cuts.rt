@@ -1,4 +1,4 @@
-//! How the opening seat is cut into one for each pass.
+//! Cutting the opening seat into one for each pass.
 ghost use Rattle.std.specs.Prelude.{◌≡◌, ◌+◌, ◌-◌, ◌<◌, ◌≤◌, [], ◌∷◌, IfOk};
 ghost use Rattle.crossbeam_queue.specs.Passes.{view, IsPassOf};
 ghost use Rattle.firm_rounds.specs.Rounds.{share};
@@ -9,7 +9,7 @@ use crate::passes::{PopPass, PutPass};
 use crate::protocol::{Cut, Grow, QueueSeat, Ring};
 use std::alloc::{AllocError, Global};
 
-// Adds this number of shares.
+// Adds `more` shares.
 pub(crate) fn grow(ring: &Ring, keep: &mut QueueSeat, more: usize)
     requires { IsPassOf ring.now keep.old × (view keep.old ≡ grown_to ((view keep.old).all - 1)) }
     ensures { IsPassOf ring.now keep.new × (view keep.new ≡ grown_to (((view keep.old).all - 1) + more)) }
@@ -19,7 +19,7 @@ pub(crate) fn grow(ring: &Ring, keep: &mut QueueSeat, more: usize)
     }
 }
 
-// A seat of its own for the next share, the one of the place `from + more`.
+// A seat of its own for the next share, that of place `from + more`.
 pub(crate) fn cut(ring: &Ring, keep: &mut QueueSeat, from: usize, more: usize) -> QueueSeat
     requires { IsPassOf ring.now keep.old × (from + more < (view keep.old).all - 1)
         × (view keep.old ≡ held_from (from + more) ((view keep.old).all - 1)) }
@@ -51,7 +51,7 @@ pub(crate) fn cut_puts(
     Ok(passes)
 }
 
-// The keeping seat goes to the last one.
+// The last pass gets the keeping seat.
 pub(crate) fn cut_pops(
     alloc: Global,
     ring: &Ring,

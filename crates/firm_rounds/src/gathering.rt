@@ -1,4 +1,4 @@
-//! How the passes of a queue are gathered, and what is left is taken.
+//! Gathering the passes of a queue, and taking the jobs that are left.
 ghost use Rattle.std.specs.Prelude.{◌≡◌, ℕ, ◌+◌, ◌<◌, ◌≤◌, [], map, length, All, vec_capacity};
 ghost use Rattle.crossbeam_queue.specs.Passes.{view, IsPassOf};
 ghost use Rattle.firm_rounds.specs.declared.protocol.Share.{Share};
@@ -14,7 +14,7 @@ use crate::passes::{PopPass, PutPass};
 use crate::protocol::{Ends, QueueSeat, Ring, Whole};
 use std::sync::Wait;
 
-// The shares of these passes go to the keeping seat.
+// Moves the shares of these passes to the keeping seat.
 fn give_puts(ring: &Ring, keep: &mut QueueSeat, passes: &mut [PutPass])
     requires keep { IsPassOf ring.now keep.old × (0 < length (view keep.old).shares) }
     requires passes { All (λ p. (p.queue.table ≡ ring.now.table.shared.table_id) × (0 < p.queue.all)) passes.old }
@@ -71,7 +71,7 @@ pub(crate) fn gather(
     keep
 }
 
-// Takes what stands in the queue, front first.
+// Takes the jobs that stand in the queue, front first.
 pub(crate) fn drain<R: Wait>(rt: &R, ring: &Ring, keep: QueueSeat, jobs: Vec<Job>) -> Vec<Job>
     requires seat { IsPassOf ring.now keep × ((view keep).all ≤ length (view keep).shares) × (0 < (view keep).all) }
     requires room { (jobs.items ≡ []) × (8 ≤ vec_capacity jobs) }

@@ -8,8 +8,8 @@ use firm_tray::{AnswerSide, Solved, Spent};
 use std::alloc::Global;
 use std::marker::Model;
 
-/// A tenant on its way to a worker, with its ticket and the side on which it comes back. It is no `Drop`, so it must be
-/// spent: by `Queue::put` or by `finish`.
+/// A tenant on its way to a worker, with its ticket and the side on which it comes back. It is not `Drop`, so it must
+/// be spent, by `Queue::put` or by `finish`.
 pub struct Job {
     parts: JobParts,
 }
@@ -24,7 +24,7 @@ impl Model for Job {
 }
 
 impl Job {
-    /// The round of this ticket. It asks that the side was opened for this tenant.
+    /// The round of this ticket. The side must have been opened for this tenant.
     pub fn new(ticket: Ticket, tenant: Tenant, side: AnswerSide) -> Job
         requires { side.book ≡ tenant }
         ensures { (result.ticket ≡ ticket) × (result.side ≡ side) }
@@ -41,7 +41,7 @@ impl Job {
         self.parts.ticket
     }
 
-    /// Solves the round and answers its tray. The allocator is for the list in the reply.
+    /// Solves the round and answers its tray. The allocator is for the round and for the list in the reply.
     pub fn finish(self, alloc: Global) -> Spent
         ensures { result ≡ self.side }
     {

@@ -10,8 +10,8 @@ use firm_rules::Ticket;
 use std::marker::Model;
 use std::sync::Wait;
 
-/// The right to put the rounds of one place, numbered from 1 without a gap. Contracts see its place and how many it
-/// put.
+/// The right to put the rounds of one place, numbered from 1 without a gap. Contracts see its place and how many rounds
+/// it put.
 #[derive(Drop)]
 pub struct PutPass {
     place: u32,
@@ -38,7 +38,7 @@ impl Model for PutPass {
         × IsShareOf (share p.place p.put []) (sees p.seat) };
 }
 
-/// The right to get rounds. Contracts see the tickets that it got, in order; at run time it keeps their number alone.
+/// The right to get rounds. Contracts see the tickets that it got, in order; at run time it keeps only their number.
 #[derive(Drop)]
 pub struct PopPass {
     // How many jobs it got.
@@ -77,7 +77,7 @@ impl PutPass {
         }
     }
 
-    /// The ticket that it puts next.
+    /// The ticket to put next.
     pub fn next(&self) -> Ticket
         ensures { result ≡ ticket self.now.place (self.now.put + 1) }
     {
@@ -87,7 +87,7 @@ impl PutPass {
         }
     }
 
-    /// Puts the job if there is room, and else gives it back.
+    /// Puts the job if there is room, or else gives it back.
     pub(crate) fn try_put<R: Wait>(
         &mut self,
         rt: &R,

@@ -8,7 +8,7 @@ use firm_tenant::Tenant;
 use firm_tray::AnswerSide;
 use std::collections::LinkedList;
 
-/// What a job is made of. It may be dropped, so that a queue with jobs may be.
+/// The parts of a job. They may be dropped, so that a queue with jobs may be too.
 #[derive(Drop)]
 pub struct JobParts {
     pub ticket: Ticket,
@@ -17,18 +17,18 @@ pub struct JobParts {
     pub ghost same_book: { side.book ≡ tenant },
 }
 
-/// What one pass has done: how many tickets of its place it put, and the tickets that it got. No value of it is made.
+/// What one pass has done: how many tickets of its place it put, and the tickets that it got. Never constructed.
 pub struct Share {
     pub place: u64,
     pub put: u64,
     pub got: LinkedList<Ticket>,
 }
 
-/// What a seat knows: its shares, and how many there are in all. No value of it is made.
+/// What a seat knows: its shares, and how many there are in all. Never constructed.
 pub struct Sight {
     pub all: u64,
     pub shares: LinkedList<Share>,
-    /// The shares that it had, once they were given away.
+    /// The shares that it had, once they are given away.
     pub memo: LinkedList<Share>,
 }
 
@@ -43,7 +43,7 @@ impl Protocol<JobParts, Sight> for TicketRule {
     ghost first = { opening };
 }
 
-/// One share more, and a seat with none.
+/// One more share, and a seat with none.
 pub struct Grow;
 
 impl Split<Sight> for Grow {

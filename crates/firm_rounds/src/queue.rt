@@ -20,32 +20,32 @@ use std::sync::{Mutex, Wait};
 
 const ROOM: usize = 8;
 
-// How often a put tries in vain before it sleeps until there is room: for some microseconds.
+// How many times a put tries in vain before it sleeps until there is room: a few microseconds.
 const TRIES_BEFORE_SLEEP: u32 = 64;
 
-// Room for what `close` finds.
+// Room for the jobs that `close` finds.
 pub(crate) struct Room {
     jobs: Vec<Job>,
     ghost empty: { jobs.items ≡ [] },
     ghost reserved: { 8 ≤ vec_capacity jobs },
 }
 
-/// A queue of at most 8 rounds, which threads share with no lock. Contracts see which queue it is and how many passes
+/// A queue of at most 8 rounds, which threads share without a lock. Contracts see which queue it is and how many passes
 /// it has.
 #[derive(Drop)]
 pub struct Queue {
     ring: Ring,
     puts: usize,
     pops: usize,
-    // Notified of each job that is got. Puts that find the queue full sleep on it.
+    // Notified whenever a job is got. Puts that find the queue full sleep on it.
     freed: EventCount,
-    // The lock is there for `Sync` alone, since a job may not be shared.
+    // The lock is only there for `Sync`, since a job may not be shared.
     left: Mutex<Room>,
 }
 
 /// Why a queue could not be closed, or what it still held.
 pub enum QueueFault {
-    /// Fewer passes were handed in than the queue has. All is given back.
+    /// Fewer passes were handed in than the queue has. Everything is given back.
     Missing(Queue, Vec<PutPass>, Vec<PopPass>),
     /// These jobs stood in the queue, front first. The queue has ended.
     Left(Vec<PutPass>, Vec<PopPass>, Vec<Job>),
@@ -69,7 +69,7 @@ impl Model for Queue {
 
 impl Queue {
     /// A queue with a pass to put jobs for each of `puts` places, at most 64, and `pops` passes to get jobs, at least
-    /// one. All its memory is taken here; the error comes for want of it alone.
+    /// one. All its memory is taken here, and want of it is the only error.
     pub fn open(
         alloc: Global,
         puts: usize,
@@ -115,8 +115,8 @@ impl Queue {
         self.pops
     }
 
-    /// Puts the job, whose ticket is the pass's next, at the back. Where the queue is full it tries again, and after
-    /// some tries in vain it sleeps until there is room. It takes no memory.
+    /// Puts the job, whose ticket is the pass's next, at the back. If the queue is full, tries again, and after some
+    /// tries in vain sleeps until there is room. Takes no memory.
     pub fn put<R: Wait>(&self, rt: &R, pass: &mut PutPass, job: Job)
         requires of { pass.old.queue ≡ self.now.id }
         requires next { job.ticket ≡ ticket pass.old.place (pass.old.put + 1) }
@@ -135,10 +135,10 @@ impl Queue {
         unreachable!()
     }
 
-    // One try, after this number of tries in vain. Where the queue is full it rests, and gives the job back.
+    // Tries once, after `tries` tries in vain. If the queue is full, rests and gives the job back.
     //
-    // No wake-up is lost: a sleep is announced before the try. A pop that the try misses comes behind the announcement,
-    // so it notifies, and a notification ends the sleep also where it comes before the thread lies down.
+    // No wake-up is lost: a sleep is announced before the try. A pop that the try misses comes after the announcement,
+    // so it notifies, and a notification ends the sleep even if it comes before the thread goes to sleep.
     fn try_put<R: Wait>(
         &self,
         rt: &R,
@@ -159,7 +159,7 @@ impl Queue {
         tried
     }
 
-    // After enough tries in vain, the announcement of a sleep, in case the next one is in vain too.
+    // After enough tries in vain, announces a sleep in case the next try is in vain too.
     fn announce(&self, tries: u32) -> Option<Key<'_>> {
         if tries < TRIES_BEFORE_SLEEP {
             return None;
@@ -167,8 +167,8 @@ impl Queue {
         Some(self.freed.prepare_wait())
     }
 
-    /// The job at the front. `None` only where the queue was empty at one step of the call. It wakes a put that sleeps
-    /// for want of room. It takes no memory.
+    /// The job at the front; `None` only if the queue was empty at one step of the call. Wakes a put that sleeps for
+    /// want of room. Takes no memory.
     pub fn pop<R: Wait>(&self, rt: &R, pass: &mut PopPass) -> Option<Job>
         requires { pass.old.queue ≡ self.now.id }
         ensures { MatchOption result (pass.new ≡ pass.old)
@@ -183,7 +183,7 @@ impl Queue {
         }
     }
 
-    /// Begins to end the queue, with one pass. The others are handed in one at a time.
+    /// Begins to end the queue by taking in one pass. The others are handed in one at a time.
     pub fn closing(self, first: &mut PopPass) -> Closing
         requires { (first.old.queue ≡ self.id) × (0 < self.id.all) }
         ensures closing { (p : ℕ) × (result ≡ closing_is self.id (share p 0 first.old.got ∷ [])) }
@@ -200,7 +200,7 @@ impl Queue {
         Closing { ring, keep, left }
     }
 
-    /// Ends the queue, with all its passes. Ok says that each ticket was got as often as it was put. It takes no
+    /// Ends the queue, taking in all its passes. `Ok` says that each ticket was got as often as it was put. Takes no
     /// memory.
     pub fn close<R: Wait>(
         self,
@@ -225,7 +225,7 @@ impl Queue {
         Err(QueueFault::Left(puts, pops, jobs))
     }
 
-    // Takes in all passes, and then what stands in the queue, front first.
+    // Takes in all passes, and then the jobs that stand in the queue, front first.
     fn settle<R: Wait>(self, rt: &R, puts: &mut [PutPass], pops: &mut [PopPass]) -> Vec<Job>
         requires counts { (self.puts ≤ length puts.old) × (self.pops ≤ length pops.old) }
         requires puts { All (λ p. p.queue ≡ self.id) puts.old }

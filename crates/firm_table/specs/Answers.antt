@@ -1,4 +1,4 @@
--- What is answered to a line, and its text.
+-- The answer to a line, and its text.
 use Rattle.std.specs.Prelude.{ℕ, Bool, true, false, List, [], ◌∷◌, ◌++◌, codes, Option, Some, None}
 use Rattle.firm_rules.specs.declared.replies.Reply.{Reply}
 use Rattle.firm_tenant.specs.Step.{is_memory}
@@ -34,7 +34,7 @@ abbrev pub answer_to_command : List ℕ → Option Stay → Given → LineAnswer
 answer_to_command name None given = UnknownTenant
 answer_to_command name (Some stay) given = reply_answer name (last_reply (with_command given stay))
 
--- the answer to a line, where these are the places before it
+-- the answer to a line, with these places before it
 abbrev pub answer_of : List Place → MarkedLine → LineAnswer
 answer_of places (Nothing, mark) = Silent
 answer_of places (Long, mark) = LineTooLong

@@ -17,7 +17,7 @@ is_answered (queued book ticket) = false
 is_answered (held book ticket worker) = false
 is_answered (answered book reply) = true
 
--- whether nobody is at a place
+-- whether a place is empty
 abbrev pub is_empty : Station → Bool
 is_empty empty = true
 is_empty (home book) = false
@@ -25,12 +25,12 @@ is_empty (queued book ticket) = false
 is_empty (held book ticket worker) = false
 is_empty (answered book reply) = false
 
--- whether a place is there, and what stands there passes the test
+-- whether the place exists, and what stands there passes the test
 abbrev pub stands : (Station → Bool) → Option Seat → Bool
 stands test None = false
 stands test (Some seat) = test seat.station
 
--- whether a place is there, nobody is at it, and it has an admission left
+-- whether the place exists, is empty, and has an admission left
 abbrev pub is_free_seat : Option Seat → Bool
 is_free_seat None = false
 is_free_seat (Some seat) = is_empty seat.station && nat_lt seat.admissions most_admissions
@@ -40,9 +40,9 @@ abbrev pub has_waiting : List Ticket → Bool
 has_waiting [] = false
 has_waiting (ticket ∷ rest) = true
 
--- whether an event fits: a command that is no round, and a round, of a tenant that is home; the front of a queue that
--- is not empty, for a worker of the table that holds nobody; the answer of a worker that holds a tenant; the return of
--- a tenant whose round is answered; a new tenant for a place that is free; and the end of the stay of one that is home
+-- whether an event fits: a command that is not a round, or a round, of a tenant that is home; the front of a nonempty
+-- queue, for a worker of the table that holds no tenant; the answer of a worker that holds a tenant; the return of a
+-- tenant whose round is answered; a new tenant for a free place; and the retirement of a tenant that is home
 abbrev pub fits : TableState → Event → Bool
 fits table (Post place command) = stands is_home (slice_get table.seats place) && not (is_round command)
 fits table (Ask place) = stands is_home (slice_get table.seats place)
@@ -62,8 +62,7 @@ asks (Collect place) = false
 asks (Admit place limits) = false
 asks (Retire place) = false
 
--- an event is answered, and changes the table, as defined; memory may be refused in it, but not to a round that is only
--- asked for
+-- an event is answered, and changes the table, as defined; memory may be refused in it, unless it only asks for a round
 pub record IsEventStep (table : TableState) (event : Event) (answer : EventAnswer) (after : TableState) : Type 0 where
   pub mark : Bool
   pub asked : asks event ≡ true → mark ≡ false

@@ -33,8 +33,8 @@ commanded_once command history = record history { commands = history.commands ++
 abbrev pub replied_once : Reply → History → History
 replied_once reply history = record history { replies = history.replies ++ reply ∷ [] }
 
--- what an event at its place makes of the history of the tenant there: a command that fitted and a reply are added, an
--- admission begins a new one, and a retirement leaves none
+-- the history of the tenant at a place after an event there: a command that fits and a reply are added, an admission
+-- begins a new history, and a retirement leaves none
 abbrev pub history_here : Option History → Event → EventAnswer → Option History
 history_here history (Post _ command) (Replied reply) =
     option_map (λ h. replied_once reply (commanded_once command h)) history
@@ -64,12 +64,12 @@ abbrev pub is_at : ℕ → Option ℕ → Bool
 is_at place None = false
 is_at place (Some other) = other == place
 
--- the history at a place behind an event
+-- the history at a place after an event
 abbrev pub history_with : ℕ → Option History → Event → EventAnswer → Option History
 history_with place history event answer =
     if is_at place (named_place event) then history_here history event answer else history
 
--- and behind these events
+-- and after these events
 abbrev pub history_behind : ℕ → Option History → List MarkedEvent → List EventAnswer → Option History
 history_behind place history [] answers = history
 history_behind place history (given ∷ rest) [] = history
@@ -92,7 +92,7 @@ ended_behind place history (given ∷ rest) (answer ∷ answers) =
 abbrev pub opening_history : List RosterRow → ℕ → Option History
 opening_history roster place = option_map (λ row. new_history row.1) (slice_get roster place)
 
--- the stay that stands at a place of a table that was opened for this roster, behind these events
+-- the current stay at a place of a table opened for this roster, after these events
 abbrev pub history_at : List RosterRow → ℕ → ℕ → List MarkedEvent → Option History
 history_at roster workers place events =
     history_behind place (opening_history roster place) events (event_answers (opening_table roster workers) events)
@@ -107,7 +107,7 @@ abbrev pub stays_at : List RosterRow → ℕ → ℕ → List MarkedEvent → Li
 stays_at roster workers place events =
     ended_at roster workers place events ++ option_to_list (history_at roster workers place events)
 
--- whether an event is a tenant's coming or going
+-- whether an event admits or retires a tenant
 abbrev pub comes_or_goes : Event → Bool
 comes_or_goes (Post place command) = false
 comes_or_goes (Ask place) = false
@@ -117,8 +117,8 @@ comes_or_goes (Collect place) = false
 comes_or_goes (Admit place limits) = true
 comes_or_goes (Retire place) = true
 
--- where no tenant comes or goes, none has ended its stay, and those that stand are those of the roster's rows, each at
--- its place
+-- if no tenant comes or goes, no stay has ended, and the current stays are those of the roster's rows, each at its
+-- place
 abbrev pub RowsStay : Type 0
 RowsStay = (roster : List RosterRow) (workers place : ℕ) (events : List MarkedEvent)
     → list_any (λ given. comes_or_goes given.0) events ≡ false
@@ -126,15 +126,15 @@ RowsStay = (roster : List RosterRow) (workers place : ℕ) (events : List Marked
     × (option_map (λ stay. stay.limits) (history_at roster workers place events)
     ≡ option_map (λ row. row.1) (slice_get roster place))
 
--- no stay is left out: a place has had as many as it was given tenants, and one stands there unless nobody does
+-- no stay is left out: a place has had one for each admission, and has a current one unless it is empty
 abbrev pub StaysAreCounted : Type 0
 StaysAreCounted = (roster : List RosterRow) (workers place : ℕ) (events : List MarkedEvent) (seat : Seat)
     → slice_get (table_after (opening_table roster workers) events).seats place ≡ Some seat
     → (length (stays_at roster workers place events) ≡ seat.admissions)
     × (is_none (history_at roster workers place events) ≡ is_empty seat.station)
 
--- the replies are the first ones of a tenant alone to the commands, with marks on just those that are refused for want
--- of memory; one more command may wait for its reply
+-- the replies are the first ones of a tenant alone to the commands, with marks on exactly those that are refused for
+-- want of memory; one more command may wait for its reply
 pub record AreFirstReplies (history : History) : Type 0 where
   pub given : List Given
   pub waiting : List Command
@@ -144,7 +144,7 @@ pub record AreFirstReplies (history : History) : Type 0 where
   pub few : length waiting ≤ 1
 
 -- for every list of events, and for each stay at every place: the replies are the first of a tenant alone that is
--- admitted with the same limits, and all of them once the stay has ended, and where the tenant is home
+-- admitted with the same limits, and all of them once the stay has ended, or while the tenant is home
 abbrev pub EventsKeepAlone : Type 0
 EventsKeepAlone = (roster : List RosterRow) (workers place stay : ℕ) (events : List MarkedEvent) (history : History)
     → slice_get (stays_at roster workers place events) stay ≡ Some history
@@ -153,9 +153,9 @@ EventsKeepAlone = (roster : List RosterRow) (workers place stay : ℕ) (events :
     × ((seat : Seat) → slice_get (table_after (opening_table roster workers) events).seats place ≡ Some seat
     → is_home seat.station ≡ true → first.waiting ≡ [])
 
--- two stays that began with the same limits, at any places of any two tables and behind any events and any earlier
--- tenants, that agree on the commands up to one, and on which of these are refused for want of memory, give it the same
--- reply as far as both have come
+-- two stays with the same limits, at any places of any two tables and after any events and any earlier tenants, that
+-- agree on the commands up to one and on which of these are refused for want of memory, have the same reply to it, if
+-- both have one
 abbrev pub EventsAreIsolated : Type 0
 EventsAreIsolated =
     (roster other_roster : List RosterRow) (workers other_workers place other_place stay other_stay : ℕ)

@@ -1,4 +1,4 @@
--- The table of tenants as a machine: what each event is answered, and what it changes.
+-- The table of tenants as a machine: the answer to each event, and what it changes.
 use Rattle.std.specs.Prelude.{ℕ, ◌+◌, ◌-◌, Bool, true, false, ◌&&◌, ◌==◌, not, nat_lt, nat_le, List, [], ◌∷◌, ◌++◌, map}
 use Rattle.std.specs.Prelude.{length, replicate, Option, Some, None, slice_get, slice_set, if◌then◌else◌}
 use Rattle.std.specs.List.{list_any, position}
@@ -22,8 +22,8 @@ abbrev pub is_round : Command → Bool
 is_round Round = true
 is_round _ = false
 
--- what stands at a place: nobody; a tenant at home with its book; its round queued; held by a worker; or answered, with
--- the book behind the reply
+-- what stands at a place: no tenant; a tenant at home with its book; or one whose round is queued, held by a worker, or
+-- answered, with the book after the reply
 pub data Station : Type 0 where
   empty : Station
   home : Book → Station
@@ -39,7 +39,7 @@ is_home (queued book ticket) = false
 is_home (held book ticket worker) = false
 is_home (answered book reply) = false
 
--- a place: what stands there, and how many rounds all its tenants have queued and how many tenants it was given
+-- a place: what stands there, how many rounds all its tenants have queued, and how many tenants it was given to
 pub record Seat : Type 0 where
   pub station : Station
   pub rounds : ℕ
@@ -59,11 +59,11 @@ MarkedEvent = Event × Bool
 abbrev pub opening_seat : RosterRow → Seat
 opening_seat row = record { station = home (opening_book row.1); rounds = 0; admissions = 1 }
 
--- a place that nobody had
+-- a place that was never given
 abbrev pub unused_seat : Seat
 unused_seat = record { station = empty; rounds = 0; admissions = 0 }
 
--- the places of a roster's tenants, in its order, and then empty ones, so that there are as many as a service has
+-- the places of a roster's tenants, in its order, followed by empty ones, up to as many as a service has
 abbrev pub opening_seats : List RosterRow → List Seat
 opening_seats roster = map opening_seat roster ++ replicate (most_places - length roster) unused_seat
 
@@ -81,7 +81,7 @@ posted (queued book ticket) command mark = (NotNow, queued book ticket)
 posted (held book ticket worker) command mark = (NotNow, held book ticket worker)
 posted (answered book reply) command mark = (NotNow, answered book reply)
 
--- a round: a tenant without life left replies at once, and so does one to whose round memory is refused
+-- a round: a tenant without life left replies at once, and so does one whose round is refused memory
 abbrev pub asked : Station → Ticket → Bool → EventAnswer × Station
 asked empty ticket mark = (NotNow, empty)
 asked (home book) ticket mark =
@@ -92,7 +92,7 @@ asked (queued book other) ticket mark = (NotNow, queued book other)
 asked (held book other worker) ticket mark = (NotNow, held book other worker)
 asked (answered book reply) ticket mark = (NotNow, answered book reply)
 
--- the tenant whose ticket was at the front
+-- what stands at a place once this worker has taken the round queued there
 abbrev pub taken_by : ℕ → Station → Station
 taken_by worker empty = empty
 taken_by worker (home book) = home book
@@ -124,8 +124,8 @@ collected (queued book ticket) = (NotNow, queued book ticket)
 collected (held book ticket worker) = (NotNow, held book ticket worker)
 collected (answered book reply) = (Replied reply, home book)
 
--- a tenant comes with its opening book to a place where nobody is and which may be given once more; where memory is
--- refused to it, nobody comes
+-- a tenant comes with its opening book to an empty place that has an admission left; if memory is refused, the place
+-- stays empty
 abbrev pub admitted : Station → ℕ → TenantLimits → Bool → EventAnswer × Station
 admitted empty admissions limits mark =
     if not (nat_lt admissions most_admissions) then (NotNow, empty)
@@ -136,7 +136,7 @@ admitted (queued book ticket) admissions limits mark = (NotNow, queued book tick
 admitted (held book ticket worker) admissions limits mark = (NotNow, held book ticket worker)
 admitted (answered book reply) admissions limits mark = (NotNow, answered book reply)
 
--- a tenant that is home leaves, and its book with it
+-- a tenant that is home leaves, and its book is dropped
 abbrev pub retired : Station → EventAnswer × Station
 retired empty = (NotNow, empty)
 retired (home book) = (Retired, empty)
@@ -175,11 +175,11 @@ queue_more NoMemory = []
 queue_more Retired = []
 queue_more NotNow = []
 
--- the next ticket of a place, of any tenant there
+-- the next ticket of a place, whichever tenant is there
 abbrev pub next_ticket : ℕ → Seat → Ticket
 next_ticket place seat = record { place = place; number = seat.rounds + 1 }
 
--- what an event at a place is answered, and what stands there then
+-- the answer to an event at a place, and what stands there after it
 abbrev pub local : Seat → ℕ → Event → Bool → EventAnswer × Station
 local seat place (Post _ command) mark = posted seat.station command mark
 local seat place (Ask _) mark = asked seat.station (next_ticket place seat) mark
@@ -189,7 +189,7 @@ local seat place (Retire _) mark = retired seat.station
 local seat place (Take _) mark = (NotNow, seat.station)
 local seat place (Answer _) mark = solved seat.station mark
 
--- the seat behind an answer
+-- the seat after an answer
 abbrev pub seat_behind : Seat → EventAnswer × Station → Seat
 seat_behind seat after = record {
   station = after.1;
@@ -228,16 +228,16 @@ abbrev pub take_front : TableState → ℕ → List Ticket → EventAnswer × Ta
 take_front table worker [] = (NotNow, table)
 take_front table worker (ticket ∷ rest) = taking table worker ticket rest (slice_get table.seats ticket.place)
 
--- the worker is one of the table's and holds nobody
+-- the worker is one of the table's and holds no tenant
 abbrev pub may_take : TableState → ℕ → Bool
 may_take table worker = nat_lt worker table.workers && not (list_any (λ seat. is_held worker seat.station) table.seats)
 
--- what the holder of a round answers
+-- the answer of the holder of a round, and the table after it
 abbrev pub answering : TableState → ℕ → Option ℕ → Bool → EventAnswer × TableState
 answering table worker None mark = (NotNow, table)
 answering table worker (Some place) mark = at_place table place (slice_get table.seats place) (Answer worker) mark
 
--- what an event is answered, and the table after it
+-- the answer to an event, and the table after it
 abbrev pub happens : TableState → MarkedEvent → EventAnswer × TableState
 happens table (Take worker, mark) =
     if may_take table worker then take_front table worker table.queue else (NotNow, table)

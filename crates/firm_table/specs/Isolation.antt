@@ -1,4 +1,4 @@
--- What the output is to each tenant.
+-- What the output means to each tenant.
 use Rattle.std.specs.Prelude.{◌≡◌, ℕ, Bool, false, List, [], ◌∷◌, ◌++◌, Option, Some, None, map, option_map, bytes_eq}
 use Rattle.std.specs.Prelude.{if◌then◌else◌}
 use Rattle.std.specs.List.{filter_map, list_any}
@@ -25,7 +25,7 @@ limits_in (tenant ∷ rest) name = if bytes_eq tenant.0 name then Some tenant.1 
 abbrev pub stay_in : List RosterRow → List MarkedLine → List ℕ → Option Stay
 stay_in roster lines name = stay_of (after_lines (opening_places roster) lines) name
 
--- a line more is answered behind the others, which are answered as they were
+-- one more line is answered after the others, whose answers stay the same
 abbrev pub AnswersLineByLine : Type 0
 AnswersLineByLine = (roster : List RosterRow) (lines : List MarkedLine) (given : MarkedLine)
     → answers_of roster (lines ++ given ∷ [])
@@ -49,7 +49,7 @@ StaysAreIsolated = (roster other_roster : List RosterRow) (lines other_lines : L
 abbrev pub line_to : List ℕ → Given → MarkedLine
 line_to name given = (For name given.0, given.1)
 
--- and they are what a service answers that admits this tenant alone, and is given its commands alone
+-- and they are the replies of a service that admits only this tenant and is given only its commands
 abbrev pub StaysAreServedAlone : Type 0
 StaysAreServedAlone = (roster : List RosterRow) (lines : List MarkedLine) (name : List ℕ) (stay : Stay)
     → stay_in roster lines name ≡ Some stay
@@ -64,7 +64,7 @@ given_to name given = option_map (λ command. (command, given.1)) (command_to na
 abbrev pub commands_to : List ℕ → List MarkedLine → List Given
 commands_to name lines = filter_map (given_to name) lines
 
--- the stay, with these commands more
+-- the stay, with these further commands
 abbrev pub with_commands : List Given → Stay → Stay
 with_commands commands stay = record stay { commands = stay.commands ++ commands }
 
@@ -89,8 +89,8 @@ StaysHoldTheirLines = (roster : List RosterRow) (lines : List MarkedLine) (name 
     → NoneIsOperatorsFor name (answers_of roster lines)
     → stay_in roster lines name ≡ option_map (with_commands (commands_to name lines)) (stay_in roster [] name)
 
--- behind these lines that line admitted the tenant, with these limits, and for it no later line of the operator's was
--- obeyed
+-- after these lines, this admission admitted the tenant with these limits, and no later line of the operator's for it
+-- was obeyed
 pub record BeginsStay (roster : List RosterRow) (lines : List MarkedLine) (admission : MarkedLine)
     (later : List MarkedLine) (name : List ℕ) (limits : TenantLimits) : Type 0 where
   pub asks : admission.0 ≡ Operator (Admit name limits)
@@ -106,7 +106,7 @@ StaysBeginAnew = (roster : List RosterRow) (lines later : List MarkedLine) (admi
     → stay_in roster (lines ++ admission ∷ later) name
     ≡ Some (with_commands (commands_to name later) (new_stay name limits))
 
--- a tenant that two services admitted so, with the same limits, gets the same replies where the later lines to it are
+-- a tenant that two services admitted so, with the same limits, gets the same replies if the later lines to it are
 -- equal, regardless of what precedes its admission
 abbrev pub AdmissionsAreIsolated : Type 0
 AdmissionsAreIsolated = (roster other_roster : List RosterRow) (lines later other_lines other_later : List MarkedLine)
@@ -127,7 +127,7 @@ TenantsAreIsolated = (roster other_roster : List RosterRow) (lines other_lines :
     → commands_to name lines ≡ commands_to name other_lines
     → replies_to name (answers_of roster lines) ≡ replies_to name (answers_of other_roster other_lines)
 
--- where no answer says that memory was refused, the output is a function of the roster and of the bytes of the input
+-- if no answer says that memory was refused, the output is a function of the roster and of the bytes of the input
 abbrev pub NeedsNoMarks : Type 0
 NeedsNoMarks = (roster : List RosterRow) (input : List ℕ) (lines : List MarkedLine) → AreLinesOf roster input lines
     → list_any tells_memory (answers_of roster lines) ≡ false → output_of roster lines ≡ output roster input

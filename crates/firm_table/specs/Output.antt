@@ -13,7 +13,7 @@ use Rattle.firm_table.specs.declared.answers.LineAnswer.TheVariants.{Silent, Lin
 use Rattle.firm_table.specs.declared.answers.LineAnswer.TheVariants.{ToOperator}
 use Rattle.firm_table.specs.Answers.{tells_memory, text_of_answer}
 
--- the answers to these lines in order, where these are the places before them
+-- the answers to these lines in order, with these places before them
 abbrev pub answers_from : List Place → List MarkedLine → List LineAnswer
 answers_from places [] = []
 answers_from places (given ∷ rest) = answer_of places given ∷ answers_from (after_line places given) rest
@@ -26,20 +26,20 @@ answers_of roster lines = answers_from (opening_places roster) lines
 abbrev pub output_of : List RosterRow → List MarkedLine → List ℕ
 output_of roster lines = flat_map text_of_answer (answers_of roster lines)
 
--- a line to which memory was not refused
+-- a line that was not refused memory
 abbrev pub unmarked : Line → MarkedLine
 unmarked line = (line, false)
 
--- what a service writes for an input where memory is never refused
+-- what a service writes for an input if memory is never refused
 abbrev pub output : List RosterRow → List ℕ → List ℕ
 output roster input = output_of roster (map unmarked (input_lines input))
 
--- the lines of this input, with marks on just those whose answer says that memory was refused
+-- the lines of this input, with marks on exactly those whose answer says that memory was refused
 pub record AreLinesOf (roster : List RosterRow) (input : List ℕ) (lines : List MarkedLine) : Type 0 where
   pub each : map (λ given. given.0) lines ≡ input_lines input
   pub marks : map (λ given. given.1) lines ≡ map tells_memory (answers_of roster lines)
 
--- the replies to the tenant of this name, after these ones and after an answer: a stay that begins has none yet
+-- the replies to the tenant of this name, after these replies and one more answer: a new stay has none yet
 abbrev pub replies_with : List ℕ → List Reply → LineAnswer → List Reply
 replies_with name replies Silent = replies
 replies_with name replies LineTooLong = replies
@@ -49,11 +49,11 @@ replies_with name replies (ToOperator (Admitted tenant)) = if bytes_eq tenant na
 replies_with name replies (ToOperator (Retired tenant)) = replies
 replies_with name replies (ToOperator (Refused refusal)) = replies
 
--- the replies in these answers to the tenant of this name since it came last, behind these ones
+-- the replies to the tenant of this name since its last admission, after these replies and then these answers
 abbrev pub replies_behind : List ℕ → List Reply → List LineAnswer → List Reply
 replies_behind name replies [] = replies
 replies_behind name replies (answer ∷ rest) = replies_behind name (replies_with name replies answer) rest
 
--- the replies in these answers to the tenant of this name since it came last
+-- the replies in these answers to the tenant of this name since its last admission
 abbrev pub replies_to : List ℕ → List LineAnswer → List Reply
 replies_to name answers = replies_behind name [] answers

@@ -1,4 +1,4 @@
--- The places of a service: which tenant stays at each, and what it was given since it came.
+-- The places of a service: which tenant stays at each, and what it was given since its admission.
 use Rattle.std.specs.Prelude.{ℕ, ◌+◌, ◌-◌, Bool, true, false, List, [], ◌∷◌, ◌++◌, length, map, replicate}
 use Rattle.std.specs.Prelude.{Option, Some, None, option_map, Result, Ok, Err, bytes_eq, slice_index_or, slice_set}
 use Rattle.std.specs.Prelude.{if◌then◌else◌}
@@ -34,12 +34,12 @@ pub record Stay : Type 0 where
 abbrev pub new_stay : List ℕ → TenantLimits → Stay
 new_stay name limits = record { name = name; limits = limits; commands = [] }
 
--- a place: how often it was given, and who stays there
+-- a place: how often it was given, and the stay there, if any
 pub record Place : Type 0 where
   pub admissions : ℕ
   pub stay : Option Stay
 
--- a place that nobody had
+-- a place that was never given
 abbrev pub unused_place : Place
 unused_place = record { admissions = 0; stay = None }
 
@@ -47,7 +47,7 @@ unused_place = record { admissions = 0; stay = None }
 abbrev pub place_of_row : RosterRow → Place
 place_of_row row = record { admissions = 1; stay = Some (new_stay row.0 row.1) }
 
--- the places before the first line: those of the roster's rows, in their order, and then those that nobody had
+-- the places before the first line: those of the roster's rows, in their order, followed by those that were never given
 abbrev pub opening_places : List RosterRow → List Place
 opening_places roster = map place_of_row roster ++ replicate (most_places - length roster) unused_place
 
@@ -88,8 +88,8 @@ registered place = record { tenant = option_map (λ stay. stay.name) place.stay;
 abbrev pub register_of : List Place → List Entry
 register_of places = map registered places
 
--- the reply to an admission to the place that the register gives, if it gives one, and the places after it; where
--- memory is refused nobody comes, and the place was not given
+-- the reply to an admission to the place that the register gives, if it gives one, and the places after it; if memory
+-- is refused, the place stays empty and is not given
 abbrev pub admission : List Place → List ℕ → TenantLimits → Result ℕ OperatorRefusal → Bool → OperatorReply
     × List Place
 admission places name limits (Err refusal) mark = (Refused refusal, places)

@@ -10,7 +10,7 @@ use Rattle.firm_text.specs.Rosters.{RosterRow}
 use Rattle.firm_table.specs.declared.faults.ServeFault.{ServeFault}
 use Rattle.firm_table.specs.declared.faults.ServeFault.TheVariants.{Read, Write, TooLong, Memory}
 
--- the bytes that a reader has left, or that a writer has got, before a call and after it, where the device tells them,
+-- the bytes that a reader has left, or that a writer has received, before and after a call, if the device reveals them,
 -- and whether a call of the device has failed
 pub record Device : Type 0 where
   pub before : Option (List ℕ)
@@ -21,7 +21,8 @@ pub record Device : Type 0 where
 abbrev pub device : Option (List ℕ) → Option (List ℕ) → Bool → Device
 device before after failed = record { before = before; after = after; failed = failed }
 
--- what was written is the output for this input, with marks on just the lines whose answer says that memory was refused
+-- what was written is the output for this input, with marks on exactly the lines whose answer says that memory was
+-- refused
 pub record Answers (roster : List RosterRow) (input : List ℕ) (written written_after : Option (List ℕ)) : Type 0 where
   pub lines : List MarkedLine
   pub are_lines : AreLinesOf roster input lines
@@ -35,8 +36,7 @@ pub record BeginsAnswers (roster : List RosterRow) (input : List ℕ)
   pub count : ℕ
   pub wrote : Appends written written_after (take count (output_of roster lines))
 
--- all that was left to read was read, at most `most` bytes, what was written is the output for it, and no call has
--- failed
+-- everything left to read was read, at most `most` bytes, what was written is the output for it, and no call has failed
 pub record Served (roster : List RosterRow) (most : ℕ) (reader writer : Device) : Type 0 where
   pub input : List ℕ
   pub read : Consumes reader.before reader.after input
@@ -55,7 +55,7 @@ IsCause TooLong input most read_failed write_failed =
     (most < length input) × (read_failed ≡ false) × (write_failed ≡ false)
 IsCause Memory input most read_failed write_failed = (read_failed ≡ false) × (write_failed ≡ false)
 
--- each line of these bytes is whole: its line feed was read, or a read has found the end of the input behind it
+-- each line of these bytes is whole: its line feed was read, or a read has found the end of the input after it
 abbrev pub AreWholeLines : List ℕ → List ℕ → Device → Type 0
 AreWholeLines lines rest reader =
     IsEmptyOrEndsWith lines 10 ⊎ ((rest ≡ []) × IsAtEnd reader.after × (reader.failed ≡ false))
@@ -70,7 +70,7 @@ pub record Stopped (roster : List RosterRow) (most : ℕ) (reader writer : Devic
   pub cause : IsCause fault (answered ++ rest) most reader.failed writer.failed
   pub begins : BeginsAnswers roster answered writer.before writer.after
 
--- this is said of lines that were read whole; no line feed was read behind them
+-- the claim holds of the lines that were read whole; no line feed was read after them
 pub record UpToDate (IsTold : List ℕ → Option (List ℕ) → Option (List ℕ) → Type 0)
     (reader writer : Device) : Type 0 where
   pub lines : List ℕ

@@ -1,4 +1,4 @@
--- What a clerk tells of the lines that it was given.
+-- What a clerk claims about the lines that it was given.
 use Rattle.std.specs.Prelude.{ℕ, ◌≤◌, List, Option, length}
 use Rattle.std.specs.Io.KnownBytes.{Consumes, IsAtEnd, Keeps}
 use Rattle.firm_table.specs.Service.{Device}
@@ -13,7 +13,7 @@ pub record WasTold (IsTold : Telling) (text : List ℕ) (written now : Option (L
   pub told : IsTold text written until
   pub kept : Keeps until now
 
--- the claim held of all that was left to read, which was read whole and is of at most `most` bytes
+-- the claim held of everything left to read, which was read whole and has at most `most` bytes
 pub record ToldToTheEnd (IsTold : Telling) (most : ℕ) (reader writer : Device) : Type 0 where
   pub input : List ℕ
   pub read : Consumes reader.before reader.after input

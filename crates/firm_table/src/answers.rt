@@ -10,7 +10,7 @@ use firm_rules::{Name, Outcome, Reply};
 use firm_text::{OperatorReply, put_operator_reply, put_reply};
 use std::alloc::AllocError;
 
-/// What a line is answered.
+/// The answer to a line.
 #[derive(Debug, PartialEq, Eq, Drop)]
 pub enum LineAnswer {
     /// Nothing: the line has no word, or is a comment.
@@ -26,7 +26,7 @@ pub enum LineAnswer {
 }
 
 impl LineAnswer {
-    // Whether it is the reply to a round that was solved.
+    // Whether this is the reply to a solved round.
     pub(crate) fn is_round(&self) -> bool {
         match self {
             LineAnswer::Replied(_, reply) => match &reply.outcome {
@@ -37,8 +37,8 @@ impl LineAnswer {
         }
     }
 
-    /// Adds the text of the answer, with its line feed; a silent one has none. Where memory runs out, a part may have
-    /// been added.
+    /// Adds the text of the answer, with its line feed; a silent answer has none. If memory runs out, part of the text
+    /// may have been added.
     pub fn put(&self, output: &mut Vec<u8>) -> Result<(), AllocError>
         ensures kept { StartsWith output.new.items output.old.items }
         ensures added { OnOk result (output.new.items ≡ output.old.items ++ text_of_answer self.now) }

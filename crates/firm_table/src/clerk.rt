@@ -1,4 +1,4 @@
-//! Who answers the lines of an input.
+//! The clerk, which answers the lines of an input.
 
 ghost use Rattle.std.specs.Prelude.{◌≡◌, ℕ, ◌++◌, ◌∷◌, List, Option, [], false, OnOk, OnErr, IfErr};
 ghost use Rattle.firm_text.specs.Inputs.{input_lines};
@@ -9,33 +9,33 @@ ghost use Rattle.firm_table.specs.inner.Faults.{IsWritingFault};
 use crate::faults::ServeFault;
 use firm_text::{Line, Sink, Source};
 
-/// Answers lines in the order in which it is given them. It may hold answers back, and writes them in the order of
-/// their lines. A call ends early with `Write` where a call of the writer failed, and with `Memory` where a growth of
-/// the clerk's own was refused.
+/// Answers lines in the order in which they are given. A clerk may hold answers back, and writes them in the order of
+/// their lines. A call ends early with `Write` if a call of the writer failed, and with `Memory` if memory for the
+/// clerk itself was refused.
 pub trait Clerk {
     /// What no call changes.
     ghost Kept: { Type 0 } = { Unit {0} };
 
-    /// That of this clerk.
+    /// Its value for this clerk.
     ghost kept: { Self → Self.Kept };
 
-    /// The rows of the tenants for whom it answers.
+    /// The rows of the tenants that the clerk answers for.
     ghost roster: { Self → List RosterRow };
 
-    /// It can be given a line.
+    /// The clerk can be given a line.
     ghost is_open: { Self → Type 0 };
 
     /// The lines of this text were answered: what was written between these two texts of the sink and what the clerk
-    /// still holds are, once all is known, the output for them.
+    /// still holds make up the output for them, once all answers are known.
     ghost told: { Self → List ℕ → Option (List ℕ) → Option (List ℕ) → Type 0 };
 
-    /// Each answer that is known and before which none is missing was written.
+    /// Each known answer with none missing before it was written.
     ghost is_written_out: { Self → Type 0 };
 
     /// Each answer was written.
     ghost is_finished: { Self → Type 0 };
 
-    /// Answers one line more. What is written meanwhile are answers, in order.
+    /// Answers one more line. Meanwhile it writes only answers, in order.
     fn answer<W: Sink>(&mut self, writer: &mut W, line: Line) -> Result<(), ServeFault>
         requires writer { W.write_failed writer.old ≡ false }
         requires open { is_open self.old }
@@ -53,8 +53,7 @@ pub trait Clerk {
         ensures roster { roster self.new ≡ roster self.old }
         ensures kept { kept self.new ≡ kept self.old };
 
-    /// Writes the answers that are known, up to the first that is missing. Where one is missing it may wait for it
-    /// until the reader is ready.
+    /// Writes the known answers, up to the first missing one, which it may wait for until the reader is ready.
     fn write_out<S: Source, W: Sink>(
         &mut self,
         reader: &S,

@@ -1,7 +1,7 @@
 //! The events of the table, and its answers.
 use firm_rules::{Command, Limits, Reply, Ticket};
 
-/// What may come next. Places and workers are numbered, each from 0; the first places are those of the roster, in its
+/// An event of the table. Places and workers are each numbered from 0; the first places are those of the roster, in its
 /// order.
 #[derive(Clone, Copy, Debug, PartialEq, Eq)]
 pub enum Event {
@@ -15,13 +15,13 @@ pub enum Event {
     Answer(usize),
     /// The tenant at this place comes home with the reply to its round.
     Collect(usize),
-    /// A tenant with these limits comes to this place, where nobody is.
+    /// A tenant with these limits comes to this place, which is empty.
     Admit(usize, Limits),
-    /// The tenant at this place, which is home, leaves it.
+    /// The tenant at this place, which is home, leaves.
     Retire(usize),
 }
 
-/// What an event is answered.
+/// The answer to an event.
 #[derive(Debug, PartialEq, Eq, Drop)]
 pub enum Answer {
     /// The tenant replied.
@@ -32,9 +32,9 @@ pub enum Answer {
     Took(Ticket),
     /// The round was solved.
     Solved(Ticket),
-    /// The tenant is home, with nothing yet.
+    /// The new tenant is home, and has nothing yet.
     Admitted,
-    /// Memory was refused to a tenant that was to come: nobody came, and its place was not given once more.
+    /// Memory for a new tenant was refused: the place stays empty, and no admission is used.
     NoMemory,
     /// The tenant has left, and its place is empty.
     Retired,

@@ -7,8 +7,8 @@ pub enum ServeFault {
     Read,
     /// A write, or the last flush, failed.
     Write,
-    /// More bytes came than the service takes.
+    /// More bytes were read than the service takes.
     TooLong,
-    /// A growth of the service's own was refused.
+    /// Memory for the service itself, or for its watcher, was refused.
     Memory,
 }

@@ -18,13 +18,13 @@ use firm_text::refuses_for_the_form;
 /// service that holds this tenant alone and is given its commands alone, regardless of other input. A tenant is given
 /// the commands of its own lines: one of the roster from the first line, one admitted later from its admission, each
 /// until a line of the operator for it is obeyed; a refused line changes nothing. So two services that agree on a
-/// tenant's limits and on these lines give it the same replies. Where memory is refused to no line, the output is a
-/// function of the roster and of the bytes read.
+/// tenant's limits and on these lines give it the same replies. If no line is refused memory, the output is a function
+/// of the roster and of the bytes read.
 ///
 /// Then for every list of the table's events, and for each stay at a place, earlier ones too: the replies are the first
 /// replies of a tenant alone with the same limits to the same commands, and all of them once the stay has ended or
 /// while the tenant is home. Every stay is covered; without admissions or retirements, stays are the roster's rows. Two
-/// stays with the same limits that agree up to a command have the same reply to it, where both have one, regardless of
+/// stays with the same limits that agree up to a command have the same reply to it, if both have one, regardless of
 /// events of others in between and of earlier tenants of the place.
 pub fn isolation()
     ensures line_by_line { AnswersLineByLine }
@@ -47,8 +47,8 @@ pub fn isolation()
     refuses_for_the_form();
 }
 
-/// The laws by which a clerk's answers add up to the output: where its answers are right so far, they are after one
-/// line more that is answered as the tenants' books say, and after a part of what it holds was written.
+/// The laws by which a clerk's answers add up to the output: if its answers are right so far, they stay right after one
+/// more line is answered as the tenants' books say, and after part of what it holds is written.
 pub fn answers_add_up()
     ensures opening { NothingIsTold }
     ensures one_more { OneMoreIsTold }

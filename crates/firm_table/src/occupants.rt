@@ -1,4 +1,4 @@
-//! A tenant that is at a place of the table, and how far its round has come.
+//! A tenant at a place of the table, and how far its round has come.
 
 ghost use Rattle.std.specs.Prelude.{◌≡◌, ◌≤◌, ◌^◌, Bool, false, IfOk};
 ghost use Rattle.firm_rules.specs.Book.{opening_book};
@@ -11,7 +11,7 @@ use firm_tenant::Tenant;
 use std::alloc::{AllocError, Global};
 use std::mem;
 
-// How far the round of a tenant has come.
+// How far a tenant's round has come.
 #[derive(Drop)]
 pub(crate) enum Part {
     // No round is on its way.
@@ -32,12 +32,12 @@ pub(crate) struct Occupant {
 }
 
 impl Occupant {
-    // A tenant that is home and has nothing yet.
+    // A new tenant, which is home and has nothing yet.
     pub(crate) fn admit(alloc: Global, limits: Limits) -> Result<Occupant, AllocError>
         ensures home { IfOk result (λ occupant. station_of occupant ≡ home (opening_book limits)) }
         ensures life { limits.life ≤ 2 ^ 40 }
     {
-        // For the second clause: a life has no more commands.
+        // For the second clause: no life has more commands.
         prove!(limits.life() <= 1 << 40);
         Ok(Occupant {
             tenant: Tenant::admit(alloc, limits)?,
@@ -75,7 +75,7 @@ impl Occupant {
         Answer::Replied(self.tenant.step(alloc, command))
     }
 
-    // Has a round queued under this ticket, where life is left for it.
+    // Has a round queued under this ticket, if life is left for it.
     pub(crate) fn ask(&mut self, alloc: Global, ticket: Ticket) -> Answer
         ensures { (result, station_of self.new) ≡ asked (station_of self.old) ticket false }
     {
@@ -89,7 +89,7 @@ impl Occupant {
         Answer::Queued(ticket)
     }
 
-    // The round, which waits, goes to this worker.
+    // Gives the waiting round to this worker.
     pub(crate) fn give(&mut self, worker: usize)
         ensures { station_of self.new ≡ taken_by worker (station_of self.old) }
     {
@@ -98,7 +98,7 @@ impl Occupant {
         }
     }
 
-    // Solves the round, which a worker holds.
+    // Solves the round that a worker holds.
     pub(crate) fn solve(&mut self, alloc: Global) -> Answer
         ensures { (mark : Bool) × ((result, station_of self.new) ≡ solved (station_of self.old) mark) }
     {

@@ -1,4 +1,4 @@
-//! A place of the table: who is there, and how often it was used.
+//! A place of the table: its occupant, and how often it was used.
 
 ghost use Rattle.std.specs.Prelude.{◌≡◌, ℕ, Bool, false, IfOk};
 ghost use Rattle.firm_rules.specs.Book.{opening_book};
@@ -14,7 +14,7 @@ use firm_text::MOST_ADMISSIONS;
 use std::alloc::{AllocError, Global};
 use std::marker::Model;
 
-// Who is at a place, and how many rounds were queued there and how often it was given, by all its tenants together.
+// The occupant of a place, how many rounds all its tenants have queued, and how often the place was given.
 #[derive(Drop)]
 pub(crate) struct Seat {
     occupant: Option<Occupant>,
@@ -35,7 +35,7 @@ impl Model for Seat {
 }
 
 impl Seat {
-    // A place that nobody had.
+    // A place that was never given.
     pub(crate) fn unused() -> Seat
         ensures { result ≡ unused_seat }
     {
@@ -46,7 +46,7 @@ impl Seat {
         }
     }
 
-    // A place that is given for the first time, to a tenant with these limits, which is home.
+    // A place given for the first time, to a tenant with these limits, which is home.
     pub(crate) fn given(alloc: Global, limits: Limits) -> Result<Seat, AllocError>
         ensures { IfOk result (λ seat. seat
             ≡ record { station = home (opening_book limits); rounds = 0; admissions = 1 }) }
@@ -72,7 +72,7 @@ impl Seat {
     pub(crate) fn post(&mut self, alloc: Global, command: Command) -> Answer
         ensures { (mark : Bool) × Becomes self.old (posted self.old.station command mark) result self.new }
     {
-        // A law: the count of commands doesn't fall.
+        // A law: the count of commands does not fall.
         steps_count_once();
         let Some(occupant) = &mut self.occupant else {
             return Answer::NotNow;
@@ -80,7 +80,7 @@ impl Seat {
         occupant.post(alloc, command)
     }
 
-    // Has a round queued, where life is left for it.
+    // Has a round queued, if life is left for it.
     pub(crate) fn ask(&mut self, alloc: Global, place: u32) -> Answer
         ensures { Becomes self.old (asked self.old.station (next_ticket place self.old) false) result self.new }
     {
@@ -97,7 +97,7 @@ impl Seat {
         answer
     }
 
-    // The round, which waits, goes to this worker.
+    // Gives the waiting round to this worker.
     pub(crate) fn give(&mut self, worker: usize)
         ensures { self.new ≡ record self.old { station = taken_by worker self.old.station } }
     {
@@ -106,7 +106,7 @@ impl Seat {
         }
     }
 
-    // Solves the round, which a worker holds.
+    // Solves the round that a worker holds.
     pub(crate) fn solve(&mut self, alloc: Global) -> Answer
         ensures { (mark : Bool) × Becomes self.old (solved self.old.station mark) result self.new }
     {
@@ -128,7 +128,7 @@ impl Seat {
         occupant.collect()
     }
 
-    // Gives the place to a new tenant, where nobody is there and it may be given once more.
+    // Gives the place to a new tenant, if it is empty and has an admission left.
     pub(crate) fn admit(&mut self, alloc: Global, limits: Limits) -> Answer
         ensures { (mark : Bool)
             × Becomes self.old (admitted self.old.station self.old.admissions limits mark) result self.new }
@@ -144,7 +144,7 @@ impl Seat {
         Answer::Admitted
     }
 
-    // The tenant, which is home, leaves the place.
+    // Retires the tenant, if it is home.
     pub(crate) fn retire(&mut self) -> Answer
         ensures { Becomes self.old (retired self.old.station) result self.new }
     {

@@ -16,15 +16,15 @@ use firm_tenant::unmarked_steps_are_granted;
 use firm_text::{Line, Roster, Sink, Source, refuses_for_the_form};
 use std::alloc::{AllocError, Global};
 
-/// The answers that are held are written, before the next line is answered, once they have this many bytes.
+/// Once the held answers have this many bytes, they are written before the next line is answered.
 const FULL: usize = 4_096;
 
-/// Answers the lines of an input of at most `most` bytes, 2^32 at most, for the tenants of the roster, which are
-/// admitted first. Before each read every answer that can be given is written.
+/// Answers the lines of an input of at most `most` bytes, itself at most 2^32, for the tenants of the roster, which are
+/// admitted first. Every answer that can be given is written before each read.
 ///
-/// On `Ok` a read has found the end of the input, and what was written is the output for all of it. After a fault it is
-/// a prefix of the output for the bytes that were read. `Read` and `Write` come where a call of the reader or the
-/// writer failed, `TooLong` where more than `most` bytes came, and `Memory` where a growth of the service's own was
+/// On `Ok` a read has found the end of the input, and what was written is the output for all of it. After a fault, what
+/// was written is a prefix of the output for the bytes read. `Read` and `Write` say that a call of the reader or the
+/// writer failed, `TooLong` that more than `most` bytes were read, and `Memory` that memory for the service itself was
 /// refused.
 pub fn serve_one<R: Source, W: Sink>(
     alloc: Global,
@@ -74,7 +74,7 @@ impl<'a> Service<'a> {
         })
     }
 
-    // Whether the last line was answered by a round that was solved.
+    // Whether the last line was answered by a solved round.
     pub(crate) fn has_solved(&self) -> bool {
         self.tenants.has_solved()
     }
@@ -105,7 +105,7 @@ impl Clerk for Service<'_> {
     fn answer<W: Sink>(&mut self, writer: &mut W, line: Line) -> Result<(), ServeFault> {
         let before = self.output.len();
         let Ok(()) = self.tenants.put_answer(self.alloc, &mut self.output, line) else {
-            // Laws: a line that gets no answer can be taken as one to which memory was not refused.
+            // Laws: a line that gets no answer can be taken as one that was not refused memory.
             unmarked_steps_are_granted();
             refuses_for_the_form();
             self.output.truncate(before);

@@ -16,7 +16,7 @@ use std::collections::VecDeque;
 use std::marker::Model;
 
 /// The 64 places of a service, each empty or with a tenant, the queue of the tenants' rounds, and the workers that
-/// solve these.
+/// solve them.
 #[derive(Drop)]
 pub struct Table {
     workers: usize,
@@ -41,8 +41,8 @@ impl Model for Table {
 
 impl Table {
     /// The tenants of the roster, admitted in its order, all of them home, with 1 to 8 workers and an empty queue; the
-    /// other places are empty. All memory that the table itself needs is taken here; the error comes for want of it
-    /// alone.
+    /// other places are empty. All memory that the table itself needs is taken here, and want of memory is the only
+    /// error.
     pub fn open(alloc: Global, roster: &Roster, workers: usize) -> Result<Table, AllocError>
         requires some { 1 ≤ workers }
         requires few { workers ≤ 8 }
@@ -56,10 +56,10 @@ impl Table {
         })
     }
 
-    /// What happens next, and what it is answered: `NotNow` exactly where the event does not fit, which then changes
-    /// nothing; nor does an admission that is answered `NoMemory`, since memory was refused to it. A place is given at
-    /// most 32,768 times, a row of the roster counting as once. The allocator is for the list in a reply, and for a
-    /// tenant that is admitted.
+    /// Carries out the next event, and answers it: `NotNow` exactly if the event does not fit, which then changes
+    /// nothing. Nor does an admission that is refused memory, which is answered `NoMemory`. A place is given at most
+    /// 32,768 times, counting a row of the roster as once. The allocator is for the steps of tenants, for the lists in
+    /// their replies, and for admitted tenants.
     pub fn event(&mut self, alloc: Global, event: Event) -> Answer
         ensures stepped { IsEventStep self.old event result self.new }
         ensures not_now { (result ≡ Answer.NotNow) ↔ (fits self.old event ≡ false) }
@@ -77,7 +77,7 @@ impl Table {
         }
     }
 
-    // A command of the tenant at a place.
+    // Posts a command of the tenant at a place.
     fn post(&mut self, alloc: Global, place: usize, command: Command) -> Answer
         ensures { IsDone self.old (Event.Post place command) result self.new }
     {
@@ -87,7 +87,7 @@ impl Table {
         self.seats[place].post(alloc, command)
     }
 
-    // A round of the tenant at a place.
+    // Asks for a round of the tenant at a place.
     fn ask(&mut self, alloc: Global, place: usize) -> Answer
         ensures { IsDone self.old (Event.Ask place) result self.new }
     {
@@ -101,7 +101,7 @@ impl Table {
         answer
     }
 
-    // A worker takes the front of the queue.
+    // Gives the front of the queue to a worker.
     fn take(&mut self, worker: usize) -> Answer
         ensures { IsDone self.old (Event.Take worker) result self.new }
     {
@@ -118,7 +118,7 @@ impl Table {
         Answer::Took(ticket)
     }
 
-    // A worker solves the round that it holds.
+    // Solves the round that a worker holds.
     fn answer(&mut self, alloc: Global, worker: usize) -> Answer
         ensures { IsDone self.old (Event.Answer worker) result self.new }
     {
@@ -128,7 +128,7 @@ impl Table {
         self.seats[place].solve(alloc)
     }
 
-    // The tenant at a place comes home.
+    // Brings the tenant at a place home.
     fn collect(&mut self, place: usize) -> Answer
         ensures { IsDone self.old (Event.Collect place) result self.new }
     {
@@ -138,7 +138,7 @@ impl Table {
         self.seats[place].collect()
     }
 
-    // A tenant comes to a place.
+    // Admits a tenant to a place.
     fn admit(&mut self, alloc: Global, place: usize, limits: Limits) -> Answer
         ensures { IsDone self.old (Event.Admit place limits) result self.new }
     {
@@ -148,7 +148,7 @@ impl Table {
         self.seats[place].admit(alloc, limits)
     }
 
-    // The tenant at a place leaves.
+    // Retires the tenant at a place.
     fn retire(&mut self, place: usize) -> Answer
         ensures { IsDone self.old (Event.Retire place) result self.new }
     {
@@ -159,7 +159,7 @@ impl Table {
     }
 }
 
-// The seats of a roster's tenants, all of them home, and then empty ones.
+// The seats of a roster's tenants, all of them home, followed by empty ones.
 fn seats_of(alloc: Global, roster: &Roster) -> Result<Vec<Seat>, AllocError>
     ensures opening { IfOk result (λ seats. seats.items ≡ opening_seats roster.now) }
     ensures few { IfOk result (λ seats. length seats.items ≤ PLACES) }
@@ -173,7 +173,7 @@ fn seats_of(alloc: Global, roster: &Roster) -> Result<Vec<Seat>, AllocError>
     Ok(seats)
 }
 
-// The seat of the roster's tenant at a place, or one that nobody had where there is none.
+// The seat of the roster's tenant at a place, or an unused one if there is none.
 fn first_seat(alloc: Global, roster: &Roster, place: usize) -> Result<Seat, AllocError>
     ensures { IfOk result (λ seat. seat ≡ first_seat (slice_get roster.now place)) }
 {

@@ -15,12 +15,12 @@ use firm_text::{Line, OperatorLine, OperatorRefusal, OperatorReply, PLACES, Regi
 use std::alloc::{AllocError, Global};
 use std::marker::Model;
 
-/// The tenants at the 64 places of a service, and the register that knows which one has which.
+/// The tenants at the 64 places of a service, and the register of which tenant has which place.
 #[derive(Drop)]
 pub struct Tenants {
     register: Register,
     places: Vec<Option<Tenant>>,
-    // Whether the last answer is that of a round that was solved.
+    // Whether the last answer is the reply to a solved round.
     has_solved: bool,
 }
 
@@ -37,7 +37,7 @@ impl Model for Tenants {
 }
 
 impl Tenants {
-    /// The tenants of the roster, admitted in its order, and then empty places.
+    /// The tenants of the roster, admitted in its order, followed by empty places.
     pub fn open(alloc: Global, roster: &Roster) -> Result<Tenants, AllocError>
         ensures { IfOk result (λ tenants. tenants ≡ opening_tenants roster.now) }
     {
@@ -48,8 +48,7 @@ impl Tenants {
         })
     }
 
-    /// Adds the answer to a line. An error comes where no memory was granted for its text, of which a part may have
-    /// been added.
+    /// Adds the answer to a line. Fails if memory for its text is refused; part of the text may then have been added.
     pub fn put_answer(
         &mut self,
         alloc: Global,
@@ -64,7 +63,7 @@ impl Tenants {
         answer.put(output)
     }
 
-    /// Whether the last answer is that of a round that was solved.
+    /// Whether the last answer is the reply to a solved round.
     pub fn has_solved(&self) -> bool {
         self.has_solved
     }
@@ -80,7 +79,7 @@ impl Tenants {
         Some(tenant.rows())
     }
 
-    // The answer to a line.
+    // Answers a line.
     fn answer(&mut self, alloc: Global, line: Line) -> LineAnswer
         ensures { IsRight self.old self.new line result }
     {
@@ -93,7 +92,7 @@ impl Tenants {
         }
     }
 
-    // The answer to a command for the tenant of this name.
+    // Answers a command for the tenant of this name.
     fn step(&mut self, alloc: Global, name: Name, command: Command) -> LineAnswer
         ensures { IsRight self.old self.new (For name command) result }
     {
@@ -106,7 +105,7 @@ impl Tenants {
         LineAnswer::Replied(name, tenant.step(alloc, command))
     }
 
-    // Does what the operator asks for, where it can be done. A tenant's line does not pay for its locals.
+    // Does what the operator asks for, if possible. Not inlined, so that a tenant's line does not pay for its locals.
     #[inline(never)]
     fn obey(&mut self, alloc: Global, request: OperatorLine) -> OperatorReply
         ensures { IsRight self.old self.new (Operator request) (ToOperator result) }
@@ -118,7 +117,7 @@ impl Tenants {
         }
     }
 
-    // Admits a tenant. Where memory is refused to it nobody comes, and no admission is used.
+    // Admits a tenant. If memory is refused, the place stays empty and no admission is used.
     fn admit(&mut self, alloc: Global, name: Name, limits: Limits) -> OperatorReply
         ensures { IsRight self.old self.new (Operator (Admit name limits)) (ToOperator result) }
     {
@@ -134,7 +133,7 @@ impl Tenants {
         OperatorReply::Admitted(name)
     }
 
-    // Retires a tenant, and its book with it.
+    // Retires a tenant, and drops its book.
     fn retire(&mut self, name: Name) -> OperatorReply
         ensures { IsRight self.old self.new (Operator (Retire name)) (ToOperator result) }
     {
@@ -148,7 +147,7 @@ impl Tenants {
     }
 }
 
-// The roster's tenants, admitted in its order, and then empty places.
+// The roster's tenants, admitted in its order, followed by empty places.
 fn admit_all(alloc: Global, roster: &Roster) -> Result<Vec<Option<Tenant>>, AllocError>
     ensures { IfOk result (λ places. places.items ≡ opening_books roster.now) }
 {

@@ -1,4 +1,4 @@
-//! The service on one thread, whose rounds somebody is shown.
+//! The service on one thread, with a watcher that is shown its rounds.
 
 ghost use Rattle.std.specs.Prelude.{◌≡◌, ◌≤◌, ◌^◌, ℕ, List, Option, [], false, OnOk, OnErr, IfErr};
 ghost use Rattle.firm_table.specs.Service.{Answers, BeginsAnswers, Served, Stopped, UpToDate, device};
@@ -14,21 +14,22 @@ use firm_rules::{Command, Name, Rows};
 use firm_text::{Line, Roster, Sink, Source};
 use std::alloc::{AllocError, Global};
 
-/// Who is shown the rounds of a service: the tenant's rows before each, and those behind it.
+/// A watcher of a service's rounds, which is shown the tenant's rows before and after each.
 pub trait Watcher {
     /// The tenant of this name is asked for a round, and these are its rows.
     fn before_round(&mut self, name: Name, rows: &Rows);
 
-    /// The round was solved, and these are the rows behind it. All answers up to its reply were written. The error
-    /// comes where memory was refused.
+    /// The round was solved, and these are the rows after it. All answers up to its reply were written. Fails if memory
+    /// is refused.
     fn after_round(&mut self, name: Name, rows: &Rows) -> Result<(), AllocError>;
 }
 
 /// Answers the lines of an input of at most 2^32 bytes as `serve_one` does, regardless of the watcher, and shows it
-/// each round. What it writes itself into another sink, of the same device maybe, comes behind the reply to its round.
+/// each round. What the watcher writes after a round to another sink, perhaps of the same device, comes after the reply
+/// to that round.
 ///
-/// What is read, what is written to the writer and how it ends are those of `serve_one`; `Memory` also comes where the
-/// watcher found none.
+/// Reads, writes to the writer and ends as `serve_one` does, except that `Memory` may also say that the watcher was
+/// refused memory.
 pub fn serve_watched<R: Source, W: Sink, V: Watcher>(
     alloc: Global,
     reader: &mut R,
@@ -55,7 +56,7 @@ pub fn serve_watched<R: Source, W: Sink, V: Watcher>(
     serve_lines(reader, writer, &mut watched, MOST_INPUT)
 }
 
-// The service, and who is shown its rounds.
+// The service, and the watcher that is shown its rounds.
 #[derive(Drop)]
 pub(crate) struct Watched<'a, 'v, V: Watcher> {
     service: Service<'a>,
@@ -72,7 +73,7 @@ impl<V: Watcher> Watched<'_, '_, V> {
         }
     }
 
-    // Shows the rows behind a round, once all answers are written.
+    // Shows the rows after a round, once all answers are written.
     fn show_after<W: Sink>(&mut self, writer: &mut W, name: Name) -> Result<(), ServeFault>
         requires { W.write_failed writer.old ≡ false }
         ensures told { OnOk result ((text : List ℕ) (written : Option (List ℕ))
@@ -96,7 +97,7 @@ impl<V: Watcher> Watched<'_, '_, V> {
     }
 }
 
-// The clerk that answers as the service does, and shows each round on its way.
+// The clerk that answers as the service does, and shows each round to the watcher.
 impl<V: Watcher> Clerk for Watched<'_, '_, V> {
     ghost kept = { λ _. tt };
 

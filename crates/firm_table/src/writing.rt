@@ -7,8 +7,7 @@ ghost use Rattle.firm_table.specs.inner.Faults.{IsWritingFault};
 use crate::faults::ServeFault;
 use firm_text::{Sink, write_all};
 
-/// Writes the text that is held, of which nothing is left then. After a fault, which is `Write`, the sink holds some of
-/// it, from the front.
+/// Writes the held text, and clears it. After a fault, which is `Write`, the sink has a prefix of the text.
 pub fn write_held<W: Sink>(writer: &mut W, output: &mut Vec<u8>) -> Result<(), ServeFault>
     requires { W.write_failed writer.old ≡ false }
     ensures ok { OnOk result (Appends (W.written writer.old) (W.written writer.new) output.old.items) }

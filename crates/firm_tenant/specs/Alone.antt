@@ -1,4 +1,4 @@
--- What a tenant answers that is alone in the service.
+-- The replies of a tenant that is alone in the service.
 use Rattle.std.specs.Prelude.{Bool, false, List, [], ◌∷◌, map}
 use Rattle.firm_rules.specs.Limits.{TenantLimits}
 use Rattle.firm_rules.specs.Book.{Book, opening_book}
@@ -6,7 +6,7 @@ use Rattle.firm_rules.specs.declared.commands.Command.{Command}
 use Rattle.firm_rules.specs.declared.replies.Reply.{Reply}
 use Rattle.firm_tenant.specs.Step.{step}
 
--- the replies to the commands, each with its mark, from this book on
+-- the replies to these marked commands, from this book on
 abbrev pub replies_from : Book → List (Command × Bool) → List Reply
 replies_from book [] = []
 replies_from book (given ∷ rest) = let after = step book given.0 given.1 in after.0 ∷ replies_from after.1 rest
@@ -20,6 +20,6 @@ book_after book (given ∷ rest) = book_after (step book given.0 given.1).1 rest
 abbrev pub alone_marked : TenantLimits → List (Command × Bool) → List Reply
 alone_marked limits commands = replies_from (opening_book limits) commands
 
--- its replies where memory was never refused
+-- its replies if memory is never refused
 abbrev pub alone : TenantLimits → List Command → List Reply
 alone limits commands = alone_marked limits (map (λ command. (command, false)) commands)

@@ -25,11 +25,11 @@ use Rattle.firm_rules.specs.declared.replies.Refusal.TheVariants.{Worn, MachineE
 use Rattle.firm_rules.specs.declared.replies.Refusal.TheVariants.{NoSuchJob, TaskExists, NoSuchTask, JobHasTasks}
 use Rattle.firm_rules.specs.declared.replies.Refusal.TheVariants.{ArenaNodes, ArenaArcs, Memory}
 
--- a refused command leaves the book, in which it is counted already, as it is
+-- a refused command leaves the book, which already counts it, as it is
 abbrev pub refused : Book → Refusal → Outcome × Book
 refused book refusal = (Refused refusal, book)
 
--- the book takes these rows where they fit its limits and memory was granted
+-- the book takes these rows if they fit its limits and memory was granted
 abbrev pub grown : Book → TenantRows → Bool → Outcome × Book
 grown book rows mark =
     if nat_lt rows.limits.nodes (arena_nodes rows) then refused book ArenaNodes
@@ -37,7 +37,7 @@ grown book rows mark =
     else (if mark then refused book Memory
     else (Plain, record book { rows = rows })))
 
--- the machine that a task runs on, if it does, and else how many rounds left it waiting
+-- the machine that a task runs on, or else how many rounds left it waiting
 abbrev pub whereabouts_of : Option (List ℕ) → ℕ → Outcome
 whereabouts_of (Some machine) waited = At machine
 whereabouts_of None waited = Waits waited
@@ -52,7 +52,7 @@ counts_of rows =
     Shown (length rows.machines) (length rows.jobs) (length rows.tasks) (running_count rows.tasks)
     (arena_nodes rows) rows.limits.nodes (arena_arcs rows) rows.limits.arcs
 
--- a task that is there is told where it is
+-- the whereabouts of a task, or a refusal if there is no such task
 abbrev pub found : Book → Option Task → Outcome × Book
 found book None = refused book NoSuchTask
 found book (Some task) = (whereabouts task, book)
@@ -65,7 +65,7 @@ round_effect book placement =
       record book { rows = rows_after book.rows placement; costs = with_cost book.costs cost },
     )
 
--- what a command comes to, and the book after it; the mark says that a growth was refused for lack of memory
+-- the outcome of a command, and the book after it; the mark says that memory for it was refused
 abbrev pub effect : Book → Command → Bool → Outcome × Book
 effect book (AddMachine name slots) mark =
     if is_among (machine_names book.rows) name then refused book MachineExists
@@ -99,7 +99,7 @@ effect book (Faulty fault) mark = refused book (fault_refusal fault)
 abbrev pub counted : Book → Book
 counted book = record book { given = book.given + 1 }
 
--- the reply to a command, and the book after it: a worn tenant changes no more, and otherwise each command counts
+-- the reply to a command, and the book after it: a worn tenant no longer changes, and any other counts the command
 abbrev pub step : Book → Command → Bool → Reply × Book
 step book command mark =
     if nat_le book.rows.limits.life
@@ -112,6 +112,6 @@ abbrev pub is_memory_outcome : Outcome → Bool
 is_memory_outcome (Refused Memory) = true
 is_memory_outcome _ = false
 
--- whether a reply is
+-- whether a reply is that refusal
 abbrev pub is_memory : Reply → Bool
 is_memory reply = is_memory_outcome reply.outcome

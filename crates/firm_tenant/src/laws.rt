@@ -7,17 +7,17 @@ pub fn unmarked_steps_are_granted()
     ensures { UnmarkedStepsAreGranted }
 {}
 
-/// A step is the one with the mark that its reply tells.
+/// Every step is the step with the mark that its reply shows.
 pub fn replies_tell_their_marks()
     ensures { RepliesTellTheirMarks }
 {}
 
-/// One more command adds its reply behind those before it, and its step to the book after them.
+/// One more command appends its reply to the earlier ones, and applies its step to the book after them.
 pub fn one_more_command_adds_one_step()
     ensures { OneMoreCommandAddsOneStep }
 {}
 
-/// A step keeps the limits, counts the command where life is left, and changes nothing where none is.
+/// A step keeps the limits, counts the command if life is left, and changes nothing otherwise.
 pub fn steps_count_once()
     ensures { StepsCountOnce }
 {}

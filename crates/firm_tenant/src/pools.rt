@@ -1,4 +1,4 @@
-//! The pool of a tenant: its graph and the costs of its rounds, and what each command makes of them.
+//! The pool of a tenant: its graph, the costs of its rounds, and the effect of each command on them.
 ghost use Rattle.std.specs.Prelude.{◌≡◌, ◌+◌, ◌^◌, ◌<◌, ◌≤◌, ℕ, true, IfOk, MatchResult, length};
 ghost use Rattle.firm_paths.specs.NetArcs.{limits_of};
 ghost use Rattle.firm_rules.specs.Placement.{is_legal};
@@ -46,8 +46,7 @@ impl Model for Pool {
 }
 
 impl Pool {
-    /// The pool of a tenant that has nothing yet, with all the memory of its net. The error comes only where memory is
-    /// refused.
+    /// The empty pool of a new tenant, with all the memory of its net. Fails only if memory is refused.
     pub(crate) fn open(alloc: Global, limits: Limits) -> Result<Pool, AllocError>
         ensures { IfOk result (IsOpeningPool limits) }
     {
@@ -77,7 +76,7 @@ impl Pool {
         &self.scratch
     }
 
-    /// Carries out a command that was counted already, and says what came of it.
+    /// Carries out a command that is already counted, and returns its outcome.
     pub(crate) fn answer(&mut self, alloc: Global, command: Command) -> Outcome
         requires asked { self.old.asked < 2 ^ 40 }
         ensures effect { (given : ℕ) → (result, book_of self.new given)
@@ -214,8 +213,8 @@ impl Pool {
         }
     }
 
-    // Places the tasks anew: the first of the least placements becomes the tenant's own. Other commands do not pay for
-    // its locals.
+    // Places the tasks anew: the first of the least placements becomes the tenant's own. Not inlined, so that other
+    // commands do not pay for its locals.
     #[inline(never)]
     fn round(&mut self, alloc: Global) -> Result<Outcome, Refusal>
         ensures effect { (given : ℕ) → (outcome_of result, book_of self.new given)
@@ -227,8 +226,8 @@ impl Pool {
         Ok(self.place(alloc, &placement)?)
     }
 
-    // The placement of the round. The net carries its flow afterwards, the workspace counts what was searched for, and
-    // all else is as it was.
+    // The placement of the round. Afterwards the net carries its flow, the workspace counts the searches, and all else
+    // is unchanged.
     fn choose(&mut self, alloc: Global) -> Result<Vec<Choice>, AllocError>
         ensures same { self.new ≡ record self.old { workspace = self.new.workspace } }
         ensures counts { HasBegunOnce self.old self.new }
@@ -242,7 +241,7 @@ impl Pool {
         first_best(alloc, &mut self.graph, &mut self.prices, &mut self.scratch)
     }
 
-    // Makes a legal placement the tenant's own. The list of changes has its memory before anything changes.
+    // Makes a legal placement the tenant's own. The list of changes gets its memory before anything changes.
     fn place(&mut self, alloc: Global, placement: &[Choice]) -> Result<Outcome, AllocError>
         requires legal { is_legal (case_of self.old.rows) placement.now ≡ true }
         ensures { MatchResult result (λ outcome. (outcome, self.new) ≡ placed_in self.old placement.now)
@@ -258,7 +257,7 @@ impl Pool {
     fn recent_costs(&self) -> RecentCosts
         ensures { result ≡ self.now.costs }
     {
-        // The ring holds no more than the table, so that no cost is dropped.
+        // The ring holds no more than the table, so no cost is dropped.
         prove!(self.costs.len() <= MOST_COSTS);
         let mut recent = RecentCosts::new();
         for cost in self.costs.iter() {
@@ -295,7 +294,7 @@ fn workspace(alloc: Global, net: &Net) -> Result<(Prices, Scratch), AllocError>
     Ok((prices, Scratch::new(alloc, net)?))
 }
 
-// What came of a row that was to be added.
+// The outcome of adding a row.
 fn grown(done: Result<(), GraphRefusal>) -> Result<Outcome, Refusal>
     ensures { outcome_of result ≡ plain_or done }
 {

@@ -30,8 +30,7 @@ impl Model for Tenant {
 }
 
 impl Tenant {
-    /// A tenant with these limits that has nothing yet and was given no command. The error comes only where memory is
-    /// refused.
+    /// A new tenant with these limits, empty and given no command yet. Fails only if memory is refused.
     pub fn admit(alloc: Global, limits: Limits) -> Result<Tenant, AllocError>
         ensures { IfOk result (λ tenant. tenant ≡ opening_book limits) }
     {
@@ -41,8 +40,8 @@ impl Tenant {
         })
     }
 
-    /// Answers a command. A growth that is refused for lack of memory is answered as such, and only the count of
-    /// commands grows. The allocator is for the list in a reply.
+    /// Answers a command. If memory for it is refused, the reply says so and only the count of commands grows. The
+    /// allocator is for the step and for the list in its reply.
     pub fn step(&mut self, alloc: Global, command: Command) -> Reply
         ensures { (result, self.new) ≡ step self.old command (is_memory result) }
     {
@@ -61,12 +60,12 @@ impl Tenant {
         }
     }
 
-    /// Answers a round for which there was no memory: only the count of commands grows.
+    /// Refuses a round for lack of memory: only the count of commands grows.
     pub fn no_memory(&mut self) -> Reply
         requires life_left { self.old.given < self.old.rows.limits.life }
         ensures { (result, self.new) ≡ step self.old Command.Round true }
     {
-        // Life is left, so the count stays a number of 64 bits.
+        // Life is left, so the count still fits 64 bits.
         prove!(self.given < self.limits().life());
         let number = self.given + 1;
         self.given = number;

@@ -1,4 +1,4 @@
--- What a look at a tray gives.
+-- The result of a look at a tray.
 use Rattle.std.specs.Prelude.{◌≡◌}
 use Rattle.firm_tray.specs.Solved.{IsSolved}
 use Rattle.firm_tray.specs.Sides.{Side}

@@ -1,4 +1,4 @@
--- The rule of a tray in words, above the list of its states.
+-- The rule of a tray in words, rather than as the list of its states.
 use Rattle.std.specs.Prelude.{◌≡◌, ◌↔◌, ◌⊎◌, ◌≤◌, ℕ, [], ◌∷◌, Some}
 use mathlib.Core.Option.{some}
 use Rattle.firm_rules.specs.Book.{Book}
@@ -19,13 +19,13 @@ pub record IsReadAloud (book : Book) (state : Tray) (word : ℕ) (answering aski
   pub takes : asking ≡ Taken ↔ word ≡ 2
   pub solved : word ≡ 1 → (answer : Solved) × (state.homes ≡ some (Some answer) ∷ []) × IsSolved book answer
 
--- before it has two sides its one seat has the book, and the word is 0
+-- before the tray has two sides, its single seat has the book, and the word is 0
 pub record IsOpening (book : Book) (state : Tray) (stage : Stage) : Type 0 where
   pub word : state.words ≡ 0 ∷ []
   pub before : (stage ≡ Opening) ⊎ (stage ≡ Holding)
   pub one_book : state.views ≡ tray_sight stage book ∷ []
 
--- a tray that keeps the rule has one seat and is opening, or has two and reads so
+-- a tray that keeps the rule has one seat and is opening, or has two and reads as above
 pub data Reads (book : Book) (state : Tray) : Type 0 where
   one_seat : (stage : Stage) → IsOpening book state stage → Reads book state
   two_seats : (word : ℕ) (answering asking : Stage) → IsReadAloud book state word answering asking → Reads book state

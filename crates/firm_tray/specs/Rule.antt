@@ -36,7 +36,7 @@ tray_at book waiting = tray 0 none (tray_sight Open book ∷ tray_sight Asked bo
 tray_at book (answered solved) = tray 1 (some (Some solved)) (tray_sight Spent book ∷ tray_sight Asked book ∷ [])
 tray_at book gone = tray 2 none (tray_sight Spent book ∷ tray_sight Taken book ∷ [])
 
--- what lies in the slot is the round of the book
+-- the answer in the slot is the round of the book
 abbrev pub IsFair : Book → Phase → Type 0
 IsFair book fresh = ⊤
 IsFair book dealt = ⊤

@@ -1,4 +1,4 @@
-//! A tray: one side hands a tenant over once its round is solved, and the other waits for it. No lock stands round the
+//! A tray: one side hands a tenant over once its round is solved, and the other waits for it. No lock guards the
 //! tenant.
 #![tactic(auto)]
 

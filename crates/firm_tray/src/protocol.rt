@@ -1,5 +1,5 @@
-//! The steps of a tray. Its word is 0 while it is open, 1 once it was answered, and 2 once the answer was taken; its
-//! slot holds the answer. A seat is what one side knows of the tray.
+//! The steps of a tray. Its word is 0 while it is open, 1 once it is answered, and 2 once the answer is taken; its slot
+//! holds the answer. A seat is what one side knows of the tray.
 use atomic_table::{Play, Seat, Split, Table, TableRule};
 use firm_rules::Reply;
 use firm_tenant::Tenant;
@@ -12,7 +12,7 @@ pub struct Solved {
     pub reply: Reply,
 }
 
-/// How far a seat has come. The first two are those of the one seat that stands before the tray has two sides.
+/// The stage of a seat. The first two are those of the single seat, before the tray has two sides.
 pub enum Stage {
     Opening,
     Holding,
@@ -22,7 +22,7 @@ pub enum Stage {
     Taken,
 }
 
-/// What a seat knows: its stage, and the tenant for which the tray was opened. No value of it is made.
+/// What a seat knows: its stage, and the tenant for which the tray was opened. Never constructed.
 pub struct TraySight {
     pub stage: Stage,
     pub book: Tenant,
@@ -62,7 +62,7 @@ impl Play<Option<Solved>, TraySight> for GivesAnswer {
     ghost then = { gives_answer };
 }
 
-/// The asking seat looks, and takes the answer where one is there.
+/// The asking seat looks, and takes the answer if there is one.
 pub struct Looks;
 
 impl Play<Option<Solved>, TraySight> for Looks {

@@ -11,10 +11,10 @@ use std::marker::Model;
 use std::sync::{Arc, Wait};
 
 // A wait does not yield, since on a busy machine one yield takes longer than all looks and the sleep.
-/// How often a wait looks in vain before it sleeps: for some ten microseconds, as long as a small round takes.
+/// How many times a wait looks in vain before it sleeps: about ten microseconds, as long as a small round takes.
 pub const LOOKS_BEFORE_SLEEP: u32 = 1_024;
 
-/// What a tenant's round comes back on.
+/// A tray, on which a tenant's round comes back.
 pub struct Tray;
 
 /// The side that waits for the round.
@@ -41,7 +41,7 @@ impl Model for AskSide {
         a.seat.me.0.book × (a.seat.me ≡ (tray_sight Asked a.seat.me.0.book, [])) };
 }
 
-/// The side that answers. The slot is out with it.
+/// The side that answers. It holds the slot.
 #[derive(Drop)]
 pub struct AnswerSide {
     board: Arc<Board, Global>,
@@ -65,7 +65,7 @@ impl Model for AnswerSide {
         a.seat.me.0.book × (a.seat.me ≡ (tray_sight Open a.seat.me.0.book, (0, None) ∷ [])) };
 }
 
-/// What shows that a tray was answered.
+/// Proof that a tray was answered.
 #[derive(Drop)]
 pub struct Spent {
     seat: TraySeat,
@@ -85,18 +85,18 @@ impl Model for Spent {
     ghost invariant = { λ a. a.seat.me ≡ (tray_sight IsSpent a.seat.me.0.book, []) };
 }
 
-/// What a look at a tray gives.
+/// The result of a look at a tray.
 #[derive(Drop)]
 pub enum Polled {
     /// The tenant is back.
     Back(Solved),
-    /// The word read 0 at one step of the call: there is no answer yet.
+    /// There is no answer yet: the word was 0 at one step of the call.
     Not(AskSide),
 }
 
 impl Tray {
-    /// A tray for the next round of the tenant, in its two sides. All its memory is taken here; the error comes for
-    /// want of it alone.
+    /// A tray for the tenant's next round, as its two sides. All its memory is taken here, and want of it is the only
+    /// error.
     pub fn open(alloc: Global, tenant: &Tenant) -> Result<(AskSide, AnswerSide), AllocError>
         ensures { IfOk result (λ sides. (sides.0 ≡ sides.1) × (sides.0.book ≡ tenant.now)) }
     {
@@ -114,8 +114,8 @@ impl Tray {
 }
 
 impl AnswerSide {
-    /// Hands the tenant over, and wakes the other side if it sleeps. It asks for the round of the tenant for which the
-    /// tray was opened, solved or refused for want of memory. It takes no memory.
+    /// Hands the tenant over, and wakes the other side if it sleeps. `solved` must be the round of the tenant for which
+    /// the tray was opened, solved or refused for want of memory. Takes no memory.
     pub fn answer(self, solved: Solved) -> Spent
         requires { IsSolved self.book solved }
         ensures { result ≡ self }
@@ -123,16 +123,15 @@ impl AnswerSide {
         let AnswerSide { board, mut seat } = self;
         board.shared.exchange(&mut seat, 0, Some(solved));
         board.shared.store::<GivesAnswer>(&mut seat, 0, 1);
-        // One wake is enough, since there is one asking side. The word outlives it: this side's share of the board ends
-        // later.
+        // One wake is enough, since there is one asking side. The word outlives the wake: this side's share of the
+        // board ends later.
         board.shared.wake_one(0);
         Spent { seat }
     }
 }
 
 impl AskSide {
-    /// The tenant with its round, if the answer is there; else the same side again. It takes no memory and waits for
-    /// nobody.
+    /// The tenant with its round, if the answer is there; else the same side again. Never waits, and takes no memory.
     pub fn poll(self) -> Polled
         ensures { IsPolled self result }
     {
@@ -144,7 +143,7 @@ impl AskSide {
         }
     }
 
-    /// The tenant with its round, once the answer is there. After some looks in vain it sleeps until then. It takes no
+    /// The tenant with its round, once the answer is there. After some looks in vain, sleeps until then. Takes no
     /// memory.
     pub fn wait<R: Wait>(self, rt: &R) -> Solved
         ensures { IsSolved self.book result }
@@ -166,9 +165,9 @@ impl AskSide {
         unreachable!()
     }
 
-    // Sleeps while the word is 0. No wake-up is lost: the word is compared and the thread laid down in one step, and
-    // the answer stores 1 before it wakes. So either the answer came first, and there is no sleep, or the wake finds
-    // the sleeper.
+    // Sleeps while the word is 0. No wake-up is lost: comparing the word and going to sleep are one step, and the
+    // answering side stores 1 before it wakes the sleeper. So either the answer came first, and there is no sleep, or
+    // the wake finds the sleeper.
     fn sleep<R: Wait>(&self, rt: &R) {
         self.board.shared.park(rt, 0, 0);
     }

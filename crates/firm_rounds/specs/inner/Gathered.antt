@@ -1,4 +1,4 @@
--- What the seat has that takes in the shares of passes.
+-- The shares of a seat that takes in those of passes.
 use Rattle.std.specs.Prelude.{◌≡◌, ℕ, ◌+◌, ◌≤◌, List, length}
 use Rattle.firm_rules.specs.declared.tickets.Ticket.{Ticket}
 use Rattle.firm_rounds.specs.Rounds.{weigh, put_by, got_by, is_at}
@@ -6,7 +6,7 @@ use Rattle.firm_rounds.specs.Passes.{PutIs, PopIs}
 use Rattle.firm_rounds.specs.Closed.{put_weight, got_weight, of_place}
 use Rattle.firm_rounds.specs.declared.protocol.Sight.{Sight}
 
--- one seat's shares are another's and those of these passes that got
+-- the shares of w are those of v, and those of these passes to get jobs
 pub record AddsPops (v w : Sight) (pops : List PopIs) : Type 0 where
   pub puts : (h : Ticket → ℕ) → weigh (put_by h) w.shares ≡ weigh (put_by h) v.shares
   pub gots : (h : Ticket → ℕ) → weigh (got_by h) w.shares ≡ weigh (got_by h) v.shares + got_weight h pops

@@ -11,7 +11,7 @@ sight all shares = record { all = all; shares = shares; memo = [] }
 abbrev pub opening : Sight
 opening = sight 1 (share beyond 0 [] ∷ [])
 
--- the shares of the places from `from` on, n of them
+-- the shares of n places, from `from` on
 abbrev pub fresh : ℕ → ℕ → List Share
 fresh from zero = []
 fresh from (suc n) = fresh from n ++ share (from + n) 0 [] ∷ []
@@ -58,7 +58,7 @@ got_more t (x ∷ xs) = share x.place x.put (x.got ++ t ∷ []) ∷ xs
 abbrev pub after_pop : Ticket → Sight → Sight
 after_pop t v = sight v.all (got_more t v.shares)
 
--- the first k shares of the places are with seats of their own
+-- the shares of the first k places have seats of their own
 abbrev pub held_from : ℕ → ℕ → Sight
 held_from k n = sight (n + 1) (share beyond 0 [] ∷ fresh k (n - k))
 

@@ -1,4 +1,4 @@
--- How answers add up: laws from which a clerk learns that it tells right.
+-- How answers add up: laws from which a clerk learns that its answers are right.
 use Rattle.std.specs.Prelude.{◌≡◌, ℕ, List, [], ◌∷◌, ◌++◌, Option, Some, None, Ok, Err, slice_index_or, slice_set}
 use Rattle.std.specs.Io.KnownBytes.{Appends}
 use Rattle.firm_rules.specs.Book.{Book, opening_book}
@@ -28,7 +28,7 @@ NothingIsTold =
     (roster : List RosterRow) (written : Option (List ℕ))
     → (told : Told (state_is roster (opening_tenants roster) []) [] written written) × (told.lines ≡ [])
 
--- one line more was answered: the line and its answer stand behind those before
+-- one more line was answered: the line and its answer come after the earlier ones
 abbrev pub OneMoreIsTold : Type 0
 OneMoreIsTold =
     (state : State) (text after : List ℕ) (written now : Option (List ℕ)) (tenants : TenantsState) (pending : List ℕ)
@@ -38,7 +38,7 @@ OneMoreIsTold =
     × (told.lines ≡ before.lines ++ (line, tells_memory answered.answer) ∷ [])
     × (answers_of state.roster told.lines ≡ answers_of state.roster before.lines ++ answered.answer ∷ [])
 
--- the front of what was to be written was
+-- the front of what was to be written was written
 abbrev pub FrontIsWritten : Type 0
 FrontIsWritten =
     (state : State) (text : List ℕ) (written now later : Option (List ℕ)) (front held : List ℕ)
@@ -51,13 +51,13 @@ ToldBegins =
     (state : State) (text : List ℕ) (written now : Option (List ℕ)) → Told state text written now
     → BeginsAnswers state.roster text written now
 
--- and is the output, where nothing is to be written
+-- and is the output, if nothing is left to be written
 abbrev pub AllIsWritten : Type 0
 AllIsWritten =
     (state : State) (text : List ℕ) (written now : Option (List ℕ)) → Told state text written now → state.pending ≡ []
     → Answers state.roster text written now
 
--- what was written begins the output for one line more, which was not answered
+-- what was written begins the output for one more line, which was not answered
 abbrev pub OneMoreBegins : Type 0
 OneMoreBegins =
     (state : State) (text after : List ℕ) (written now : Option (List ℕ)) (line : Line) → Told state text written now
@@ -78,7 +78,7 @@ StrangersAreAnswered =
     (tenants : TenantsState) (name : List ℕ) (command : Command) → place_in tenants.register name ≡ None
     → IsRight tenants tenants (For name command) UnknownTenant
 
--- a tenant that is admitted to the place that the register gives it has its opening book there
+-- a tenant admitted to the place that the register gives it has its opening book there
 abbrev pub AdmissionsAreAnswered : Type 0
 AdmissionsAreAnswered =
     (tenants : TenantsState) (name : List ℕ) (limits : TenantLimits) (place : ℕ)
@@ -87,7 +87,7 @@ AdmissionsAreAnswered =
     (slice_set tenants.books place (Some (opening_book limits)))) (Operator (Admit name limits))
     (ToOperator (Admitted name))
 
--- one to which memory was refused leaves all as it was
+-- an admission that is refused memory changes nothing
 abbrev pub AdmissionsFindNoMemory : Type 0
 AdmissionsFindNoMemory =
     (tenants : TenantsState) (name : List ℕ) (limits : TenantLimits) (place : ℕ)
@@ -101,7 +101,7 @@ AdmissionsAreRefused =
     → place_for tenants.register name ≡ Err refusal
     → IsRight tenants tenants (Operator (Admit name limits)) (ToOperator (Refused refusal))
 
--- a tenant that is retired leaves its place, and its book is gone
+-- a retired tenant leaves its place, and its book is dropped
 abbrev pub RetirementsAreAnswered : Type 0
 RetirementsAreAnswered =
     (tenants : TenantsState) (name : List ℕ) (place : ℕ) → IsRegister tenants.register

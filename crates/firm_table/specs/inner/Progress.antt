@@ -1,4 +1,4 @@
--- What a service has told of the lines that it was given.
+-- What a service claims about the lines that it was given.
 use Rattle.std.specs.Prelude.{◌≡◌, ℕ, List, ◌++◌, Option}
 use Rattle.std.specs.Io.KnownBytes.{Appends}
 use Rattle.firm_table.specs.Places.{MarkedLine, opening_places, after_lines}
@@ -6,8 +6,8 @@ use Rattle.firm_table.specs.Output.{output_of, AreLinesOf}
 use Rattle.firm_table.specs.inner.Line.{State, Shows, state_is}
 use Rattle.firm_table.specs.declared.serving.Service.{Service}
 
--- the lines of this text were answered: the tenants are those behind them, and what was written and what is still to be
--- written are the output for them
+-- the lines of this text were answered: the tenants are those after these lines, and what was written and what is still
+-- to be written make up the output for them
 pub record Told (state : State) (text : List ℕ) (written now : Option (List ℕ)) : Type 0 where
   pub lines : List MarkedLine
   pub are_lines : AreLinesOf state.roster text lines

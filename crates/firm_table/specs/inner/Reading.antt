@@ -1,4 +1,4 @@
--- How far an input that comes in pieces was read.
+-- How far an input was read, piece by piece.
 use Rattle.std.specs.Prelude.{◌≡◌, ℕ, List, ◌++◌, Option}
 use Rattle.std.specs.Io.{IsEmptyOrEndsWith}
 use Rattle.firm_text.specs.Cutters.{CutterIs, StandsFor}
@@ -12,7 +12,7 @@ pub record HasEnded (text : List ℕ) : Type 0 where
   pub ends : IsEmptyOrEndsWith text 10
   pub parts : (more : List ℕ) → input_lines (text ++ more) ≡ input_lines text ++ input_lines more
 
--- this was read: lines that have ended, of which this is said, and a rest for which the cutter stands
+-- this was read: lines that have ended, of which the claim holds, and a rest for which the cutter stands
 pub record Heard (IsTold : Telling) (cut : CutterIs) (heard : List ℕ) (written now : Option (List ℕ)) : Type 0 where
   pub text : List ℕ
   pub rest : List ℕ

@@ -24,16 +24,16 @@ abbrev pub station_at : Option Occupant → Station
 station_at None = empty
 station_at (Some occupant) = station_of occupant
 
--- a place with this occupant, so often used
+-- a place with this occupant and these counts
 abbrev pub seat_of : Option Occupant → ℕ → ℕ → Seat
 seat_of occupant rounds admissions = record { station = station_at occupant; rounds = rounds; admissions = admissions }
 
--- the most rounds that this many tenants queue, since each is given at most 2^40 commands
+-- the most rounds that this many tenants can queue, since each is given at most 2^40 commands
 abbrev pub rounds_of : ℕ → ℕ
 rounds_of tenants = tenants * 2 ^ 40
 
--- a tenant was given no more commands than its life has, `more` rounds that are on their way among them; and its place
--- has queued no more rounds than that, beside those that the tenants before it may have queued
+-- a tenant was given no more commands than its life has, counting `more` rounds on their way; and its place has queued
+-- no more rounds than that, apart from those that earlier tenants may have queued
 pub record IsWithin (book : Book) (more rounds admissions : ℕ) : Type 0 where
   pub life : book.rows.limits.life ≤ 2 ^ 40
   pub given : book.given + more ≤ book.rows.limits.life
@@ -54,7 +54,7 @@ pub record CountsFit (seat : Seat) : Type 0 where
   pub rounds : seat.rounds ≤ rounds_of seat.admissions
   pub stay : StayFits seat.station seat.rounds seat.admissions
 
--- a seat answers an event and changes so
+-- a seat answers an event and changes with this outcome
 pub record Becomes (seat : Seat) (outcome : EventAnswer × Station) (answer : EventAnswer) (after : Seat) : Type 0 where
   pub answers : answer ≡ outcome.0
   pub seat_is : after ≡ seat_behind seat outcome

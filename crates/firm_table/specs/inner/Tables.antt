@@ -10,7 +10,7 @@ use Rattle.firm_table.specs.Interleaving.{unused_seat}
 abbrev pub table_of : ℕ → List Seat → List Ticket → TableState
 table_of workers seats queue = record { workers = workers; seats = seats; queue = queue }
 
--- the seat of a place before the first event, where the roster may have a row for it
+-- the seat of a place before the first event, for the row that the roster may have for it
 abbrev pub first_seat : Option RosterRow → Seat
 first_seat None = unused_seat
 first_seat (Some row) = opening_seat row
@@ -23,7 +23,7 @@ queued_ticket (queued book ticket) = ticket ∷ []
 queued_ticket (held book ticket worker) = []
 queued_ticket (answered book reply) = []
 
--- the ticket that waits for a place, if it is one of the table's
+-- the ticket that waits at a place, if the table has that place
 abbrev pub waiting_at : Option Seat → List Ticket
 waiting_at None = []
 waiting_at (Some seat) = queued_ticket seat.station
@@ -32,13 +32,13 @@ waiting_at (Some seat) = queued_ticket seat.station
 abbrev pub tickets_of : ℕ → List Ticket → List Ticket
 tickets_of place queue = filter (λ ticket. ticket.place == place) queue
 
--- how many places wait
+-- how many places have a round waiting
 abbrev pub waiting : List Seat → ℕ
 waiting [] = 0
 waiting (seat ∷ rest) = length (queued_ticket seat.station) + waiting rest
 
--- the queue holds, of each place, the ticket of its tenant where that waits, and no other; so it is as long as there
--- are places that wait
+-- the queue holds, for each place, the ticket of its tenant's round if that waits, and no other; so it has one ticket
+-- for each place that waits
 pub record IsSound (table : TableState) : Type 0 where
   pub few : length table.seats ≤ most_places
   pub as_many : length table.queue ≡ waiting table.seats

@@ -1,4 +1,4 @@
--- The outcome of a command or of a row, as the code of a step takes it.
+-- The outcome of a command or of adding a row, as the code of a step returns it.
 use Rattle.std.specs.Prelude.{Result, Ok, Err}
 use Rattle.firm_graph.specs.declared.ids.GraphRefusal.{GraphRefusal}
 use Rattle.firm_graph.specs.declared.ids.GraphRefusal.TheVariants.{Nodes, Arcs, Memory as NoMemory}
@@ -12,7 +12,7 @@ abbrev pub outcome_of : Result Outcome Refusal → Outcome
 outcome_of (Ok outcome) = outcome
 outcome_of (Err refusal) = Refused refusal
 
--- the outcome of a row that was added or not
+-- the outcome of adding a row, done or refused
 abbrev pub plain_or : Result (Unit {0}) GraphRefusal → Outcome
 plain_or (Ok _) = Plain
 plain_or (Err Nodes) = Refused ArenaNodes

@@ -21,14 +21,14 @@ pub record Pool : Type 0 where
   pub asked : ℕ
   pub workspace : Workspace
 
--- the pool of a tenant with these limits that has nothing yet, and whose workspace has counted nothing
+-- the empty pool of a new tenant with these limits, whose workspace has counted nothing
 pub record IsOpeningPool (limits : TenantLimits) (pool : Pool) : Type 0 where
   pub rows : pool.rows ≡ opening_rows limits
   pub costs : pool.costs ≡ []
   pub asked : pool.asked ≡ 0
   pub counts : (pool.workspace.begins ≡ 0) × (pool.workspace.searches ≡ 0) × (pool.workspace.looks ≡ 0)
 
--- the book of a tenant with this pool that was given `given` commands
+-- the book of a tenant with this pool, after `given` commands
 abbrev pub book_of : Pool → ℕ → Book
 book_of pool given = record { rows = pool.rows; costs = pool.costs; given = given }
 
@@ -40,19 +40,18 @@ placed_in pool placement =
       record pool { rows = rows_after pool.rows placement; costs = with_cost pool.costs cost },
     )
 
--- room for that number of nodes and arcs is room for the net of a tenant with these limits
+-- the room, in nodes and arcs, is that of the net of a tenant with these limits
 abbrev pub IsMadeFor : ℕ × ℕ → TenantLimits → Type 0
 IsMadeFor room limits = room ≡ (limits.nodes, limits.arcs)
 
--- a choice was begun once: what is counted since then are its searches, of which there are few, with at most two looks
--- for each arc
+-- a choice was begun once, and the counts since then are its own: few searches, each with at most two looks per arc
 pub record HasBegunOnce (old new : Pool) : Type 0 where
   pub begins : HasCounted old.workspace.begins new.workspace.begins 1
   pub searches : new.workspace.searches ≤ length old.rows.tasks * (length old.rows.machines + 4)
   pub looks : new.workspace.looks
       ≤ length old.rows.tasks * (length old.rows.machines + 4) * (2 * arena_arcs old.rows)
 
--- what a command counts: a round begins once, and no other command changes what is counted
+-- what a command counts: a round begins once, and no other command changes the counts
 abbrev pub HasCountedFor : Command → Pool → Pool → Type 0
 HasCountedFor RoundCommand old new = HasBegunOnce old new
 HasCountedFor _ old new = new.workspace ≡ old.workspace

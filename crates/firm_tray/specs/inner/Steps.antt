@@ -1,4 +1,4 @@
--- What each step makes of the seat that takes it, and which tray a seat is of.
+-- What each step makes of the seat that takes it, and which tray a seat belongs to.
 use Rattle.std.specs.Prelude.{◌≡◌, ℕ, ◌==◌, [], ◌∷◌, Option, Some, None, MatchBool}
 use Rattle.atomic_table.specs.Table.{Me, Step}
 use Rattle.atomic_table.specs.Seated.{TableId}
@@ -39,6 +39,6 @@ looks step before word after =
     × (after ≡ (tray_sight Taken before.0.book, (0, Some solved) ∷ [])))
     ((word ≡ 0) × (after ≡ before))
 
--- a seat is one of this table, which has one word and one slot, under the rule of the seat's book
+-- the seat belongs to this table of one word and one slot, under the rule of the seat's book
 abbrev pub IsSeated : TableId → Book → TableId → Book → Type 0
 IsSeated table key seated book = (seated ≡ table) × (seated.words ≡ 1) × (seated.slots ≡ 1) × (key ≡ book)
