@@ -1,4 +1,4 @@
-//! A source that knows whether a read would wait: where that is asked, a thread of its own reads one piece ahead.
+//! A source that knows whether a read would wait: when asked, a thread of its own reads one piece ahead.
 
 ghost use Rattle.std.specs.Prelude.{◌≡◌, ◌≤◌, ◌+◌, ◌++◌, true, false, IfOk, is_err, take};
 ghost use Rattle.std.specs.Io.{ReadsAtMost};
@@ -29,10 +29,10 @@ const READ: u64 = 3;
 // The source's at all times: no thread could be started.
 const ALONE: u64 = 4;
 
-// Nobody's: the reading thread ends.
+// Neither's: the reading thread ends.
 const CLOSED: u64 = 5;
 
-/// A source over a reader. It reads the reader itself, but for the pieces that its thread reads ahead.
+/// A source over a reader. Reads the reader itself, except for the pieces its thread reads ahead.
 #[derive(Drop)]
 pub(crate) struct ReadAhead<'r, R, T> {
     rt: &'r R,
@@ -41,7 +41,7 @@ pub(crate) struct ReadAhead<'r, R, T> {
     has_failed: bool,
 }
 
-// What both threads share. Only the one whose turn it is locks the reader, so that lock is never waited for.
+// What both threads share. Only the one whose turn it is locks the reader, so no thread ever waits for that lock.
 #[derive(Drop)]
 struct Shared<T> {
     turn: AtomicU64,
@@ -62,8 +62,8 @@ struct PieceReader<T> {
     ghost within: { taken + left ≤ 4096 },
 }
 
-/// A source over the reader, with a thread that sleeps until it is asked to read. The error comes for want of memory;
-/// where no thread can be started the source can't tell whether a read would wait.
+/// A source over the reader, with a thread that sleeps until it is asked to read. Fails only if memory is refused; if
+/// no thread can be started, the source can't tell whether a read would wait.
 pub(crate) fn open<
     'r,
     R: Threads + Wait + Clone + Drop + Send + 'static,
@@ -91,7 +91,7 @@ pub(crate) fn open<
     })
 }
 
-// The reading thread, where it could be started.
+// The reading thread, if it could be started.
 fn start<R: Threads + Wait + Clone + Drop + Send + 'static, T: Read + Drop + Send + 'static>(
     rt: &R,
     shared: &Arc<Shared<T>, Global>,
@@ -155,8 +155,9 @@ impl<R: Wait, T: Read> Source for ReadAhead<'_, R, T> {
         read
     }
 
-    // Without a waker nobody waits, so nothing is read ahead. The waker is there before the turn is looked at again,
-    // and the thread looks for it behind its own turn: either this look finds the piece, or the thread finds the waker.
+    // Without a waker the caller won't wait, so nothing is read ahead. The waker is stored before the turn is read
+    // again, and the thread looks for it after its own turn: either this read finds the piece, or the thread finds the
+    // waker.
     fn is_ready(&self, waker: Option<&Arc<EventCount, Global>>) -> bool {
         let turn = &self.shared.turn;
         if let Some(waker) = waker {
@@ -188,7 +189,7 @@ impl<T> Shared<T> {
         self.turn.wake_all();
     }
 
-    // Notifies the waker, where there is one.
+    // Notifies the waker, if there is one.
     fn notify<R: Wait>(&self, rt: &R) {
         let waker = self.waker.lock(rt).take();
         if let Some(waker) = waker {
@@ -221,8 +222,8 @@ impl<T: Read> PieceReader<T> {
         self.left = read.unwrap_or(0);
     }
 
-    // Takes bytes from the front of the piece, and says whether nothing of it is left: neither a byte, nor its failure,
-    // nor that it is the end, of which an empty buffer learns nothing.
+    // Takes bytes from the front of the piece, and returns whether nothing of it is left: no byte, no failure, and no
+    // end of input, which an empty buffer cannot learn of.
     fn take(&mut self, buffer: &mut [u8]) -> (Result<usize, Failed>, bool)
         ensures bound { ReadsAtMost result.0 buffer.new }
         ensures bytes { IfOk result.0 (λ count. left_of self.old.piece self.old.taken self.old.left

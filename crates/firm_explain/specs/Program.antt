@@ -19,7 +19,7 @@ pub record StopsService (reader replies : Device) : Type 0 where
   pub cause : ServeFault
   pub stopped : Stopped roster (2 ^ 32) reader replies cause
 
--- how it stops: before it read a line, within the service, or behind it, where the reasons could not be written
+-- how the program stops: before it reads a line, within the service, or after it, if the reasons could not be written
 pub data StopsFile (reader replies : Device) : Type 0 where
   ReadsNothing : reader.after ≡ reader.before → replies.after ≡ replies.before → StopsFile reader replies
   Stops : StopsService reader replies → StopsFile reader replies

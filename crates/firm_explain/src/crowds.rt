@@ -4,7 +4,7 @@ use crate::choices::Other;
 use crate::market::Market;
 use firm_rules::Choice;
 
-/// Where more tasks than these wait for the same reason, they share one line.
+/// If more tasks than this wait for the same reason, they share one line.
 const MOST_LINES: u64 = 20;
 
 /// Tasks that go on waiting: those for which each machine costs more, or those for which one costs as much.
@@ -41,7 +41,7 @@ impl Crowd {
         MOST_LINES < self.tasks
     }
 
-    // The crowd with one task more.
+    // The crowd with one more task.
     fn with(&self, task: usize, wait: u64, more: u64) -> Crowd {
         Crowd {
             first: if self.tasks == 0 { task } else { self.first },

@@ -9,15 +9,15 @@ use firm_text::{Sink, write_all};
 use std::alloc::{AllocError, Global};
 use std::mem;
 
-/// Writes the reasons of rounds as comment lines. After a write that fails it writes no more.
+/// Writes the reasons of rounds as comment lines. After a failed write, writes no more.
 #[derive(Drop)]
 pub(crate) struct Explainer<'w, W: Sink> {
     alloc: Global,
     writer: &'w mut W,
     request: Request,
-    // What the round that is asked for is about, if it is to be explained; an error for want of memory.
+    // What the round asked for is about, if it is to be explained; an error if memory was refused.
     case: Result<Option<Case>, AllocError>,
-    // Kept, so that each round's text takes the memory of the longest once.
+    // Reused, so that the texts of all rounds take only the memory of the longest.
     text: Vec<u8>,
     has_failed: bool,
 }

@@ -62,7 +62,7 @@ impl From<RosterFault> for Fault {
     }
 }
 
-/// Writes the fault's line, and gives its status. A failed write changes nothing else.
+/// Writes the fault's line and returns its status. A failed write changes nothing else.
 pub(crate) fn tell<F: Sink>(faults: &mut F, fault: &Fault) -> u8 {
     let mut line = FaultLine { faults };
     let _ = writeln!(line, "{fault}");

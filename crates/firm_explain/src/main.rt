@@ -1,6 +1,6 @@
-//! Answers standard input as `firm` does, and behind the reply to each round writes why, in comment lines: what the
-//! placement costs, the rents that show that nothing legal costs less, and what other choices would cost the tasks that
-//! changed or wait.
+//! Answers standard input as `firm` does, and after the reply to each round writes why, in comment lines: what the
+//! placement costs, the rents that show that no legal placement costs less, and what other choices would cost the tasks
+//! that changed or wait.
 #![tactic(auto)]
 
 mod choices;
@@ -26,7 +26,7 @@ use std::rt::Env;
 use std::{env, io};
 
 fn main(rt: HostRuntime) -> ExitCode {
-    // Neither holds bytes back, so what goes to standard output stands there in the order in which it is written.
+    // None of them holds bytes back, so what goes to standard output appears there in the order in which it is written.
     let mut sinks = Sinks {
         replies: Bytes::new(rt.stdout()),
         reasons: Bytes::new(rt.stdout()),
@@ -44,7 +44,7 @@ fn arguments<R: Env + AllocGlobal>(rt: &R) -> io::Result<Vec<String>> {
     Ok(env::args(rt)?.collect(rt.alloc())?)
 }
 
-// The words of the command line can't be read: they are no text, or memory was refused.
+// Refuses a command line that can't be read: it is not text, or memory was refused.
 fn refuse_words<F: Sink>(error: &io::Error, faults: &mut F) -> u8 {
     match error.kind() {
         ErrorKind::OutOfMemory => tell(faults, &Fault::Service(ServeFault::Memory)),

@@ -10,7 +10,7 @@ use firm_rents::{Case, Rents, Shown, excess, high_rents, low_rents, shows_least}
 use firm_rules::{Choice, Rows, legality_is_judged};
 use std::alloc::{AllocError, Global};
 
-/// A round: the rows behind it, what it is about, its placement, the lowest and the highest rents that show it to be
+/// A round: the rows after it, what it is about, its placement, the lowest and the highest rents that show it to be
 /// least, and how they do.
 #[derive(Drop)]
 pub(crate) struct Market<'a> {
@@ -30,7 +30,7 @@ pub(crate) struct Market<'a> {
 }
 
 impl<'a> Market<'a> {
-    /// The round; `None` where the placement is not legal or the rents don't show it.
+    /// The round; `None` if the placement is not legal or the rents don't show it.
     pub(crate) fn of(
         alloc: Global,
         rows: &'a Rows,
@@ -89,8 +89,8 @@ impl<'a> Market<'a> {
         self.high.of_choice(choice) - self.low.of_choice(choice)
     }
 
-    /// How much more every legal placement costs at least in which the task has this choice: by both tables, the
-    /// greater number.
+    /// How much more every legal placement in which the task has this choice costs at least: the greater number of the
+    /// two tables.
     pub(crate) fn more(&self, task: usize, other: Choice) -> u64
         requires task { task < length self.now.case.now.tasks }
         ensures more { result ≡ more_by_both self.now.case.now self.now.low self.now.high

@@ -34,7 +34,7 @@ pub(crate) struct Request {
 }
 
 impl Request {
-    /// What these words ask; `None` where a word for a name is none.
+    /// What these words ask for; `None` if a word for a name is not one.
     pub(crate) fn of(given: &Given<'_>) -> Option<Request> {
         let machine = match given.machine {
             Some(slots) => Slots::check(u64::from(slots)),
@@ -57,7 +57,7 @@ impl Request {
     }
 }
 
-// The name that the word is, if there is a word; `None` where the word is no name.
+// The name that the word is, if there is a word; `None` if the word is not a name.
 fn name_of(word: Option<&str>) -> Option<Option<Name>> {
     match word {
         Some(word) => Some(Some(Name::read(word.as_bytes())?)),
@@ -65,7 +65,7 @@ fn name_of(word: Option<&str>) -> Option<Option<Name>> {
     }
 }
 
-/// Reads the words; an error is a fault of theirs, the help that they ask for, or refused memory.
+/// Reads the words; the error is a fault in them, the help they ask for, or refused memory.
 pub(crate) fn read<'a, S: AsStr>(alloc: Global, words: &'a [S]) -> Result<Given<'a>, Error> {
     let matches = command_line(alloc)?.try_get_matches_from(words)?;
     Ok(Given {

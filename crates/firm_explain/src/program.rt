@@ -16,7 +16,7 @@ use std::alloc::Global;
 use std::convert::AsStr;
 use std::rt::Files;
 
-/// The exit status of a command line that is at fault.
+/// The exit status for a faulty command line.
 pub(crate) const BAD_COMMAND_LINE: u8 = 2;
 
 /// What is written to: replies and the help, reasons, and faults. Replies and reasons may go to one device.
@@ -27,7 +27,7 @@ pub(crate) struct Sinks<O: Sink, C: Sink, F: Sink> {
     pub(crate) faults: F,
 }
 
-/// Runs the program on its words, of which the first is its name, and gives its exit status.
+/// Runs the program on its words, the first of which is its name, and returns its exit status.
 pub(crate) fn run<R: Files, S: AsStr, I: Source, O: Sink, C: Sink, F: Sink>(
     rt: &R,
     alloc: Global,
@@ -76,7 +76,7 @@ fn serve_file<R: Files, I: Source, O: Sink, C: Sink, F: Sink>(
     Ok(())
 }
 
-// Answers the input for the tenants of the roster, and says also whether reasons could not be written.
+// Answers the input for the tenants of the roster, and returns whether reasons could not be written.
 fn serve_roster<I: Source, O: Sink, C: Sink, F: Sink>(
     alloc: Global,
     roster: &Roster,
@@ -100,7 +100,7 @@ fn serve_roster<I: Source, O: Sink, C: Sink, F: Sink>(
     }
 }
 
-// Answers words that ask for help, and tells those that are at fault.
+// Answers words that ask for help, and reports faulty ones.
 fn answer_words<O: Sink, C: Sink, F: Sink>(
     alloc: Global,
     error: &Error,

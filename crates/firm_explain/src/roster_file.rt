@@ -8,7 +8,7 @@ use std::fs;
 use std::io::{Error, ErrorKind, Read};
 use std::rt::Files;
 
-// One byte more than a roster may have, so that a longer file is seen to be longer.
+// One byte more than a roster may have, so that a longer file is recognized as such.
 const MOST_BYTES: u64 = LONGEST_ROSTER as u64 + 1;
 
 /// The first 65,537 bytes of the file at the path, or all of a shorter one.

@@ -10,7 +10,7 @@ pub(crate) fn put_number(text: &mut Vec<u8>, number: u64) -> Result<(), AllocErr
     text.extend_from_slice(digits.format(number).as_bytes())
 }
 
-/// Adds a word and the number behind it.
+/// Adds a word and the number after it.
 pub(crate) fn put_labelled(text: &mut Vec<u8>, word: &[u8], number: u64) -> Result<(), AllocError> {
     text.extend_from_slice(word)?;
     put_number(text, number)
@@ -41,7 +41,7 @@ pub(crate) fn put_task_name(
     }
 }
 
-/// Adds what the task does that has this choice and runs at `home`, if it runs.
+/// Adds what a task with this choice does; it runs at `home`, if it runs.
 pub(crate) fn put_choice(
     text: &mut Vec<u8>,
     rows: &Rows,

@@ -11,8 +11,8 @@ use firm_rents::{Rents, Shown, excess, rents_for, shows_least};
 use firm_rules::{Choice, Name, legality_is_judged};
 use std::alloc::{AllocError, Global};
 
-/// Another choice of the task, in the order of the line: by what it costs more; of those that cost as much first those
-/// that rank after the task's own choice; then by place, and waiting last.
+/// Another choice of the task, in the order of the line: by how much more it costs; of those that cost the same, first
+/// those that rank after the task's own choice; then by place, with waiting last.
 #[derive(Clone, Copy, Debug, PartialEq, Eq, PartialOrd, Ord)]
 struct Rival {
     more: u64,
@@ -21,14 +21,14 @@ struct Rival {
 }
 
 impl Rival {
-    // Whether it stands beside the other one, before the same words.
+    // Whether it stands next to the other one and shares its closing words.
     fn is_like(&self, other: Rival) -> bool {
         self.more == other.more && self.ranks_before == other.ranks_before
     }
 }
 
-/// Adds what each other choice of the task of this name costs more, by the rents under which each costs the most that
-/// it can; nothing where there is no such task.
+/// Adds how much more each other choice of the task of this name costs, by the rents under which each costs the most
+/// that it can; nothing if there is no such task.
 pub(crate) fn put_why(
     text: &mut Vec<u8>,
     market: &Market<'_>,
@@ -73,7 +73,7 @@ fn put_shown(
     text.extend_from_slice(b"\n")
 }
 
-// The task's choice, and behind it all others.
+// The task's choice, followed by all others.
 fn put_rivals(
     text: &mut Vec<u8>,
     market: &Market<'_>,
@@ -129,7 +129,7 @@ fn rivals_of(
     Ok(rivals)
 }
 
-// How much more every legal placement costs at least, by these rents, in which the task has this choice.
+// How much more every legal placement in which the task has this choice costs at least, by these rents.
 fn more_by(market: &Market<'_>, rents: &Rents, number: usize, other: Choice) -> u64
     requires task { number < length market.now.case.now.tasks }
     requires shown { Show market.now.case.now rents.now market.now.placement.now }
@@ -139,7 +139,7 @@ fn more_by(market: &Market<'_>, rents: &Rents, number: usize, other: Choice) -> 
     excess(market.case, rents, number, market.choice_of(number), other)
 }
 
-// The choice at a place, where waiting stands past the last machine.
+// The choice at a place; waiting stands past the last machine.
 fn choice_at(place: usize, machines: usize) -> Choice {
     match u32::try_from(place) {
         Ok(at) if place < machines => Choice::On(at),

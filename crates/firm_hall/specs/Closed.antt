@@ -10,11 +10,11 @@ use Rattle.firm_hall.specs.Desks.{DeskIs, PlaceIs}
 abbrev pub asked_weight : (Ticket → ℕ) → List DeskIs → ℕ
 asked_weight h desks = weigh (λ d. weigh h (numbered d.place d.put)) desks
 
--- and of those asked at these places, which have no tenant now
+-- the same for the tickets asked at these places, which have no tenant now
 abbrev pub left_weight : (Ticket → ℕ) → List PlaceIs → ℕ
 left_weight h places = weigh (λ p. weigh h (numbered p.place p.put)) places
 
--- 1 for this ticket, and 0 for each other
+-- 1 for this ticket, and 0 for every other
 abbrev pub is_ticket : Ticket → Ticket → ℕ
 is_ticket one other = cond ((one.place == other.place) && (one.number == other.number)) 1 0
 

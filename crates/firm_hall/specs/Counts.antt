@@ -26,7 +26,7 @@ is_worn _ = false
 abbrev pub round_in : Command → Reply → ℕ
 round_in command reply = if is_round command then (if is_worn reply.outcome then 0 else 1) else 0
 
--- the same of a line and its answer
+-- the same for a line and its answer
 abbrev pub round_of : Line → LineAnswer → ℕ
 round_of Nothing answer = 0
 round_of Long answer = 0
@@ -38,13 +38,13 @@ round_of (For name command) (Replied tenant reply) = round_in command reply
 round_of (For name command) (ToOperator reply) = 0
 round_of (Operator request) answer = 0
 
--- how many rounds these lines tell, which have these answers: those of tenants that had life for them, over all stays
+-- how many rounds these lines, with these answers, ask for: those of tenants that had life for them, over all stays
 abbrev pub rounds_in : List MarkedLine → List LineAnswer → ℕ
 rounds_in [] answers = 0
 rounds_in (given ∷ rest) [] = 0
 rounds_in (given ∷ rest) (answer ∷ answers) = round_of given.0 answer + rounds_in rest answers
 
--- 1 for a tenant's reply that says that memory was refused, and 0 for each other answer
+-- 1 for a tenant's reply saying that memory was refused, and 0 for every other answer
 abbrev pub refusal_in : LineAnswer → ℕ
 refusal_in Silent = 0
 refusal_in LineTooLong = 0
@@ -57,7 +57,7 @@ abbrev pub refusals_in : List LineAnswer → ℕ
 refusals_in [] = 0
 refusals_in (answer ∷ answers) = refusal_in answer + refusals_in answers
 
--- This many rounds were asked: all that the lines ask for, but for some that were refused memory.
+-- This many rounds were asked: all that the lines ask for, except some that were refused memory.
 pub record Counted (asked : ℕ) (lines : List MarkedLine) (answers : List LineAnswer) : Type 0 where
   pub least : asked ≤ rounds_in lines answers
   pub most : rounds_in lines answers ≤ asked + refusals_in answers

@@ -24,7 +24,7 @@ place_is queue place put admissions = record { queue = queue; place = place; put
 abbrev pub spent_place : PlaceIs → PlaceIs
 spent_place place = place_is (no_queue place.queue) place.place place.put place.admissions
 
--- a place with its tenant's book: for one whose round is away, the book that was handed over
+-- a place with its tenant's book; if its round is away, the book that was handed over
 pub record DeskIs : Type 0 where
   pub queue : QueueId
   pub place : ℕ
@@ -40,8 +40,8 @@ desk_is queue place put admissions book =
 abbrev pub spent_desk : DeskIs → DeskIs
 spent_desk desk = desk_is (no_queue desk.queue) desk.place desk.put desk.admissions desk.book
 
--- reply and book are the step of the book before, to which memory was refused just where the reply says so; nothing
--- else changes
+-- reply and book are the step of the earlier book, with memory refused exactly if the reply says so; nothing else
+-- changes
 pub record IsStep (before : DeskIs) (command : Command) (reply : Reply) (after : DeskIs) : Type 0 where
   pub stepped : (reply, after.book) ≡ step before.book command (is_memory reply)
   pub same_desk : after ≡ desk_is before.queue before.place before.put before.admissions after.book
@@ -60,8 +60,8 @@ pub record PlaceCountsFit (put admissions : ℕ) : Type 0 where
   pub few : admissions ≤ most_admissions
   pub asked : put ≤ rounds_of admissions
 
--- a tenant was given no more commands than its life has, and no more rounds were asked than it was given commands,
--- beside those that the tenants before it may have asked
+-- a tenant was given no more commands than its life allows, and no more rounds were asked than it was given commands,
+-- apart from those that the tenants before it may have asked
 pub record IsLive (put admissions : ℕ) (book : Book) : Type 0 where
   pub asked : put + rounds_of 1 ≤ rounds_of admissions + book.given
   pub given : book.given ≤ book.rows.limits.life

@@ -1,4 +1,4 @@
--- What a hall answers that is not closed, or still held a round.
+-- What is returned if a hall is not closed or still held a round.
 use Rattle.std.specs.Prelude.{◌≡◌, ◌+◌, ◌<◌, ◌⊎◌, List, map, length}
 use Rattle.firm_rounds.specs.Passes.{QueueIs, PopIs, spent_pop}
 use Rattle.firm_hall.specs.Desks.{DeskIs, PlaceIs, spent_desk, spent_place}
@@ -6,8 +6,8 @@ use Rattle.firm_hall.specs.Closed.{IsClosed}
 use Rattle.firm_hall.specs.declared.close.CloseFault.{CloseFault}
 use Rattle.firm_hall.specs.declared.close.CloseFault.TheVariants.{Missing, Left}
 
--- a desk, an empty desk or a report is missing and all is given back as it was; or tickets that were asked stand in no
--- report but in jobs, and the hall has ended
+-- a desk, an empty desk or a report is missing, and everything is given back unchanged; or some tickets that were asked
+-- are in no report but in jobs, and the hall has ended
 abbrev pub IsCloseFault : QueueIs → List DeskIs → List PopIs → List PlaceIs → CloseFault → Type 0
 IsCloseFault hall desks reports empty (Missing same ds rs es) =
     (same ≡ hall) × (ds.items ≡ desks) × (rs.items ≡ reports) × (es.items ≡ empty)

@@ -1,4 +1,4 @@
--- What a look at an asked round gives.
+-- What polling an asked round gives.
 use Rattle.std.specs.Prelude.{◌≡◌}
 use Rattle.firm_rules.specs.declared.commands.Command.TheVariants.{Round}
 use Rattle.firm_hall.specs.Desks.{DeskIs, IsStep}

@@ -1,4 +1,4 @@
--- What no public clause cites: how held answers, places, desks and shares are kept, and what a service has come to.
+-- What no public clause cites: how held answers, places, desks and shares are kept, and how far a service has come.
 pub mod Held
 pub mod DeskStates
 pub mod Serving

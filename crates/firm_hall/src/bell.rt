@@ -1,35 +1,35 @@
-//! How workers are woken for the rounds that are put.
+//! How workers are woken when rounds are put.
 use crossbeam_utils::CachePadded;
 use crossbeam_utils::sync::{EventCount, Key};
 use std::sync::Wait;
 use std::sync::atomic::{AtomicU64, Ordering};
 
-// How often a worker looks for a round in vain before it rests. The last one awake looks for some microseconds, since
-// each wake in a stream of small rounds costs as much. Nobody yields: on a busy machine one yield takes longer than all
-// looks and the sleep.
+// How many times a worker looks for a round in vain before it rests. The last one awake goes on for some microseconds:
+// in a stream of small rounds, each wake would cost as much. No worker yields: on a busy machine, one yield takes
+// longer than all the looks and the sleep.
 const LOOKS_BEFORE_REST: u32 = 16;
 
 const LOOKS_OF_LAST: u32 = 512;
 
-// How many rounds may wait, in the queue's room for 8, before each further one wakes a worker.
+// How many rounds may wait in the queue, which has room for 8, before each further one wakes a worker.
 const MOST_UNCALLED: u64 = 4;
 
-/// Wakes workers. A round wakes one at once only where all rest; else the thread that put it goes on, and wakes one
-/// when it rings, if a round is still waiting then.
+/// Wakes workers. A round wakes one at once only if all rest or `MOST_UNCALLED` rounds already wait. Otherwise the
+/// thread that put it goes on, and wakes one when it rings, if a round is still waiting then.
 #[derive(Drop)]
 pub(crate) struct Bell {
     workers: u64,
-    // Workers without a round sleep on it.
+    // Workers without a round sleep on this.
     work: CachePadded<EventCount>,
-    // How many workers rest. Each of the others looks into the queue once more.
+    // How many workers rest. Every other worker looks into the queue once more.
     resting: CachePadded<AtomicU64>,
     // How many rounds wait in the queue, or are about to be put.
     waiting: CachePadded<AtomicU64>,
-    // 1 where a round was put and no worker was woken for it.
+    // 1 if a round was put and no worker was woken for it.
     owes: CachePadded<AtomicU64>,
 }
 
-/// A rest that is announced. Drop it to cancel the rest.
+/// An announced rest. Drop it to cancel the rest.
 pub(crate) struct Rest<'b> {
     bell: &'b Bell,
     key: Key<'b>,
@@ -46,13 +46,13 @@ impl Bell {
         }
     }
 
-    /// Called before a round is put. Returns how many wait already.
+    /// Called before a round is put. Returns how many already wait.
     pub(crate) fn expect(&self) -> u64 {
         self.waiting.fetch_add(1, Ordering::SeqCst)
     }
 
-    /// Called once the round is put, with the number that waited before it. A worker that is not counted as resting
-    /// looks into the queue after that, so a round without a wake is found all the same.
+    /// Called once the round is put, with the number that waited before it. A worker not counted as resting looks into
+    /// the queue after this, so the round is found even without a wake.
     pub(crate) fn came(&self, older: u64) {
         if self.all_rest() || MOST_UNCALLED <= older {
             self.work.notify_one();
@@ -61,7 +61,7 @@ impl Bell {
         }
     }
 
-    /// Called once a round was taken.
+    /// Called once a round is taken.
     pub(crate) fn took(&self) {
         self.waiting.fetch_sub(1, Ordering::SeqCst);
     }
@@ -73,8 +73,8 @@ impl Bell {
         }
     }
 
-    /// Wakes a worker if a round waits. A worker that took a round right after its sleep does so, since one wake may
-    /// stand for several rounds.
+    /// Wakes a worker if a round waits. A worker that takes a round right after its sleep calls this, since one wake
+    /// may stand for several rounds.
     pub(crate) fn call(&self) {
         if self.waiting.load(Ordering::SeqCst) != 0 {
             self.work.notify_one();
@@ -86,8 +86,8 @@ impl Bell {
         self.work.notify_all();
     }
 
-    /// After enough looks in vain, the announcement of a rest, with one look more to come. A round that is put after
-    /// that look, or a shut after that read, follows the announcement, so its notification ends the sleep.
+    /// Announces a rest, after enough looks in vain. One more look follows: a round put after it, or a shut after its
+    /// read of the stop word, comes after the announcement, so the notification ends the sleep.
     pub(crate) fn announce(&self, looks: u32) -> Option<Rest<'_>> {
         if looks < LOOKS_BEFORE_REST || looks < LOOKS_OF_LAST && self.others_rest() {
             return None;
@@ -103,7 +103,7 @@ impl Bell {
         self.resting.load(Ordering::SeqCst) == self.workers
     }
 
-    // The same for all but the one that asks.
+    // Whether all workers but the caller rest.
     fn others_rest(&self) -> bool {
         self.workers <= self.resting.load(Ordering::SeqCst).saturating_add(1)
     }

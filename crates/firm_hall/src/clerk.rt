@@ -24,7 +24,7 @@ use std::alloc::AllocError;
 use std::hint::spin_loop;
 use std::sync::Wait;
 
-/// A hall that serves, and the rooms that are reserved for its desks at the end.
+/// A serving hall, and the room reserved for its desks at the end.
 #[derive(Drop)]
 pub(crate) struct HallClerk<'h, R: Wait> {
     pub(crate) setting: Setting<'h, R>,
@@ -36,8 +36,8 @@ pub(crate) struct HallClerk<'h, R: Wait> {
 }
 
 impl<'h, R: Wait> HallClerk<'h, R> {
-    /// The clerk before the first line, with all tenants at home. All memory of its own is taken here; the error comes
-    /// for want of it alone.
+    /// The clerk before the first line, with all tenants at home. Takes all memory of its own here; fails only if that
+    /// is refused.
     pub(crate) fn open(
         setting: Setting<'h, R>,
         desks: Vec<Desk>,
@@ -99,7 +99,7 @@ impl<'h, R: Wait> Clerk for HallClerk<'h, R> {
         self.serving.answer(&self.setting, writer, line)
     }
 
-    // Where an answer is missing it looks again, and after some looks in vain it sleeps until there is one, or input.
+    // If an answer is missing, looks again; after some looks in vain, sleeps until there is an answer or input.
     fn write_out<S: Source, W: Sink>(
         &mut self,
         reader: &S,

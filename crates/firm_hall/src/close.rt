@@ -1,4 +1,4 @@
-//! How a hall is closed: its desks and reports are handed in one at a time, where they stand.
+//! Closing a hall: its desks and reports are handed in one at a time, in place.
 ghost use Rattle.std.specs.Prelude.{◌≡◌, ℕ, ◌+◌, ◌<◌, ◌≤◌, ◌^◌, [], All, map, length, MatchResult};
 ghost use Rattle.firm_rounds.specs.declared.protocol.Share.{Share};
 ghost use Rattle.firm_rounds.specs.Rounds.{weigh, share};
@@ -16,7 +16,7 @@ use crate::workers::Report;
 use firm_rounds::{Closing, Job, Queue};
 use std::sync::Wait;
 
-/// What was done in all.
+/// What was done in total.
 #[derive(Clone, Copy, Debug, PartialEq, Eq)]
 pub struct Totals {
     /// How many rounds workers took.
@@ -25,16 +25,16 @@ pub struct Totals {
 
 /// Why a hall could not be closed, or what it still held.
 pub enum CloseFault {
-    /// Fewer desks, empty ones too, or fewer reports were handed in than the hall has. All is given back.
+    /// Fewer desks, counting empty ones, or fewer reports were handed in than the hall has. Everything is given back.
     Missing(Hall, Vec<Desk>, Vec<Report>, Vec<EmptyDesk>),
-    /// These jobs stood in the queue, front first. The hall has ended; its desks and reports are given back.
+    /// These jobs were still in the queue, front first. The hall has ended; its desks and reports are given back.
     Left(Vec<Desk>, Vec<Report>, Vec<Job>, Vec<EmptyDesk>),
 }
 
 impl Hall {
-    /// Closes the hall, with its desks, empty ones too, and the reports of its workers. Ok says that the reports'
-    /// tickets are those asked at the desks, by all tenants of their places, each exactly once, and how many they are.
-    /// It takes no memory.
+    /// Closes the hall, given its desks, empty ones included, and the reports of its workers. `Ok` says that the
+    /// reports' tickets are those asked at the desks, by all tenants of their places, each exactly once, and how many
+    /// there are. Takes no memory.
     pub fn close<R: Wait>(
         self,
         rt: &R,
@@ -73,7 +73,7 @@ impl Hall {
     }
 }
 
-// All passes are handed in.
+// Hands in all passes.
 fn gather(
     queue: Queue,
     desks: &mut [Desk],

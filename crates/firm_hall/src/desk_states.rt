@@ -25,12 +25,12 @@ pub(crate) enum DeskState {
     Away(Asked),
     /// No tenant has the place.
     Empty(EmptyDesk),
-    /// Nothing, while its desk is at work.
+    /// Nothing, while its desk is taken out to be worked on.
     Gone,
 }
 
 impl DeskState {
-    // Whether no round is away from there.
+    // Whether no round is away from the place.
     pub(crate) fn is_back(&self) -> bool
         requires { IsPresent self.now }
         ensures { MatchBool result (IsBack self.now) (IsAway self.now) }
@@ -41,7 +41,7 @@ impl DeskState {
         }
     }
 
-    // Waits for the round that is away: its desk is home again, and its reply is known.
+    // Waits for the round that is away, brings its desk home and returns its reply.
     pub(crate) fn come_home<R: Wait>(&mut self, setting: &Setting<'_, R>) -> Reply
         requires { IsAway self.old }
         ensures turned { IsTurned self.old self.new (Some result) }
@@ -55,7 +55,7 @@ impl DeskState {
         reply
     }
 
-    // The same without waiting: where the round is not answered yet, all stays.
+    // The same without waiting: if the round is not answered yet, changes nothing.
     pub(crate) fn look(&mut self) -> Option<Reply>
         requires { IsAway self.old }
         ensures { IsTurned self.old self.new result }
@@ -71,7 +71,8 @@ impl DeskState {
         reply
     }
 
-    // What a command makes of the desk that is home at this place, and the answer to its line. Only a round moves it.
+    // Gives a command to the desk that is home at this place; returns the answer to its line. Only a round moves the
+    // desk.
     pub(crate) fn take<R: Wait>(
         &mut self,
         setting: &Setting<'_, R>,
@@ -92,7 +93,7 @@ impl DeskState {
         HeldAnswer::Known(LineAnswer::Replied(name, reply))
     }
 
-    // The same for a round. Other commands do not pay for its locals.
+    // The same for a round, out of line so that other commands do not pay for its locals.
     #[inline(never)]
     fn ask<R: Wait>(&mut self, setting: &Setting<'_, R>, place: usize, name: Name) -> HeldAnswer
         requires { IsHomeOf setting.now.hall.now.id self.old }
@@ -106,8 +107,8 @@ impl DeskState {
         answer
     }
 
-    // A tenant with these limits comes to the empty place. Tells whether it did: it does not for want of memory alone,
-    // and all is as it was then.
+    // Admits a tenant with these limits to the empty place. Returns `false` only if memory is refused, with the place
+    // as it was.
     pub(crate) fn admit(&mut self, alloc: Global, limits: Limits) -> bool
         requires { IsFree self.old }
         ensures { IsAdmitted self.old limits result self.new }
@@ -124,7 +125,7 @@ impl DeskState {
         came
     }
 
-    // The tenant, which is home, leaves the place.
+    // Retires the tenant, which is home, from the place.
     pub(crate) fn retire(&mut self)
         requires { IsHome self.old }
         ensures { IsRetired self.old self.new }
@@ -136,7 +137,7 @@ impl DeskState {
     }
 }
 
-// What a round makes of the desk of this place, and the answer to its line.
+// Asks for a round at the desk of this place: what then stands there, and the answer to its line.
 fn ask<R: Wait>(
     setting: &Setting<'_, R>,
     desk: Desk,
@@ -158,7 +159,7 @@ fn ask<R: Wait>(
     }
 }
 
-// The desk with the reply to its round. While the round is away, a worker is woken if one is owed.
+// The desk with the reply to its round. If the round is still away after some looks, wakes a worker if one is owed.
 fn wait<R: Wait>(setting: &Setting<'_, R>, asked: Asked) -> (Desk, Reply)
     ensures { IsStep asked Round result.1 result.0 }
 {

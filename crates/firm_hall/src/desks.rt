@@ -19,7 +19,7 @@ use std::hint::spin_loop;
 use std::marker::Model;
 use std::sync::Wait;
 
-// How often a round that is away is looked for before a worker is woken for those that wait: for some microseconds.
+// How many times to look for a round that is away before waking a worker for those that wait: some microseconds.
 const LOOKS_BEFORE_RING: u32 = 256;
 
 /// A tenant at home, owned by the desk's holder. Contracts see its hall, its place, how many rounds all tenants of the
@@ -40,8 +40,7 @@ impl Model for Desk {
     ghost invariant = { λ d. IsLive d.place.put d.place.admissions d.tenant };
 }
 
-/// The token for a tenant whose round is away. Contracts see it as the desk that asked, with the book that was handed
-/// over.
+/// The token for a tenant whose round is away. Contracts see it as the desk that asked, with the book it handed over.
 #[derive(Drop)]
 pub struct Asked {
     side: AskSide,
@@ -58,7 +57,7 @@ impl Model for Asked {
     ghost invariant = { λ a. IsLiveAway a.place.put a.place.admissions a.side.book };
 }
 
-/// What a look at an asked round gives.
+/// What polling an asked round gives.
 #[derive(Drop)]
 pub enum AskedPoll {
     /// The desk is back with the round's reply.
@@ -68,7 +67,7 @@ pub enum AskedPoll {
 }
 
 impl Desk {
-    // The desk of a tenant that has this place, and came just now.
+    // The desk of a tenant just admitted to this place.
     pub(crate) fn at(place: Place, tenant: Tenant) -> Desk
         requires { IsLive place.put place.admissions tenant }
         ensures { result ≡ desk_is place.queue place.place place.put place.admissions tenant }
@@ -76,20 +75,19 @@ impl Desk {
         Desk { tenant, place }
     }
 
-    // The desk of a tenant that is admitted with these limits to a place that nobody had. The error comes for want of
-    // memory alone.
+    // The desk of a tenant admitted with these limits to a place that was never given. Fails only if memory is refused.
     pub(crate) fn open(alloc: Global, limits: Limits, pass: PutPass) -> Result<Desk, AllocError>
         requires { pass.put ≡ 0 }
         ensures { IfOk result (λ desk. desk ≡ desk_is pass.queue pass.place 0 1 (opening_book limits)) }
     {
-        // A life is 2^40 commands at most, so the numbers of tickets never run out.
+        // A life is at most 2^40 commands, so ticket numbers never run out.
         prove!(limits.life() <= 1 << 40);
         let tenant = Tenant::admit(alloc, limits)?;
         let place = Place::unused(pass).given();
         Ok(Desk { tenant, place })
     }
 
-    /// The tenant's reply to a command that is not a round. It waits for nobody.
+    /// The tenant's reply to a command that is not a round. Never waits.
     pub fn command(&mut self, alloc: Global, command: Command) -> Reply
         requires { command ≢ Round }
         ensures { IsStep self.old command result self.new }
@@ -99,8 +97,8 @@ impl Desk {
         self.tenant.step(alloc, command)
     }
 
-    /// Asks for the tenant's round, which goes to a worker of the hall. Without life or memory, returns the desk with
-    /// that refusal.
+    /// Asks for the tenant's round, which goes to a worker of the hall. If life or memory is lacking, returns the desk
+    /// with that refusal.
     pub fn ask<R: Wait>(self, rt: &R, alloc: Global, hall: &Hall) -> Result<Asked, (Desk, Reply)>
         requires { self.queue ≡ hall.now.id }
         ensures asked { MatchResult result
@@ -113,7 +111,7 @@ impl Desk {
         asked
     }
 
-    // The same for one that asks for more before it waits: it rings then.
+    // The same for a caller that asks for more before it waits, and rings then.
     pub(crate) fn ask_unrung<R: Wait>(
         self,
         rt: &R,
@@ -145,8 +143,8 @@ impl Desk {
         Ok(Asked { side, place })
     }
 
-    /// The tenant leaves its place, and all that it had goes. The numbers of its tickets stay with the place. It waits
-    /// for nobody and takes no memory.
+    /// Retires the tenant from its place and drops all that it had. Its ticket numbers stay with the place. Never
+    /// waits, and takes no memory.
     pub fn retire(self) -> EmptyDesk
         ensures { result ≡ place_is self.queue self.place self.put self.admissions }
     {
@@ -154,7 +152,7 @@ impl Desk {
         EmptyDesk::of(place)
     }
 
-    // How many rounds were asked there.
+    // How many rounds were asked at the place.
     pub(crate) fn asked(&self) -> u64
         ensures count { result ≡ self.now.put }
         ensures few { result ≤ 2 ^ 55 }
@@ -162,7 +160,7 @@ impl Desk {
         self.place.asked()
     }
 
-    // Hands the pass in.
+    // Hands in the pass.
     pub(crate) fn give(&mut self, closing: &mut Closing)
         requires { self.old.queue ≡ closing.old.id }
         ensures closing { closing.new
@@ -174,7 +172,7 @@ impl Desk {
 }
 
 impl Asked {
-    /// The desk with the round's reply, if the round is answered; else the same token. It waits for nobody and takes no
+    /// The desk with the round's reply, if the round is answered; otherwise the same token. Never waits, and takes no
     /// memory.
     pub fn poll(self) -> AskedPoll
         ensures { IsAskedPoll self result }
@@ -191,7 +189,7 @@ impl Asked {
         }
     }
 
-    // The same, after some looks, or else the same token.
+    // The same, but looks several times before it gives back the token.
     pub(crate) fn look_awhile(self) -> AskedPoll
         ensures { IsAskedPoll self result }
     {
@@ -206,7 +204,7 @@ impl Asked {
         AskedPoll::Not(asked)
     }
 
-    /// The desk with the round's reply, once the round is answered. It takes no memory.
+    /// Waits for the round; returns the desk with its reply. Takes no memory.
     pub fn wait<R: Wait>(self, rt: &R) -> (Desk, Reply)
         ensures { IsStep self Round result.1 result.0 }
     {

@@ -1,4 +1,4 @@
-//! The empty desks of a hall: places that no tenant has.
+//! The empty desks of a hall: places without a tenant.
 ghost use Rattle.std.specs.Prelude.{◌≡◌, ◌+◌, ◌<◌, ◌≤◌, ◌^◌, [], ◌∷◌, ◌++◌, IfOk, IfErr, OnOk};
 ghost use Rattle.firm_rules.specs.Book.{opening_book};
 ghost use Rattle.firm_rounds.specs.Passes.{closing_is};
@@ -30,10 +30,10 @@ impl Model for EmptyDesk {
     ghost view = { λ d. d.place };
 }
 
-/// Why nobody was admitted. The empty desk comes back as it was.
+/// Why no tenant was admitted. The empty desk is given back unchanged.
 #[derive(Drop)]
 pub enum AdmitFault {
-    /// The place was given 32,768 times, a row of the roster counting as once.
+    /// The place was given 32,768 times, counting a row of the roster as one.
     Worn(EmptyDesk),
     /// Memory was refused. No admission is used.
     Memory(EmptyDesk),
@@ -46,8 +46,8 @@ impl EmptyDesk {
         EmptyDesk { place }
     }
 
-    /// Admits a tenant with these limits: its desk has the opening book, and the tickets of its rounds go on behind
-    /// those of the tenants before it. It waits for nobody.
+    /// Admits a tenant with these limits: its desk has the opening book, and its tickets are numbered on from those of
+    /// the tenants before it. Never waits.
     pub fn admit(self, alloc: Global, limits: Limits) -> Result<Desk, AdmitFault>
         ensures admitted { IfOk result (λ desk. desk
             ≡ desk_is self.queue self.place self.put (self.admissions + 1) (opening_book limits)) }
@@ -60,13 +60,13 @@ impl EmptyDesk {
         let Ok(tenant) = Tenant::admit(alloc, limits) else {
             return Err(AdmitFault::Memory(self));
         };
-        // A life is 2^40 commands at most, so the numbers of tickets never run out.
+        // A life is at most 2^40 commands, so ticket numbers never run out.
         prove!(limits.life() <= 1 << 40);
         let EmptyDesk { place } = self;
         Ok(Desk::at(place.given(), tenant))
     }
 
-    // How many rounds were asked there.
+    // How many rounds were asked at the place.
     pub(crate) fn asked(&self) -> u64
         ensures count { result ≡ self.now.put }
         ensures few { result ≤ 2 ^ 55 }
@@ -74,7 +74,7 @@ impl EmptyDesk {
         self.place.asked()
     }
 
-    // Hands the pass in.
+    // Hands in the pass.
     pub(crate) fn give(&mut self, closing: &mut Closing)
         requires { self.old.queue ≡ closing.old.id }
         ensures closing { closing.new

@@ -1,4 +1,4 @@
-//! The end of a service: its desks come home and are put together.
+//! The end of a service: its desks come home and are collected.
 ghost use Rattle.std.specs.Prelude.{◌≡◌, ◌+◌, ◌<◌, ◌≤◌, ◌^◌, ◌++◌, ◌∷◌, [], length, vec_capacity, vec_len};
 ghost use Rattle.firm_text.specs.Rosters.{most_places};
 ghost use Rattle.firm_rounds.specs.Passes.{QueueId};
@@ -13,7 +13,7 @@ use crate::empty::EmptyDesk;
 use crate::serving::Serving;
 use std::sync::Wait;
 
-/// What a service leaves: its desks, which are home, its empty ones, and how many rounds were asked at all of them.
+/// What a service leaves: its desks, all home, its empty ones, and how many rounds were asked at all of them.
 #[derive(Drop)]
 pub(crate) struct Ended {
     pub(crate) desks: Vec<Desk>,
@@ -22,7 +22,7 @@ pub(crate) struct Ended {
 }
 
 impl Serving {
-    /// Ends the service once each desk is home. The desks are put where these rooms are reserved for them.
+    /// Ends the service once each desk is home. The desks go into these vectors, reserved for them.
     pub(crate) fn end<R: Wait>(self, rt: &R, room: Vec<Desk>, empty_room: Vec<EmptyDesk>) -> Ended
         requires room { IsReserved room.items (vec_capacity room) }
         requires empty_room { IsReserved empty_room.items (vec_capacity empty_room) }
@@ -45,8 +45,8 @@ impl Serving {
     }
 }
 
-// Puts a desk with the others, once it is home, or an empty one with the empty ones. Tells how many rounds were asked
-// there.
+// Puts a desk, once it is home, with the others, or an empty one with the empty ones. Returns how many rounds were
+// asked there.
 fn put_away<R: Wait>(
     rt: &R,
     desk_state: DeskState,
@@ -79,7 +79,7 @@ fn put_away<R: Wait>(
     }
 }
 
-// Puts a desk with the others. Tells how many rounds were asked there.
+// Puts a desk with the others. Returns how many rounds were asked there.
 fn put_desk(desks: &mut Vec<Desk>, desk: Desk) -> u64
     requires room { vec_len desks.old < vec_capacity desks.old }
     ensures items { desks.new.items ≡ desks.old.items ++ desk ∷ [] }

@@ -24,11 +24,11 @@ use std::sync::{Arc, Wait};
 #[derive(Drop)]
 pub struct Hall {
     queue: Queue,
-    // 1 once the hall is shut. Each worker reads it at every turn, so nothing else lies on its cache line.
+    // 1 once the hall is shut. Each worker reads it at every turn, so nothing else shares its cache line.
     stop: CachePadded<AtomicU64>,
     // Workers without a round sleep until it rings.
     bell: Bell,
-    // Notified of each round that is solved. The clerk sleeps on it, for an answer or for input.
+    // Notified of each solved round. The clerk sleeps on it, for an answer or for input.
     answers: Arc<EventCount, Global>,
 }
 
@@ -41,9 +41,9 @@ impl Model for Hall {
 }
 
 impl Hall {
-    /// A hall of 64 places for the tenants of the roster, which are admitted, and for 1 to 8 workers: a desk for each
-    /// row, in order, a pass for each worker, and an empty desk for each further place. All its memory is taken here;
-    /// the error comes for want of it alone.
+    /// A hall of 64 places and 1 to 8 workers, with the tenants of the roster admitted: a desk for each row, in order,
+    /// a pass for each worker, and an empty desk for each remaining place. Takes all its memory here; fails only if
+    /// that is refused.
     pub fn open(
         alloc: Global,
         roster: &Roster,
@@ -64,7 +64,7 @@ impl Hall {
         open_hall(alloc, roster, PLACES, workers)
     }
 
-    /// Tells the workers to end once the queue is empty. It takes no memory.
+    /// Tells the workers to end once the queue is empty. Takes no memory.
     pub fn shut(&self) {
         self.stop.store(1, Ordering::SeqCst);
         self.bell.call_all();
@@ -78,12 +78,12 @@ impl Hall {
         &self.bell
     }
 
-    // What is notified of each round that is solved.
+    // Notified of each solved round.
     pub(crate) fn answers(&self) -> &Arc<EventCount, Global> {
         &self.answers
     }
 
-    // Puts a round. Where others wait or are solved, a worker may be woken only once the bell rings.
+    // Puts a round. If others wait or are being solved, possibly no worker is woken until the bell rings.
     pub(crate) fn put<R: Wait>(&self, rt: &R, pass: &mut PutPass, job: Job)
         requires of { pass.old.queue ≡ self.now.id }
         requires next { job.ticket ≡ ticket pass.old.place (pass.old.put + 1) }
@@ -120,7 +120,7 @@ impl Hall {
     }
 }
 
-// A hall of this many places, the first of which the tenants of the roster have.
+// A hall of this many places; the tenants of the roster have the first ones.
 fn open_hall(
     alloc: Global,
     roster: &Roster,
@@ -169,7 +169,7 @@ fn open_desks(alloc: Global, roster: &Roster, passes: Vec<PutPass>) -> Result<Ve
     Ok(desks)
 }
 
-// An empty desk for each place that nobody had.
+// An empty desk for each place that was never given.
 fn open_empty(alloc: Global, passes: Vec<PutPass>) -> Result<Vec<EmptyDesk>, AllocError>
     requires { All (λ p. p.put ≡ 0) passes.items }
     ensures { IfOk result (λ empty. empty.items ≡ map (λ p. place_is p.queue p.place 0 0) passes.items) }
@@ -181,7 +181,7 @@ fn open_empty(alloc: Global, passes: Vec<PutPass>) -> Result<Vec<EmptyDesk>, All
     Ok(empty)
 }
 
-// A worker's pass for each.
+// A worker's pass for each of these passes.
 fn open_passes(alloc: Global, passes: Vec<PopPass>) -> Result<Vec<WorkerPass>, AllocError>
     ensures { IfOk result (λ all. all.items ≡ passes.items) }
 {

@@ -1,4 +1,4 @@
-//! Answers that are held until those to the lines before theirs are known.
+//! Answers held until those to all earlier lines are known.
 ghost use Rattle.std.specs.Prelude.{◌≡◌, ◌<◌, ◌≤◌, ◌++◌, ◌∷◌, Bool, IfErr, IfOk, MatchBool, OnErr, OnOk, [], false};
 ghost use Rattle.std.specs.Prelude.{length, take, true, ℕ};
 ghost use Rattle.std.specs.VecDeque.{deque_capacity, deque_len};
@@ -22,16 +22,16 @@ use std::snapshot::Snapshot;
 /// At most this many answers are held.
 const MOST_ANSWERS_HELD: usize = 1_024;
 
-/// The answer to a line, which is held.
+/// A held answer to a line.
 #[derive(Drop)]
 pub(crate) enum HeldAnswer {
     /// It is known.
     Known(LineAnswer),
-    /// It is the reply to the round of the tenant of this name, which is away from this place.
+    /// It is the reply to a round that is away from this place, asked by the tenant of this name.
     Waiting(usize, Name, Snapshot<Asked>),
 }
 
-/// The first answer that is held.
+/// The first held answer.
 #[derive(Drop)]
 pub(crate) enum First {
     /// None is held.
@@ -42,7 +42,7 @@ pub(crate) enum First {
     Waits(usize),
 }
 
-/// The answers that are held, in the order of their lines, and the text that is still to be written before them.
+/// The held answers, in the order of their lines, and the text still to be written before them.
 #[derive(Drop)]
 pub(crate) struct Held {
     answers: VecDeque<HeldAnswer>,
@@ -63,7 +63,7 @@ impl Model for Held {
 }
 
 impl Held {
-    // Room for 1,024 answers, none of which is held yet.
+    // Room for 1,024 answers, with none held yet.
     pub(crate) fn open(alloc: Global) -> Result<Held, AllocError>
         ensures { IfOk result (λ held. held ≡ held_is [] []) }
     {
@@ -87,7 +87,7 @@ impl Held {
         self.answers.len() == MOST_ANSWERS_HELD
     }
 
-    // Holds one answer more.
+    // Holds one more answer.
     pub(crate) fn push(&mut self, answer: HeldAnswer)
         requires { length self.old.answers < most_answers_held }
         ensures { self.new ≡ held_is (self.old.answers ++ answer ∷ []) self.old.output }
@@ -105,7 +105,7 @@ impl Held {
         }
     }
 
-    // The answer that waits for the round of this place is its reply.
+    // Makes this reply the answer that waits for the round of this place.
     pub(crate) fn fill(&mut self, place: usize, reply: Reply)
         requires { (asked : DeskIs) × OneWaits place asked self.old.answers }
         ensures { self.new ≡ held_is (filled place reply self.old.answers) self.old.output }
@@ -113,8 +113,8 @@ impl Held {
         fill(&mut self.answers, place, reply);
     }
 
-    // The text of the first answer, which is known, is to be written. Where memory runs out the answer is lost, and a
-    // part of its text may be there.
+    // Adds the first answer, which is known, to the text to be written. If memory runs out, the answer is lost, and
+    // part of its text may have been added.
     pub(crate) fn put_first(&mut self) -> Result<(), AllocError>
         requires { FirstIsKnown self.old.answers }
         ensures first { (first : HeldAnswer) × (self.old.answers ≡ first ∷ self.new.answers) }
@@ -129,7 +129,7 @@ impl Held {
         put
     }
 
-    // Writes the text that is to be written.
+    // Writes the text to be written.
     pub(crate) fn write<W: Sink>(&mut self, writer: &mut W) -> Result<(), ServeFault>
         requires { W.write_failed writer.old ≡ false }
         ensures ok { OnOk result (Appends (W.written writer.old) (W.written writer.new) self.old.output) }
@@ -155,7 +155,7 @@ impl HeldAnswer {
         }
     }
 
-    // The round is answered by this reply.
+    // Answers the round with this reply.
     fn answer(&mut self, reply: Reply)
         requires { (place : ℕ) × (waits_for place self.old ≡ true) }
         ensures { self.new ≡ answered reply self.old }
@@ -167,7 +167,7 @@ impl HeldAnswer {
     }
 }
 
-// The answer that waits for the round of this place is its reply.
+// Makes this reply the answer that waits for the round of this place.
 fn fill(answers: &mut VecDeque<HeldAnswer>, place: usize, reply: Reply)
     requires { (asked : DeskIs) × OneWaits place asked answers.old.items }
     ensures filled { answers.new.items ≡ filled place reply answers.old.items }

@@ -12,7 +12,7 @@ use firm_text::MOST_ADMISSIONS;
 use std::marker::Model;
 use std::sync::Wait;
 
-// The pass by which the rounds of a place are asked, and how often the place was given.
+// The pass that asks the rounds of a place, and how often the place was given.
 #[derive(Drop)]
 pub(crate) struct Place {
     pass: PutPass,
@@ -30,7 +30,7 @@ impl Model for Place {
 }
 
 impl Place {
-    // A place that nobody had.
+    // A place that was never given.
     pub(crate) fn unused(pass: PutPass) -> Place
         requires { pass.put ≡ 0 }
         ensures { result ≡ place_is pass.queue pass.place 0 0 }
@@ -60,15 +60,15 @@ impl Place {
         MOST_ADMISSIONS <= self.admissions
     }
 
-    // The ticket of the round that is asked next.
+    // The ticket of the next round.
     pub(crate) fn next(&self) -> Ticket
         ensures { result ≡ ticket self.now.place (self.now.put + 1) }
     {
         self.pass.next()
     }
 
-    // How many rounds were asked: for each of 32,768 tenants no more than commands were given to it, which are 2^40 at
-    // most.
+    // How many rounds were asked. Each of at most 32,768 tenants asks no more rounds than it is given commands, at most
+    // 2^40.
     pub(crate) fn asked(&self) -> u64
         ensures count { result ≡ self.now.put }
         ensures few { result ≤ 2 ^ 55 }
@@ -86,7 +86,7 @@ impl Place {
         hall.put(rt, &mut self.pass, job);
     }
 
-    // Hands the pass in.
+    // Hands in the pass.
     pub(crate) fn give(&mut self, closing: &mut Closing)
         requires { self.old.queue ≡ closing.old.id }
         ensures closing { closing.new

@@ -24,16 +24,16 @@ use std::thread;
 use std::thread::Threads;
 
 /// Answers the lines of an input of at most `most` bytes, 2^32 at most, for the tenants of the roster, which are
-/// admitted first, and for those that the operator admits meanwhile, up to 64 at a time. 1 to 8 workers solve their
-/// rounds, each on a thread of its own and after it passed the gate. Answers are written in the order of their lines.
-/// It waits for a round only where the next line is for its tenant or retires it, where 1,024 answers are held, at the
-/// end of the input, or before a read for which the reader is not ready. It flushes the writer at the end alone, so a
-/// writer that buffers holds replies back until then.
+/// admitted first, and for those that the operator admits later, up to 64 at a time. 1 to 8 workers solve their rounds,
+/// each on its own thread and each round after passing the gate. Answers are written in the order of their lines. Waits
+/// for a round only if the next line is for its tenant or retires it, if 1,024 answers are held, at the end of the
+/// input, or before a read for which the reader is not ready. Flushes the writer only at the end, so a buffering writer
+/// holds replies back until then.
 ///
 /// On `Ok` a read has found the end of the input, and what was written is the output for all of it. After a fault it is
-/// a prefix of the output for the bytes that were read. `Read` and `Write` come where a call of the reader or the
-/// writer failed, `TooLong` where more than `most` bytes came, and `Memory` where a growth of the service's own was
-/// refused or a worker could not be started. All workers are joined first.
+/// a prefix of the output for the bytes that were read. `Read` and `Write` mean that a call of the reader or the writer
+/// failed, `TooLong` that the input has more than `most` bytes, and `Memory` that the service was refused memory of its
+/// own or a worker could not be started. All workers are joined first.
 pub fn serve<S: Source, W: Sink, R: Threads + Wait + Sync, G: Gate + Sync>(
     rt: &R,
     alloc: Global,
@@ -74,20 +74,20 @@ pub fn serve<S: Source, W: Sink, R: Threads + Wait + Sync, G: Gate + Sync>(
     let (served, reports) = serve_with(team, clerk, reader, writer, most);
     let ended = served?;
     let rounds = ended.rounds;
-    // All desks are home, so each round was answered, and the rounds are counted by place: how the hall closes tells
+    // All desks are home, so each round was answered, and the rounds are counted by place: closing the hall tells
     // nothing more.
     close(rt, alloc, hall, ended, reports);
     Ok(Totals { rounds })
 }
 
-// A function that is lent a reference and keeps what it refers to: it says so of one that comes back from a closure.
+// Takes a reference and leaves its referent unchanged: the contract says so for one that comes back from a closure.
 fn keep<T>(lent: &mut T)
     ensures { lent.new ≡ lent.old }
 {
     let _ = lent;
 }
 
-// Serves while the team works, and gives its reports. All workers are joined.
+// Serves while the team works, joins all workers and returns their reports.
 fn serve_with<S: Source, W: Sink, R: Threads + Wait + Sync, G: Gate + Sync>(
     team: Team<'_, R, G>,
     clerk: HallClerk<'_, R>,

@@ -28,10 +28,10 @@ use std::marker::Model;
 use std::snapshot::Snapshot;
 use std::sync::Wait;
 
-/// A hall that serves: which tenant has which place, what stands at each, and the answers that are held.
+/// A serving hall: which tenant has which place, what stands at each, and the held answers.
 #[derive(Drop)]
 pub(crate) struct Serving {
-    // The hall of the desks, which clauses alone read.
+    // The hall of the desks; only clauses read it.
     pub(crate) hall: Snapshot<Hall>,
     pub(crate) register: Register,
     pub(crate) desk_states: Vec<DeskState>,
@@ -49,7 +49,7 @@ impl Model for Serving {
 }
 
 impl Serving {
-    // Before the first line all tenants are at home. The error comes for want of memory alone.
+    // The state before the first line, with all tenants at home. Fails only if memory is refused.
     pub(crate) fn open<R: Wait>(
         setting: &Setting<'_, R>,
         desks: Vec<Desk>,
@@ -78,7 +78,7 @@ impl Serving {
         })
     }
 
-    /// Answers one line more, and waits for a round where its tenant is away or 1,024 answers are held.
+    /// Answers one more line; waits for a round if the line's tenant is away or 1,024 answers are held.
     pub(crate) fn answer<R: Wait, W: Sink>(
         &mut self,
         setting: &Setting<'_, R>,
@@ -103,13 +103,13 @@ impl Serving {
         self.make_room(setting, writer)
     }
 
-    // Takes a line, whose answer is held then.
+    // Takes a line and holds its answer.
     fn take_line<R: Wait>(&mut self, setting: &Setting<'_, R>, line: Line)
         requires { IsOpen setting.now.hall.now.id self.old }
         ensures takes { Takes self.old self.new line }
         ensures hall { self.new.queue ≡ self.old.queue }
     {
-        // Laws: of one line more, and of marks that replies tell.
+        // Laws: of one more line, and of the marks that replies tell.
         answers_add_up();
         match line {
             Line::Nothing => {}
@@ -130,7 +130,7 @@ impl Serving {
         }
     }
 
-    // The tenant of the place, which is at home, takes a command.
+    // Gives a command to the tenant of the place, which is at home.
     fn command<R: Wait>(
         &mut self,
         setting: &Setting<'_, R>,
@@ -146,14 +146,14 @@ impl Serving {
         ensures takes { Takes self.old self.new (For name command) }
         ensures hall { self.new.queue ≡ self.old.queue }
     {
-        // Laws: of one line more, and of marks that replies tell.
+        // Laws: of one more line, and of the marks that replies tell.
         answers_add_up();
         replies_tell_their_marks();
         let answer = self.desk_states[place].take(setting, place, name, command);
         self.held.push(answer);
     }
 
-    // Whether the first answer that is held is known, after a look where it waits for a round.
+    // Whether the first held answer is known, after a look if it waits for a round.
     fn first_is_known(&mut self) -> bool
         ensures follows { Follows self.old self.new }
         ensures keeps { Keeps self.old self.new }
@@ -166,7 +166,7 @@ impl Serving {
         }
     }
 
-    // Waits until the first answer that is held is known.
+    // Waits until the first held answer is known.
     fn first_comes_home<R: Wait>(&mut self, setting: &Setting<'_, R>)
         requires { 0 < length self.old.answers }
         ensures follows { Follows self.old self.new }
@@ -180,7 +180,7 @@ impl Serving {
         }
     }
 
-    // Puts the first answer that is held, which is known, behind the text to be written.
+    // Puts the first held answer, which is known, after the text to be written.
     fn put_first(&mut self) -> Result<(), AllocError>
         requires { FirstIsKnown self.old.answers }
         ensures keeps { OnOk result (Keeps self.old self.new) }
@@ -203,7 +203,7 @@ impl Serving {
         Ok(())
     }
 
-    // The same for all answers, each of which is known.
+    // The same for all answers, all of which are known.
     fn put_all(&mut self) -> Result<(), AllocError>
         requires { AllBack self.old.desk_states }
         ensures follows { Follows self.old self.new }
@@ -216,7 +216,7 @@ impl Serving {
         Ok(())
     }
 
-    // Where 1,024 answers are held, waits for the first and writes all that are known then.
+    // If 1,024 answers are held, waits for the first and writes all that are then known.
     fn make_room<R: Wait, W: Sink>(
         &mut self,
         setting: &Setting<'_, R>,
@@ -239,7 +239,7 @@ impl Serving {
         self.write_out(writer)
     }
 
-    /// Writes the answers that are known, up to the first that waits for a round.
+    /// Writes the known answers, up to the first that waits for a round.
     pub(crate) fn write_out<W: Sink>(&mut self, writer: &mut W) -> Result<(), ServeFault>
         requires { W.write_failed writer.old ≡ false }
         ensures told { OnOk result (Passes self.old self.new (W.written writer.old) (W.written writer.new)) }

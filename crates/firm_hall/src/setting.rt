@@ -1,4 +1,4 @@
-//! What serving stands on, and no line changes.
+//! What serving relies on and no line changes.
 use crate::halls::Hall;
 use firm_text::Roster;
 use std::alloc::Global;

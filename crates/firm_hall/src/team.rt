@@ -1,4 +1,4 @@
-//! One to eight workers, each on a thread of its own.
+//! One to eight workers, each on its own thread.
 ghost use Rattle.std.specs.Prelude.{◌≡◌, ◌≤◌, [], All, IfOk, IfErr, length, vec_capacity, vec_len};
 ghost use Rattle.std.specs.Thread.{IsSync};
 
@@ -17,7 +17,7 @@ impl Promise<Report> for OfHall {
     ghost kept_by = { λ p r. r.queue ≡ p.0.value.id };
 }
 
-/// The workers of a hall before they start: a pass for each, and room for what comes of it.
+/// The workers of a hall before they start: a pass for each, and room for their handles and reports.
 #[derive(Drop)]
 pub(crate) struct Team<'s, R, G> {
     pub(crate) rt: &'s R,
@@ -34,7 +34,7 @@ pub(crate) struct Team<'s, R, G> {
     ghost reports_room: { vec_len passes ≤ vec_capacity reports },
 }
 
-/// The workers that run, and room for their reports.
+/// The running workers, and room for their reports.
 #[derive(Drop)]
 pub(crate) struct Running<'s, R> {
     rt: &'s R,
@@ -47,7 +47,7 @@ pub(crate) struct Running<'s, R> {
 }
 
 impl<'s, R: Threads + Wait + Sync, G: Gate + Sync> Team<'s, R, G> {
-    // The error comes for want of memory alone.
+    // Fails only if memory is refused.
     pub(crate) fn open(
         rt: &'s R,
         alloc: Global,
@@ -73,7 +73,7 @@ impl<'s, R: Threads + Wait + Sync, G: Gate + Sync> Team<'s, R, G> {
         })
     }
 
-    // Starts a worker for each pass. The error, where one cannot be started, is those that run.
+    // Starts a worker for each pass. If one cannot be started, the error is those already running.
     pub(crate) fn start<E: 's>(self, scope: &Scope<'s, E>) -> Result<Running<'s, R>, Running<'s, R>>
         ensures hall { IfOk result (λ running. running.hall.now ≡ self.entry.hall.now) }
         ensures some { IfErr result (λ running. running.hall.now ≡ self.entry.hall.now) }
@@ -116,7 +116,7 @@ impl<'s, R: Threads + Wait + Sync, G: Gate + Sync> Team<'s, R, G> {
 }
 
 impl<R: Threads> Running<'_, R> {
-    // Ends the hall's rounds and joins all workers, each of which reports.
+    // Shuts the hall and joins all workers, each of which reports.
     pub(crate) fn join(self) -> Vec<Report>
         ensures reports { All (λ r. r.queue ≡ self.entry.hall.now.id) result.items }
         ensures count { vec_len result ≡ vec_len self.entry.handles }

@@ -1,4 +1,4 @@
-//! Who has which place: tenants are admitted, come home with their rounds and leave.
+//! Which tenant has which place: tenants are admitted, come home with their rounds and leave.
 ghost use Rattle.std.specs.Prelude.{◌≡◌, ◌<◌, MatchBool, Some, ℕ};
 ghost use Rattle.firm_text.specs.Registers.{place_in};
 ghost use Rattle.firm_text.specs.Rosters.{most_places};
@@ -16,8 +16,8 @@ use std::alloc::Global;
 use std::sync::Wait;
 
 impl Serving {
-    // Does what the operator asks for, where it can be done. The answer is still to be held. A tenant's line does not
-    // pay for its locals.
+    // Does what the operator asks for, if it can be done. The reply is still to be held. Out of line, so that a
+    // tenant's line does not pay for its locals.
     #[inline(never)]
     pub(crate) fn obey<R: Wait>(
         &mut self,
@@ -27,7 +27,7 @@ impl Serving {
         ensures obeys { Obeys self.old self.new request result }
         ensures follows { Follows self.old self.new }
     {
-        // Laws: of one line more.
+        // Laws: of one more line.
         answers_add_up();
         match request {
             OperatorLine::Admit(name, limits) => self.admit(setting.alloc, name, limits),
@@ -36,12 +36,12 @@ impl Serving {
         }
     }
 
-    // Admits a tenant. Where memory is refused to it nobody comes, and no admission is used.
+    // Admits a tenant. If memory is refused, the place stays empty and no admission is used.
     fn admit(&mut self, alloc: Global, name: Name, limits: Limits) -> OperatorReply
         ensures obeys { Obeys self.old self.new (Admit name limits) result }
         ensures follows { Follows self.old self.new }
     {
-        // Laws: of one line more.
+        // Laws: of one more line.
         answers_add_up();
         let place = match self.register.admit(name) {
             Ok(place) => place,
@@ -54,12 +54,12 @@ impl Serving {
         OperatorReply::Refused(OperatorRefusal::Memory)
     }
 
-    // Retires a tenant, once no round of it is away.
+    // Retires a tenant, once none of its rounds is away.
     fn retire<R: Wait>(&mut self, setting: &Setting<'_, R>, name: Name) -> OperatorReply
         ensures obeys { Obeys self.old self.new (Retire name) result }
         ensures follows { Follows self.old self.new }
     {
-        // Laws: of one line more.
+        // Laws: of one more line.
         answers_add_up();
         let Some(place) = self.register.place_of(name) else {
             return OperatorReply::Refused(OperatorRefusal::NoSuchTenant);
@@ -69,7 +69,7 @@ impl Serving {
         OperatorReply::Retired(name)
     }
 
-    // The tenant leaves its place, where it is home.
+    // Retires the tenant, which is home, from its place.
     fn leave(&mut self, place: usize, name: Name)
         requires place { place < most_places }
         requires found { place_in self.old.register name ≡ Some place }
@@ -77,7 +77,7 @@ impl Serving {
         ensures obeys { Obeys self.old self.new (Retire name) (Retired name) }
         ensures follows { Follows self.old self.new }
     {
-        // Laws: of one line more.
+        // Laws: of one more line.
         answers_add_up();
         let Ok(_) = self.register.retire(name) else {
             unreachable!()
@@ -85,7 +85,7 @@ impl Serving {
         self.desk_states[place].retire();
     }
 
-    // The round that is away from the place comes back, if one is; the answer that waited for it is known then.
+    // Waits for the round that is away from the place, if any; the answer that waited for it is then known.
     pub(crate) fn come_home<R: Wait>(&mut self, setting: &Setting<'_, R>, place: usize)
         requires { place < most_places }
         ensures follows { Follows self.old self.new }
@@ -102,7 +102,7 @@ impl Serving {
         self.held.fill(place, reply);
     }
 
-    // The same without waiting: where the round is not answered yet, all stays. Tells whether it was answered.
+    // The same without waiting: if the round is not answered yet, changes nothing. Returns whether it was answered.
     pub(crate) fn look_at(&mut self, place: usize) -> bool
         requires { FirstIsFor place self.old.answers }
         ensures follows { Follows self.old self.new }

@@ -15,7 +15,7 @@ use std::sync::Wait;
 
 /// What a worker does between taking a round and solving it.
 pub trait Gate {
-    /// Called by the worker that took the round of this ticket, before it solves it.
+    /// Called by the worker that took this ticket's round, before it solves the round.
     fn pass(&self, ticket: Ticket);
 }
 
@@ -26,7 +26,7 @@ impl Gate for Open {
     fn pass(&self, _ticket: Ticket) {}
 }
 
-/// The right to be one worker of a hall. Contracts see its hall and the tickets that it took, in order.
+/// The right to be one worker of a hall. Contracts see its hall and the tickets it took, in order.
 #[derive(Drop)]
 pub struct WorkerPass {
     taken: PopPass,
@@ -48,8 +48,7 @@ impl WorkerPass {
     }
 }
 
-/// What a worker did. Contracts see its hall and the tickets that it took, in order; at run time it keeps their number
-/// alone.
+/// What a worker did. Contracts see its hall and the tickets it took, in order; at run time it keeps only their number.
 #[derive(Drop)]
 pub struct Report {
     taken: PopPass,
@@ -64,14 +63,14 @@ impl Model for Report {
 }
 
 impl Report {
-    /// How many rounds the worker took. It takes no memory.
+    /// How many rounds the worker took. Takes no memory.
     pub fn count(&self) -> u64
         ensures { result ≡ length self.now.got }
     {
         self.taken.count()
     }
 
-    // Hands the pass in.
+    // Hands in the pass.
     pub(crate) fn give(&mut self, closing: &mut Closing)
         requires { self.old.queue ≡ closing.old.id }
         ensures closing { (p : ℕ)
@@ -81,7 +80,7 @@ impl Report {
         closing.pop_pass(&mut self.taken);
     }
 
-    // Hands the pass in as the first.
+    // Hands in the pass as the first one.
     pub(crate) fn begin(&mut self, queue: Queue) -> Closing
         requires { (self.old.queue ≡ queue.id) × (0 < queue.id.all) }
         ensures closing { (p : ℕ) × (result ≡ closing_is queue.id (share p 0 self.old.got ∷ [])) }
@@ -91,9 +90,9 @@ impl Report {
     }
 }
 
-/// Solves the rounds that it gets from the queue, each after it passed the gate. It ends once it has read the stop word
-/// as set and then found the queue empty. Where it finds nothing otherwise it looks again, and after some looks in
-/// vain it sleeps until it is woken for a round or the hall is shut. The allocator is for the lists in replies.
+/// Solves rounds from the queue, each after passing the gate. Ends once it has read the stop word as set and then found
+/// the queue empty. If it finds nothing otherwise, looks again, and after some looks in vain sleeps until it is woken
+/// for a round or the hall is shut. The allocator is for the lists in replies.
 pub fn worker<R: Wait, G: Gate>(
     rt: &R,
     alloc: Global,

@@ -8,9 +8,8 @@ use firm_text::{Line, Roster, line};
 use std::alloc::Global;
 use std::io;
 
-/// Has each tenant of the roster in turn answer its commands of a text, and writes a line for each round: the tenant's
-/// name, how many path searches the round made, and how many looks at an arc they took. The operator's lines are passed
-/// over.
+/// Has each tenant of the roster in turn answer its commands in a text, and writes a line for each round: the tenant's
+/// name, how many path searches the round made, and how many looks at an arc they took. Skips the operator's lines.
 pub(crate) fn tell_all(
     rt: &impl Print,
     alloc: Global,
@@ -57,7 +56,7 @@ fn first_line(text: &[u8]) -> (&[u8], &[u8])
     (line, &rest[1..])
 }
 
-// Has the tenant answer a command; the counts of a round are written.
+// Has the tenant answer a command, and writes the counts of a round.
 fn answer(
     rt: &impl Print,
     alloc: Global,

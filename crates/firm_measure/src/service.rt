@@ -6,7 +6,7 @@ use firm_text::{Bytes, Roster};
 use std::alloc::Global;
 use std::io::{Read, Write};
 
-/// Answers all lines of the reader, for the tenants of the roster. An error comes where the service stops.
+/// Answers all lines of the reader for the tenants of the roster. Fails if the service stops.
 pub(crate) fn answer_all<R: Read + Drop, W: Write + Drop>(
     alloc: Global,
     reader: R,

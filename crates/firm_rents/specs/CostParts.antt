@@ -4,7 +4,7 @@ use Rattle.firm_rules.specs.declared.rounds.Choice.{Choice}
 use Rattle.firm_rules.specs.declared.rounds.Choice.TheVariants.{On, Wait}
 use Rattle.firm_rules.specs.Placement.{Demand, Case, leaves, is_remote}
 
--- churn, where the choice takes the task from its machine
+-- churn, if the choice takes the task from its machine
 abbrev pub churn_cost : Case → Demand → Choice → ℕ
 churn_cost case task choice = if leaves task.home choice then case.churn else 0
 

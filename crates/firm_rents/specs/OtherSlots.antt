@@ -1,4 +1,4 @@
--- What other slots would save or cost, as rents tell it.
+-- What other slots would save or cost, judged by rents.
 use Rattle.std.specs.Prelude.{◌≡◌, ℕ, ◌+◌, ◌-◌, ◌≤◌, List, [], ◌∷◌, ◌++◌, length}
 use Rattle.firm_rules.specs.declared.rounds.Choice.{Choice}
 use Rattle.firm_rules.specs.declared.rounds.Choice.TheVariants.{On}
@@ -9,8 +9,8 @@ use Rattle.firm_rents.specs.Rents.{least_paid, gain, gains, Show}
 abbrev pub with_slots : Case → List ℕ → Case
 with_slots case slots = record case { slots = slots }
 
--- the same tasks with other slots of the same machines: what a placement costs less than one that the rents show is no
--- more than the gains grow
+-- the same tasks with other slots on the same machines: a placement undercuts one that the rents show by no more than
+-- the gains grow
 abbrev pub OtherSlotsCost : Type 0
 OtherSlotsCost = (case : Case) (rents : List ℕ) (placement : List Choice) → Show case rents placement
     → (slots : List ℕ) → length slots ≡ length case.slots
@@ -18,13 +18,13 @@ OtherSlotsCost = (case : Case) (rents : List ℕ) (placement : List Choice) → 
     → placement_cost case placement + gains case rents
     ≤ placement_cost (with_slots case slots) other + gains (with_slots case slots) rents
 
--- what the tasks would pay less, together, on a machine that is added last at this rent, each that would pay less there
+-- how much less the tasks would pay, together, on a machine added last at this rent, counting those that would pay less
 abbrev pub drawn : Case → List ℕ → ℕ → List Demand → ℕ
 drawn case rents rent [] = 0
 drawn case rents rent (task ∷ tasks) =
     (least_paid case rents task - (task_cost case task (On (length case.slots)) + rent)) + drawn case rents rent tasks
 
--- a machine more, with this number of slots: it saves no more than what tasks would pay less there at any one rent, and
+-- one more machine, with this number of slots: it saves no more than what tasks would save there at any one rent plus
 -- its gain at that rent
 abbrev pub OneMoreMachineSaves : Type 0
 OneMoreMachineSaves = (case : Case) (rents : List ℕ) (placement : List Choice) → Show case rents placement

@@ -7,7 +7,7 @@ use Rattle.firm_rules.specs.Sound.{AreSound}
 use Rattle.firm_rules.specs.declared.rounds.Choice.{Choice}
 use Rattle.firm_rules.specs.declared.rounds.Choice.TheVariants.{On, Wait}
 
--- the choice of a task that is where it is
+-- the choice of a task to stay where it is
 abbrev pub choice_of : TenantRows → Option (List ℕ) → Choice
 choice_of rows None = Wait
 choice_of rows (Some name) = On (place_of rows name)
@@ -16,7 +16,7 @@ choice_of rows (Some name) = On (place_of rows name)
 abbrev pub placement_of : TenantRows → List Choice
 placement_of rows = map (λ task. choice_of rows task.machine) rows.tasks
 
--- this is the placement by which these rows came of sound ones
+-- this is the placement by which these rows came from sound ones
 abbrev pub IsTheirPlacement : TenantRows → List Choice → Type 0
 IsTheirPlacement rows found = (before : TenantRows) (placement : List Choice) → AreSound before
     → is_legal (case_of before) placement ≡ true → rows ≡ rows_after before placement → found ≡ placement

@@ -12,11 +12,11 @@ pub record AreRents (machines : ℕ) (rents : List ℕ) : Type 0 where
   pub one_each : length rents ≡ machines
   pub small : (j : ℕ) → slice_index rents j ≤ 2 ^ 40
 
--- the task of this number; past the last one that waits and asks for nothing
+-- the task of this number; past the last, one that waits and asks for nothing
 abbrev pub task_at : Case → ℕ → Demand
 task_at case i = slice_index_or case.tasks i (record { home = None; preferred = []; delay = 0; job = 0 })
 
--- the choice of the task of this number; past the last to wait
+-- the choice of the task of this number; past the last, to wait
 abbrev pub choice_at : List Choice → ℕ → Choice
 choice_at placement i = slice_index_or placement i Wait
 
@@ -25,7 +25,7 @@ abbrev pub home_choice : Option ℕ → Choice
 home_choice (Some home) = On home
 home_choice None = Wait
 
--- the rent of a choice: that of its machine, and none to wait
+-- the rent of a choice: that of its machine, and 0 for waiting
 abbrev pub rent : List ℕ → Choice → ℕ
 rent rents (On j) = slice_index rents j
 rent rents Wait = 0
@@ -48,7 +48,7 @@ abbrev pub all_least : Case → List ℕ → List Demand → ℕ
 all_least case rents [] = 0
 all_least case rents (task ∷ tasks) = least_paid case rents task + all_least case rents tasks
 
--- what n tasks on one machine bring in rent beyond what they cost as a load; 0 where that is less
+-- what n tasks on one machine bring in rent beyond what they cost as a load; 0 if they bring less
 abbrev pub takings : ℕ → ℕ → ℕ → ℕ
 takings spread rent n = n * rent - load_cost spread n
 
@@ -67,7 +67,7 @@ abbrev pub RentsBound : Type 0
 RentsBound = (case : Case) (rents : List ℕ) (placement : List Choice) → IsLegal case placement
     → all_least case rents case.tasks ≤ placement_cost case placement + gains case rents
 
--- the rents show that the placement is least: its cost and the gains are what the tasks pay at least
+-- the rents show that the placement is least: its cost plus the gains equals the least that the tasks pay
 abbrev pub Show : Case → List ℕ → List Choice → Type 0
 Show case rents placement =
     placement_cost case placement + gains case rents ≡ all_least case rents case.tasks
@@ -77,7 +77,7 @@ RentsShowLeast = (case : Case) (rents : List ℕ) (placement : List Choice) → 
     → (other : List Choice) → IsLegal case other → placement_cost case placement ≤ placement_cost case other
 
 -- a legal placement costs more than the bound by no less than what its choice for a task costs that task, with rent,
--- beyond the least that it can pay
+-- beyond the least that the task can pay
 abbrev pub EachChoiceCostsItsExcess : Type 0
 EachChoiceCostsItsExcess = (case : Case) (rents : List ℕ) (placement : List Choice) → IsLegal case placement
     → (i : ℕ) → i < length case.tasks
@@ -89,13 +89,13 @@ abbrev pub CostsAtLeast : Case → List Choice → ℕ → Choice → ℕ → Ty
 CostsAtLeast case placement i choice more = (another : List Choice) → IsLegal case another
     → choice_at another i ≡ choice → placement_cost case placement + more ≤ placement_cost case another
 
--- the same, beside each legal placement that the rents show and in which the task has the chosen one
+-- the same, compared with each legal placement that the rents show and in which the task has the chosen one
 abbrev pub CostsMore : Case → List ℕ → ℕ → Choice → Choice → ℕ → Type 0
 CostsMore case rents i chosen other more = (placement : List Choice) → IsLegal case placement
     → Show case rents placement → choice_at placement i ≡ chosen → CostsAtLeast case placement i other more
 
--- what rents ask that show the placement: each task pays its least, the last task that a machine has is paid for, and
--- a slot that is free is worth no more than it would cost
+-- what makes rents show the placement: each task pays its least, each machine's last task is paid for, and a free slot
+-- is worth no more than it would cost
 pub record Suit (case : Case) (rents : List ℕ) (placement : List Choice) : Type 0 where
   pub cheapest : (i : ℕ) → i < length case.tasks → (other : Choice) → IsPlace (length case.slots) other
       → paid case rents (task_at case i) (choice_at placement i) ≤ paid case rents (task_at case i) other

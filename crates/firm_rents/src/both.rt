@@ -11,8 +11,9 @@ use crate::rents::Rents;
 use firm_rules::Choice;
 use std::alloc::{AllocError, Global};
 
-/// Finds the best other machine of each task whose own machine has this gap between its low and its high rent; of a
-/// task that waits the gap is 0. All such tasks weigh the other machines alike, apart from what these cost them.
+/// Finds the best other machine of each task whose own machine has this gap between its low and its high rent; for a
+/// task that waits, the gap is 0. All such tasks weigh the other machines alike, apart from what the machines cost
+/// them.
 #[derive(Drop)]
 pub struct Nearest<'a> {
     low: &'a Rents,
@@ -23,7 +24,7 @@ pub struct Nearest<'a> {
 }
 
 impl<'a> Nearest<'a> {
-    /// For this gap, in one pass over the machines. The error comes only where memory is refused.
+    /// Prepares for this gap, in one pass over the machines. Fails only if memory is refused.
     pub fn new(
         alloc: Global,
         low: &'a Rents,
@@ -51,8 +52,8 @@ impl<'a> Nearest<'a> {
         self.gap
     }
 
-    /// Of the machines that are neither the task's choice nor its own one that costs it least more, the first of
-    /// several; to wait where there is no such machine.
+    /// The machine that costs the task least more, the first if several do, apart from the task's choice and its own
+    /// machine; `Wait` if there is no such machine.
     pub fn machine(&self, case: &Case, task: usize, chosen: Choice) -> Choice
         requires task { task < length case.now.tasks }
         requires one_each { length self.now.low.now ≡ length case.now.slots }
@@ -64,7 +65,7 @@ impl<'a> Nearest<'a> {
     }
 }
 
-// Of each machine the low rent, or the high one less the gap, whichever is greater.
+// For each machine the low rent, or the high one less the gap, whichever is greater.
 fn greater_at(alloc: Global, low: &[u64], high: &[u64], gap: u64) -> Result<Vec<u64>, AllocError>
     requires { length low.now ≡ length high.now }
     ensures { IfOk result (λ table. AreAtGap low.now high.now gap table.items) }

@@ -1,4 +1,4 @@
-//! What rents prove of the cost of a tenant's placements. None of these calls takes memory.
+//! What rents prove about the cost of a tenant's placements. None of these calls takes memory.
 ghost use Rattle.std.specs.Prelude.{ℕ, ◌≡◌, ◌+◌, ◌*◌, ◌^◌, ◌≤◌, ◌↔◌, true, length, slice_index, List, IsTrue};
 ghost use Rattle.firm_rules.specs.declared.rounds.Choice.{Choice};
 ghost use Rattle.firm_rules.specs.Placement.{IsLegal, is_legal, placement_cost, load_cost, load, total, tasks_cost};
@@ -10,19 +10,19 @@ use crate::laws::rents_show_least;
 use crate::rents::Rents;
 use firm_rules::{Choice, cost_of_load, legality_is_judged, loads_of};
 
-/// What rents show of a placement.
+/// What rents show about a placement.
 #[derive(Clone, Copy, Debug, PartialEq, Eq)]
 pub struct Shown {
-    /// Whether they show it to be least: its cost and the gains are what the tasks pay at least.
+    /// Whether they show it to be least: its cost plus the gains equals the least that the tasks pay.
     pub least: bool,
     pub cost: u64,
-    /// What the tasks pay at least, together.
+    /// The least that the tasks pay, together.
     pub paid: u64,
     /// The gains of the machines, together.
     pub gains: u64,
 }
 
-/// What the rents show of a legal placement. Where they show it to be least, no legal placement costs less.
+/// What the rents show about a legal placement. If they show it to be least, no legal placement costs less.
 pub fn shows_least(case: &Case, rents: &Rents, placement: &[Choice]) -> Shown
     requires legal { is_legal case.now placement.now ≡ true }
     requires one_each { length rents.now ≡ length case.now.slots }
@@ -45,7 +45,7 @@ pub fn shows_least(case: &Case, rents: &Rents, placement: &[Choice]) -> Shown
     }
 }
 
-// What the tasks pay at least, each for the choice that is cheapest for it with rent.
+// The least that the tasks pay, together: each for its cheapest choice with rent.
 fn paid_of_all(case: &Case, rents: &Rents) -> u64
     requires one_each { length rents.now ≡ length case.now.slots }
     ensures paid { result ≡ all_least case.now rents.now case.now.tasks }
@@ -106,7 +106,7 @@ pub(crate) fn loads_cost(case: &Case, placement: &[Choice]) -> u64
     cost
 }
 
-// What their choices cost all tasks.
+// What all tasks' choices cost them.
 fn task_costs(case: &Case, placement: &[Choice]) -> u64
     requires { length placement.now ≡ length case.now.tasks }
     ensures cost { result ≡ tasks_cost case.now case.now.tasks placement.now }

@@ -22,7 +22,7 @@ use std::marker::Model;
 /// A task has a machine of its own, and those that it prefers.
 const MOST_NEAR: usize = MOST_PREFERENCES + 1;
 
-/// A task of a round, with machines by their places.
+/// A task of a round, with machines given by their places.
 #[derive(Drop)]
 pub(crate) struct Demand {
     home: Option<u32>,
@@ -53,7 +53,7 @@ impl Model for Case {
 }
 
 impl Case {
-    /// What a round of these rows is about. It looks up each name once. The error comes only where memory is refused.
+    /// What a round of these rows is about. Looks up each name once. Fails only if memory is refused.
     pub fn of(alloc: Global, rows: &Rows) -> Result<Case, AllocError>
         ensures { IfOk result (λ case. case ≡ case_of rows.now) }
     {
@@ -92,7 +92,7 @@ impl Case {
         u64::from(self.slots[place])
     }
 
-    /// What each further task on a machine costs more than the one before.
+    /// How much more each further task on a machine costs than the one before.
     pub fn spread(&self) -> u64
         ensures spread { result ≡ self.now.spread }
         ensures most { result ≤ 1000 }
@@ -100,7 +100,7 @@ impl Case {
         self.limits.spread()
     }
 
-    /// Where the task of this number runs, as a choice; to wait where it waits.
+    /// Where the task of this number runs, as a choice; `Wait` if it waits.
     pub fn home(&self, task: usize) -> Choice
         requires { task < length self.now.tasks }
         ensures { result ≡ home_choice (task_at self.now task).home }
@@ -120,7 +120,7 @@ impl Case {
         self.rest_of(task, choice) + self.churn_of(task, choice)
     }
 
-    /// Churn, where a choice takes the task of this number from its machine.
+    /// Churn, if a choice takes the task of this number from its machine.
     pub(crate) fn churn_of(&self, task: usize, choice: Choice) -> u64
         requires { task < length self.now.tasks }
         ensures churn { result ≡ churn_cost self.now (task_at self.now task) choice }
@@ -194,8 +194,8 @@ impl Case {
         churn + remote
     }
 
-    /// The machines that may cost the task of this number less than the others: its own, and those that it prefers, in
-    /// this order; its own may stand among both.
+    /// The machines that may cost the task of this number less than the others: its own, then those it prefers; its own
+    /// may be among these too.
     pub fn near(&self, task: usize) -> ArrayVec<u32, MOST_NEAR>
         requires { task < length self.now.tasks }
         ensures places { result.items ≡ near (task_at self.now task) }
@@ -235,7 +235,7 @@ fn are_places(placement: &[Choice], machines: usize) -> bool
     })
 }
 
-// The place of the machine that a task runs on, if it runs, alone in a list.
+// A list of the place of the machine that a task runs on, if it runs.
 fn own_place(home: Option<u32>) -> ArrayVec<u32, MOST_NEAR>
     ensures items { result.items ≡ option_to_list home }
     ensures few { array_vec_len result ≤ 1 }
@@ -250,7 +250,7 @@ fn own_place(home: Option<u32>) -> ArrayVec<u32, MOST_NEAR>
     own
 }
 
-/// The place of the machine of this name; past the last, as defined, where no machine has it.
+/// The place of the machine of this name; by definition past the last if no machine has it.
 pub(crate) fn place_of(rows: &Rows, name: Name) -> u32
     ensures place { result ≡ place_of rows.now name }
     ensures below { is_among (machine_names rows.now) name ≡ true → result < length rows.now.machines }
@@ -341,7 +341,7 @@ fn delay_of(rows: &Rows, task: &Task) -> u64
     u64::from(weight_of(rows, task.job)) + u64::from(task.waited)
 }
 
-// The place of the job of this name; past the last, as defined, where no job has it.
+// The place of the job of this name; by definition past the last if no job has it.
 fn job_place_of(rows: &Rows, job: Name) -> u32
     ensures { result ≡ position_or_len (bytes_eq job) (job_names rows.now) }
 {
@@ -352,7 +352,7 @@ fn job_place_of(rows: &Rows, job: Name) -> u32
     }
 }
 
-// The places of the machines of these names, which are there.
+// The places of the machines of these names, all of which exist.
 fn places_of(rows: &Rows, names: &[Name]) -> ArrayVec<u32, MOST_PREFERENCES>
     requires few { length names.now ≤ 4 }
     requires there { All (λ name. is_among (machine_names rows.now) name ≡ true) names.now }

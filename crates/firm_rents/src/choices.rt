@@ -1,4 +1,4 @@
-//! What a task pays, and what another choice costs it more.
+//! What a task pays, and how much more another choice costs it.
 ghost use Rattle.std.specs.Prelude.{◌≡◌, ◌-◌, ◌^◌, ◌<◌, ◌≤◌, true, false, length};
 ghost use Rattle.firm_rules.specs.Placement.{IsPlace};
 ghost use Rattle.firm_rents.specs.Rents.{task_at, paid, least_paid, CostsMore};
@@ -18,8 +18,8 @@ pub fn paid(case: &Case, rents: &Rents, task: usize, choice: Choice) -> u64
     case.cost_of_choice(task, choice) + rents.of_choice(choice)
 }
 
-/// How much more the task of this number pays for the other choice than for the chosen one; 0 where that is less. If
-/// the rents show a placement with the chosen one, every legal placement with the other costs at least this much more.
+/// How much more the task of this number pays for the other choice than for the chosen one; 0 if it pays less. If the
+/// rents show a placement with the chosen one, every legal placement with the other costs at least this much more.
 pub fn excess(case: &Case, rents: &Rents, task: usize, chosen: Choice, other: Choice) -> u64
     requires task { task < length case.now.tasks }
     ensures excess { result ≡ paid case.now rents.now (task_at case.now task) other
@@ -29,9 +29,9 @@ pub fn excess(case: &Case, rents: &Rents, task: usize, chosen: Choice, other: Ch
     paid(case, rents, task, other).saturating_sub(paid(case, rents, task, chosen))
 }
 
-/// Of the machines but these two one that costs the task of this number least with its rent; to wait where there is no
-/// other machine, and the first of those that cost as little. It looks at the task's own machine, those that it
-/// prefers, and the first with the lowest rent.
+/// The machine that costs the task of this number least with its rent, apart from these two; the first if several do,
+/// and `Wait` if there is no other machine. Looks at the task's own machine, those it prefers, and the first with the
+/// lowest rent.
 pub fn cheapest_other(case: &Case, rents: &Rents, task: usize, one: Choice, other: Choice) -> Choice
     requires task { task < length case.now.tasks }
     requires one_each { length rents.now ≡ length case.now.slots }
@@ -72,7 +72,7 @@ fn stands_before(machine: Choice, other: Choice) -> bool {
     }
 }
 
-/// What the task of this number pays at least: to wait, or for a machine with its rent.
+/// The least that the task of this number pays: to wait, or for a machine with its rent.
 pub fn least_paid(case: &Case, rents: &Rents, task: usize) -> u64
     requires task { task < length case.now.tasks }
     requires one_each { length rents.now ≡ length case.now.slots }

@@ -8,7 +8,7 @@ use crate::bounds::loads_cost;
 use crate::cases::Case;
 use firm_rules::Choice;
 
-/// What a placement costs, by what for.
+/// What a placement costs, by kind of cost.
 #[derive(Clone, Copy, Debug, PartialEq, Eq)]
 pub struct Parts {
     /// The loads of the machines.
@@ -23,7 +23,7 @@ pub struct Parts {
     pub remote: u64,
 }
 
-/// What a placement costs, by what for. There is one choice for each task.
+/// What a placement costs, by kind of cost. There is one choice for each task.
 pub fn parts_of(case: &Case, placement: &[Choice]) -> Parts
     requires { length placement.now ≡ length case.now.tasks }
     ensures loads { result.loads ≡ total (λ j. load_cost case.now.spread (load placement.now j))
@@ -48,7 +48,7 @@ pub fn parts_of(case: &Case, placement: &[Choice]) -> Parts
     parts
 }
 
-// The parts and those of one task's choice.
+// These parts plus those of one task's choice.
 fn with_choice(parts: Parts, case: &Case, task: usize, choice: Choice) -> Parts
     requires task { task < length case.now.tasks }
     requires moves { parts.moves ≤ 2 ^ 40 }

@@ -6,8 +6,8 @@ use crate::cases::place_of;
 use firm_rules::{Choice, Name, Rows, legality_is_judged};
 use std::alloc::{AllocError, Global};
 
-/// Where each task runs, as a placement: of rows that a round has left, the placement of that round. The error comes
-/// only where memory is refused.
+/// Where each task runs, as a placement: for rows left by a round, the placement of that round. Fails only if memory is
+/// refused.
 pub fn placement_of(alloc: Global, rows: &Rows) -> Result<Vec<Choice>, AllocError>
     ensures placement { IfOk result (λ placement. placement.items ≡ placement_of rows.now) }
     ensures round { IfOk result (λ placement. IsTheirPlacement rows.now placement.items) }
@@ -23,7 +23,7 @@ pub fn placement_of(alloc: Global, rows: &Rows) -> Result<Vec<Choice>, AllocErro
     Ok(placement)
 }
 
-// The choice of a task that is where it is.
+// The choice of a task to stay where it is.
 fn choice_of(rows: &Rows, machine: Option<Name>) -> Choice
     ensures { result ≡ choice_of rows.now machine }
 {

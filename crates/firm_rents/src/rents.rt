@@ -7,14 +7,14 @@ use crate::cases::is_on;
 use firm_rules::Choice;
 use std::marker::Model;
 
-/// No rent is more.
+/// The highest rent.
 pub(crate) const MOST_RENT: u64 = 1 << 40;
 
 /// A rent for each machine, in order of addition, 2^40 at most.
 #[derive(Drop)]
 pub struct Rents {
     table: Vec<u64>,
-    // The machines of the three lowest rents: one of them is left where two machines are out of the question.
+    // The machines with the three lowest rents: one of them is left if two machines are excluded.
     first: Choice,
     second: Choice,
     third: Choice,
@@ -58,7 +58,7 @@ impl Rents {
         self.table.as_slice()
     }
 
-    /// The rent of a choice: that of its machine, and none to wait.
+    /// The rent of a choice: that of its machine, and 0 for waiting.
     pub fn of_choice(&self, choice: Choice) -> u64
         ensures rent { result ≡ rent self.now choice }
         ensures most { result ≤ 2 ^ 40 }
@@ -66,7 +66,7 @@ impl Rents {
         rent_of(self.table.as_slice(), choice)
     }
 
-    /// The machine with the lowest rent but these two; to wait where there is none.
+    /// The machine with the lowest rent apart from these two; `Wait` if there is none.
     pub(crate) fn lowest_but(&self, one: Choice, other: Choice) -> Choice
         ensures { IsLowest (slice_index self.now) (length self.now) one other result }
     {
@@ -80,7 +80,7 @@ impl Rents {
     }
 }
 
-/// The rent of a choice: that of its machine, and none to wait.
+/// The rent of a choice: that of its machine, and 0 for waiting.
 pub(crate) fn rent_of(rents: &[u64], choice: Choice) -> u64
     ensures { result ≡ rent rents.now choice }
 {
@@ -90,7 +90,7 @@ pub(crate) fn rent_of(rents: &[u64], choice: Choice) -> u64
     }
 }
 
-// The machine with the lowest rent but these two, the first of several; to wait where there is none.
+// The machine with the lowest rent apart from these two, the first if several have it; `Wait` if there is none.
 fn lowest_of(rents: &[u64], one: Choice, other: Choice) -> Choice
     requires { length rents.now ≤ 4096 }
     ensures { IsLowest (slice_index rents.now) (length rents.now) one other result }

@@ -1,4 +1,4 @@
-//! What other slots would save or cost in a round, as its rents tell it.
+//! What other slots would save or cost in a round, judged by its rents.
 ghost use Rattle.std.specs.Prelude.{◌≡◌, ◌+◌, ◌-◌, ◌^◌, ◌<◌, ◌≤◌, [], ◌∷◌, ◌++◌, List, length, slice_index, IfOk};
 ghost use Rattle.std.specs.Prelude.{slice_set as set};
 ghost use Rattle.firm_rules.specs.declared.rounds.Choice.{Choice as ChoiceOf};
@@ -19,7 +19,7 @@ use std::cmp::Reverse;
 /// What one more machine, which no task prefers, would save in a round.
 #[derive(Drop)]
 pub struct Saving {
-    /// What it saves at most.
+    /// The most it saves.
     pub most: u64,
     /// The rent of the machine that proves it.
     pub rent: u64,
@@ -27,8 +27,8 @@ pub struct Saving {
     pub tasks: Vec<u32>,
 }
 
-/// What one more machine with this number of slots would save at most in a round of which these rents show the
-/// placement. The error comes only where memory is refused.
+/// The most that one more machine with this number of slots would save in a round whose placement these rents show.
+/// Fails only if memory is refused.
 pub fn saved_by_machine(
     alloc: Global,
     case: &Case,
@@ -50,7 +50,7 @@ pub fn saved_by_machine(
     Ok(Saving { most, rent, tasks })
 }
 
-/// What one more slot of the machine would save at most in a round of which these rents show the placement.
+/// The most that one more slot of the machine would save in a round whose placement these rents show.
 pub fn saved_by_slot(case: &Case, rents: &Rents, place: usize) -> u64
     requires place { place < length case.now.slots }
     requires one_each { length rents.now ≡ length case.now.slots }
@@ -65,7 +65,7 @@ pub fn saved_by_slot(case: &Case, rents: &Rents, place: usize) -> u64
     gain_of(case.spread(), rent, slots + 1) - gain_of(case.spread(), rent, slots)
 }
 
-/// What a slot less of the machine would cost at least in a round of which these rents show the placement.
+/// The least that one fewer slot of the machine would cost in a round whose placement these rents show.
 pub fn lost_by_slot(case: &Case, rents: &Rents, place: usize) -> u64
     requires place { place < length case.now.slots }
     requires one_each { length rents.now ≡ length case.now.slots }
@@ -80,7 +80,8 @@ pub fn lost_by_slot(case: &Case, rents: &Rents, place: usize) -> u64
     gain_of(case.spread(), rent, slots) - gain_of(case.spread(), rent, slots.saturating_sub(1))
 }
 
-// What each task pays at least beyond its cost on a machine that is added last, most first, with its number.
+// How far the least that each task pays exceeds its cost on a machine added last, with the task's number, greatest
+// first.
 fn worths_of(
     alloc: Global,
     case: &Case,
@@ -97,8 +98,8 @@ fn worths_of(
     Ok(worths)
 }
 
-// The tasks that go to a further machine, each while it is worth more than its slot costs, and the rent at which no
-// other task would.
+// The tasks that go to a further machine, each as long as it is worth more than its slot costs, and the rent at which
+// no other task would go.
 fn takers_of(
     alloc: Global,
     spread: u64,
@@ -122,7 +123,7 @@ fn takers_of(
     Ok((u64::min(rent, MOST_RENT), tasks))
 }
 
-// What the tasks would pay less on a machine that is added last at this rent.
+// How much less the tasks would pay on a machine added last at this rent.
 fn drawn_at(case: &Case, rents: &Rents, rent: u64) -> u64
     requires one_each { length rents.now ≡ length case.now.slots }
     requires rent { rent ≤ 2 ^ 40 }
@@ -136,7 +137,7 @@ fn drawn_at(case: &Case, rents: &Rents, rent: u64) -> u64
     drawn
 }
 
-// What a machine that is added last costs a task.
+// What a machine added last costs a task.
 fn cost_on_last(case: &Case, task: usize) -> u64
     requires { task < length case.now.tasks }
     ensures cost { result ≡ task_cost case.now (task_at case.now task) (On (length case.now.slots)) }

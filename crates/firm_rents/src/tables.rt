@@ -1,5 +1,5 @@
 //! The lowest and the highest rents that a placement leaves its machines, and those that make one task's other choices
-//! as dear as they can be. `shows_least` asks of each table anew whether it shows the placement.
+//! as dear as they can be. `shows_least` checks anew whether each table shows the placement.
 ghost use Rattle.std.specs.Prelude.{◌≡◌, ◌+◌, ◌-◌, ◌*◌, ◌^◌, ◌<◌, ◌≤◌, ℕ, List, length, slice_index, IfOk, true};
 ghost use Rattle.std.specs.Prelude.{if◌then◌else◌, nat_lt, min, max, slice_set as set};
 ghost use Rattle.firm_rules.specs.Placement.{is_legal, IsPlace, load};
@@ -14,9 +14,8 @@ use crate::rents::{MOST_RENT, Rents, rent_of};
 use firm_rules::{Choice, legality_is_judged, loads_of};
 use std::alloc::{AllocError, Global};
 
-/// The lowest rents that a legal placement leaves its machines: the last task that each has is paid for, and no task
-/// would pay less elsewhere. No rents that show the placement have a lower one. The error comes only where memory is
-/// refused.
+/// The lowest rents that a legal placement leaves its machines: each machine's last task is paid for, and no task would
+/// pay less elsewhere. No rents that show the placement have a lower one. Fails only if memory is refused.
 pub fn low_rents(alloc: Global, case: &Case, placement: &[Choice]) -> Result<Rents, AllocError>
     requires legal { is_legal case.now placement.now ≡ true }
     ensures rents { IfOk result (λ low. AreRents (length case.now.slots) low) }
@@ -32,8 +31,8 @@ pub fn low_rents(alloc: Global, case: &Case, placement: &[Choice]) -> Result<Ren
 }
 
 /// The highest rents that a legal placement leaves its machines: no free slot is worth more than it would cost, and no
-/// task would pay less elsewhere or waiting. No rents up to 2^40 that show the placement have a higher one. The error
-/// comes only where memory is refused.
+/// task would pay less elsewhere or by waiting. No rents up to 2^40 that show the placement have a higher one. Fails
+/// only if memory is refused.
 pub fn high_rents(alloc: Global, case: &Case, placement: &[Choice]) -> Result<Rents, AllocError>
     requires legal { is_legal case.now placement.now ≡ true }
     ensures rents { IfOk result (λ high. AreRents (length case.now.slots) high) }
@@ -48,8 +47,8 @@ pub fn high_rents(alloc: Global, case: &Case, placement: &[Choice]) -> Result<Re
     Ok(Rents::of(table))
 }
 
-/// Rents by which each other choice of the task of this number is as dear, beside its own, as any rents up to 2^40 that
-/// show the placement can make it. The error comes only where memory is refused.
+/// Rents by which each other choice of the task of this number is as dear, compared with its own, as any rents up to
+/// 2^40 that show the placement can make it. Fails only if memory is refused.
 pub fn rents_for(
     alloc: Global,
     case: &Case,
@@ -75,7 +74,7 @@ pub fn rents_for(
     Ok(Rents::of(table))
 }
 
-// Rents by which the last task that each machine has is paid for.
+// Rents by which each machine's last task is paid for.
 fn paid_for(alloc: Global, case: &Case, placement: &[Choice]) -> Result<Vec<u64>, AllocError>
     requires { is_legal case.now placement.now ≡ true }
     ensures one_each { IfOk result (λ rents. length rents.items ≡ length case.now.slots) }
@@ -94,7 +93,7 @@ fn paid_for(alloc: Global, case: &Case, placement: &[Choice]) -> Result<Vec<u64>
     Ok(rents)
 }
 
-// Rents by which a free slot is worth what it would cost, and those of full machines are as high as can be.
+// Rents by which a free slot is worth what it would cost, and those of full machines are as high as they can be.
 fn free_slots(alloc: Global, case: &Case, placement: &[Choice]) -> Result<Vec<u64>, AllocError>
     requires { is_legal case.now placement.now ≡ true }
     ensures one_each { IfOk result (λ rents. length rents.items ≡ length case.now.slots) }
@@ -135,7 +134,7 @@ fn raise_all(case: &Case, placement: &[Choice], rents: &mut [u64])
     }
 }
 
-// Raises each rent to what the tasks pay beyond what its machine costs them; says whether one rose.
+// Raises each rent to what the tasks pay beyond what its machine costs them; returns whether one rose.
 fn raise(case: &Case, placement: &[Choice], rents: &mut [u64]) -> bool
     requires legal { is_legal case.now placement.now ≡ true }
     requires one_each { length rents.old ≡ length case.now.slots }
@@ -156,7 +155,7 @@ fn raise(case: &Case, placement: &[Choice], rents: &mut [u64]) -> bool
     raise_to_floor(rents, floor) || rose
 }
 
-// Raises the rents of the task's own machine and of those that it prefers; says whether one rose.
+// Raises the rents of the task's own machine and of those it prefers; returns whether one rose.
 fn raise_near(case: &Case, task: usize, pays: u64, rents: &mut [u64]) -> bool
     requires task { task < length case.now.tasks }
     requires one_each { length rents.old ≡ length case.now.slots }
@@ -175,7 +174,7 @@ fn raise_near(case: &Case, task: usize, pays: u64, rents: &mut [u64]) -> bool
     rose
 }
 
-// Raises the rent of the machine to what the task pays beyond what the machine costs it; says whether it rose.
+// Raises the rent of the machine to what the task pays beyond what the machine costs it; returns whether it rose.
 fn raise_one(case: &Case, task: usize, pays: u64, place: u32, rents: &mut [u64]) -> bool
     requires task { task < length case.now.tasks }
     requires place { place < length case.now.slots }
@@ -191,7 +190,7 @@ fn raise_one(case: &Case, task: usize, pays: u64, place: u32, rents: &mut [u64])
     raise_to(rents, place as usize, pays.saturating_sub(cost))
 }
 
-// Raises all rents to this one; says whether one rose.
+// Raises all rents to this one; returns whether one rose.
 fn raise_to_floor(rents: &mut [u64], least: u64) -> bool
     requires small { (j : ℕ) → slice_index rents.old j ≤ 2 ^ 40 }
     ensures one_each { length rents.new ≡ length rents.old }
@@ -206,7 +205,7 @@ fn raise_to_floor(rents: &mut [u64], least: u64) -> bool
     rose
 }
 
-// Raises the rent of a machine to this one, if that is more; says whether it rose.
+// Raises the rent of a machine to this one, if that is more; returns whether it rose.
 fn raise_to(rents: &mut [u64], place: usize, least: u64) -> bool
     requires { place < length rents.old }
     ensures { rents.new ≡ set rents.old place (max (slice_index rents.old place) (min least (2 ^ 40))) }
@@ -217,7 +216,7 @@ fn raise_to(rents: &mut [u64], place: usize, least: u64) -> bool
     rises
 }
 
-// Lowers the rents until no task would pay less elsewhere or waiting.
+// Lowers the rents until no task would pay less elsewhere or by waiting.
 fn lower_all(case: &Case, placement: &[Choice], rents: &mut [u64])
     requires legal { is_legal case.now placement.now ≡ true }
     requires one_each { length rents.old ≡ length case.now.slots }
@@ -234,7 +233,7 @@ fn lower_all(case: &Case, placement: &[Choice], rents: &mut [u64])
     }
 }
 
-// Lowers the rent of each machine to what its tasks would pay elsewhere; says whether one fell.
+// Lowers the rent of each machine to what its tasks would pay elsewhere; returns whether one fell.
 fn lower(case: &Case, placement: &[Choice], rents: &mut [u64]) -> bool
     requires legal { is_legal case.now placement.now ≡ true }
     requires one_each { length rents.old ≡ length case.now.slots }
@@ -255,7 +254,7 @@ fn lower(case: &Case, placement: &[Choice], rents: &mut [u64]) -> bool
     fell
 }
 
-// Whether a rent fell, and the place of a lowest one.
+// Whether a rent fell, and the place of a lowest rent.
 #[derive(Clone, Copy)]
 struct Lowered {
     fell: bool,
@@ -300,7 +299,7 @@ fn lower_for(case: &Case, rents: &mut [u64], task: usize, choice: Choice, lowest
     }
 }
 
-// What the task would pay at least for a machine of the lowest rent, its own or one that it prefers, or to wait.
+// The least that the task would pay: for a machine of the lowest rent, its own or one it prefers, or to wait.
 fn pays_elsewhere(case: &Case, rents: &[u64], task: usize, lowest: usize) -> u64
     requires task { task < length case.now.tasks }
     requires one_each { length rents.now ≡ length case.now.slots }
@@ -361,7 +360,7 @@ fn cap(rents: &mut [u64], choice: Choice, most: u64)
     lower_to(rents, machine as usize, most);
 }
 
-// Lowers the rent of a machine to this one, if that is less; says whether it fell.
+// Lowers the rent of a machine to this one, if that is less; returns whether it fell.
 fn lower_to(rents: &mut [u64], place: usize, most: u64) -> bool
     requires { place < length rents.old }
     ensures { rents.new ≡ set rents.old place (min (slice_index rents.old place) most) }
@@ -371,7 +370,7 @@ fn lower_to(rents: &mut [u64], place: usize, most: u64) -> bool
     falls
 }
 
-// The place of a lowest rent; 0 where there is none.
+// The place of a lowest rent; 0 if there is none.
 fn lowest_place(rents: &[u64]) -> usize
     ensures { 0 < length rents.now → result < length rents.now }
 {

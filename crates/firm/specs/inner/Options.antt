@@ -25,7 +25,7 @@ pub record HasNumber (m : ArgMatches) : Type 0 where
   pub read : one_text (found_of m) (codes "workers") ≡ Some (without_minus text)
   pub within : IsSignedIn (pos 1) (pos 8) text
 
--- the parser's own command is this command line, and where it parses words, both options have values
+-- the parser's own command is this command line, and when it parses words, both options have values
 pub record IsCommandLine (command : Command) : Type 0 where
   pub app : app_of command ≡ command_line
   pub roster : (m : ArgMatches) → IsParsedFrom command m → is_some (first_value (found_of m) (codes "roster")) ≡ true

@@ -1,4 +1,4 @@
--- What stands at the places of a hall that serves, and the answers that it holds.
+-- What stands at the places of a serving hall, and the answers it holds.
 use Rattle.std.specs.Prelude.{◌≡◌, ℕ, ◌+◌, ◌<◌, ◌==◌, ◌⊎◌, Bool, true, false, List, [], ◌∷◌, Option, Some, None}
 use Rattle.std.specs.Prelude.{if◌then◌else◌}
 use Rattle.firm_rules.specs.Limits.{TenantLimits}
@@ -17,21 +17,21 @@ use Rattle.firm_table.specs.declared.answers.LineAnswer.TheVariants.{Replied}
 use Rattle.firm_hall.specs.declared.held.HeldAnswer.{HeldAnswer}
 use Rattle.firm_hall.specs.declared.held.HeldAnswer.TheVariants.{Known, Waiting}
 
--- something stands there
+-- something stands at the place
 abbrev pub IsPresent : DeskState → Type 0
 IsPresent (Home desk) = Unit {0}
 IsPresent (Away asked) = Unit {0}
 IsPresent (Empty place) = Unit {0}
 IsPresent Gone = ⊥
 
--- no round is away from there
+-- no round is away from the place
 abbrev pub IsBack : DeskState → Type 0
 IsBack (Home desk) = Unit {0}
 IsBack (Away asked) = ⊥
 IsBack (Empty place) = Unit {0}
 IsBack Gone = ⊥
 
--- a round is away from there
+-- a round is away from the place
 abbrev pub IsAway : DeskState → Type 0
 IsAway (Home desk) = ⊥
 IsAway (Away asked) = Unit {0}
@@ -45,14 +45,14 @@ IsHome (Away asked) = ⊥
 IsHome (Empty place) = ⊥
 IsHome Gone = ⊥
 
--- and one of this hall
+-- a desk at home, of this hall
 abbrev pub IsHomeOf : QueueId → DeskState → Type 0
 IsHomeOf queue (Home desk) = desk.queue ≡ queue
 IsHomeOf queue (Away asked) = ⊥
 IsHomeOf queue (Empty place) = ⊥
 IsHomeOf queue Gone = ⊥
 
--- nobody is there, and the place has an admission left
+-- the place is empty and has an admission left
 abbrev pub IsFree : DeskState → Type 0
 IsFree (Home desk) = ⊥
 IsFree (Away asked) = ⊥
@@ -70,7 +70,7 @@ IsTurned (Home desk) after (Some reply) = ⊥
 IsTurned (Empty place) after (Some reply) = ⊥
 IsTurned Gone after (Some reply) = ⊥
 
--- where a tenant came, its desk stands in place of the empty one, with the opening book; else all is as it was
+-- if a tenant was admitted, its desk replaces the empty one, with the opening book; otherwise nothing changes
 abbrev pub IsAdmitted : DeskState → TenantLimits → Bool → DeskState → Type 0
 IsAdmitted (Home desk) limits came after = ⊥
 IsAdmitted (Away asked) limits came after = ⊥
@@ -79,14 +79,14 @@ IsAdmitted (Empty place) limits true after =
 IsAdmitted (Empty place) limits false after = after ≡ Empty place
 IsAdmitted Gone limits came after = ⊥
 
--- the empty desk stands there in place of the tenant's
+-- the empty desk replaces the tenant's
 abbrev pub IsRetired : DeskState → DeskState → Type 0
 IsRetired (Home desk) after = after ≡ Empty (place_is desk.queue desk.place desk.put desk.admissions)
 IsRetired (Away asked) after = ⊥
 IsRetired (Empty place) after = ⊥
 IsRetired Gone after = ⊥
 
--- the desk answered the command; a round that it answers itself is worn, or was refused memory
+-- the desk answered the command; it answers a round itself only if its life is worn or memory was refused
 pub record Answered (before : DeskIs) (command : Command) (after : DeskIs) (reply : Reply) : Type 0 where
   pub stepped : IsStep before command reply after
   pub why : command ≡ Round → (reply.outcome ≡ Refused Worn) ⊎ (reply.outcome ≡ Refused Memory)
@@ -112,7 +112,7 @@ IsTaken before place name command (Away asked) (Known answer) = ⊥
 IsTaken before place name command (Empty after) answer = ⊥
 IsTaken before place name command Gone answer = ⊥
 
--- the same of the place where the desk was home
+-- the same for the place where the desk was home
 abbrev pub IsTakenAt : DeskState → ℕ → List ℕ → Command → DeskState → HeldAnswer → Type 0
 IsTakenAt (Home before) place name command after answer = IsTaken before place name command after answer
 IsTakenAt (Away asked) place name command after answer = ⊥

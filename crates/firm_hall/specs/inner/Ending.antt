@@ -1,4 +1,4 @@
--- How a service ends, and the desks of a hall once it serves no more.
+-- How a service ends, and the desks of a hall that no longer serves.
 use Rattle.std.specs.Prelude.{◌≡◌, ℕ, All, List, Result, Ok, Err}
 use Rattle.firm_text.specs.Rosters.{RosterRow}
 use Rattle.firm_table.specs.Service.{Device, Stopped}
@@ -22,7 +22,7 @@ pub record AreOf (id : QueueId) (desks : List DeskIs) (empty : List PlaceIs) : T
   pub each : All (λ desk. desk.queue ≡ id) desks
   pub places : All (λ place. place.queue ≡ id) empty
 
--- it served to the end of the input, or stopped with a fault
+-- the service reached the end of the input, or stopped with a fault
 abbrev pub Ran : List RosterRow → ℕ → Device → Device → Result Ended ServeFault → Type 0
 Ran roster most reader writer (Ok ended) = ServedWith roster most reader writer ended.rounds
 Ran roster most reader writer (Err fault) = Stopped roster most reader writer fault

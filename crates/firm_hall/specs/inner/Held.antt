@@ -17,7 +17,7 @@ use Rattle.firm_hall.specs.declared.held.HeldAnswer.TheVariants.{Known, Waiting}
 abbrev pub most_answers_held : ℕ
 most_answers_held = 1024
 
--- the answers that are held, in the order of their lines, and the text that is still to be written before them
+-- the held answers, in the order of their lines, and the text still to be written before them
 pub record HeldIs : Type 0 where
   pub answers : List HeldAnswer
   pub output : List ℕ
@@ -30,23 +30,23 @@ abbrev pub waits_for : ℕ → HeldAnswer → Bool
 waits_for place (Waiting other name asked) = other == place
 waits_for place (Known answer) = false
 
--- the reply came
+-- an answer, with this reply if it waits
 abbrev pub answered : Reply → HeldAnswer → HeldAnswer
 answered reply (Waiting place name asked) = Known (Replied name reply)
 answered reply (Known answer) = Known answer
 
--- the first answer that waits for the place is this reply
+-- the answers, with this reply for the first that waits for the place
 abbrev pub filled : ℕ → Reply → List HeldAnswer → List HeldAnswer
 filled place reply [] = []
 filled place reply (answer ∷ rest) =
     if waits_for place answer then answered reply answer ∷ rest else answer ∷ filled place reply rest
 
--- the answer that is held, once those rounds are answered
+-- a held answer, once its round is answered with the mark of its place
 abbrev pub answer_in : (ℕ → Bool) → HeldAnswer → LineAnswer
 answer_in marks (Waiting place name asked) = Replied name (step asked.value.book Round (marks place)).0
 answer_in marks (Known answer) = answer
 
--- the text of the answers that are held
+-- the text of the held answers
 abbrev pub held_text : (ℕ → Bool) → List HeldAnswer → List ℕ
 held_text marks answers = flat_map text_of_answer (map (answer_in marks) answers)
 
@@ -66,19 +66,19 @@ OneWaits place asked [] = ⊥
 OneWaits place asked (answer ∷ rest) =
     MatchBool (waits_for place answer) (IsFor asked answer × NoneWaits place rest) (OneWaits place asked rest)
 
--- the first answer that is held waits, or none is held
+-- the first held answer waits, or none is held
 abbrev pub FirstWaits : List HeldAnswer → Type 0
 FirstWaits [] = Unit {0}
 FirstWaits (Waiting place name asked ∷ rest) = Unit {0}
 FirstWaits (Known answer ∷ rest) = ⊥
 
--- it is known
+-- the first held answer is known
 abbrev pub FirstIsKnown : List HeldAnswer → Type 0
 FirstIsKnown [] = ⊥
 FirstIsKnown (Waiting place name asked ∷ rest) = ⊥
 FirstIsKnown (Known answer ∷ rest) = Unit {0}
 
--- it waits for the round of this place
+-- the first held answer waits for the round of this place
 abbrev pub FirstIsFor : ℕ → List HeldAnswer → Type 0
 FirstIsFor place [] = ⊥
 FirstIsFor place (answer ∷ rest) = waits_for place answer ≡ true

@@ -1,4 +1,4 @@
--- How far a hall has come that serves.
+-- How far a serving hall has come.
 use Rattle.std.specs.Prelude.{◌≡◌, ℕ, ◌<◌, ◌≤◌, Bool, true, false, List, [], ◌∷◌, ◌++◌, Option, Some, None}
 use Rattle.std.specs.Prelude.{map, length, slice_index_or}
 use Rattle.std.specs.Option.{is_some}
@@ -27,8 +27,8 @@ use Rattle.firm_table.specs.declared.answers.LineAnswer.TheVariants.{ToOperator}
 use Rattle.firm_hall.specs.declared.held.HeldAnswer.{HeldAnswer}
 use Rattle.firm_hall.specs.declared.held.HeldAnswer.TheVariants.{Known, Waiting}
 
--- a hall that serves: the queue of its desks, who has which place, what stands at each, the answers that are held, and
--- the text that is still to be written before them
+-- a serving hall: the queue of its desks, which tenant has which place, what stands at each, the held answers, and the
+-- text still to be written before them
 pub record ServingIs : Type 0 where
   pub queue : QueueId
   pub register : List Entry
@@ -72,12 +72,12 @@ desk_state_counts (Away asked) = (true, asked.admissions)
 desk_state_counts (Empty place) = (false, place.admissions)
 desk_state_counts Gone = (false, 0)
 
--- the same as the register knows it
+-- the same, as the register has it
 abbrev pub place_counts : Entry → Bool × ℕ
 place_counts place = (is_some place.tenant, place.admissions)
 
--- the desk at home, of this hall and place, for which no answer waits; or its round is away, for which one waits; or
--- nobody is there
+-- the desk of this hall and place is at home and no answer waits for it; or its round is away and one answer waits for
+-- it; or the place is empty
 abbrev pub DeskStateIs : QueueId → ℕ → List HeldAnswer → DeskState → Type 0
 DeskStateIs queue place answers (Home desk) = (desk.queue ≡ queue) × (desk.place ≡ place) × NoneWaits place answers
 DeskStateIs queue place answers (Away asked) = (asked.queue ≡ queue) × (asked.place ≡ place)
@@ -91,7 +91,7 @@ pub record AreDeskStates (queue : QueueId) (answers : List HeldAnswer) (desk_sta
   pub each : (place : ℕ) (default : DeskState) → place < most_places
       → DeskStateIs queue place answers (slice_index_or desk_states place default)
 
--- the answers that wait do so for places that there are
+-- an answer that waits does so for a place that exists
 abbrev pub IsPlaced : HeldAnswer → Type 0
 IsPlaced (Waiting place name asked) = place < most_places
 IsPlaced (Known answer) = Unit {0}
@@ -115,12 +115,12 @@ pub record IsOpen (id : QueueId) (serving : ServingIs) : Type 0 where
   pub same_hall : serving.queue ≡ id
   pub room : length serving.answers < most_answers_held
 
--- nothing lies there yet, and there is room for each place
+-- empty so far, with room for each place
 abbrev pub IsReserved : {A : Type 0} → List A → ℕ → Type 0
 IsReserved items capacity = (items ≡ []) × (most_places ≤ capacity)
 
 -- The lines of this text were answered. However memory is granted to the rounds that are away, what was written and
--- what is held are then the output for them; and as many rounds were asked as these lines tell.
+-- what is held are then the output for these lines; and as many rounds were asked as the lines ask for.
 pub record Tells (state : State) (asked : ℕ) (text : List ℕ) (written now : Option (List ℕ)) : Type 0 where
   pub told : Told state text written now
   pub counted : Counted asked told.lines (answers_of state.roster told.lines)
@@ -132,12 +132,12 @@ TellsParts roster register desk_states answers output text written now =
     (marks : ℕ → Bool)
     → Tells (state_with marks roster register desk_states answers output) (weigh asked_at desk_states) text written now
 
--- the same of a whole service
+-- the same for a whole service
 abbrev pub TellsAll : List RosterRow → ServingIs → List ℕ → Option (List ℕ) → Option (List ℕ) → Type 0
 TellsAll roster serving text written now =
     TellsParts roster serving.register serving.desk_states serving.answers serving.output text written now
 
--- the same hall, with no answer more held
+-- the same hall, with no more answers held
 pub record Follows (old new : ServingIs) : Type 0 where
   pub same_hall : new.queue ≡ old.queue
   pub fewer : length new.answers ≤ length old.answers
@@ -147,7 +147,7 @@ abbrev pub Keeps : ServingIs → ServingIs → Type 0
 Keeps old new = (roster : List RosterRow) (text : List ℕ) (written now : Option (List ℕ))
     → TellsAll roster old text written now → TellsAll roster new text written now
 
--- the same, where the output grew from one text to another meanwhile
+-- the same for a step in which the output grew from one text to another
 abbrev pub Passes : ServingIs → ServingIs → Option (List ℕ) → Option (List ℕ) → Type 0
 Passes old new now later = (roster : List RosterRow) (text : List ℕ) (written : Option (List ℕ))
     → TellsAll roster old text written now → TellsAll roster new text written later
@@ -158,7 +158,7 @@ Takes old new line = (roster : List RosterRow) (text after : List ℕ) (written 
     → input_lines after ≡ input_lines text ++ line ∷ []
     → TellsAll roster old text written now → TellsAll roster new after written now
 
--- an operator's line is done, and its answer is this reply, which is still to be held
+-- an operator's line is done, and its answer is this reply, still to be held
 abbrev pub Obeys : ServingIs → ServingIs → OperatorLine → OperatorReply → Type 0
 Obeys old new request reply = (roster : List RosterRow) (text after : List ℕ) (written now : Option (List ℕ))
     → input_lines after ≡ input_lines text ++ Operator request ∷ []
@@ -166,7 +166,7 @@ Obeys old new request reply = (roster : List RosterRow) (text after : List ℕ) 
     → TellsParts roster new.register new.desk_states
     (new.answers ++ Known (ToOperator reply) ∷ []) new.output after written now
 
--- the text that was written begins the output for the lines that were answered
+-- the written text begins the output for the answered lines
 abbrev pub Begins : ServingIs → Option (List ℕ) → Option (List ℕ) → Type 0
 Begins old now later = (roster : List RosterRow) (text : List ℕ) (written : Option (List ℕ))
     → TellsAll roster old text written now → BeginsAnswers roster text written later
@@ -176,7 +176,7 @@ abbrev pub IsBackAt : ℕ → List DeskState → Type 0
 IsBackAt place desk_states = (default : DeskState) → place < most_places
     → IsBack (slice_index_or desk_states place default)
 
--- none is away
+-- no round is away from any place
 abbrev pub AllBack : List DeskState → Type 0
 AllBack desk_states = (place : ℕ) → IsBackAt place desk_states
 

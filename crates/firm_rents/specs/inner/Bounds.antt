@@ -5,7 +5,7 @@ use Rattle.std.specs.Prelude.{ℕ, ◌+◌, ◌<◌, ◌≤◌, List, length, sl
 abbrev pub IsBelow : List ℕ → List ℕ → Type 0
 IsBelow rents bounds = (j : ℕ) → slice_index rents j ≤ slice_index bounds j
 
--- each of the rents is no more than its bound and what `more` is beyond `less`
+-- each of the rents is no more than its bound plus what `more` is beyond `less`
 abbrev pub IsWithin : List ℕ → List ℕ → ℕ → ℕ → Type 0
 IsWithin rents bounds less more =
     (j : ℕ) → j < length bounds → slice_index rents j + less ≤ slice_index bounds j + more

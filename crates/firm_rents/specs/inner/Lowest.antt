@@ -19,7 +19,7 @@ abbrev pub is_neither : Choice → Choice → Choice → Bool
 is_neither a b (On k) = not (goes_to k a) && not (goes_to k b)
 is_neither a b Wait = true
 
--- of the first n machines but these two this one has the lowest number, or there is none
+-- of the first n machines apart from these two, this one has the lowest number, or there is none
 abbrev pub IsLowest : (ℕ → ℕ) → ℕ → Choice → Choice → Choice → Type 0
 IsLowest number n a b (On k) =
     (k < n) × IsNeither a b k × ((j : ℕ) → j < n → IsNeither a b j → number k ≤ number j)
@@ -38,12 +38,12 @@ abbrev pub wide_cost : Case → Demand → ℕ
 wide_cost case task =
     (if is_some task.home then case.churn else 0) + (if nat_lt 0 (length task.preferred) then case.remote else 0)
 
--- the machines that may cost the task less: its own, and those that it prefers
+-- the machines that may cost the task less: its own, and those it prefers
 abbrev pub near : Demand → List ℕ
 near task = option_to_list task.home ++ task.preferred
 
--- how far the search for the cheapest machine but two has come, by this many of the near ones: the choice costs no more
--- than any machine at the wide cost, and than each of those near ones
+-- how far the search for the cheapest machine but two has come, after this many of the near ones: the choice costs no
+-- more than any machine at the wide cost, nor than any of those near ones
 abbrev pub IsCheapestSoFar : Case → List ℕ → Demand → Choice → Choice → ℕ → Choice → Type 0
 IsCheapestSoFar case rents task a b n (On k) =
     (k < length case.slots) × IsNeither a b k
