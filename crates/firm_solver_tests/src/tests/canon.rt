@@ -275,25 +275,25 @@ fn open_book(rt: &impl Abort, alloc: Global, graph: &mut Graph, names: &[Name; 5
     }
 }
 
+/// Where the numbers of all books are drawn from, and what was met in their rounds.
+#[derive(Drop)]
+struct Trial {
+    random: Random,
+    met: Met,
+}
+
 /// A change of the rows, among 3 machines, 3 jobs and 5 tasks.
-fn change(
-    rt: &impl Abort,
-    alloc: Global,
-    graph: &mut Graph,
-    names: &[Name; 5],
-    random: &mut Random,
-    met: &mut Met,
-) {
-    let few = names[random.below(3) as usize];
-    let many = names[random.below(5) as usize];
-    match random.below(9) {
-        0 | 1 => add_machine(rt, alloc, graph, few, one_to(3, random)),
-        2 => add_job(rt, graph, few, one_to(9, random)),
+fn change(rt: &impl Abort, alloc: Global, graph: &mut Graph, names: &[Name; 5], trial: &mut Trial) {
+    let few = names[trial.random.below(3) as usize];
+    let many = names[trial.random.below(5) as usize];
+    match trial.random.below(9) {
+        0 | 1 => add_machine(rt, alloc, graph, few, one_to(3, &mut trial.random)),
+        2 => add_job(rt, graph, few, one_to(9, &mut trial.random)),
         3..=6 => {
-            let preferred = random_preferred(graph.rows(), names, random);
+            let preferred = random_preferred(graph.rows(), names, &mut trial.random);
             add_task(rt, graph, few, many, preferred);
         }
-        7 => drain(graph, few, met),
+        7 => drain(graph, few, &mut trial.met),
         _ => remove_task(graph, many),
     }
 }
@@ -304,15 +304,15 @@ fn fill_book(
     alloc: Global,
     graph: &mut Graph,
     names: &[Name; 5],
-    random: &mut Random,
-    met: &mut Met,
+    trial: &mut Trial,
 ) {
-    open_book(rt, alloc, graph, names, one_to(9, random));
+    let weight = one_to(9, &mut trial.random);
+    open_book(rt, alloc, graph, names, weight);
     for _ in 0..30 {
-        if random.below(14) < 9 {
-            change(rt, alloc, graph, names, random, met);
+        if trial.random.below(14) < 9 {
+            change(rt, alloc, graph, names, trial);
         } else {
-            expect_round(rt, alloc, graph, met);
+            expect_round(rt, alloc, graph, &mut trial.met);
         }
     }
 }
@@ -349,25 +349,27 @@ fn expect_all_kinds(rt: &impl Abort, met: Met) {
 
 #[test]
 fn rounds_of_small_books_beside_all_their_placements(rt: HostRuntime) {
-    let mut random = Random::new(2_026);
-    let mut met = Met {
-        ties: 0,
-        starts: 0,
-        moves: 0,
-        preemptions: 0,
-        evictions: 0,
-        full: 0,
-        free_of_churn: 0,
-        near: 0,
-        remote: 0,
+    let mut trial = Trial {
+        random: Random::new(2_026),
+        met: Met {
+            ties: 0,
+            starts: 0,
+            moves: 0,
+            preemptions: 0,
+            evictions: 0,
+            full: 0,
+            free_of_churn: 0,
+            near: 0,
+            remote: 0,
+        },
     };
     let names = names(&rt);
     for _ in 0..240 {
-        let limits = random_limits(&rt, &mut random);
+        let limits = random_limits(&rt, &mut trial.random);
         let mut graph = opened(&rt, rt.alloc(), limits);
-        fill_book(&rt, rt.alloc(), &mut graph, &names, &mut random, &mut met);
+        fill_book(&rt, rt.alloc(), &mut graph, &names, &mut trial);
     }
-    expect_all_kinds(&rt, met);
+    expect_all_kinds(&rt, trial.met);
 }
 
 /// Machines of two slots and waiting tasks, with names of two digits.

@@ -167,16 +167,29 @@ fn are_valid(links: &[Link], flows: &[u32], prices: &[u64]) -> bool {
     true
 }
 
+/// The arcs of a network, the number of its nodes, and its sink.
+#[derive(Clone, Copy)]
+pub struct Network<'a> {
+    pub links: &'a [Link],
+    pub nodes: u32,
+    pub sink: usize,
+}
+
+impl<'a> Network<'a> {
+    pub fn new(links: &'a [Link], nodes: u32, sink: usize) -> Network<'a> {
+        Network { links, nodes, sink }
+    }
+}
+
 /// Checks that this is a feasible flow of that cost, with valid prices.
 pub fn check_flow(
     rt: &impl Abort,
-    links: &[Link],
-    nodes: u32,
-    ends: (&[usize], usize),
+    network: &Network,
+    sources: &[usize],
     solved: &Solved,
     cost: i64,
 ) {
-    let (sources, sink) = ends;
+    let Network { links, nodes, sink } = *network;
     assert!(rt; is_feasible(links, &solved.flows, nodes as usize, sources, sink));
     assert!(rt; are_valid(links, &solved.flows, &solved.prices));
     assert_eq!(rt; cost_of(links, &solved.flows), cost);
@@ -192,22 +205,20 @@ pub fn check_no_flow(rt: &impl Abort, solved: &Solved) {
 fn expect(
     rt: &impl Abort,
     alloc: Global,
-    nodes: u32,
-    links: &[Link],
+    network: &Network,
     sources: &[usize],
-    sink: usize,
     answer: Result<i64, NoWay>,
 ) -> Solved {
-    let mut world = build(rt, alloc, nodes, links);
-    let solved = solve_twice(rt, alloc, &mut world, sources, sink);
+    let mut world = build(rt, alloc, network.nodes, network.links);
+    let solved = solve_twice(rt, alloc, &mut world, sources, network.sink);
     assert!(rt;
         solved.answer == answer,
         "{:?} and not {answer:?}",
         solved.answer
     );
-    assert_eq!(rt; solved.flows.len(), links.len());
+    assert_eq!(rt; solved.flows.len(), network.links.len());
     match answer {
-        Ok(cost) => check_flow(rt, links, nodes, (sources, sink), &solved, cost),
+        Ok(cost) => check_flow(rt, network, sources, &solved, cost),
         Err(NoWay) => check_no_flow(rt, &solved),
     }
     solved
@@ -269,12 +280,15 @@ fn expect_along(rt: &impl Abort, solved: &Solved, wanted: &[(usize, u32)]) {
 #[test]
 fn tasks_on_two_machines(rt: HostRuntime) {
     let alloc = rt.alloc();
-    expect(&rt, alloc, 7, &two_waiting_tasks(), &[5, 6], 0, Ok(0));
-    let solved = expect(&rt, alloc, 8, &two_running_tasks(), &[5, 6, 7], 0, Ok(1));
+    let waiting = two_waiting_tasks();
+    expect(&rt, alloc, &Network::new(&waiting, 7, 0), &[5, 6], Ok(0));
+    let running = two_running_tasks();
+    let running = Network::new(&running, 8, 0);
+    let solved = expect(&rt, alloc, &running, &[5, 6, 7], Ok(1));
     // The running tasks stay, and the third goes by the hub.
     let along = [(8, 1), (11, 1), (13, 1), (7, 0), (10, 0), (15, 0)];
     expect_along(&rt, &solved, &along);
-    let none = expect(&rt, alloc, 8, &two_running_tasks(), &[], 0, Ok(0));
+    let none = expect(&rt, alloc, &running, &[], Ok(0));
     expect_flows(&rt, &none, &[0; 16]);
 }
 
@@ -285,23 +299,20 @@ fn meeting() -> [Link; 3] {
 
 #[test]
 fn two_sources_at_one_unit_arc(rt: HostRuntime) {
-    expect(&rt, rt.alloc(), 4, &meeting(), &[0], 3, Ok(2));
-    expect(&rt, rt.alloc(), 4, &meeting(), &[0, 1], 3, Err(NoWay));
+    let meeting = meeting();
+    let meeting = Network::new(&meeting, 4, 3);
+    expect(&rt, rt.alloc(), &meeting, &[0], Ok(2));
+    expect(&rt, rt.alloc(), &meeting, &[0, 1], Err(NoWay));
 }
 
-/// Solves, and checks how many searches and looks were made by then.
+/// Checks an answer, and how many searches and looks were made by then.
 fn expect_counts(
     rt: &impl Abort,
-    world: &mut World,
-    sources: &[NodeId],
-    sink: NodeId,
+    world: &World,
+    solved: Result<i64, NoWay>,
     answer: Result<i64, NoWay>,
     counts: (u64, u64),
-)
-    requires { (world.old.prices.limits ≡ (8, 16)) × (world.old.scratch.limits ≡ (8, 16)) }
-    ensures { (world.new.prices.limits ≡ (8, 16)) × (world.new.scratch.limits ≡ (8, 16)) }
-{
-    let solved = solve_once(rt, world, sources, sink);
+) {
     assert_eq!(rt; solved, answer);
     let scratch = &world.scratch;
     assert_eq!(rt; (scratch.searches(), scratch.looks()), counts);
@@ -314,18 +325,31 @@ fn searches_and_looks_are_counted(rt: HostRuntime) {
     let (first, second) = (node(&rt, &world, 0), node(&rt, &world, 1));
     let sink = node(&rt, &world, 3);
     // One look at the source, and three at the node between it and the sink.
-    expect_counts(&rt, &mut world, &[first], sink, Ok(2), (1, 4));
+    let solved = solve_once(&rt, &mut world, &[first], sink);
+    expect_counts(&rt, &world, solved, Ok(2), (1, 4));
     // The second search goes from its source to the node between, and back to the first source.
-    let both = [first, second];
-    expect_counts(&rt, &mut world, &both, sink, Err(NoWay), (3, 13));
+    let solved = solve_once(&rt, &mut world, &[first, second], sink);
+    expect_counts(&rt, &world, solved, Err(NoWay), (3, 13));
 }
 
 #[test]
 fn no_arc_enters_the_sink(rt: HostRuntime) {
     let away = [arc(0, 1, 0, 2, 0), arc(2, 1, 0, 2, 0)];
-    expect(&rt, rt.alloc(), 3, &away, &[0], 2, Err(NoWay));
-    expect(&rt, rt.alloc(), 3, &[], &[0, 1], 2, Err(NoWay));
-    expect(&rt, rt.alloc(), 1, &[], &[], 0, Ok(0));
+    expect(
+        &rt,
+        rt.alloc(),
+        &Network::new(&away, 3, 2),
+        &[0],
+        Err(NoWay),
+    );
+    expect(
+        &rt,
+        rt.alloc(),
+        &Network::new(&[], 3, 2),
+        &[0, 1],
+        Err(NoWay),
+    );
+    expect(&rt, rt.alloc(), &Network::new(&[], 1, 0), &[], Ok(0));
 }
 
 #[test]
@@ -338,8 +362,9 @@ fn the_second_unit_takes_the_first_from_its_way(rt: HostRuntime) {
         arc(2, 4, 0, 1, 0),
         arc(3, 4, 0, 1, 0),
     ];
-    expect(&rt, rt.alloc(), 5, &links, &[0], 4, Ok(1));
-    let solved = expect(&rt, rt.alloc(), 5, &links, &[0, 1], 4, Ok(5));
+    let network = Network::new(&links, 5, 4);
+    expect(&rt, rt.alloc(), &network, &[0], Ok(1));
+    let solved = expect(&rt, rt.alloc(), &network, &[0, 1], Ok(5));
     expect_flows(&rt, &solved, &[0, 1, 1, 1, 1]);
 }
 
@@ -352,8 +377,9 @@ fn a_cycle_of_no_cost_beside_the_way(rt: HostRuntime) {
         arc(2, 0, 0, 2, 0),
         arc(1, 3, 0, 1, 4),
     ];
-    expect(&rt, rt.alloc(), 4, &cycle, &[0], 3, Ok(4));
-    expect(&rt, rt.alloc(), 4, &cycle, &[0, 2], 3, Err(NoWay));
+    let network = Network::new(&cycle, 4, 3);
+    expect(&rt, rt.alloc(), &network, &[0], Ok(4));
+    expect(&rt, rt.alloc(), &network, &[0, 2], Err(NoWay));
 }
 
 #[test]
@@ -366,13 +392,15 @@ fn ties_and_parallel_arcs(rt: HostRuntime) {
         arc(2, 3, 0, 1, 2),
         arc(0, 3, 0, 1, 6),
     ];
-    expect(&rt, rt.alloc(), 4, &ties, &[0], 3, Ok(5));
-    expect(&rt, rt.alloc(), 4, &ties, &[0, 1], 3, Ok(8));
-    expect(&rt, rt.alloc(), 4, &ties, &[0, 1, 2], 3, Ok(11));
+    let ties = Network::new(&ties, 4, 3);
+    expect(&rt, rt.alloc(), &ties, &[0], Ok(5));
+    expect(&rt, rt.alloc(), &ties, &[0, 1], Ok(8));
+    expect(&rt, rt.alloc(), &ties, &[0, 1, 2], Ok(11));
     // The cheaper of two parallel arcs is filled first.
     let parallel = [arc(0, 2, 0, 1, 9), arc(0, 2, 0, 1, 1), arc(1, 0, 0, 2, 0)];
-    expect(&rt, rt.alloc(), 3, &parallel, &[1], 2, Ok(1));
-    let both = expect(&rt, rt.alloc(), 3, &parallel, &[0, 1], 2, Ok(10));
+    let parallel = Network::new(&parallel, 3, 2);
+    expect(&rt, rt.alloc(), &parallel, &[1], Ok(1));
+    let both = expect(&rt, rt.alloc(), &parallel, &[0, 1], Ok(10));
     expect_flows(&rt, &both, &[1, 1, 1]);
 }
 
@@ -380,9 +408,10 @@ fn ties_and_parallel_arcs(rt: HostRuntime) {
 fn lower_bounds_are_cleared(rt: HostRuntime) {
     // With its lower bound kept, the dear arc would carry two units.
     let links = [arc(0, 1, 2, 2, 3_000_000), arc(0, 1, 1, 4_096, 7)];
-    let solved = expect(&rt, rt.alloc(), 2, &links, &[0], 1, Ok(7));
+    let network = Network::new(&links, 2, 1);
+    let solved = expect(&rt, rt.alloc(), &network, &[0], Ok(7));
     expect_flows(&rt, &solved, &[0, 1]);
-    expect(&rt, rt.alloc(), 2, &links, &[], 1, Ok(0));
+    expect(&rt, rt.alloc(), &network, &[], Ok(0));
 }
 
 /// An arc between two different nodes.
@@ -435,7 +464,13 @@ fn is_solved(rt: &impl Abort, alloc: Global, random: &mut Random) -> bool {
     let sink = nodes as usize - 1;
     let links = random_links(random, nodes);
     let answer = least_of_all(&links, nodes as usize, sources, sink).ok_or(NoWay);
-    expect(rt, alloc, nodes, &links, sources, sink, answer);
+    expect(
+        rt,
+        alloc,
+        &Network::new(&links, nodes, sink),
+        sources,
+        answer,
+    );
     answer.is_ok()
 }
 

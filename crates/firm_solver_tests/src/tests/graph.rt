@@ -238,22 +238,27 @@ fn arcs_of(rt: &impl Abort, graph: &Graph, place: usize) -> TaskArcs {
     graph.task_arcs(place)
 }
 
-// Checks the costs of the wide and wait arcs of the task at a place, and the head and the capacity of its stay arc.
-fn expect_task(
-    rt: &impl Abort,
-    graph: &Graph,
-    place: usize,
+// What the wide arc and the wait arc of a task cost.
+#[derive(Clone, Copy)]
+struct Costs {
     wide: u32,
-    stay: (NodeId, u32),
     wait: u32,
-) {
+}
+
+// Checks the head and the capacity of the stay arc of the task at a place, and the costs of its other two.
+fn expect_task(rt: &impl Abort, graph: &Graph, place: usize, stay: (NodeId, u32), costs: Costs) {
     let node = source(rt, graph, place);
     let arcs = arcs_of(rt, graph, place);
     let net = graph.net();
     let owner = head_of(rt, net, arcs.wait);
-    expect_row(rt, net, arcs.wide, row(rt, node, graph.hub(), 1, wide));
+    expect_row(
+        rt,
+        net,
+        arcs.wide,
+        row(rt, node, graph.hub(), 1, costs.wide),
+    );
     expect_row(rt, net, arcs.stay, row(rt, node, stay.0, stay.1, 0));
-    expect_row(rt, net, arcs.wait, row(rt, node, owner, 1, wait));
+    expect_row(rt, net, arcs.wait, row(rt, node, owner, 1, costs.wait));
 }
 
 // Checks the machines and the cost of the arcs to those that the task at a place prefers.
@@ -284,12 +289,13 @@ fn expect_apart(rt: &impl Abort, graph: &Graph, one: usize, other: usize) {
     assert!(rt; node_of(rt, graph, one) != node_of(rt, graph, other));
 }
 
-fn expect_waiting(rt: &impl Abort, graph: &Graph, place: usize, wide: u32, wait: u32) {
-    expect_task(rt, graph, place, wide, (graph.hub(), 0), wait);
+fn expect_waiting(rt: &impl Abort, graph: &Graph, place: usize, costs: Costs) {
+    expect_task(rt, graph, place, (graph.hub(), 0), costs);
 }
 
-fn expect_running(rt: &impl Abort, graph: &Graph, place: usize, stay: NodeId, costs: (u32, u32)) {
-    expect_task(rt, graph, place, costs.0, (stay, 1), costs.1);
+fn expect_running(rt: &impl Abort, graph: &Graph, place: usize, machine: usize, costs: Costs) {
+    let stay = node_of(rt, graph, machine);
+    expect_task(rt, graph, place, (stay, 1), costs);
 }
 
 // The node of the job of the task at a place.
@@ -327,10 +333,13 @@ fn see(rt: &impl Abort, graph: &Graph, seen: &Seen) {
         Nothing => expect_nothing(rt, graph),
         TwoSlots(place) => expect_machine(rt, graph, *place),
         Apart(one, other) => expect_apart(rt, graph, *one, *other),
-        Waits(place, wide, wait) => expect_waiting(rt, graph, *place, *wide, *wait),
+        Waits(place, wide, wait) => {
+            let (wide, wait) = (*wide, *wait);
+            expect_waiting(rt, graph, *place, Costs { wide, wait });
+        }
         Runs(place, machine, wide, wait) => {
-            let stay = node_of(rt, graph, *machine);
-            expect_running(rt, graph, *place, stay, (*wide, *wait));
+            let (wide, wait) = (*wide, *wait);
+            expect_running(rt, graph, *place, *machine, Costs { wide, wait });
         }
         Prefers(place, machines, cost) => expect_preferred(rt, graph, *place, machines, *cost),
         OneJob(places) => expect_one_job(rt, graph, places),

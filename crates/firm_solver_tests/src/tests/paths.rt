@@ -54,17 +54,18 @@ fn ends(row: ArcRow, way: Way) -> (NodeId, NodeId, bool) {
     }
 }
 
-/// Checks that the steps lead from node to node over residual arcs of reduced cost 0, and meet no node twice.
-fn check_path(
-    rt: &impl Abort,
-    alloc: Global,
-    world: &World,
+/// Where a path is to begin and to end.
+#[derive(Clone, Copy)]
+struct Terminals {
     from: NodeId,
     to: NodeId,
-    steps: &[Step],
-)
+}
+
+/// Checks that the steps lead from node to node over residual arcs of reduced cost 0, and meet no node twice.
+fn check_path(rt: &impl Abort, alloc: Global, world: &World, terminals: Terminals, steps: &[Step])
     requires { world.now.prices.limits ≡ limits_of world.now.net }
 {
+    let Terminals { from, to } = terminals;
     let mut at = from;
     let mut met = Vec::new(alloc);
     met.push(from).expect(rt, "memory");
@@ -130,7 +131,7 @@ fn raised(
     check_rise(rt, &before, &after, steps.is_some());
     check_prices(rt, world);
     if let Some(steps) = &steps {
-        check_path(rt, alloc, world, from, to, steps);
+        check_path(rt, alloc, world, Terminals { from, to }, steps);
     }
     steps
 }
@@ -147,13 +148,13 @@ fn tight(
     rt: &impl Abort,
     alloc: Global,
     world: &mut World,
-    from: NodeId,
-    to: NodeId,
+    terminals: Terminals,
     barred: &[ArcId],
 ) -> Option<Vec<Step>>
     requires limits { (world.old.prices.limits ≡ (8, 16)) × (world.old.scratch.limits ≡ (8, 16)) }
     ensures limits { (world.new.prices.limits ≡ (8, 16)) × (world.new.scratch.limits ≡ (8, 16)) }
 {
+    let Terminals { from, to } = terminals;
     check_nodes(rt, world, from, to);
     let before = read_prices(rt, alloc, world);
     let steps = tight_path(
@@ -167,7 +168,7 @@ fn tight(
     let steps = copied(rt, alloc, steps);
     check_rise(rt, &before, &read_prices(rt, alloc, world), false);
     if let Some(steps) = &steps {
-        check_path(rt, alloc, world, from, to, steps);
+        check_path(rt, alloc, world, terminals, steps);
         check_barred(rt, steps, barred);
     }
     steps
@@ -219,6 +220,10 @@ fn ties_and_a_node_that_stands_alone(rt: HostRuntime) {
     let alloc = rt.alloc();
     let mut world = build(&rt, alloc, 5, &two_ways());
     let (start, goal) = (node(&rt, &world, 0), node(&rt, &world, 3));
+    let onward = Terminals {
+        from: start,
+        to: goal,
+    };
     let steps = raised(&rt, alloc, &mut world, start, goal);
     expect_two_steps(&rt, steps);
     expect_distance(&rt, alloc, &world, (0, 3), 5);
@@ -229,14 +234,14 @@ fn ties_and_a_node_that_stands_alone(rt: HostRuntime) {
     expect_no_path(&rt, steps);
     // Which of the two ways is given is left open, unless one is barred.
     let (first, third) = (arc_at(&rt, &world, 0), arc_at(&rt, &world, 2));
-    let steps = tight(&rt, alloc, &mut world, start, goal, &[]);
+    let steps = tight(&rt, alloc, &mut world, onward, &[]);
     expect_two_steps(&rt, steps);
-    let steps = tight(&rt, alloc, &mut world, start, goal, &[first]);
+    let steps = tight(&rt, alloc, &mut world, onward, &[first]);
     expect_steps(&rt, &world, steps, &[(2, Forward), (3, Forward)]);
-    let steps = tight(&rt, alloc, &mut world, start, goal, &[third]);
+    let steps = tight(&rt, alloc, &mut world, onward, &[third]);
     expect_steps(&rt, &world, steps, &[(0, Forward), (1, Forward)]);
     // The direct way is open, but not tight.
-    let steps = tight(&rt, alloc, &mut world, start, goal, &[first, third]);
+    let steps = tight(&rt, alloc, &mut world, onward, &[first, third]);
     expect_no_path(&rt, steps);
 }
 
@@ -253,17 +258,25 @@ fn a_path_that_was_used_leads_back(rt: HostRuntime) {
     let alloc = rt.alloc();
     let mut world = build(&rt, alloc, 5, &two_ways());
     let (start, goal) = (node(&rt, &world, 0), node(&rt, &world, 3));
+    let onward = Terminals {
+        from: start,
+        to: goal,
+    };
+    let reverse = Terminals {
+        from: goal,
+        to: start,
+    };
     let _ = raised(&rt, alloc, &mut world, start, goal);
     let (first, second) = (arc_at(&rt, &world, 0), arc_at(&rt, &world, 1));
-    let back = tight(&rt, alloc, &mut world, goal, start, &[]);
+    let back = tight(&rt, alloc, &mut world, reverse, &[]);
     expect_no_path(&rt, back);
     push(&rt, &mut world, first);
     push(&rt, &mut world, second);
-    let steps = tight(&rt, alloc, &mut world, start, goal, &[]);
+    let steps = tight(&rt, alloc, &mut world, onward, &[]);
     expect_steps(&rt, &world, steps, &[(2, Forward), (3, Forward)]);
-    let back = tight(&rt, alloc, &mut world, goal, start, &[]);
+    let back = tight(&rt, alloc, &mut world, reverse, &[]);
     expect_steps(&rt, &world, back, &[(1, Backward), (0, Backward)]);
-    let back = tight(&rt, alloc, &mut world, goal, start, &[first]);
+    let back = tight(&rt, alloc, &mut world, reverse, &[first]);
     expect_no_path(&rt, back);
 }
 
@@ -274,9 +287,13 @@ fn full_arcs_and_lower_bounds(rt: HostRuntime) {
     let links = [arc(0, 2, 1, 1, 1), arc(0, 1, 1, 2, 2), unit(1, 2, 2)];
     let mut world = build(&rt, alloc, 3, &links);
     let (start, goal) = (node(&rt, &world, 0), node(&rt, &world, 2));
+    let reverse = Terminals {
+        from: goal,
+        to: start,
+    };
     let steps = raised(&rt, alloc, &mut world, start, goal);
     expect_steps(&rt, &world, steps, &[(1, Forward), (2, Forward)]);
-    let back = tight(&rt, alloc, &mut world, goal, start, &[]);
+    let back = tight(&rt, alloc, &mut world, reverse, &[]);
     expect_no_path(&rt, back);
 }
 
@@ -352,6 +369,10 @@ fn searches_and_looks_are_counted(rt: HostRuntime) {
     let mut world = build(&rt, alloc, 5, &two_ways());
     let (start, middle) = (node(&rt, &world, 0), node(&rt, &world, 1));
     let (goal, alone) = (node(&rt, &world, 3), node(&rt, &world, 4));
+    let onward = Terminals {
+        from: start,
+        to: goal,
+    };
     expect_counts(&rt, &world, (0, 0, 0));
     // Three arcs at the start, and two at each of the nodes in the middle; the goal's are not looked at.
     let _ = raised(&rt, alloc, &mut world, start, goal);
@@ -362,13 +383,13 @@ fn searches_and_looks_are_counted(rt: HostRuntime) {
     let _ = raised(&rt, alloc, &mut world, alone, goal);
     expect_counts(&rt, &world, (0, 3, 8));
     // The second node in the middle is not read, since the goal was seen from the first.
-    let _ = tight(&rt, alloc, &mut world, start, goal, &[]);
+    let _ = tight(&rt, alloc, &mut world, onward, &[]);
     expect_counts(&rt, &world, (0, 4, 13));
     world.scratch.begin();
     expect_counts(&rt, &world, (1, 0, 0));
     // A barred arc is looked at, and the node behind it is not visited.
     let first = arc_at(&rt, &world, 0);
-    let _ = tight(&rt, alloc, &mut world, start, goal, &[first]);
+    let _ = tight(&rt, alloc, &mut world, onward, &[first]);
     expect_counts(&rt, &world, (1, 1, 5));
     world.scratch.begin();
     expect_counts(&rt, &world, (2, 0, 0));

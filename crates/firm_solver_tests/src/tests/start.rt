@@ -3,7 +3,9 @@
 ghost use Rattle.std.specs.Prelude.{◌≡◌};
 ghost use Rattle.firm_paths.specs.NetArcs.{limits_of};
 
-use super::flow::{Solved, are_distinct, check_flow, check_no_flow, read_flows, solve_once};
+use super::flow::{
+    Network, Solved, are_distinct, check_flow, check_no_flow, read_flows, solve_once,
+};
 use super::random::Random;
 use super::worlds::{Link, World, arc, arc_at, build, has_room, node, read_prices};
 use firm_flow::{NoWay, Proposed, Route, solve_from};
@@ -153,7 +155,7 @@ fn solve_plainly(rt: &impl Abort, alloc: Global, links: &[Link]) -> Result<i64, 
 /// Checks what was answered against what was left.
 fn check_solved(rt: &impl Abort, links: &[Link], solved: &Solved) {
     match solved.answer {
-        Ok(cost) => check_flow(rt, links, 7, (&[0, 1, 2], 6), solved, cost),
+        Ok(cost) => check_flow(rt, &Network::new(links, 7, 6), &[0, 1, 2], solved, cost),
         Err(NoWay) => check_no_flow(rt, solved),
     }
 }
