@@ -252,9 +252,12 @@ def become(file: Path, arguments: list[str]) -> None:
     os.execv(file, [str(file), *arguments])
 
 
-def date_program(began: float) -> None:
-    """Gives a program that was built since then that date: an edit made meanwhile is newer."""
-    if BUILT.exists() and BUILT.stat().st_mtime > began:
+def date_program(began: float, is_current: bool) -> None:
+    """Gives a program that was built since then that date: an edit made meanwhile is newer.
+
+    So does a build that found it current: rt leaves the program where sources are newer by their dates alone.
+    """
+    if BUILT.exists() and (is_current or BUILT.stat().st_mtime > began):
         os.utime(BUILT, (began, began))
 
 
@@ -266,10 +269,12 @@ def main(arguments: list[str]) -> int:
     try:
         if not wait_for_turn():
             become(ROOT / "firm", arguments)
+        is_current = False
         try:
             Build(needed_crates()).run()
+            is_current = True
         finally:
-            date_program(began)
+            date_program(began, is_current)
         glance()
     except Failed as failed:
         say(str(failed))

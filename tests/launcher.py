@@ -203,6 +203,16 @@ def newer_source(place: Place) -> None:
     require_quiet_reply(place.run())
 
 
+def newer_date(place: Place) -> None:
+    """A source that is newer by its date alone is looked at once: nothing is made anew, and the program is current then."""
+    place.build()
+    place.write("crates/firm_net/src/lib.rt")
+    require_reply(place.run(RT_KEEPS="yes"))
+    require_made(place, set())
+    require_quiet_reply(place.run())
+    require_nothing_asked(place)
+
+
 def edit_during_build(place: Place) -> None:
     """A source that is edited while the program is being built is newer than the program."""
     launched = place.start()
@@ -271,6 +281,7 @@ CHECKS: list[Callable[[Place], None]] = [
     current,
     newer_documents,
     newer_source,
+    newer_date,
     edit_during_build,
     no_rt,
     interrupted,
