@@ -111,7 +111,6 @@ class Runs:
 
     def __init__(self, options: Options, folder: str) -> None:
         self.command, self.library = options.command(), program.build_refusing(folder)
-        self.has_workers = options.workers != ""
         self.workers = int(options.workers or program.WORKERS)
         self.counts_path = Path(folder) / "counts"
 
@@ -225,9 +224,10 @@ def fail_reads(runs: Runs, stream: Stream) -> Ends:
     for most, error in product((1, 2, 7, 257, 4096), (errno.EIO, errno.EINTR)):
         for place, found in failing_runs(runs, stream, "read", read_most=most, fail_with=error):
             require(found.status == 4 and found.faults == b"firm: read\n", f"read {place} of {most}: {found}")
-            answers = full_output(stream._replace(text=whole_lines(stream.text, (place - 1) * most)))
-            # With workers the answer to a round may still be under way.
-            is_prefix = runs.has_workers and answers.startswith(found.output)
+            text = whole_lines(stream.text, (place - 1) * most)
+            answers = full_output(stream._replace(text=text))
+            # The answer to a round may still be under way.
+            is_prefix = b" round\n" in text and answers.startswith(found.output)
             require(found.output == answers or is_prefix, f"read {place} of {most}: {found.output!r}")
             ends["status 4, the answers to the lines read"] += 1
     return Ends(ends, "pieces of 1, 2, 7, 257 and 4,096 bytes; EIO and EINTR")
