@@ -204,7 +204,7 @@ def newer_source(place: Place) -> None:
 
 
 def newer_date(place: Place) -> None:
-    """A source that is newer by its date alone is looked at once: nothing is made anew, and the program is current then."""
+    """A source that is newer by its date alone is looked at once: nothing is made anew, and then it starts at once."""
     place.build()
     place.write("crates/firm_net/src/lib.rt")
     require_reply(place.run(RT_KEEPS="yes"))
