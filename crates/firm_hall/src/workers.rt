@@ -92,7 +92,7 @@ impl Report {
 
 /// Solves rounds from the queue, each after passing the gate. Ends once it has read the stop word as set and then found
 /// the queue empty. If it finds nothing otherwise, looks again, and after some looks in vain sleeps until it is woken
-/// for a round or the hall is shut. The allocator is for the lists in replies.
+/// for a round or the hall is shut. The allocator is for the rounds and the lists in their replies.
 pub fn worker<R: Wait, G: Gate>(
     rt: &R,
     alloc: Global,
