@@ -1,11 +1,13 @@
 #!/usr/bin/env python3
-"""Proves the crates that the program stands on, builds the program, and becomes it.
+"""Proves the crates that a program stands on, and builds the program.
 
-usage: build.py ARGUMENT..
+usage: build.py [PROGRAM..]          proves and builds these programs, firm where none is named
+       build.py --run ARGUMENT..     does so with firm, and then becomes it, as ./firm does
 
-./firm calls it where the program is not there or a source is newer; the arguments and standard input are the program's.
-Crates are proved lowest first, side by side where they share none. What an interrupted run has proved stands, and the
-next goes on from there.
+Crates are proved lowest first, side by side where processors and memory allow. What an interrupted run has proved
+stands, and the next goes on from there: a crate is proved again where its sources, or those of a crate below, have
+changed. crates/NAME/out/statements has what was made of a crate, and the log of its check. Exit status: 0, 1 where a
+crate could not be proved or built, 2 for a wrong word, 127 without the kit, 128 plus the number of a signal.
 """
 
 from __future__ import annotations
@@ -13,24 +15,31 @@ from __future__ import annotations
 import fcntl
 import os
 import re
+import shutil
 import signal
 import subprocess
 import sys
 import time
-from dataclasses import dataclass
 from pathlib import Path
+from typing import NamedTuple
 
-ROOT = Path(__file__).resolve().parent
+sys.dont_write_bytecode = True
+
+import prover  # noqa: E402 (this leaves no file behind)
+from prover import ROOT, Crate  # noqa: E402
+
 PROGRAM = "firm"
-BUILT = ROOT / "crates" / PROGRAM / "out" / PROGRAM
 # What a check takes at most, as measured, and each further job of it.
 CHECK_BYTES = 4_000_000_000
 JOB_BYTES = 1_500_000_000
 MOST_JOBS = 8  # more seldom help, by the kit's own word
+# A check also reads the crates below, in about the time of so many of its own bytes of source.
+BELOW_PER_OWN = 20
 GLANCE_SECONDS = 0.1
 NEWS_SECONDS = 30
-ENDING_SECONDS = 10
 STOPS = (signal.SIGINT, signal.SIGTERM, signal.SIGHUP)
+USAGE_STATUS = 2
+NO_KIT_STATUS = 127
 
 
 class Failed(Exception):
@@ -69,55 +78,27 @@ def elapsed(since: float) -> str:
     return f"{minutes} min {seconds:02} s" if minutes else f"{seconds} s"
 
 
-@dataclass(frozen=True)
-class Crate:
-    """A crate of the repository, with the names of all that it stands on here."""
-
-    name: str
-    below: frozenset[str]
-
-    @property
-    def folder(self) -> Path:
-        return ROOT / "crates" / self.name
-
-    @property
-    def log(self) -> Path:
-        return self.folder / "out" / "build.log"
-
-    @property
-    def family(self) -> frozenset[str]:
-        """The crates that `rt` keeps other runs out of while it works on this one."""
-        return self.below | {self.name}
-
-    def size(self) -> int:
-        """The bytes of its sources, for which a check's time goes roughly."""
-        parts = [self.folder / part for part in ("src", "specs", "proofs")]
-        return sum(file.stat().st_size for part in parts for file in part.rglob("*"))
+def program_file(crate: Crate) -> Path:
+    """Where the program is run from."""
+    return crate.folder / "out" / crate.name
 
 
-def needed_crates() -> list[Crate]:
-    """The crates that the program stands on, lowest first and itself last, by the lines of crates.txt."""
-    lines = [line.partition(":") for line in (ROOT / "crates.txt").read_text().splitlines() if line[:1].isalpha()]
-    listed = {name.split()[0]: libraries.split() for name, _, libraries in lines}
-    found: dict[str, Crate] = {}
+def size(crate: Crate) -> int:
+    """What the time of its check goes by, roughly."""
+    return own_bytes(crate) + sum(map(own_bytes, crate.below)) // BELOW_PER_OWN
 
-    def visit(name: str) -> frozenset[str]:
-        if name not in found:
-            own = [library for library in listed[name] if library in listed]
-            found[name] = Crate(name, frozenset(own).union(*map(visit, own)))
-        return found[name].below
 
-    visit(PROGRAM)
-    return list(found.values())
+def own_bytes(crate: Crate) -> int:
+    return sum(file.stat().st_size for file in crate.folder.glob("src/**/*.rt"))
 
 
 def in_order_of_chains(crates: list[Crate]) -> list[Crate]:
     """The crates, those first behind which the most is to be proved in turn."""
-    chain: dict[str, int] = {}
+    chain: dict[Crate, int] = {}
     for crate in reversed(crates):
-        above = [chain[other.name] for other in crates if crate.name in other.below]
-        chain[crate.name] = crate.size() + max(above, default=0)
-    return sorted(crates, key=lambda crate: -chain[crate.name])
+        above = [chain[other] for other in crates if crate in other.below]
+        chain[crate] = size(crate) + max(above, default=0)
+    return sorted(crates, key=lambda crate: -chain[crate])
 
 
 def free_bytes() -> int:
@@ -129,56 +110,167 @@ def free_bytes() -> int:
     return 1024 * int(found[1]) if found else CHECK_BYTES
 
 
+class Sources(NamedTuple):
+    """What tells whether a crate's sources are still those that a check began with."""
+
+    content: str
+    dates: str
+
+    @staticmethod
+    def of(crate: Crate) -> Sources:
+        return Sources(prover.sum_of_sources(crate), prover.sum_of_dates(crate))
+
+
+class Group:
+    """The process group of all checks, which ends with this process, however this one ends.
+
+    The shell's read returns when this end of the pipe closes, and the shell then kills its group.
+    """
+
+    def __init__(self) -> None:
+        guard = ["/bin/sh", "-c", "read _; kill -9 0"]
+        self.guard = subprocess.Popen(guard, stdin=subprocess.PIPE, stderr=subprocess.DEVNULL, process_group=0)
+
+    def start(self, words: list[str], crate: Crate, log: Path, temporary: Path) -> subprocess.Popen[bytes]:
+        """Starts a command in a crate's folder, which writes to the log."""
+        with open(log, "ab") as file:
+            return subprocess.Popen(
+                words,
+                cwd=crate.folder,
+                env={**os.environ, "TMPDIR": str(temporary)},
+                stdin=subprocess.DEVNULL,
+                stdout=file,
+                stderr=file,
+                process_group=self.guard.pid,
+            )
+
+    def end(self) -> None:
+        os.killpg(self.guard.pid, signal.SIGKILL)
+        self.guard.communicate()
+
+    def pause(self) -> None:
+        """Stops this process and all checks, until this one is told to go on."""
+        os.killpg(self.guard.pid, signal.SIGSTOP)
+        self.guard.send_signal(signal.SIGCONT)  # it still ends the checks if this process is killed
+        os.kill(os.getpid(), signal.SIGSTOP)
+        os.killpg(self.guard.pid, signal.SIGCONT)
+
+
 class Check:
-    """A running check of a crate."""
+    """A running check of a crate, which makes its rlib or its program in a folder of its own."""
 
-    def __init__(self, crate: Crate, jobs: int) -> None:
-        self.crate, self.jobs, self.began = crate, jobs, time.monotonic()
-        words = ["rt", "lib", "--jobs", str(jobs)]
-        if crate.name == PROGRAM:
-            words = ["rt", "run", "--jobs", str(jobs), "--", "--help"]  # no other command links a program
-        crate.log.parent.mkdir(exist_ok=True)
-        with open(crate.log, "wb") as log:
-            self.process = subprocess.Popen(words, cwd=crate.folder, stdin=subprocess.DEVNULL, stdout=log, stderr=log)
+    def __init__(self, crate: Crate, jobs: int, group: Group) -> None:
+        self.crate, self.jobs, self.group = crate, jobs, group
+        self.began, self.sources = time.monotonic(), Sources.of(crate)
+        self.made = prover.made(crate)
+        self.work, self.log = self.made.with_name("work"), self.made.with_name("log")
+        self.clear()
+        self.work.mkdir(parents=True)
+        self.log.write_bytes(b"")
+        self.new = self.work / self.made.name
+        words = prover.words(crate, prover.made)
+        self.process = self.start("rattle", ["build", *words, "--jobs", str(jobs), *self.aim()])
 
-    def progress(self) -> str:
-        """How far it is, by the last line of its log that says so; a check with one job has none before its end."""
-        told = re.findall(r"^so far: ([1-9]\d* of \d+ functions)", self.crate.log.read_text(errors="replace"), re.M)
-        return f"{self.crate.name} for {elapsed(self.began)}" + (f" ({told[-1]})" if told else "")
+    def clear(self) -> None:
+        shutil.rmtree(self.work, ignore_errors=True)
 
-    def ending(self) -> str:
-        """How it has ended well; `rt` says nothing of a library that needs no work."""
-        has_worked = self.crate.log.stat().st_size
-        return f"is proved, in {elapsed(self.began)}" if has_worked else "stands, proved by an earlier run"
+    def aim(self) -> list[str]:
+        """What rattle is to make, and where."""
+        if self.crate.is_program:
+            return ["--toolchain", f"{prover.kit()}/toolchain", "--backend", "llvm", "-o", f"{self.new}.o"]
+        return ["--statements", "-o", str(self.new)]
+
+    def start(self, tool: str, words: list[str]) -> subprocess.Popen[bytes]:
+        return self.group.start([f"{prover.kit()}/bin/{tool}", *words], self.crate, self.log, self.work)
 
     def is_well(self) -> bool:
-        return self.process.returncode == 0 and (self.crate.name != PROGRAM or os.access(BUILT, os.X_OK))
+        """Whether the crate is proved and, of a program, linked: rattle says so by its status alone."""
+        if self.process.returncode == 0 and self.crate.is_program:
+            kit = prover.kit()
+            words = ["--target", "x86_64-unknown-linux-gnu", "--toolchain", f"{kit}/toolchain", "-o", str(self.new)]
+            libraries = [f"{kit}/c/{name}" for name in ("libos_c.a", "liblibc_c.a")]
+            self.process = self.start("rattle-link", [*words, f"{self.new}.o", *libraries])
+            self.process.wait()
+        return self.process.returncode == 0 and self.new.exists()
+
+    def keep(self, below: list[str]) -> str:
+        """Puts what was made into its place, over rlibs with these stamps; its own stamp, empty if it can't be told.
+
+        It can't where a source has been edited during the check, or one of a crate below had been during its own.
+        """
+        prover.stamp_file(self.crate).unlink(missing_ok=True)  # before what it is of
+        if self.made.is_dir():
+            shutil.rmtree(self.made)
+        self.new.replace(self.made)
+        self.clear()
+        if not all(below) or Sources.of(self.crate) != self.sources:
+            return ""
+        stamp = prover.stamp(self.sources.content, below)
+        prover.stamp_file(self.crate).write_text(stamp)
+        return stamp
 
 
 class Build:
-    """The checks of the needed crates: which are left, which run, what is proved."""
+    """The checks of the needed crates: which are left, which run, and the stamps of those that are proved."""
 
-    def __init__(self, crates: list[Crate]) -> None:
-        self.left = in_order_of_chains(crates)
+    def __init__(self, programs: list[Crate]) -> None:
+        needed = dict.fromkeys(crate for program in programs for crate in (*program.below, program))
+        self.programs = programs
+        self.left = in_order_of_chains(list(needed))
         self.running: list[Check] = []
-        self.proved: set[str] = set()
-        self.count, self.began, self.told = len(crates), time.monotonic(), time.monotonic()
+        self.stamps: dict[Crate, str] = {}
+        self.began, self.told = time.monotonic(), time.monotonic()
         self.processors, self.memory = len(os.sched_getaffinity(0)), free_bytes()
+        self.take_standing()
+        self.count = len(self.left)
 
-    def run(self) -> None:
-        """Proves all that is left and builds the program, or raises at the first crate that is not proved."""
-        say(f"{self.count} crates are to be proved before the program runs; what stands from an earlier run is kept")
+    def run(self, advice: str) -> None:
+        """Proves all that is left and builds the programs, or raises at the first crate that is not proved."""
+        if self.left:
+            warn_of_logic()
+            earlier = f"; {len(self.stamps)} stand from an earlier run" if self.stamps else ""
+            say(f"{self.count} crates are to be proved before the program is built{earlier}{advice}")
+            self.prove()
+            say(f"the program is built ({elapsed(self.began)} in all)")
+        for program in self.programs:
+            install(program)
+
+    def prove(self) -> None:
+        group = Group()
+        if signal.getsignal(signal.SIGTSTP) == signal.SIG_DFL:
+            signal.signal(signal.SIGTSTP, lambda _number, _frame: group.pause())
         try:
             while self.left or self.running:
-                self.start_checks()
+                self.start_checks(group)
                 glance()
                 self.take_ended()
+                self.take_standing()
                 self.tell_now_and_then()
         finally:
-            self.end_all()
-        say(f"the program is built ({elapsed(self.began)} in all)")
+            group.end()
+            for check in self.running:
+                check.process.wait()
+                check.clear()
 
-    def start_checks(self) -> None:
+    def stamps_below(self, crate: Crate) -> list[str]:
+        return [self.stamps[library] for library in crate.below]
+
+    def startable(self) -> list[Crate]:
+        """The crates whose libraries are proved."""
+        return [crate for crate in self.left if self.stamps.keys() >= set(crate.below)]
+
+    def take_standing(self) -> None:
+        """Takes from those left what an earlier run has proved, of the same sources over the same libraries."""
+        while standing := [crate for crate in self.startable() if self.stands(crate)]:
+            for crate in standing:
+                self.left.remove(crate)
+                self.stamps[crate] = prover.stamp_of_made(crate)
+
+    def stands(self, crate: Crate) -> bool:
+        below, made = self.stamps_below(crate), prover.stamp_of_made(crate)
+        return bool(made) and all(below) and made == prover.stamp(prover.sum_of_sources(crate), below)
+
+    def start_checks(self, group: Group) -> None:
         """Starts what can be, and shares the idle processors among it, as the memory allows."""
         idle = self.processors - sum(check.jobs for check in self.running)
         room = max(self.memory // CHECK_BYTES, 1) - len(self.running)
@@ -189,60 +281,57 @@ class Build:
             jobs = min(idle // (len(chosen) - place), spare, MOST_JOBS)
             idle -= jobs
             self.left.remove(crate)
-            self.running.append(Check(crate, jobs))
-
-    def startable(self) -> list[Crate]:
-        """The crates whose libraries are proved and that `rt` lets run beside the running ones and one another."""
-        taken = {name for check in self.running for name in check.crate.family}
-        found = []
-        for crate in self.left:
-            if crate.below <= self.proved and not crate.family & taken:
-                found.append(crate)
-                taken |= crate.family
-        return found
+            self.running.append(Check(crate, jobs, group))
 
     def take_ended(self) -> None:
         for check in [check for check in self.running if check.process.poll() is not None]:
             if not check.is_well():
-                raise Failed(f"{check.crate.name} could not be proved and built: {check.crate.log} says why")
+                raise Failed(f"{check.crate.name} could not be proved and built: {check.log} says why")
             self.running.remove(check)
-            self.proved.add(check.crate.name)
-            self.tell(f"{check.crate.name} {check.ending()}")
+            self.stamps[check.crate] = check.keep(self.stamps_below(check.crate))
+            self.tell(f"{check.crate.name} is proved, in {elapsed(check.began)}")
 
     def tell(self, news: str) -> None:
         self.told = time.monotonic()
-        say(f"{news}; {self.count - len(self.proved)} of {self.count} left, {elapsed(self.began)} so far")
+        left = len(self.left) + len(self.running)
+        say(f"{news}; {left} of {self.count} left, {elapsed(self.began)} so far")
 
     def tell_now_and_then(self) -> None:
-        if time.monotonic() - self.told > NEWS_SECONDS:
-            self.tell("at " + " and ".join(check.progress() for check in self.running))
-
-    def end_all(self) -> None:
-        """Ends what still runs; `rt` ends what it started itself."""
-        for check in self.running:
-            check.process.terminate()
-        for check in self.running:
-            try:
-                check.process.wait(ENDING_SECONDS)
-            except subprocess.TimeoutExpired:
-                check.process.kill()
+        if self.running and time.monotonic() - self.told > NEWS_SECONDS:
+            at = (f"{check.crate.name} for {elapsed(check.began)}" for check in self.running)
+            self.tell("at " + " and ".join(at))
 
 
-def wait_for_turn() -> bool:
-    """Whether no other run was building; waits for one that was. Others wait until this one ends or is the program."""
+def warn_of_logic() -> None:
+    """Says where the kit has another logic than the one that the crates are known to be proved in."""
+    logic = prover.kit_logic()
+    if logic != prover.LOGIC:
+        found = f"logic {logic}" if logic else "a logic that it does not tell"
+        say(f"warning: the kit in {prover.kit()} has {found}, and not {prover.LOGIC}: proofs may fail with it")
+
+
+def install(program: Crate) -> None:
+    """Puts a program where it is run from, if it is not there; one that runs meanwhile is not disturbed."""
+    made, file = prover.made(program), program_file(program)
+    if not file.exists() or file.read_bytes() != made.read_bytes():
+        new = made.with_name("new")
+        shutil.copy2(made, new)
+        new.replace(file)
+
+
+def wait_for_turn() -> None:
+    """Waits until no other run builds. Others wait until this one ends or is the program."""
     turn = os.open(ROOT / "crates.txt", os.O_RDONLY)
-    try:
-        fcntl.flock(turn, fcntl.LOCK_EX | fcntl.LOCK_NB)
-        return True
-    except BlockingIOError:
-        say("another run is building the program: waiting for it")
+    has_said = False
     while True:
-        glance()
         try:
             fcntl.flock(turn, fcntl.LOCK_EX | fcntl.LOCK_NB)
-            return False
+            return
         except BlockingIOError:
-            pass
+            if not has_said:
+                say("another run is building the program: waiting for it")
+                has_said = True
+        glance()
 
 
 def become(file: Path, arguments: list[str]) -> None:
@@ -252,37 +341,50 @@ def become(file: Path, arguments: list[str]) -> None:
     os.execv(file, [str(file), *arguments])
 
 
-def date_program(began: float, is_current: bool) -> None:
-    """Gives a program that was built since then that date: an edit made meanwhile is newer.
+def build(programs: list[Crate], advice: str) -> None:
+    """Builds the programs, which get the date of the build's begin: an edit made meanwhile is newer."""
+    wait_for_turn()
+    began = time.time()
+    Build(programs).run(advice)
+    for program in programs:
+        os.utime(program_file(program), (began, began))
+    glance()
 
-    So does a build that found it current: rt leaves the program where sources are newer by their dates alone.
-    """
-    if BUILT.exists() and (is_current or BUILT.stat().st_mtime > began):
-        os.utime(BUILT, (began, began))
+
+def read_programs(names: list[str]) -> list[Crate]:
+    """The crates of these programs."""
+    crates = prover.crates_of_repository()
+    known = [crate.name for crate in crates.values() if crate.is_program]
+    wrong = [name for name in names if name not in known]
+    if wrong:
+        say(f"there is no program {wrong[0]}: the programs are {', '.join(known)}")
+        sys.exit(USAGE_STATUS)
+    return [crates[name] for name in names]
 
 
 def main(arguments: list[str]) -> int:
     for number in STOPS:
         if signal.getsignal(number) != signal.SIG_IGN:
             signal.signal(number, lambda number, _frame: come.append(number))
-    began = time.time()
+    if arguments[:1] in (["-h"], ["--help"]):
+        print(__doc__)
+        return 0
+    runs = arguments[:1] == ["--run"]
+    programs = read_programs([PROGRAM] if runs else arguments or [PROGRAM])
+    advice = ". For one answer without proof: ./firm --unproved --roster FILE < COMMANDS" if runs else ""
     try:
-        if not wait_for_turn():
-            become(ROOT / "firm", arguments)
-        is_current = False
-        try:
-            Build(needed_crates()).run()
-            is_current = True
-        finally:
-            date_program(began, is_current)
-        glance()
+        build(programs, advice)
+    except prover.NoKit as reason:
+        say(str(reason))
+        return NO_KIT_STATUS
     except Failed as failed:
         say(str(failed))
         return 1
     except Stopped as stopped:
         say("stopped; the next run goes on from here")
         return 128 + stopped.number
-    become(BUILT, arguments)
+    if runs:
+        become(program_file(programs[0]), arguments[1:])
     return 0
 
 

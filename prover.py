@@ -115,6 +115,22 @@ def words(crate: Crate, libraries: Callable[[Crate], Path]) -> list[str]:
     return [*found, "--links", f"{crate.name}="]
 
 
+def made(crate: Crate) -> Path:
+    """Where build.py puts what it makes of a crate: its rlib, of statements alone, or the program."""
+    return crate.folder / "out" / "statements" / (crate.name if crate.is_program else f"{crate.name}.rlib")
+
+
+def stamp_file(crate: Crate) -> Path:
+    """The file that has the stamp of what was made of a crate; it is there only beside what it is of."""
+    return made(crate).with_name("stamp")
+
+
+def stamp_of_made(crate: Crate) -> str:
+    """The stamp of what was made of a crate; empty where nothing was, or it may be of other sources."""
+    file = stamp_file(crate)
+    return file.read_text() if file.exists() and made(crate).exists() else ""
+
+
 def sum_of_sources(crate: Crate) -> str:
     """A sum over the crate's name, its line in crates.txt, and its files by path and content."""
     libraries = sorted([*(library.name for library in crate.libraries), *crate.of_kit])
@@ -122,6 +138,11 @@ def sum_of_sources(crate: Crate) -> str:
     for file in crate.sources():
         parts += [str(file.relative_to(crate.folder)).encode(), file.read_bytes()]
     return sum_of(parts)
+
+
+def sum_of_dates(crate: Crate) -> str:
+    """A sum that tells whether a file of the crate was written in the meantime, be it what it was before."""
+    return sum_of(f"{file} {file.stat().st_mtime_ns}".encode() for file in crate.sources())
 
 
 def stamp(sources: str, below: Iterable[str]) -> str:

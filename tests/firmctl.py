@@ -595,7 +595,7 @@ def firmctl_over_firmd(built: str) -> None:
 def reasons_over_firmd(built: str) -> None:
     """why, of firmd and the built firm_explain: of a task that runs, one that waits, and one that ended."""
     if not EXPLAIN.exists():
-        raise Skipped("firm_explain is not built: cd crates/firm_explain && rt run")
+        raise Skipped("firm_explain is not built: ./build.py firm_explain")
     with firmd.Setup(built, True, 1).daemon(roster=ROSTER) as daemon:
         daemon.start()
         with firmd.Client(daemon.operator) as client:

@@ -3,6 +3,8 @@
 from __future__ import annotations
 
 import os
+import pty
+import re
 import shutil
 import signal
 import subprocess
@@ -10,15 +12,24 @@ import sys
 import tempfile
 import time
 from pathlib import Path
-from typing import Callable
+from typing import IO, Any, Callable
 
-from harness.checks import require
+from harness.checks import Skipped, require
 from harness.program import ROOT, Run
 
+SCRIPTS = ("firm", "build.py", "prover.py", "unproved.py")
 TOOLS = ("awk", "bash", "cat", "dirname", "env", "find", "realpath")
+KIT_TOOLS = ("rt", "rattle", "rattle-link")
+KIT_FILES = ("START-HERE.md", "c/libos_c.a", "c/liblibc_c.a", "rattle/logic/antt-project.json", "logic_built/one")
+PROGRAMS = ("firm", "firm_explain")
 LIMIT_SECONDS = 60  # for each run of the launcher
+LOGIC = re.findall(r'^LOGIC = "(\w+)"$', (ROOT / "prover.py").read_text(), re.M)[0]
+ONE_LINE, TWO_LINES = "one line\n", "one line\nand one more\n"
 TEXT = b"alpha show\n"
 REPLY = b"the program: --roster day.csv\n" + TEXT
+ROSTER = "tenant\nalpha\n"
+TRIAL = f"the trial: --roster roster.csv {ROSTER} ".encode() + TEXT
+MOST_BYTES = 64 << 20  # of commands for an unproved answer
 
 
 def listed() -> dict[str, list[str]]:
@@ -48,43 +59,71 @@ class Place:
     """A repository in a folder of its own, with the launcher and a path on which rt is the stand-in or absent."""
 
     def __init__(self, folder: str) -> None:
-        self.top, self.crates = Path(folder) / "repository", listed()
+        self.room, self.top, self.crates = Path(folder), Path(folder) / "repository", listed()
         self.needed = family("firm", self.crates)
         self.top.mkdir()
-        for name in ("firm", "build.py", "crates.txt", "README.md"):
+        for name in (*SCRIPTS, "crates.txt", "README.md"):
             shutil.copy2(ROOT / name, self.top)
         for crate in self.crates:
-            for file in ("src/lib.rt", "must-fail/one.edit", "more-edits/two.edit"):
+            for file in (source(crate), "must-fail/one.edit", "more-edits/two.edit"):
                 self.write(f"crates/{crate}/{file}")
         self.record = self.top / "asked"
         self.record.write_text("")
-        self.paths = {True: Path(folder) / "with-rt", False: Path(folder) / "without"}
+        self.temporary = self.room / "temporary"
+        self.temporary.mkdir()
+        (self.room / "day.csv").write_text(ROSTER)
+        self.make_kit()
+        self.make_paths()
+
+    def make_kit(self) -> None:
+        self.kit = self.room / "kit"
+        libraries = {library for names in self.crates.values() for library in names} - set(self.crates)
+        for name in (*KIT_FILES, *(f"rlibs/{library}.rlib/format" for library in {"std", *libraries})):
+            (self.kit / name).parent.mkdir(parents=True, exist_ok=True)
+            (self.kit / name).write_text(ONE_LINE)
+        (self.kit / "bin").mkdir()
+        for tool in KIT_TOOLS:
+            (self.kit / "bin" / tool).symlink_to(ROOT / "tests/stand_in_kit.py")
+        self.name_kit(LOGIC)
+
+    def name_kit(self, logic: str) -> None:
+        (self.kit / "KIT-ID").write_text(f"rattle-kit-0a logic {logic}\n")
+
+    def make_paths(self) -> None:
+        self.paths = {True: self.room / "with-rt", False: self.room / "without"}
         for has_rt, path in self.paths.items():
             path.mkdir()
             for tool in TOOLS:
                 (path / tool).symlink_to(str(shutil.which(tool)))
             (path / "python3").symlink_to(sys.executable)
             if has_rt:
-                (path / "rt").symlink_to(ROOT / "tests/stand_in_rt.py")
+                (path / "rt").symlink_to(self.kit / "bin/rt")
 
     def above(self, name: str) -> set[str]:
         """The crate and those of the program that stand on it."""
         return {crate for crate in self.needed if name in family(crate, self.crates)}
 
-    def write(self, name: str) -> None:
+    def write(self, name: str, text: str = ONE_LINE) -> None:
         """Writes a file, newer than all that is there."""
         file = self.top / name
         file.parent.mkdir(parents=True, exist_ok=True)
-        file.write_text("one line\n")
+        file.write_text(text)
 
-    def start(self, has_rt: bool = True, launcher: Path | None = None, **behaviour: str) -> subprocess.Popen[bytes]:
-        environment = {**os.environ, "PATH": str(self.paths[has_rt]), **behaviour}
-        words = [str(launcher or self.top / "firm"), "--roster", "day.csv"]
+    def start(
+        self,
+        *words: str | Path,
+        has_rt: bool = True,
+        stdin: int | IO[bytes] = subprocess.PIPE,
+        **behaviour: str,
+    ) -> subprocess.Popen[bytes]:
+        """Starts the launcher, or with words another command."""
+        environment = {**os.environ, "PATH": str(self.paths[has_rt]), "TMPDIR": str(self.temporary), **behaviour}
         return subprocess.Popen(
-            words,
+            words or [self.top / "firm", "--roster", "day.csv"],
+            cwd=self.room,
             env=environment,
             preexec_fn=heed_signals,
-            stdin=subprocess.PIPE,
+            stdin=stdin,
             stdout=subprocess.PIPE,
             stderr=subprocess.PIPE,
         )
@@ -92,14 +131,20 @@ class Place:
     def end(self, launched: subprocess.Popen[bytes]) -> Run:
         with launched:
             try:
-                output, faults = launched.communicate(TEXT, timeout=LIMIT_SECONDS)
+                output, faults = launched.communicate(TEXT if launched.stdin else None, timeout=LIMIT_SECONDS)
             except subprocess.TimeoutExpired:
                 launched.kill()
                 raise
         return Run(launched.returncode, output, faults)
 
-    def run(self, has_rt: bool = True, launcher: Path | None = None, **behaviour: str) -> Run:
-        return self.end(self.start(has_rt, launcher, **behaviour))
+    def run(
+        self,
+        *words: str | Path,
+        has_rt: bool = True,
+        stdin: int | IO[bytes] = subprocess.PIPE,
+        **behaviour: str,
+    ) -> Run:
+        return self.end(self.start(*words, has_rt=has_rt, stdin=stdin, **behaviour))
 
     def wait_for(self, line: str, launched: subprocess.Popen[bytes]) -> None:
         """Waits until the stand-in has written the line down."""
@@ -124,10 +169,19 @@ class Place:
     def made(self) -> list[str]:
         return [crate for word, crate in self.asked() if word == "made"]
 
+    def files(self) -> set[Path]:
+        """All files, but for the stand-in's record."""
+        return set(self.room.rglob("*")) - {self.record}
+
     def build(self) -> None:
         done = self.run()
         require(done.status == 0, done)
         self.asked()
+
+
+def source(crate: str) -> str:
+    """The root file of a crate."""
+    return "src/main.rt" if crate in PROGRAMS else "src/lib.rt"
 
 
 def require_reply(done: Run) -> None:
@@ -142,7 +196,7 @@ def require_quiet_reply(done: Run) -> None:
 
 def require_nothing_asked(place: Place) -> None:
     asked = place.asked()
-    require(not asked, f"rt was asked: {asked}")
+    require(not asked, f"the kit was asked: {asked}")
 
 
 def require_made(place: Place, wanted: set[str]) -> None:
@@ -151,90 +205,153 @@ def require_made(place: Place, wanted: set[str]) -> None:
 
 
 def first_run(place: Place) -> None:
-    """The first run proves what the program stands on, lowest first, and side by side only crates that share none."""
+    """The first run proves what the program stands on, each crate once and behind those below it, and tries nothing."""
     done = place.run()
     require_reply(done)
-    running: set[str] = set()
     ended: set[str] = set()
     for word, crate in place.asked():
-        own = family(crate, place.crates)
-        require(word != "robbed", f"{crate} was given the program's input")
+        require(word in ("begin", "made", "end"), f"{word} {crate}")
         if word == "begin":
             require(crate not in ended, f"{crate} twice")
-            require(own - {crate} <= ended, f"{crate} before {own - ended}")
-            beside = [other for other in running if own & family(other, place.crates)]
-            require(not beside, f"{crate} beside {beside}")
-            running.add(crate)
+            require(family(crate, place.crates) - {crate} <= ended, f"{crate} too early")
         elif word == "end":
-            running.remove(crate)
             ended.add(crate)
     require(ended == place.needed, ended)
     require(f"0 of {len(ended)} left".encode() in done.faults, done.faults)
+    first = done.faults.splitlines()[0]
+    require(b"--unproved" in first and b"warning" not in done.faults, done.faults)
+
+
+def side_by_side(place: Place) -> None:
+    """Crates of which none stands on the other are proved at the same time, where there are processors for it."""
+    if len(os.sched_getaffinity(0)) < 2:
+        raise Skipped("there is one processor")
+    launched = place.start(KIT_WAITS="firm_arena")
+    place.wait_for("end firm_rules", launched)
+    place.write("go")
+    require_reply(place.end(launched))
+    words = place.asked()
+    require(words.index(["end", "firm_rules"]) < words.index(["end", "firm_arena"]), words)
 
 
 def current(place: Place) -> None:
     """A program that is there runs at once and says nothing, also by a link from elsewhere."""
     place.build()
-    link = place.top.parent / "linked"
+    link = place.room / "linked"
     link.symlink_to(place.top / "firm")
-    for launcher in (None, link):
-        require_quiet_reply(place.run(launcher=launcher))
+    for launcher in (place.top / "firm", link):
+        require_quiet_reply(place.run(launcher, "--roster", "day.csv"))
     require_nothing_asked(place)
 
 
 def newer_documents(place: Place) -> None:
     """Newer documents, tests, edits and crates that the program does not stand on ask for nothing."""
     place.build()
-    others = [f"crates/{crate}/src/lib.rt" for crate in set(place.crates) - place.needed]
+    others = [f"crates/{crate}/{source(crate)}" for crate in set(place.crates) - place.needed]
     edits = ["crates/firm_net/must-fail/one.edit", "crates/firm_net/more-edits/two.edit"]
     for name in ["README.md", "docs/USING.md", "tests/quick", "crates/firm/stdin", *edits, *others]:
-        place.write(name)
+        place.write(name, TWO_LINES)
     (place.top / "crates.txt").touch()
     require_quiet_reply(place.run())
     require_nothing_asked(place)
 
 
 def newer_source(place: Place) -> None:
-    """A newer source of a crate below is proved, and the program is current then."""
+    """A changed source of a crate below is proved with all above it, and the program is current then."""
     place.build()
-    place.write("crates/firm_net/src/lib.rt")
+    for text in (TWO_LINES, ONE_LINE):
+        place.write("crates/firm_net/src/lib.rt", text)
+        require_reply(place.run())
+        require_made(place, place.above("firm_net"))
+        require_quiet_reply(place.run())
+    place.write("crates/firm_hall/proofs/Answers.antt")
     require_reply(place.run())
-    require_made(place, place.above("firm_net"))
-    require_quiet_reply(place.run())
+    require_made(place, place.above("firm_hall"))
 
 
 def newer_date(place: Place) -> None:
     """A source that is newer by its date alone is looked at once: nothing is made anew, and then it starts at once."""
     place.build()
     place.write("crates/firm_net/src/lib.rt")
-    require_reply(place.run(RT_KEEPS="yes"))
-    require_made(place, set())
-    require_quiet_reply(place.run())
-    require_nothing_asked(place)
+    for _ in range(2):
+        require_quiet_reply(place.run())
+        require_nothing_asked(place)
+
+
+def reverted_source(place: Place) -> None:
+    """What stands above a changed crate, and was not proved anew yet, stands again once the change is reverted."""
+    place.build()
+    for broken, proved in (("firm_net", set[str]()), ("firm_paths", {"firm_net"})):
+        place.write("crates/firm_net/src/lib.rt", TWO_LINES)
+        done = place.run(KIT_BROKEN=broken)
+        require(done.status == 1, done)
+        require_made(place, proved)
+        place.write("crates/firm_net/src/lib.rt")
+        require_reply(place.run())
+        require_made(place, proved)
 
 
 def edit_during_build(place: Place) -> None:
     """A source that is edited while the program is being built is newer than the program."""
     launched = place.start()
     place.wait_for("end firm_net", launched)
-    place.write("crates/firm_net/src/lib.rt")
+    place.write("crates/firm_net/src/lib.rt", TWO_LINES)
     require_reply(place.end(launched))
     place.asked()
     require_reply(place.run())
     require_made(place, place.above("firm_net"))
 
 
+def edit_during_check(place: Place) -> None:
+    """A source that was another during its crate's check, for a moment only, is proved again with all above it."""
+    launched = place.start(KIT_WAITS="firm_net")
+    place.wait_for("begin firm_net", launched)
+    for text in (TWO_LINES, ONE_LINE):
+        place.write("crates/firm_net/src/lib.rt", text)
+    place.write("go")
+    require_reply(place.end(launched))
+    place.asked()
+    require_reply(place.run())
+    require_made(place, place.above("firm_net"))
+
+
+def lost_rlib(place: Place) -> None:
+    """A crate whose rlib is lost is made again, and nothing above it; a program that was replaced is put back."""
+    place.build()
+    shutil.rmtree(place.top / "crates/firm_net/out")
+    place.write("crates/firm/out/firm", "another program\n")
+    place.write("crates/firm_net/src/lib.rt")
+    require_reply(place.run())
+    require_made(place, {"firm_net"})
+
+
+def other_kit(place: Place) -> None:
+    """Another kit proves all anew; where it is of another logic than the crates' own, a line says so first."""
+    place.build()
+    place.name_kit("0123456789abcdef")
+    place.write("crates/firm_net/src/lib.rt")
+    done = place.run()
+    require_reply(done)
+    require_made(place, place.needed)
+    warning, *others = done.faults.splitlines()
+    require(all(word in warning for word in (b"warning", LOGIC.encode(), b"0123456789abcdef")), warning)
+    require(not any(b"warning" in line for line in others), others)
+    require(LOGIC in (ROOT / "README.md").read_text(), f"README.md does not name the kit's logic, {LOGIC}")
+
+
 def no_rt(place: Place) -> None:
     """Without rt the program that is there runs, with a note where a source is newer; without either, status 127."""
     done = place.run(has_rt=False)
     require(done.status == 127 and done.output == b"", done)
-    require(all(word in done.faults for word in (b"rt", b"PATH", b"README.md")), done.faults)
+    require(all(word in done.faults for word in (b"rt", b"PATH", b"README.md", LOGIC.encode())), done.faults)
     place.build()
     require_quiet_reply(place.run(has_rt=False))
-    place.write("crates/firm_hall/src/lib.rt")
+    place.write("crates/firm_hall/src/lib.rt", TWO_LINES)
     done = place.run(has_rt=False)
     require_reply(done)
     require(done.faults.count(b"\n") == 1 and b"rt" in done.faults, done.faults)
+    done = place.run(sys.executable, place.top / "build.py", has_rt=False)
+    require(done.status == 127 and b"PATH" in done.faults, done)
     require_nothing_asked(place)
 
 
@@ -242,7 +359,7 @@ def interrupted(place: Place) -> None:
     """An interrupted run ends what it started, and the next goes on from there."""
     made = []
     for number in (signal.SIGINT, signal.SIGTERM):
-        launched = place.start(RT_SLOW="firm_graph")
+        launched = place.start(KIT_SLOW="firm_graph")
         place.wait_for("begin firm_graph", launched)
         launched.send_signal(number)
         done = place.end(launched)
@@ -256,10 +373,25 @@ def interrupted(place: Place) -> None:
     require(sorted(made) == sorted(place.needed), made)
 
 
+def killed(place: Place) -> None:
+    """So does one that is killed."""
+    launched = place.start(KIT_SLOW="firm_graph")
+    place.wait_for("begin firm_graph", launched)
+    launched.kill()
+    place.end(launched)
+    ends = time.monotonic() + LIMIT_SECONDS
+    while place.still_runs():
+        require(time.monotonic() < ends, "a check goes on")
+        time.sleep(0.02)
+    made = place.made()
+    require_reply(place.run())
+    require(sorted(made + place.made()) == sorted(place.needed), made)
+
+
 def failing_crate(place: Place) -> None:
     """A crate that is not proved ends the run with its log's name; nothing above it is tried, and no program runs."""
-    done = place.run(RT_BROKEN="firm_paths")
-    log = place.top / "crates/firm_paths/out/build.log"
+    done = place.run(KIT_BROKEN="firm_paths")
+    log = place.top / "crates/firm_paths/out/statements/log"
     require(done.status == 1 and done.output == b"", done)
     require(str(log).encode() in done.faults, done.faults)
     require("a goal is open" in log.read_text(), log.read_text())
@@ -276,17 +408,104 @@ def two_at_once(place: Place) -> None:
     require(begun == sorted(place.needed), begun)
 
 
+def named_programs(place: Place) -> None:
+    """build.py builds the programs that it is given, each crate once, and runs none."""
+    build = place.top / "build.py"
+    for names, made in ((("firm_explain",), {"firm_explain"}), (("firm", "firm_explain"), {"firm"}), ((), set[str]())):
+        done = place.run(build, *names)
+        require(done.status == 0 and done.output == b"", done)
+        families = [family(name, place.crates) for name in made]
+        require(set(place.made()) <= set[str]().union(*families), f"{names} makes more than {made}")
+        require(all(os.access(place.top / f"crates/{name}/out/{name}", os.X_OK) for name in names), names)
+    require_quiet_reply(place.run())
+    done = place.run(build, "firm_net")
+    require(done.status == 2 and b"firm_explain" in done.faults, done)
+    require_nothing_asked(place)
+
+
+def ask_unproved(place: Place, *words: str, **how: Any) -> Run:
+    return place.run(place.top / "firm", *words, "--unproved", **how)
+
+
+def unproved(place: Place) -> None:
+    """An unproved answer says before and after that it is one, ends as the program did, and keeps nothing."""
+    before = place.files()
+    for status in (0, 3):
+        for words in (("--roster", "day.csv"), ("--roster=day.csv",)):
+            done = ask_unproved(place, *words, KIT_STATUS=str(status))
+            require(done.status == status and done.output == TRIAL, done)
+            first, said, last = done.faults.splitlines()
+            require(said == b"a word of the program", said)
+            require(all(b"UNPROVED" in label and b"no proof" in label for label in (first, last)), done.faults)
+    done = ask_unproved(place, "--workers", "8", "--roster", "day.csv")
+    require(done.output.startswith(b"the trial: --roster roster.csv --workers 8 "), done.output)
+    require(place.asked() == [["try", "firm"]] * 5, "it is tried once for each")
+    require(place.files() == before, place.files() - before)
+
+
+def unproved_without_answer(place: Place) -> None:
+    """Where the trial has none, the status is no status of the program's; an interrupted one keeps nothing either."""
+    before = place.files()
+    done = ask_unproved(place, "--roster", "day.csv", KIT_NO_ANSWER="firm")
+    require(done.status == 70 and done.output == b"" and b"no answer" in done.faults, done)
+    place.asked()
+    words = (place.top / "firm", "--unproved", "--roster", "day.csv")
+    launched = place.start(*words, stdin=subprocess.DEVNULL, KIT_SLOW="firm")
+    place.wait_for("try firm", launched)
+    launched.send_signal(signal.SIGTERM)
+    done = place.end(launched)
+    require(done.status == 128 + signal.SIGTERM and done.output == b"", done)
+    require(place.files() == before, place.files() - before)
+
+
+def unproved_refused(place: Place) -> None:
+    """It refuses what it can't answer: no roster, a terminal, too many commands, no rt."""
+    terminal, other = pty.openpty()
+    with tempfile.TemporaryFile() as long, os.fdopen(terminal, "wb"), os.fdopen(other, "rb") as typed:
+        long.truncate(MOST_BYTES + 1)
+        refusals = {
+            b"roster": ask_unproved(place),
+            b"no roster": ask_unproved(place, "--roster", "none.csv"),
+            b"< FILE": ask_unproved(place, "--roster", "day.csv", stdin=typed),
+            b"64 MiB": ask_unproved(place, "--roster", "day.csv", stdin=long),
+            b"PATH": ask_unproved(place, "--roster", "day.csv", has_rt=False),
+        }
+    for word, done in refusals.items():
+        require(done.status == 2 and done.output == b"" and word in done.faults, f"{word!r}: {done}")
+    require_nothing_asked(place)
+
+
+def unproved_never_by_default(place: Place) -> None:
+    """Nothing but the launcher's own word asks for an unproved answer, least of all the service."""
+    require_reply(place.run(FIRM_UNPROVED="1", UNPROVED="1"))
+    require(["try", "firm"] not in place.asked(), "it was tried")
+    names = (path for path in (ROOT / "service").rglob("*") if path.suffix != ".pyc" and path.is_file())
+    naming = [path for path in names if b"unproved" in path.read_bytes()]
+    require(not naming, f"these name it: {naming}")
+
+
 CHECKS: list[Callable[[Place], None]] = [
     first_run,
+    side_by_side,
     current,
     newer_documents,
     newer_source,
     newer_date,
+    reverted_source,
     edit_during_build,
+    edit_during_check,
+    lost_rlib,
+    other_kit,
     no_rt,
     interrupted,
+    killed,
     failing_crate,
     two_at_once,
+    named_programs,
+    unproved,
+    unproved_without_answer,
+    unproved_refused,
+    unproved_never_by_default,
 ]
 
 

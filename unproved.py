@@ -1,0 +1,139 @@
+#!/usr/bin/env python3
+"""Answers commands once, without any proof, and keeps nothing.
+
+usage: ./firm --unproved --roster FILE [OPTION..] < COMMANDS
+
+This is a first look, for whoever has no proved program yet: `rt try` runs the sources. No answer is sent before all
+commands are there, so it serves no live client. Exit status: the program's own; 2 where it can't be asked so, 70 where
+no answer came, 128 plus the number of a signal.
+"""
+
+from __future__ import annotations
+
+import argparse
+import os
+import re
+import shutil
+import signal
+import subprocess
+import sys
+import tempfile
+from pathlib import Path
+from typing import BinaryIO, NamedTuple, NoReturn
+
+CRATE = Path(__file__).resolve().parent / "crates" / "firm"
+MOST_BYTES = 64 << 20  # that rt try gives to a program
+MOST_SECONDS = 60  # that the program may run
+USAGE_STATUS = 2
+NO_ANSWER_STATUS = 70
+STOPS = (signal.SIGINT, signal.SIGTERM, signal.SIGHUP)
+# The last line of rt try where the program ended by itself, and the lines that are not the program's.
+ENDED = re.compile(r"run=ended status=(\d+)")
+OF_RT = re.compile(r"(checked|races|interpreter|run)[:=]")
+
+
+class Stopped(Exception):
+    """A signal asks for an end."""
+
+    def __init__(self, number: int) -> None:
+        super().__init__(number)
+        self.number = number
+
+
+class Asked(NamedTuple):
+    """The roster, and the other words for the program."""
+
+    roster: bytes
+    words: list[str]
+
+
+def say(text: str) -> None:
+    print(f"firm: {text}", file=sys.stderr, flush=True)
+
+
+def refuse(text: str) -> NoReturn:
+    say(f"--unproved: {text}")
+    sys.exit(USAGE_STATUS)
+
+
+def read_words(arguments: list[str]) -> Asked:
+    parser = argparse.ArgumentParser(add_help=False, allow_abbrev=False)
+    parser.add_argument("--roster", default="")
+    parser.add_argument("--unproved", action="store_true")
+    options, words = parser.parse_known_args(arguments)
+    try:
+        return Asked(Path(options.roster).read_bytes(), words)
+    except OSError as error:
+        refuse(f"no roster ({error.strerror}): give --roster FILE")
+
+
+def read_input(to: BinaryIO) -> None:
+    """Reads all commands: rt try itself would cut an input that is silent for two seconds."""
+    while block := sys.stdin.buffer.read1(1 << 20):
+        to.write(block)
+        if to.tell() > MOST_BYTES:
+            refuse(f"more than {MOST_BYTES >> 20} MiB of commands")
+
+
+def try_program(asked: Asked, folder: Path) -> int:
+    """Runs the program on the input in the folder, where rt try writes what it says; the status of rt."""
+    (folder / "roster.csv").write_bytes(asked.roster)
+    words = ["rt", "try", "--seconds", str(MOST_SECONDS), "--data", f"roster.csv={folder}/roster.csv"]
+    with open(folder / "input", "rb") as given, open(folder / "said", "wb") as said:
+        process = subprocess.Popen(
+            [*words, "--", "--roster", "roster.csv", *asked.words],
+            cwd=CRATE,
+            env={**os.environ, "TMPDIR": str(folder)},
+            stdin=given,
+            stderr=said,
+        )
+    try:
+        return process.wait()
+    except BaseException:
+        process.terminate()  # it ends what it started
+        process.wait()
+        raise
+
+
+def answer(asked: Asked, folder: Path) -> int:
+    with open(folder / "input", "wb") as commands:
+        read_input(commands)
+    say("UNPROVED: no proof stands behind this answer, which takes about two minutes")
+    try_program(asked, folder)
+    lines = (folder / "said").read_text(errors="replace").splitlines()
+    # The statuses of rt itself look like the program's: the line tells them apart.
+    ended = ENDED.match(lines[-1]) if lines else None
+    for line in lines:
+        if not (ended and OF_RT.match(line)):
+            print(line, file=sys.stderr)
+    if not ended:
+        say(f"UNPROVED: no answer in {MOST_SECONDS} s and 1 MiB; ./firm without --unproved has no such limits")
+        return NO_ANSWER_STATUS
+    say("UNPROVED: no proof stands behind this answer; ./firm without --unproved proves the program first")
+    return int(ended[1])
+
+
+def stop(number: int, _frame: object) -> None:
+    for other in STOPS:
+        signal.signal(other, signal.SIG_IGN)
+    raise Stopped(number)
+
+
+def main(arguments: list[str]) -> int:
+    for number in STOPS:
+        if signal.getsignal(number) != signal.SIG_IGN:
+            signal.signal(number, stop)
+    if shutil.which("rt") is None:
+        refuse("rt of the Rattle kit is not on the PATH")
+    asked = read_words(arguments)
+    if sys.stdin.isatty():
+        refuse("it answers once all commands are there: give them by < FILE")
+    try:
+        with tempfile.TemporaryDirectory(prefix="firm-unproved-") as folder:
+            return answer(asked, Path(folder))
+    except Stopped as stopped:
+        return 128 + stopped.number
+
+
+if __name__ == "__main__":
+    sys.exit(main(sys.argv[1:]))
