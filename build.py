@@ -111,14 +111,17 @@ def free_bytes() -> int:
 
 
 class Sources(NamedTuple):
-    """What tells whether a crate's sources are still those that a check began with."""
+    """What tells whether a crate's sources are still those that a check began with; empty where they can't be read."""
 
     content: str
     dates: str
 
     @staticmethod
     def of(crate: Crate) -> Sources:
-        return Sources(prover.sum_of_sources(crate), prover.sum_of_dates(crate))
+        try:
+            return Sources(prover.sum_of_sources(crate), prover.sum_of_dates(crate))
+        except FileNotFoundError:  # a file went away meanwhile, as an editor's do
+            return Sources("", "")
 
 
 class Group:
@@ -203,7 +206,7 @@ class Check:
             shutil.rmtree(self.made)
         self.new.replace(self.made)
         self.clear()
-        if not all(below) or Sources.of(self.crate) != self.sources:
+        if not all(below) or not self.sources.content or Sources.of(self.crate) != self.sources:
             return ""
         stamp = prover.stamp(self.sources.content, below)
         prover.stamp_file(self.crate).write_text(stamp)
@@ -229,9 +232,10 @@ class Build:
         if self.left:
             warn_of_logic()
             earlier = f"; {len(self.stamps)} stand from an earlier run" if self.stamps else ""
-            say(f"{self.count} crates are to be proved before the program is built{earlier}{advice}")
+            names = " and ".join(program.name for program in self.programs)
+            say(f"{self.count} crates are to be proved before {names} can be built{earlier}{advice}")
             self.prove()
-            say(f"the program is built ({elapsed(self.began)} in all)")
+            say(f"{names} can run ({elapsed(self.began)} in all)")
         for program in self.programs:
             install(program)
 
@@ -243,7 +247,7 @@ class Build:
             while self.left or self.running:
                 self.start_checks(group)
                 glance()
-                self.take_ended()
+                self.take_ended(group)
                 self.take_standing()
                 self.tell_now_and_then()
         finally:
@@ -268,28 +272,33 @@ class Build:
 
     def stands(self, crate: Crate) -> bool:
         below, made = self.stamps_below(crate), prover.stamp_of_made(crate)
-        return bool(made) and all(below) and made == prover.stamp(prover.sum_of_sources(crate), below)
+        return bool(made) and all(below) and made == prover.stamp(Sources.of(crate).content, below)
 
     def start_checks(self, group: Group) -> None:
-        """Starts what can be, and shares the idle processors among it, as the memory allows."""
+        """Starts what can be, and shares the idle processors among it, the first getting more, as the memory allows."""
         idle = self.processors - sum(check.jobs for check in self.running)
         room = max(self.memory // CHECK_BYTES, 1) - len(self.running)
         chosen = self.startable()[: max(min(idle, room), 0)]
         at_once = len(self.running) + len(chosen)
         for place, crate in enumerate(chosen):
             spare = 1 + max(self.memory // at_once - CHECK_BYTES, 0) // JOB_BYTES
-            jobs = min(idle // (len(chosen) - place), spare, MOST_JOBS)
+            jobs = min(-(-idle // (len(chosen) - place)), spare, MOST_JOBS)
             idle -= jobs
             self.left.remove(crate)
             self.running.append(Check(crate, jobs, group))
 
-    def take_ended(self) -> None:
+    def take_ended(self, group: Group) -> None:
         for check in [check for check in self.running if check.process.poll() is not None]:
-            if not check.is_well():
-                raise Failed(f"{check.crate.name} could not be proved and built: {check.log} says why")
             self.running.remove(check)
-            self.stamps[check.crate] = check.keep(self.stamps_below(check.crate))
-            self.tell(f"{check.crate.name} is proved, in {elapsed(check.began)}")
+            if check.is_well():
+                self.stamps[check.crate] = check.keep(self.stamps_below(check.crate))
+                self.tell(f"{check.crate.name} is proved, in {elapsed(check.began)}")
+            elif check.process.returncode == -signal.SIGKILL and check.jobs > 1:
+                self.running.append(Check(check.crate, 1, group))
+                self.tell(f"{check.crate.name} was killed, most likely for memory: once more, with one job")
+            else:
+                check.clear()
+                raise Failed(f"{check.crate.name} could not be proved and built: {check.log} says why")
 
     def tell(self, news: str) -> None:
         self.told = time.monotonic()
@@ -379,6 +388,9 @@ def main(arguments: list[str]) -> int:
         return NO_KIT_STATUS
     except Failed as failed:
         say(str(failed))
+        return 1
+    except OSError as error:
+        say(f"the build cannot go on: {error}")
         return 1
     except Stopped as stopped:
         say("stopped; the next run goes on from here")

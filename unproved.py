@@ -57,14 +57,16 @@ def refuse(text: str) -> NoReturn:
 
 
 def read_words(arguments: list[str]) -> Asked:
-    parser = argparse.ArgumentParser(add_help=False, allow_abbrev=False)
+    parser = argparse.ArgumentParser("firm --unproved", add_help=False, allow_abbrev=False)
     parser.add_argument("--roster", default="")
     parser.add_argument("--unproved", action="store_true")
     options, words = parser.parse_known_args(arguments)
+    if not options.roster:
+        refuse("no roster: give --roster FILE")
     try:
         return Asked(Path(options.roster).read_bytes(), words)
     except OSError as error:
-        refuse(f"no roster ({error.strerror}): give --roster FILE")
+        refuse(f"no roster: {options.roster}: {error.strerror}")
 
 
 def read_input(to: BinaryIO) -> None:

@@ -118,8 +118,9 @@ class Place:
     ) -> subprocess.Popen[bytes]:
         """Starts the launcher, or with words another command."""
         environment = {**os.environ, "PATH": str(self.paths[has_rt]), "TMPDIR": str(self.temporary), **behaviour}
+        command: list[str | Path] = list(words) or [self.top / "firm", "--roster", "day.csv"]
         return subprocess.Popen(
-            words or [self.top / "firm", "--roster", "day.csv"],
+            command,
             cwd=self.room,
             env=environment,
             preexec_fn=heed_signals,
