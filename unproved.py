@@ -128,7 +128,7 @@ def main(arguments: list[str]) -> int:
     if shutil.which("rt") is None:
         refuse("rt of the Rattle kit is not on the PATH")
     asked = read_words(arguments)
-    if sys.stdin.isatty():
+    if sys.stdin is None or sys.stdin.isatty():
         refuse("it answers once all commands are there: give them by < FILE")
     try:
         with tempfile.TemporaryDirectory(prefix="firm-unproved-") as folder:
