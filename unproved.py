@@ -71,7 +71,7 @@ def read_words(arguments: list[str]) -> Asked:
 
 def read_input(to: BinaryIO) -> None:
     """Reads all commands: rt try itself would cut an input that is silent for two seconds."""
-    while block := sys.stdin.buffer.read1(1 << 20):
+    while block := os.read(sys.stdin.fileno(), 1 << 20):
         to.write(block)
         if to.tell() > MOST_BYTES:
             refuse(f"more than {MOST_BYTES >> 20} MiB of commands")

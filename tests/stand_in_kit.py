@@ -49,8 +49,8 @@ def fault_of_words() -> str:
     """What a check would refuse in its words: a file or a library that is not there, an rlib with proofs."""
     libraries = [word.partition("=")[2] for flag, word in zip(sys.argv, sys.argv[1:]) if flag == "--extern"]
     kit = Path(sys.argv[0]).parent.parent
-    files = [kit / "rlibs/std.rlib", value("--antt-project"), value("--logic-built"), sys.argv[4], *libraries]
-    missing = [str(file) for file in files if not Path(file).exists()]
+    given = [value("--antt-project"), value("--logic-built"), sys.argv[4], *libraries]
+    missing = [file for file in [f"{kit}/rlibs/std.rlib", *given] if not Path(file).exists()]
     if missing or value("--crate-name") != NAME:
         return f"there is no {missing}"
     is_program = sys.argv[4] == "src/main.rt"
