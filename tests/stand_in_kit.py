@@ -70,7 +70,6 @@ def rattle() -> int:
         take_long()
     while is_asked("KIT_WAITS") and not (TOP / "go").exists():
         time.sleep(0.02)
-    time.sleep(0.05)
     note("made")
     made = Path(value("-o"))
     if "--statements" in sys.argv:
