@@ -231,9 +231,9 @@ class Build:
         """Proves all that is left and builds the programs, or raises at the first crate that is not proved."""
         if self.left:
             warn_of_logic()
-            earlier = f"; {len(self.stamps)} stand from an earlier run" if self.stamps else ""
             names = " and ".join(program.name for program in self.programs)
-            say(f"{self.count} crates are to be proved before {names} can be built{earlier}{advice}")
+            needed = self.count + len(self.stamps)
+            say(f"to be proved before {names} can be built: {self.count} of {needed} crates{advice}")
             self.prove()
             say(f"{names} can run ({elapsed(self.began)} in all)")
         for program in self.programs:
