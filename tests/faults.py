@@ -18,7 +18,7 @@ from collections import Counter
 from dataclasses import dataclass
 from itertools import count, product
 from pathlib import Path
-from typing import Callable, Collection, Iterator, NamedTuple
+from typing import Callable, Collection, Iterator, Mapping, NamedTuple
 
 from harness import program, service
 from harness.checks import Missed, require, run_script
@@ -36,11 +36,13 @@ class Options(program.ProgramOptions):
 
 
 class Stream(NamedTuple):
-    """A roster and an input. To a long one only memory is refused."""
+    """A roster and an input; and how many refused requests for memory these lines of it are answered for, each in a run
+    of its own, at least. To a long stream only memory is refused."""
 
     roster: bytes
     text: bytes
     is_long: bool = False
+    requests: Mapping[bytes, int] = {}
 
 
 def commands(text: str) -> bytes:
@@ -74,14 +76,20 @@ MANY = "; ".join(
     + ["show", "where t149", "task j0 t150", "drain m3", "show"]
 )
 
+# A table's first row takes 4 requests; the graph's lists take 2 for a machine (its slots are one), 1 for a job, 6 for a
+# task.
+OF_FIRST_ROWS = {b"alpha machine m1 2": 6, b"alpha job j 5": 5, b"alpha task j a": 10}
+# Both blocks of the tenant's net among them.
+OF_AN_ADMISSION = {b"+ admit b,6,20,5,0,0": 27}
+
 STREAMS = {
     "one round": Stream(b"alpha,9,24,100,1,2\n", for_tenant("alpha", SPREAD)),
     "a round after a refused one": Stream(b"alpha,9,24,100,1,2\n", for_tenant("alpha", SPREAD + "; round; costs")),
     "a drain": Stream(b"a,8,30,100,1,1\n", for_tenant("a", DRAIN)),
     "two tenants": Stream(b"alpha,9,24,100,1,2\nbeta,8,30,100,0,3\n", commands(TWO)),
     "many rows": Stream(b"a,300,4000,1000,1,1\n", for_tenant("a", MANY), is_long=True),
-    "no round": Stream(b"alpha,6,11,100,1,2\n", for_tenant("alpha", SHOW)),
-    "tenants that come and go": Stream(b"a,4,9,10,0,0\n", commands(STAYS)),
+    "no round": Stream(b"alpha,6,11,100,1,2\n", for_tenant("alpha", SHOW), requests=OF_FIRST_ROWS),
+    "tenants that come and go": Stream(b"a,4,9,10,0,0\n", commands(STAYS), requests=OF_AN_ADMISSION),
     "no rounds but faults": Stream(
         b"a,8,30,100,0,0\n", b"a fly\na machine M1 2\n\nnobody show\r\n#c\n" + b"x" * 300 + b"\na show"
     ),
@@ -171,6 +179,8 @@ def refuse_memory(runs: Runs, stream: Stream) -> Ends:
     found, counts = runs.run(stream)
     require(found == whole_run(stream), f"without a refusal: {found}")
     ends: Counter[str] = Counter()
+    refused: Counter[bytes] = Counter()
+    lines = service.lines_of(stream.text)
     ways: dict[str, dict[str, int]] = {"": {}, ", all from the Nth on": {"refuse_memory_last": 2**62}}
     for words, more in ways.items():
         for place in count(1):
@@ -180,6 +190,9 @@ def refuse_memory(runs: Runs, stream: Stream) -> Ends:
                 require(found.output == full_output(stream), "no refusal, and another output")
                 break
             ends[end + words] += 1
+            refused.update(lines[marked] for marked in marked_lines(stream.text, found.output) if not more)
+    for line, least in stream.requests.items():
+        require(refused[line] >= least, f"{refused[line]} refusals and not {least} of {line.decode()}")
     return Ends(ends, f"{counts.memory} requests")
 
 

@@ -4,8 +4,6 @@
 mod links;
 mod net;
 mod row;
-#[cfg(test)]
-mod tests;
 mod walk;
 
 pub use net::{ARC_LIMIT, ArcRefusal, NODE_LIMIT, Net, NoNode, NodeRefusal};
