@@ -1,5 +1,5 @@
 //! Desks on threads of their callers, gates that hold workers, halls that are shut first, a desk without life left;
-//! under them the queue of rounds and the trays.
+//! under them the queue of rounds and the trays; the source that reads ahead.
 
 ghost use Rattle.std.specs.Prelude.{◌≡◌, ◌≤◌, All};
 
@@ -7,6 +7,7 @@ mod callers;
 mod closing;
 mod counts;
 mod held;
+mod inputs;
 mod lives;
 mod queues;
 mod services;

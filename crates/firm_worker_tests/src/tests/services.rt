@@ -6,8 +6,9 @@ use super::counts::{Count, LOOKS};
 use super::wakes::rest_awhile;
 use super::{EIGHT, MOST, roster_of};
 use crossbeam_utils::sync::EventCount;
-use firm_hall::{Gate, serve};
+use firm_hall::{Gate, Open, serve};
 use firm_rules::Ticket;
+use firm_table::{ServeFault, serve_one};
 use firm_text::{Bytes, Failed, Sink, Source};
 use std::alloc::{AllocError, Global};
 use std::hint::spin_loop;
@@ -456,4 +457,46 @@ fn each_reply_is_written_before_the_next_line_comes(rt: HostRuntime) {
     );
     assert!(rt; ended.is_ok() && written.reached() == LINES_ASKED);
     assert!(rt; sleeps.was_reached() && sleeps.reached() == LINES_ASKED);
+}
+
+/// Takes all that is written, and fails its flush.
+#[derive(Drop)]
+struct Unflushed {
+    failed: bool,
+}
+
+impl Sink for Unflushed {
+    ghost write_failed = { λ sink. sink.failed };
+
+    fn write(&mut self, bytes: &[u8]) -> Result<usize, Failed> {
+        Ok(bytes.len())
+    }
+
+    fn flush(&mut self) -> Result<(), Failed> {
+        self.failed = true;
+        Err(Failed)
+    }
+}
+
+// Standard output has no flush that can fail, so nothing outside shows it.
+#[test]
+fn a_failed_flush_is_a_failed_write(rt: HostRuntime) {
+    let roster = roster_of(&rt, rt.alloc(), "a,2,0,1,0,0");
+    let mut reader = Bytes::new(b"a round\n".as_slice());
+    let mut writer = Unflushed { failed: false };
+    let ended = serve_one(rt.alloc(), &mut reader, &mut writer, &roster, MOST);
+    assert_eq!(rt; ended, Err(ServeFault::Write));
+    let mut reader = Bytes::new(b"a round\n".as_slice());
+    let mut writer = Unflushed { failed: false };
+    let ended = serve(
+        &rt,
+        rt.alloc(),
+        &mut reader,
+        &mut writer,
+        &roster,
+        2,
+        &Open,
+        MOST,
+    );
+    assert_eq!(rt; ended.err(), Some(ServeFault::Write));
 }

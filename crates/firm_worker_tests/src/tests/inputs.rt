@@ -2,7 +2,6 @@
 
 ghost use Rattle.std.specs.Prelude.{◌≡◌, false};
 
-use crate::read_ahead;
 use crossbeam_utils::sync::EventCount;
 use firm_text::{Failed, Source};
 use std::alloc::Global;
@@ -112,7 +111,7 @@ fn gives_all_bytes_and_reads_none_twice(rt: HostRuntime) -> Result<(), Fail> {
                 fault,
                 reads: Arc::try_clone(&count)?,
             };
-            let mut source = read_ahead::open(&rt, alloc, reader)?;
+            let mut source = firm_input::open(&rt, alloc, reader)?;
             let (given, end) = all_of(&rt, alloc, &mut source, &mut [0; 7], waited_each)?;
             assert!(rt; given.as_slice() == TEXT, "{waited_each}");
             assert_eq!(rt; end, last, "{waited_each}");
@@ -133,7 +132,7 @@ fn is_ready_once_a_byte_is_there(rt: HostRuntime) -> Result<(), Fail> {
         go: Arc::try_clone(&go)?,
     };
     let waker = Arc::new(alloc, EventCount::new())?;
-    let mut source = read_ahead::open(&rt, alloc, reader)?;
+    let mut source = firm_input::open(&rt, alloc, reader)?;
     assert!(rt; !source.is_ready(None));
     assert!(rt; !source.is_ready(Some(&waker)));
     go.store(1, Ordering::SeqCst);

@@ -1,10 +1,9 @@
 //! A source that knows whether a read would wait: when asked, a thread of its own reads one piece ahead.
 
-ghost use Rattle.std.specs.Prelude.{◌≡◌, ◌≤◌, ◌+◌, ◌++◌, true, false, IfOk, is_err, take};
-ghost use Rattle.std.specs.Io.{ReadsAtMost};
-ghost use Rattle.std.specs.Io.KnownBytes.{Consumes, IsAtEnd, Keeps, ReadConsumes};
-ghost use Rattle.firm.specs.inner.Pieces.{left_of};
+ghost use Rattle.std.specs.Prelude.{◌≡◌, false, IfOk};
+ghost use Rattle.firm_input.specs.ReadAhead.{has_failed};
 
+use crate::pieces::PieceReader;
 use crossbeam_utils::sync::EventCount;
 use firm_text::{Failed, Source};
 use std::alloc::{AllocError, Global};
@@ -13,9 +12,6 @@ use std::sync::atomic::{AtomicU64, Ordering};
 use std::sync::{Arc, Mutex, Wait};
 use std::thread;
 use std::thread::{JoinHandle, Threads};
-
-/// The most bytes that are read ahead.
-const PIECE: usize = 4_096;
 
 // Whose turn it is to read. The source's, and nothing was read ahead.
 const IDLE: u64 = 1;
@@ -34,7 +30,7 @@ const CLOSED: u64 = 5;
 
 /// A source over a reader. Reads the reader itself, except for the pieces its thread reads ahead.
 #[derive(Drop)]
-pub(crate) struct ReadAhead<'r, R, T> {
+pub struct ReadAhead<'r, R, T> {
     rt: &'r R,
     shared: Arc<Shared<T>, Global>,
     thread: Option<JoinHandle<()>>,
@@ -50,26 +46,14 @@ struct Shared<T> {
     waker: Mutex<Option<Arc<EventCount, Global>>>,
 }
 
-// A reader, and the piece that was read ahead: how many of its bytes were taken, how many are left, and whether the
-// read failed.
-#[derive(Drop)]
-struct PieceReader<T> {
-    inner: T,
-    piece: [u8; PIECE],
-    taken: usize,
-    left: usize,
-    has_failed: bool,
-    ghost within: { taken + left ≤ 4096 },
-}
-
 /// A source over the reader, with a thread that sleeps until it is asked to read. Fails only if memory is refused; if
 /// no thread can be started, the source can't tell whether a read would wait.
-pub(crate) fn open<
-    'r,
-    R: Threads + Wait + Clone + Drop + Send + 'static,
-    T: Read + Drop + Send + 'static,
->(rt: &'r R, alloc: Global, inner: T) -> Result<ReadAhead<'r, R, T>, AllocError>
-    ensures { IfOk result (λ source. source.has_failed ≡ false) }
+pub fn open<'r, R: Threads + Wait + Clone + Drop + Send + 'static, T: Read + Drop + Send + 'static>(
+    rt: &'r R,
+    alloc: Global,
+    inner: T,
+) -> Result<ReadAhead<'r, R, T>, AllocError>
+    ensures { IfOk result (λ source. has_failed source ≡ false) }
 {
     let shared = Arc::new(
         alloc,
@@ -118,7 +102,7 @@ fn read_when_asked<R: Wait, T: Read>(rt: &R, shared: &Shared<T>) {
 
 impl<R: Threads + Wait, T: Read + Drop> ReadAhead<'_, R, T> {
     /// Ends the thread, unless it is in a read. A thread blocked in a read ends only with the program.
-    pub(crate) fn close(self) {
+    pub fn close(self) {
         let ReadAhead {
             rt,
             shared,
@@ -136,7 +120,7 @@ impl<R: Threads + Wait, T: Read + Drop> ReadAhead<'_, R, T> {
 }
 
 impl<R: Wait, T: Read> Source for ReadAhead<'_, R, T> {
-    ghost read_failed = { λ source. source.has_failed };
+    ghost read_failed = { has_failed };
 
     fn read(&mut self, buffer: &mut [u8]) -> Result<usize, Failed> {
         let turn = &self.shared.turn;
@@ -194,63 +178,6 @@ impl<T> Shared<T> {
         let waker = self.waker.lock(rt).take();
         if let Some(waker) = waker {
             waker.notify_one();
-        }
-    }
-}
-
-impl<T: Read> PieceReader<T> {
-    fn new(inner: T) -> PieceReader<T> {
-        PieceReader {
-            inner,
-            piece: [0; PIECE],
-            taken: 0,
-            left: 0,
-            has_failed: false,
-        }
-    }
-
-    // Reads the next piece.
-    fn read_ahead(&mut self)
-        ensures bytes { self.new.has_failed ≡ false → Consumes (T.remaining self.old.inner) (T.remaining self.new.inner)
-            (left_of self.new.piece self.new.taken self.new.left) }
-        ensures end { self.new.has_failed ≡ false → self.new.left ≡ 0 → IsAtEnd (T.remaining self.new.inner) }
-        ensures failure { self.new.has_failed ≡ true → Keeps (T.remaining self.old.inner) (T.remaining self.new.inner) }
-    {
-        let read = self.inner.read(&mut self.piece);
-        self.has_failed = read.is_err();
-        self.taken = 0;
-        self.left = read.unwrap_or(0);
-    }
-
-    // Takes bytes from the front of the piece, and returns whether nothing of it is left: no byte, no failure, and no
-    // end of input, which an empty buffer cannot learn of.
-    fn take(&mut self, buffer: &mut [u8]) -> (Result<usize, Failed>, bool)
-        ensures bound { ReadsAtMost result.0 buffer.new }
-        ensures bytes { IfOk result.0 (λ count. left_of self.old.piece self.old.taken self.old.left
-            ≡ take count buffer.new ++ left_of self.new.piece self.new.taken self.new.left) }
-        ensures last { IfOk result.0 (λ _. result.1 ≡ true → self.new.left ≡ 0) }
-        ensures failure { is_err result.0 ≡ self.old.has_failed }
-        ensures inner { self.new.inner ≡ self.old.inner }
-    {
-        if self.has_failed {
-            return (Err(Failed), true);
-        }
-        let count = self.left.min(buffer.len());
-        let next = self.taken + count;
-        buffer[..count].copy_from_slice(&self.piece[self.taken..next]);
-        self.taken = next;
-        self.left -= count;
-        (Ok(count), self.left == 0 && !buffer.is_empty())
-    }
-
-    // Reads into the buffer. An interrupted read fails, as every other failure does.
-    fn read(&mut self, buffer: &mut [u8]) -> Result<usize, Failed>
-        ensures bound { ReadsAtMost result buffer.new }
-        ensures bytes { ReadConsumes (T.remaining self.old.inner) (T.remaining self.new.inner) result buffer.new }
-    {
-        match self.inner.read(buffer) {
-            Ok(count) => Ok(count),
-            Err(_) => Err(Failed),
         }
     }
 }

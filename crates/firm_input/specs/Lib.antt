@@ -1,0 +1,2 @@
+pub mod ReadAhead
+pub mod inner
