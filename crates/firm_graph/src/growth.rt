@@ -1,5 +1,4 @@
-//! All the memory that an added row takes. No net is at hand here, so that each growth comes before its first change;
-//! any allocator will do, so that a test can refuse each growth in turn.
+//! All the memory that an added row takes. No net is at hand here, so that each growth comes before its first change.
 ghost use Rattle.std.specs.Prelude.{◌≡◌, ◌+◌, ◌<◌, ◌≤◌, false, true, [], IfOk, OnOk, OnErr, All, vec_len, vec_capacity};
 ghost use Rattle.firm_rules.specs.ArenaUse.{FitsLimits};
 ghost use Rattle.firm_rules.specs.Book.{machine_names, job_names, task_names, with_machine, with_job, with_task};

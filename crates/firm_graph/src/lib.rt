@@ -13,8 +13,6 @@ mod order;
 mod plan;
 mod preferred;
 mod start;
-#[cfg(test)]
-mod tests;
 
 pub use graph::Graph;
 pub use ids::{GraphRefusal, TaskArcs};
