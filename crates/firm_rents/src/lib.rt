@@ -11,8 +11,6 @@ mod placed;
 mod rents;
 mod slots;
 mod tables;
-#[cfg(test)]
-mod tests;
 
 pub use both::Nearest;
 pub use bounds::{Shown, shows_least};

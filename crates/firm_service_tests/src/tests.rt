@@ -10,6 +10,7 @@ mod operators;
 mod pieces;
 mod reading;
 mod registers;
+mod rents;
 mod replies;
 mod rosters;
 mod rounds;

@@ -1,5 +1,4 @@
-//! Events of a table, one at a time: where they fit, and where they don't. Crate `firm_worked` asks worked services of
-//! it.
+//! Events of a table, one at a time: where they fit, and where they don't.
 ghost use Rattle.std.specs.Prelude.{◌≤◌};
 
 use super::{admitted, limits, name, weight};

@@ -1,12 +1,11 @@
 //! The second round of docs/EXPLAIN.md, worked by hand.
-ghost use Rattle.std.specs.Prelude.{◌≡◌, ◌+◌, ◌^◌, ◌<◌, ◌≤◌, length};
-ghost use Rattle.firm_rules.specs.ArenaUse.{arena_nodes, arena_arcs};
-
-use crate::{
+use super::rows::{with_job, with_machine, with_task};
+use super::{limits, name, slots, weight};
+use firm_rents::{
     Case, Parts, Rents, cheapest_other, high_rents, lost_by_slot, low_rents, parts_of,
     placement_of, saved_by_machine, saved_by_slot, shows_least,
 };
-use firm_rules::{Choice, Limits, Name, Preferred, Rows, Slots, Weight, use_of};
+use firm_rules::{Choice, Preferred, Rows};
 use std::alloc::{AllocError, Global};
 use std::process::Abort;
 use std::test::Fail;
@@ -23,45 +22,17 @@ const LEAST: [Choice; 5] = [M1, WAIT, WAIT, M1, M2];
 // The placement that the first round left.
 const BEFORE: [Choice; 5] = [M1, M1, M2, WAIT, WAIT];
 
-fn name(rt: &impl Abort, bytes: &[u8]) -> Name {
-    Name::read(bytes).expect(rt, "a name")
-}
-
-fn has_room(rt: &impl Abort, rows: &Rows, nodes: u64, arcs: u64)
-    requires few_nodes { nodes < 2 ^ 32 }
-    requires few_arcs { arcs < 2 ^ 32 }
-    ensures nodes { arena_nodes rows.now + nodes ≤ rows.now.limits.nodes }
-    ensures arcs { arena_arcs rows.now + arcs ≤ rows.now.limits.arcs }
-{
-    let limits = rows.limits();
-    let used = use_of(rows);
-    assert!(rt; used.nodes + nodes <= limits.nodes());
-    assert!(rt; used.arcs + arcs <= limits.arcs());
-}
-
 fn add_machine(rt: &impl Abort, rows: &mut Rows, bytes: &[u8], count: u64) {
-    let name = name(rt, bytes);
-    let slots = Slots::check(count).expect(rt, "slots");
-    assert!(rt; !rows.has_machine(name));
-    has_room(rt, rows, 1, 1 + u64::from(slots.get()));
-    rows.add_machine(name, slots).expect(rt, "memory");
+    with_machine(rt, rows, name(rt, bytes), slots(rt, count)).expect(rt, "memory");
 }
 
 fn add_job(rt: &impl Abort, rows: &mut Rows, bytes: &[u8], number: u64) {
-    let name = name(rt, bytes);
-    let weight = Weight::check(number).expect(rt, "a weight");
-    assert!(rt; !rows.has_job(name));
-    has_room(rt, rows, 1, 1);
-    rows.add_job(name, weight).expect(rt, "memory");
+    with_job(rt, rows, name(rt, bytes), weight(rt, number)).expect(rt, "memory");
 }
 
 fn add_task(rt: &impl Abort, rows: &mut Rows, job: &[u8], bytes: &[u8]) {
     let (job, name) = (name(rt, job), name(rt, bytes));
-    assert!(rt; rows.has_job(job));
-    assert!(rt; !rows.has_task(name));
-    has_room(rt, rows, 1, 3);
-    rows.add_task(job, name, Preferred::new())
-        .expect(rt, "memory");
+    with_task(rt, rows, job, name, Preferred::new()).expect(rt, "memory");
 }
 
 fn settle(rt: &impl Abort, rows: &mut Rows, placement: &[Choice]) {
@@ -127,8 +98,7 @@ fn expect_saving(
     low: &Rents,
 ) -> Result<(), AllocError> {
     assert!(rt; low.as_slice().len() == case.machine_count());
-    let slots = Slots::check(4).expect(rt, "slots");
-    let saving = saved_by_machine(alloc, case, low, slots)?;
+    let saving = saved_by_machine(alloc, case, low, slots(rt, 4))?;
     assert!(rt; saving.most == 15 && saving.tasks.as_slice() == [3, 4].as_slice());
     Ok(())
 }
@@ -187,8 +157,7 @@ fn play(rt: &impl Abort, alloc: Global, rows: &mut Rows) -> Result<(), AllocErro
 
 #[test]
 fn the_round_by_hand(rt: HostRuntime) -> Result<(), Fail> {
-    let limits = Limits::check(60, 400, 100, 3, 5, 0).expect(&rt, "limits");
-    let mut rows = Rows::new(rt.alloc(), limits);
+    let mut rows = Rows::new(rt.alloc(), limits(&rt, &[60, 400, 100, 3, 5, 0]));
     play(&rt, rt.alloc(), &mut rows)?;
     Ok(())
 }
