@@ -46,7 +46,7 @@ def claim_faults(files: Iterable[Path]) -> Iterator[str]:
     """What the tables name and is not there, and what is there and stands in no table."""
     found = set(files)
     edits = {path.stem for path in found if path.suffix == ".edit"}
-    tried = {path.stem: path for path in found if path.suffix == ".edit" and path.parent.name == "must-fail"}
+    tried = {path.stem: path for path in found if path.suffix == ".edit" and path.parent.name in ("must-fail", "edits")}
     named = {path for cell in cells_of(2) for path in definitions_in(cell)}
     known = named | set(definitions_in((ROOT / READING).read_text()))
     named_edits = edits_in(cells_of(3))

@@ -18,6 +18,13 @@ def tracked_files() -> list[Path]:
     return [Path(name) for name in done.stdout.split("\0") if name and (ROOT / name).exists()]
 
 
+def commit_here() -> str:
+    """The commit that is checked out; none outside a checkout."""
+    words = ["git", "rev-parse", "HEAD"]
+    done = subprocess.run(words, cwd=ROOT, stdin=subprocess.DEVNULL, capture_output=True, text=True)
+    return done.stdout.strip() if done.returncode == 0 else ""
+
+
 def lines_of(path: Path) -> list[str]:
     """The lines of a file of the repository, without their ends; none where it is no text."""
     try:

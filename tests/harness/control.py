@@ -1,0 +1,41 @@
+"""The control of the trials: edits of which is known what must come of them, so that no wrong one counts as refused."""
+
+from __future__ import annotations
+
+from typing import NamedTuple
+
+from harness.edits import Edit, Pair
+from harness.trials import STILL_PROVED, SHAPE_ALONE, Verdict
+
+CRATE = "firm_arena"
+SOURCE = "src/lib.rt"
+
+
+class Control(NamedTuple):
+    """An edit, whether it must be refused, and what its verdict must say if not."""
+
+    edit: Edit
+    is_refused: bool
+    word: str = ""
+
+    def is_kept(self, verdict: Verdict) -> bool:
+        return verdict.is_refused == self.is_refused and self.word in verdict.reason
+
+
+def control(name: str, old: str, new: str, is_refused: bool, word: str = "") -> Control:
+    return Control(Edit(CRATE, f"control, {name}", (Pair(SOURCE, old, new),)), is_refused, word)
+
+
+# `take` calls `get`: tried beside the broken one, it can't be proved either.
+CONTROLS = [
+    control("broken", "if *stamp == id.stamp => Some(value),", "if *stamp <= id.stamp => Some(value),", True),
+    control("only a caller", "self.len -= 1;", "self.len = self.len - 1;", False, STILL_PROVED),
+    control("nothing changes", "self.len += 1;", "self.len = self.len + 1;", False, STILL_PROVED),
+    control("another name", "if place >= self.used {", "let used = self.used; if place >= used {", False, SHAPE_ALONE),
+]
+
+
+def faults(verdicts: list[Verdict]) -> list[str]:
+    """What came otherwise than it must."""
+    by_edit = {verdict.edit: verdict for verdict in verdicts}
+    return [f"FAILED   {by_edit[each.edit]}" for each in CONTROLS if not each.is_kept(by_edit[each.edit])]

@@ -1,0 +1,37 @@
+"""What the scripts of this folder use of those at the top of the repository, which are found here alone."""
+
+from __future__ import annotations
+
+import subprocess
+import sys
+from pathlib import Path
+from typing import Callable, Iterable
+
+ROOT = Path(__file__).resolve().parents[2]
+sys.path.insert(0, str(ROOT))
+
+from build import free_bytes  # noqa: E402 (found by the line before)
+from prover import Crate, NoKit, crates_of_repository, kit, kit_identity, made, words  # noqa: E402
+
+__all__ = [
+    "Crate",
+    "NoKit",
+    "build_libraries",
+    "crates_of_repository",
+    "free_bytes",
+    "kit",
+    "kit_identity",
+    "made",
+    "prover_words",
+]
+
+
+def prover_words(verb: str, crate: Crate, library: Callable[[Crate], Path]) -> list[str]:
+    """The first words of a call of the prover, to be run in a crate's folder or in a copy of it."""
+    return [str(kit() / "bin" / "rattle"), verb, *words(crate, library)]
+
+
+def build_libraries(crates: Iterable[Crate]) -> int:
+    """Builds the libraries that these crates stand on, where they have changed; the status of the build."""
+    below = dict.fromkeys(library.name for crate in crates for library in crate.below)
+    return subprocess.call([sys.executable, str(ROOT / "build.py"), *below]) if below else 0
