@@ -1,7 +1,7 @@
 #!/usr/bin/env python3
 """Proves the crates that a program stands on, and builds the program.
 
-usage: build.py [PROGRAM..]          proves and builds these programs, firm where none is named
+usage: build.py [CRATE..]            proves and builds these programs and libraries, firm where none is named
        build.py --run ARGUMENT..     does so with firm, and then becomes it, as ./firm does
 
 Crates are proved lowest first, side by side where processors and memory allow. What an interrupted run has proved
@@ -216,9 +216,9 @@ class Check:
 class Build:
     """The checks of the needed crates: which are left, which run, and the stamps of those that are proved."""
 
-    def __init__(self, programs: list[Crate]) -> None:
-        needed = dict.fromkeys(crate for program in programs for crate in (*program.below, program))
-        self.programs = programs
+    def __init__(self, wanted: list[Crate]) -> None:
+        needed = dict.fromkeys(crate for each in wanted for crate in (*each.below, each))
+        self.programs = [crate for crate in wanted if crate.is_program]
         self.left = in_order_of_chains(list(needed))
         self.running: list[Check] = []
         self.stamps: dict[Crate, str] = {}
@@ -232,10 +232,10 @@ class Build:
         if self.left:
             warn_of_logic()
             names = " and ".join(program.name for program in self.programs)
-            needed = self.count + len(self.stamps)
-            say(f"to be proved before {names} can be built: {self.count} of {needed} crates{advice}")
+            aim = f" before {names} can be built" if names else ""
+            say(f"to be proved{aim}: {self.count} of {self.count + len(self.stamps)} crates{advice}")
             self.prove()
-            say(f"{names} can run ({elapsed(self.began)} in all)")
+            say(f"{names or 'all of them'} can {'run' if names else 'be used'} ({elapsed(self.began)} in all)")
         for program in self.programs:
             install(program)
 
@@ -350,23 +350,24 @@ def become(file: Path, arguments: list[str]) -> None:
     os.execv(file, [str(file), *arguments])
 
 
-def build(programs: list[Crate], advice: str) -> None:
-    """Builds the programs, which get the date of the build's begin: an edit made meanwhile is newer."""
+def build(wanted: list[Crate], advice: str) -> None:
+    """Builds the crates. Programs get the date of the build's begin: an edit made meanwhile is newer."""
     wait_for_turn()
     began = time.time()
-    Build(programs).run(advice)
-    for program in programs:
+    build = Build(wanted)
+    build.run(advice)
+    for program in build.programs:
         os.utime(program_file(program), (began, began))
     glance()
 
 
-def read_programs(names: list[str]) -> list[Crate]:
-    """The crates of these programs."""
+def read_crates(names: list[str]) -> list[Crate]:
+    """The crates of these names."""
     crates = prover.crates_of_repository()
-    known = [crate.name for crate in crates.values() if crate.is_program]
-    wrong = [name for name in names if name not in known]
+    wrong = [name for name in names if name not in crates]
     if wrong:
-        say(f"there is no program {wrong[0]}: the programs are {', '.join(known)}")
+        programs = ", ".join(crate.name for crate in crates.values() if crate.is_program)
+        say(f"there is no crate {wrong[0]}: the programs are {programs}")
         sys.exit(USAGE_STATUS)
     return [crates[name] for name in names]
 
@@ -379,10 +380,10 @@ def main(arguments: list[str]) -> int:
         print(__doc__)
         return 0
     runs = arguments[:1] == ["--run"]
-    programs = read_programs([PROGRAM] if runs else arguments or [PROGRAM])
+    wanted = read_crates([PROGRAM] if runs else arguments or [PROGRAM])
     advice = ". For one answer without proof: ./firm --unproved --roster FILE < COMMANDS" if runs else ""
     try:
-        build(programs, advice)
+        build(wanted, advice)
     except prover.NoKit as reason:
         say(str(reason))
         return NO_KIT_STATUS
@@ -396,7 +397,7 @@ def main(arguments: list[str]) -> int:
         say("stopped; the next run goes on from here")
         return 128 + stopped.number
     if runs:
-        become(program_file(programs[0]), arguments[1:])
+        become(program_file(wanted[0]), arguments[1:])
     return 0
 
 

@@ -410,7 +410,7 @@ def two_at_once(place: Place) -> None:
 
 
 def named_programs(place: Place) -> None:
-    """build.py builds the programs that it is given, each crate once, and runs none."""
+    """build.py builds the programs and libraries that it is given, each crate once, and runs none."""
     build = place.top / "build.py"
     for names, made in ((("firm_explain",), {"firm_explain"}), (("firm", "firm_explain"), {"firm"}), ((), set[str]())):
         done = place.run(build, *names)
@@ -419,7 +419,8 @@ def named_programs(place: Place) -> None:
         require(set(place.made()) <= set[str]().union(*families), f"{names} makes more than {made}")
         require(all(os.access(place.top / f"crates/{name}/out/{name}", os.X_OK) for name in names), names)
     require_quiet_reply(place.run())
-    done = place.run(build, "firm_net")
+    require(place.run(build, "firm_net").status == 0, "a library that stands")
+    done = place.run(build, "firm_none")
     require(done.status == 2 and b"firm_explain" in done.faults, done)
     require_nothing_asked(place)
 
