@@ -1,16 +1,20 @@
 #!/usr/bin/env python3
-"""Runs the gate and says what it cost: processor minutes by crate, for its proof, its tests and its must-fail edits.
+"""Runs the gate and says what it cost: processor minutes by crate, for its proof, its tests and its edits.
 
-usage: bench/gate.py [COMMAND ...]
-The command is `rt ci` where none is named; `rt must-fail firm_net` for edits alone.
-The command's own output goes to standard error, the table to standard output; the exit status is the command's. Each
-check of a crate is a process of the prover's: five times a second this script reads how much time each of them has
+usage: bench/gate.py [--keep] [COMMAND ...]
+The command is `tests/gate --all` where none is named; `tests/edits firm_net` for some edits alone.
+The command's own output goes to standard error, the table to standard output; the exit status is the command's. --keep
+writes the crates' minutes to docs/results/gate.csv, by which tests/gate says how long it will take.
+
+Each check of a crate is a process of the prover's: five times a second this script reads how much time each of them has
 taken (user and system, with that of the copies that it forks), so a check's last fifth of a second may be missing from
 its row. The last row is what the system charged for all.
 """
 
 from __future__ import annotations
 
+import argparse
+import csv
 import os
 import resource
 import shutil
@@ -21,8 +25,12 @@ from collections import defaultdict
 from pathlib import Path
 from typing import NamedTuple
 
-from shared import CannotRun, run_script
+from shared import ROOT, CannotRun, run_script
 
+KEPT = ROOT / "docs" / "results" / "gate.csv"
+GATE = [str(ROOT / "tests" / "gate"), "--all"]
+# Where edits are tried: by tests/edits, and by rt itself.
+FOLDERS_OF_EDITS = ("firm-edits-", "rt-edit-")
 PAUSE = 0.2
 TICKS = os.sysconf("SC_CLK_TCK")
 PARTS = ("proof", "tests", "edits")
@@ -45,6 +53,9 @@ def processes() -> dict[int, Process]:
             continue
         found[int(folder.name)] = Process(int(fields[1]), sum(map(int, fields[11:15])) / TICKS)
     return found
+
+
+Minutes = dict[str, dict[str, float]]  # of a crate, by part
 
 
 class Check(NamedTuple):
@@ -71,7 +82,8 @@ def check_of(number: int) -> Check | None:
         return None
     if Path(words[0]).name != "rattle" or "--crate-name" not in words:
         return None
-    part = "edits" if "rt-edit-" in place else "tests" if "--test" in words else "proof"
+    are_edits = any(name in place for name in FOLDERS_OF_EDITS)
+    part = "edits" if are_edits else "tests" if "--test" in words else "proof"
     return Check(words[words.index("--crate-name") + 1], part)
 
 
@@ -99,15 +111,29 @@ def follow(command: list[str]) -> tuple[int, list[Cost]]:
     return gate.returncode, list(costs.values())
 
 
-def print_table(costs: list[Cost]) -> None:
-    """A row for each crate, the dearest first, and one for all."""
-    minutes: dict[str, dict[str, float]] = defaultdict(lambda: dict.fromkeys(PARTS, 0.0))
+def minutes_of(costs: list[Cost]) -> Minutes:
+    """The minutes of each crate by part, the dearest crate first."""
+    minutes: Minutes = defaultdict(lambda: dict.fromkeys(PARTS, 0.0))
     for check, seconds in costs:
         minutes[check.crate][check.part] += seconds / 60
+    return dict(sorted(minutes.items(), key=lambda row: -sum(row[1].values())))
+
+
+def print_table(minutes: Minutes) -> None:
+    """A row for each crate, and one for all."""
     print("| crate | proof | tests | edits | sum |\n| --- | ---: | ---: | ---: | ---: |")
-    for crate, parts in sorted(minutes.items(), key=lambda row: -sum(row[1].values())):
+    for crate, parts in minutes.items():
         print(row(f"`{crate}`", [parts[part] for part in PARTS]))
     print(row("**all checks**", [sum(parts[part] for parts in minutes.values()) for part in PARTS]))
+
+
+def keep(minutes: Minutes) -> None:
+    """Writes the table down for tests/gate."""
+    KEPT.parent.mkdir(parents=True, exist_ok=True)
+    with open(KEPT, "w", newline="") as file:
+        rows = csv.writer(file, lineterminator="\n")
+        rows.writerow(["crate", *PARTS])
+        rows.writerows([crate, *(f"{parts[part]:.1f}" for part in PARTS)] for crate, parts in minutes.items())
 
 
 def row(name: str, minutes: list[float]) -> str:
@@ -115,18 +141,22 @@ def row(name: str, minutes: list[float]) -> str:
 
 
 def main() -> int:
-    command = sys.argv[1:] or ["rt", "ci"]
-    if command[0] in ("-h", "--help"):
-        print((__doc__ or "").rstrip())
-        return 0
+    parser = argparse.ArgumentParser(description=(__doc__ or "").splitlines()[0])
+    parser.add_argument("--keep", action="store_true", help="write the minutes to docs/results/gate.csv")
+    parser.add_argument("command", nargs=argparse.REMAINDER, metavar="COMMAND", help="what is measured")
+    options = parser.parse_args()
+    command: list[str] = options.command or GATE
     if shutil.which(command[0]) is None:
         raise CannotRun(f"there is no command {command[0]}")
     started = time.monotonic()
     status, costs = follow(command)
-    print_table(costs)
+    minutes = minutes_of(costs)
+    print_table(minutes)
     used = resource.getrusage(resource.RUSAGE_CHILDREN)
     print(f"| with builds and runs | | | | {(used.ru_utime + used.ru_stime) / 60:.1f} |")
     print(f"\n{(time.monotonic() - started) / 60:.1f} minutes on the clock")
+    if options.keep and status == 0:
+        keep(minutes)
     return status
 
 
