@@ -36,7 +36,7 @@ from typing import Any, TypeVar
 import firmd
 from harness import program, service
 from harness.checks import Check, Missed, Skipped, count_ends, passes, print_skipped, require, run_script
-from harness.deployed import LONGEST_WAIT, MOST_CLIENTS, MOST_UNREAD, SERVICE, Book, Books, Status
+from harness.deployed import LONGEST_WAIT, MOST_CLIENTS, MOST_UNREAD, SERVICE, Book, Books, Faults, Status
 from harness.deployed import gets_reply, roster, serve_view
 from harness.program import ROOT
 from harness.small_streams import random_bad_roster, random_stream, with_noise
@@ -76,6 +76,7 @@ class Front:
         self.books = Books()
         self.books.start(roster_text)
         self.status = Status(time.time() - 3700, os.getpid(), 3, 17, 2_500, 10_000, 2, 0)
+        self.faults = Faults()
         self.is_up = threading.Event()
         self.thread = threading.Thread(target=lambda: asyncio.run(self.serve()), daemon=True)
 
@@ -98,12 +99,13 @@ class Front:
     async def serve(self) -> None:
         """Serves until it is stopped; all connections are closed then."""
         self.loop, self.ended = asyncio.get_running_loop(), asyncio.Event()
-        view = await serve_view(self.state / "view", self.books, self.status)
+        view = await serve_view(self.state / "view", self.books, self.status, self.faults)
         if self.has_http:
             from firm_service.metrics import Metrics
-            from firm_service.web import serve_http
+            from firm_service.web import Site, serve_http
 
-            http_server = await serve_http("0", self.books, Metrics(self.books, self.status), self.status)
+            metrics = Metrics(self.books, self.status, self.faults)
+            http_server = await serve_http("0", lambda place: Site(place, self.books, metrics, self.status))
             self.address = http_server.sockets[0].getsockname()
             self.port = self.address[1]
         self.is_up.set()

@@ -36,6 +36,7 @@ from harness.small_streams import Stream, random_stream
 
 NO_LIMITS = service.Limits(2, 0, 1, 0, 0)
 FIRMD = [sys.executable, str(SERVICE / "firmd")]
+JOURNAL_TOOL = [sys.executable, str(SERVICE / "firm-journal")]
 CHECKS_AT_A_TIME = 4
 HEADING = b"tenant,nodes,arcs,life,spread,churn\n"
 ROSTER = HEADING + b"alpha,30,300,1000000000,1,2\nbeta,30,300,1000000000,0,3\n"
@@ -196,7 +197,8 @@ class Daemon:
         return sorted((self.state / "journal").glob("*.lines"))
 
     def journal(self) -> bytes:
-        return b"".join(path.read_bytes() for path in self.segments())
+        """The lines, without the journal's own headings."""
+        return b"".join(re.sub(rb"(?m)^#.*\n", b"", path.read_bytes()) for path in self.segments())
 
 
 @dataclass(frozen=True)
@@ -424,59 +426,47 @@ def check_kept(setup: Setup, daemon: Daemon, tenants: list[Tenant]) -> None:
 
 
 def torn_line(setup: Setup) -> None:
-    """A last line that is not whole is cut off, wherever it was torn; what was answered stays."""
+    """A last record that is not whole is cut off, wherever it was torn; what was answered stays."""
     with setup.daemon() as daemon:
         daemon.start()
         with daemon.client() as client:
             for line in ROWS:
                 require(client.ask(line).endswith(b" ok"), line)
         daemon.kill()
-        whole, torn = daemon.journal(), b"alpha task j other"
-        for length in (1, len(torn) // 2, len(torn)) if setup.is_quick else range(1, len(torn) + 1):
+        whole, torn = daemon.journal(), b"#lines 00000000 19 7 0 1795659975220 *:0\nalpha task j other\n"
+        for length in (1, 30, len(torn) - 9, len(torn)) if setup.is_quick else range(1, len(torn) + 1):
             with open(daemon.segments()[-1], "ab") as segment:
                 segment.write(torn[:length])
             daemon.start()
-            require(daemon.journal() == whole, f"{length} bytes of a torn line are still there")
+            require(daemon.journal() == whole, f"{length} bytes of a torn record are still there")
             with daemon.client() as client:
                 require(client.ask(b"alpha show").endswith(SHOWN % 0), "the rows")
             whole = daemon.journal()
             daemon.kill()
-        with open(daemon.state / "journal" / "00000001.blocks", "ab") as blocks:
-            blocks.write(b"12 1 0")
         daemon.start().stop()
 
 
-def damaged_journal(setup: Setup) -> None:
-    """A journal that is not what was written, or a firm that answers otherwise, stops the start by its name."""
+def other_firm(setup: Setup) -> None:
+    """A firm that answers otherwise than was kept stops the start, unless the replies are to be forgotten."""
     with setup.daemon("--segment-bytes", "2000") as daemon:
         daemon.start()
         with daemon.client() as client:
             for line in [*ROWS, *[b"alpha show"] * 200, *[b"alpha round"] * 10]:
                 client.ask(line)
         daemon.stop()
-        segments = daemon.segments()
-        require(len(segments) > 1, "segments")
-        first = segments[0].read_bytes()
-        segments[0].write_bytes(first.replace(b"task j a", b"task j b", 1))
-        daemon.refuses(5, "00000001.lines, lines 1 to", "not the lines that were answered")
-        segments[0].write_bytes(first[: first.rindex(b"\n", 0, -1) + 1])
-        daemon.refuses(4, "00000001.lines", "were answered")
-        segments[0].write_bytes(first[:-1])
-        daemon.refuses(4, "00000001.lines", "no end")
-        segments[0].rename(daemon.folder / "away")
-        daemon.refuses(4, "segments are missing")
-        (daemon.folder / "away").rename(segments[0])
-        segments[0].write_bytes(first)
         other = stand_in(daemon.folder, f'#!/bin/sh\n"{setup.program}" "$@" | sed -u "s/round cost 0/round cost 1/"\n')
         right, daemon.firm = daemon.firm, other
         daemon.refuses(5, "other replies than were kept")
         daemon.firm = right
-        blocks = segments[-1].with_suffix(".blocks")
-        kept = blocks.read_bytes()
-        blocks.write_bytes(b"no record\n")
-        daemon.refuses(4, "00000002.blocks:1" if len(segments) == 2 else ".blocks:1", "no record")
-        blocks.write_bytes(kept)
         daemon.start().stop()
+        forget = [*JOURNAL_TOOL, "rewrite", "--forget-replies", str(daemon.state)]
+        done = subprocess.run(forget, capture_output=True, text=True)
+        require(done.returncode == 0, done.stderr)
+        daemon.firm = other
+        daemon.start()
+        with daemon.client() as client:
+            require(client.ask(b"alpha costs").startswith(b"alpha "), "it serves")
+        daemon.stop()
 
 
 def full_disk(setup: Setup, make_full: Callable[[Daemon], Callable[[], None]]) -> None:
@@ -623,10 +613,12 @@ count = 0
 def patched(name, real):
     def sync(file):
         global count
-        count += name == "fdatasync"
+        path = os.path.basename(os.readlink(f"/proc/self/fd/{{file}}"))
+        is_of_lines = name == "fdatasync" and path != "extent"
+        count += is_of_lines
         with open({log!r}, "a") as log:
-            print(name, os.path.basename(os.readlink(f"/proc/self/fd/{{file}}")), file=log)
-        if name == "fdatasync":
+            print(name, path, file=log)
+        if is_of_lines:
             {action}
         real(file)
     return sync
@@ -656,7 +648,7 @@ def group_commit(setup: Setup) -> None:
         replies = [client.reply() for client in clients]
         seconds = time.monotonic() - began
         require(len(set(replies)) == 20, replies)
-        syncs = log.read_text().count("fdatasync")
+        syncs = log.read_text().count("fdatasync 0")
         require(1 <= syncs <= 3 and 0.2 * syncs <= seconds < 2, f"{syncs} syncs, {seconds:.2f} s")
         daemon.stop()
 
@@ -685,22 +677,17 @@ def syncs_of_starts(setup: Setup) -> None:
         with daemon.client() as client:
             require([client.ask(line) for line in ROWS[:2]] == [b"alpha 1 ok", b"alpha 2 ok"], "replies")
             client.send(ROWS[2] + b"\n")
-            wait_for(lambda: log.read_text().endswith("fdatasync 00000002.lines\n"), "a line that is not synced")
+            wait_for(lambda: log.read_text().endswith("fdatasync 00000003.lines\n"), "a line that is not synced")
             daemon.kill()
-        require(daemon.journal().endswith(ROWS[2] + b"\n") and len(daemon.segments()) == 2, "it is written")
+        require(daemon.journal().endswith(ROWS[2] + b"\n") and len(daemon.segments()) == 3, "it is written")
         log.unlink()
         daemon.firm = stand_in(daemon.folder, f"#!/bin/sh\necho firm >>'{log}'\nexec '{setup.program}' \"$@\"\n")
         daemon.start()
         before, _, behind = log.read_text().partition("firm\n")
-        require({"fsync 00000002.lines", "fsync journal"} <= set(before.splitlines()), f"{before!r}, then {behind!r}")
+        wanted = {"fsync 00000003.lines", "fsync journal", "fdatasync extent"}
+        require(wanted <= set(before.splitlines()), f"{before!r}, then {behind!r}")
         with daemon.client() as client:
             require(client.ask(ROWS[2]).startswith(b"alpha 4 no 9 "), "the line is obeyed")
-        daemon.kill()
-        (daemon.state / "journal" / "refused").write_bytes(b"9 9\n1 ")
-        log.unlink()
-        daemon.start()
-        require("fsync refused" in log.read_text(), "the refusals are synced")
-        require((daemon.state / "journal" / "refused").read_bytes() == b"9 9\n", "a torn refusal is cut off")
         daemon.stop()
 
 
@@ -1084,7 +1071,7 @@ def refuse_and_replay(setup: Setup, library: str, place: int) -> set[bytes]:
 SHORT = [
     many_clients,
     torn_line,
-    damaged_journal,
+    other_firm,
     no_rights,
     denied_rights,
     group_commit,

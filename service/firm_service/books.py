@@ -5,8 +5,9 @@ from __future__ import annotations
 import time
 from bisect import bisect_left
 from collections import Counter, deque
-from collections.abc import Callable, Iterator, Sequence
+from collections.abc import Iterator, Sequence
 from dataclasses import dataclass, field
+from typing import Protocol
 
 from .roster import Limits, read_roster
 
@@ -16,8 +17,15 @@ LONGEST_WAIT = 1_000_000  # rounds; firm counts a wait no further
 COSTS_KEPT = 120  # of a tenant's last rounds, for the page; firm itself tells 8
 ROUND_SECONDS = (0.0001, 0.0002, 0.0005, 0.001, 0.002, 0.005, 0.01, 0.02, 0.05, 0.1, 0.2, 0.5, 1.0, 2.0, 5.0, 10.0)
 
-# Called with the tenant that a line concerns (None where it concerns none), the line and its reply.
-Watcher = Callable[[str | None, bytes, bytes], None]
+
+class Watcher(Protocol):
+    """Hears of lines once the books have them."""
+
+    def tell(self, tenant: str | None, line: bytes, reply: bytes) -> None:
+        """A line with its reply, and the tenant that it concerns, None where it concerns none."""
+
+    def drop(self, error: Exception) -> None:
+        """Ends it: it could not be told."""
 
 
 @dataclass(slots=True)
@@ -188,7 +196,19 @@ class Books:
         if self.watchers:
             tenant = tenant_of(reply)
             for watcher in tuple(self.watchers):  # one may leave
-                watcher(tenant, line, reply)
+                try:
+                    watcher.tell(tenant, line, reply)
+                except Exception as error:
+                    if watcher in self.watchers:
+                        self.watchers.remove(watcher)
+                    watcher.drop(error)
+
+    def may_have_moved(self, line: bytes) -> bool:
+        """Whether the reply to a round that is not taken in yet may have ended with `move no 14 memory`."""
+        words = line.decode("latin-1").split()
+        book = self.tenants.get(words[0]) if words[1:] == ["round"] else None
+        task = book.tasks.get("no") if book is not None else None
+        return book is not None and task is not None and task.machine == "14" and "memory" in book.machines
 
     def _take_in(self, lines: Sequence[bytes], replies: Sequence[bytes], seconds: float | None) -> None:
         """Most of a replay's time goes here, so a reply that changes no rows is looked at as little as can be."""

@@ -10,14 +10,16 @@ import asyncio
 import os
 import socket
 import stat
+import struct
 from collections import deque
 from dataclasses import dataclass
 from pathlib import Path
 from typing import Protocol
 
 from . import lines
-from .faults import Exit, Fault, reason, say
+from .faults import Exit, Fault, Faults, reason, say
 from .observers import Status
+from .relief import Held
 
 PIECE_BYTES = 65_536  # read at a time of one client
 KEPT_BYTES = lines.MOST_BYTES + 2  # of a line: one as long is too long for firm, with a CR at its end or without
@@ -25,8 +27,8 @@ LINES_AHEAD = 8_192  # of a client without replies: it is not read further until
 HIGH_WATER = 262_144  # bytes of replies that a client has not read: no further line of its is read until fewer are
 LINGER_SECONDS = 60.0  # for which a client that is closed may still read
 STOP_SECONDS = 5.0  # for which all may, at the end of the service
-BACKLOG = 1_024  # connections that wait to be accepted
 PROBE_SECONDS = 1.0  # for an answer of a socket that is there already
+CREDENTIALS = struct.Struct("iII")  # of a connection's other end: process, user, group
 
 # A text in which no line but the first can begin with one of these has no comments, no empty lines and no operator's.
 MARKS = (b"\n\n", b"\n#", b"\n+", b"\n ", b"\n\t", b"\n\r")
@@ -55,6 +57,11 @@ class Rights:
 
     tenant: bytes | None = None  # lines of this tenant alone
     is_operator: bool = False
+
+    @property
+    def socket(self) -> bytes:
+        """The socket as the journal names it: by its tenant, else * or, for the operator's, +."""
+        return self.tenant or (b"+" if self.is_operator else b"*")
 
     def allow_all(self, text: bytes, count: int) -> bool:
         """Whether each line of a text gets a reply and is allowed, seen at a glance; False says nothing."""
@@ -89,14 +96,27 @@ class Note:
 class Clients:
     """All that are connected."""
 
-    def __init__(self, taker: Taker, limits: Limits) -> None:
-        self.taker = taker
-        self.limits = limits
-        self.connected: set[Client] = set()
+    def __init__(self, taker: Taker, limits: Limits, faults: Faults) -> None:
+        self.taker, self.limits, self.faults = taker, limits, faults
+        self.connected: dict[Client, None] = {}  # the newest last
         self.buffer = bytearray(PIECE_BYTES)  # of all clients: nothing stays in it
+        self.is_held = False  # none is read
 
     def unread_bytes(self) -> int:
         return sum(client.transport.get_write_buffer_size() for client in self.connected)
+
+    def of_sockets(self) -> Held:
+        """The connections of each socket."""
+        found: Held = {}
+        for client in self.connected:
+            found.setdefault(client.rights.socket.decode(), []).append(client.transport)
+        return found
+
+    def hold(self, is_held: bool) -> None:
+        """Reads none of them, or each again."""
+        self.is_held = is_held
+        for client in self.connected:
+            client.choose_reading()
 
     def stop_reading(self) -> None:
         for client in self.connected:
@@ -118,7 +138,8 @@ class Client(asyncio.BufferedProtocol):
 
     def __init__(self, clients: Clients, rights: Rights) -> None:
         self._clients = clients
-        self._rights = rights
+        self.rights = rights
+        self.sender = rights.socket  # and its user, once it is connected
         self._half = b""  # of a line
         self._asked = self._answered = 0  # lines given to firm, and their replies
         self._notes: deque[Note] = deque()
@@ -129,16 +150,24 @@ class Client(asyncio.BufferedProtocol):
         if not isinstance(transport, asyncio.Transport):
             raise TypeError(f"{transport!r} is no stream")
         self.transport = transport
-        transport.set_write_buffer_limits(high=HIGH_WATER)
+        try:
+            self._begin()
+        except Exception as error:
+            self._clients.faults.note("client", error)
+            transport.abort()
+
+    def _begin(self) -> None:
+        self.transport.set_write_buffer_limits(high=HIGH_WATER)
+        self.sender = b"%b:%d" % (self.rights.socket, user_of(self.transport))
         self._is_reading = True
         most = self._clients.limits.clients
         if len(self._clients.connected) >= most:
             self.close_with(TOO_MANY % most)
-        self._clients.connected.add(self)
+        self._clients.connected[self] = None
 
     def connection_lost(self, error: Exception | None) -> None:
         self._has_ended = True
-        self._clients.connected.discard(self)
+        self._clients.connected.pop(self, None)
 
     def get_buffer(self, sizehint: int) -> bytearray:
         return self._clients.buffer
@@ -150,7 +179,7 @@ class Client(asyncio.BufferedProtocol):
         self._half = bytes(data[end : end + KEPT_BYTES])
         if end:
             self._take(bytes(data[:end]))
-            self._choose_reading()
+            self.choose_reading()
 
     def eof_received(self) -> bool:
         """What it sent of a line that has no end is dropped; what it asked is answered."""
@@ -160,23 +189,26 @@ class Client(asyncio.BufferedProtocol):
 
     def pause_writing(self) -> None:
         self._is_full = True
-        self._choose_reading()
+        self.choose_reading()
 
     def resume_writing(self) -> None:
         self._is_full = False
-        self._choose_reading()
+        self.choose_reading()
 
     def answered(self, replies: bytes, count: int) -> None:
         self._answered += count
         if self._notes and self._notes[0].behind <= self._answered:
             replies = self._with_notes(replies, count)
         self._write(replies)
-        self._choose_reading()
+        self.choose_reading()
         self._close_at_end()
+
+    def drop(self) -> None:
+        self.transport.abort()
 
     def stop_reading(self) -> None:
         self._is_stopped = True
-        self._choose_reading()
+        self.choose_reading()
 
     def close_with(self, text: bytes) -> None:
         """Says why, and closes once that is read, or after some seconds."""
@@ -192,12 +224,12 @@ class Client(asyncio.BufferedProtocol):
         count = text.count(b"\n")
         pieces = text.split(b"\n")
         pieces.pop()
-        if max(map(len, pieces)) <= KEPT_BYTES and self._rights.allow_all(text, count):
+        if max(map(len, pieces)) <= KEPT_BYTES and self.rights.allow_all(text, count):
             self._ask(text, count)
             return
         asked: list[bytes] = []
         for line in filter(lines.gets_reply, pieces):
-            refusal = self._rights.refusal(line)
+            refusal = self.rights.refusal(line)
             if refusal is None:
                 asked.append(line[:KEPT_BYTES] + b"\n")
             else:
@@ -244,9 +276,10 @@ class Client(asyncio.BufferedProtocol):
             say(f"a client is closed: it left more than {most} bytes of replies unread")
             self.close_with(UNREAD % most)
 
-    def _choose_reading(self) -> None:
+    def choose_reading(self) -> None:
         waiting = self._asked - self._answered + len(self._notes)
-        reads = not (self._is_stopped or self._is_full or waiting > LINES_AHEAD or self._has_ended)
+        is_stopped = self._is_stopped or self._has_ended or self._clients.is_held
+        reads = not (is_stopped or self._is_full or waiting > LINES_AHEAD)
         if reads != self._is_reading and not self.transport.is_closing():
             self._is_reading = reads
             if reads:
@@ -257,6 +290,13 @@ class Client(asyncio.BufferedProtocol):
     def _close_at_end(self) -> None:
         if self._has_ended and self._asked == self._answered:
             self.transport.close()
+
+
+def user_of(transport: asyncio.BaseTransport) -> int:
+    """The user at the other end."""
+    credentials = transport.get_extra_info("socket").getsockopt(socket.SOL_SOCKET, socket.SO_PEERCRED, CREDENTIALS.size)
+    _, user, _ = CREDENTIALS.unpack(credentials)
+    return int(user)
 
 
 @dataclass(frozen=True, slots=True)

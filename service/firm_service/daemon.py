@@ -18,12 +18,14 @@ from contextlib import suppress
 from functools import partial
 from pathlib import Path
 
+from .accept import Acceptor
 from .books import Books
-from .clients import BACKLOG, Client, Clients, Limits, Listener, Rights
-from .faults import Exit, Fault, reason, say
+from .clients import Client, Clients, Limits, Listener, Rights
+from .faults import Exit, Fault, Faults, reason, say
 from .journal import Journal
 from .lines import is_name
 from .observers import Status
+from .relief import SHORTAGES, Relief
 from .roster import RosterError
 from .rounds import Rounds, Times
 from .state import State
@@ -41,9 +43,9 @@ exit statuses, each but 0 with the reason on standard error:
   1  an error of firmd itself
   2  the command line, or a package that --http needs
   3  the roster can't be read, firm refuses it, or it is not the state's
-  4  the state can't be read or written, lacks a part of its journal, or another firmd has it
-  5  the replay gives other lines or replies than were kept
-  6  firm can't be started, or ended by itself
+  4  the state can't be read or written, as on a full disk, or another firmd has it
+  5  the state lacks a part or has others than were written, or firm replies otherwise than was kept
+  6  firm can't be started, ended by itself, or was refused memory in the replay
   7  a socket or address can't be had"""
 
 
@@ -55,15 +57,17 @@ class Daemon:
         self._state = State(options.state)
         self._program = [options.firm, *(["--workers", str(options.workers)] if options.workers is not None else [])]
         self._roster = self._state.roster(options.roster, self._program)
-        self._sockets: list[tuple[Listener, socket.socket]] = []
+        self._sockets: dict[Path, os.stat_result] = {}  # as they were made
+        self._faults = Faults()
         self._has_warned = False
 
     async def run(self) -> None:
         """Serves until it is told to stop; raises the fault that ended it otherwise."""
-        journal = Journal(self._state.journal_path, self._options.segment_bytes)
+        started = time.time()
+        journal = Journal(self._state, self._options.segment_bytes)
         firm = Firm([*self._program, "--roster", str(self._state.roster_path)])
         self._status = Status(
-            started=time.time(),
+            started=started,
             firm_process=firm.process.pid,
             clients=0,
             unread_replies=0,
@@ -72,12 +76,15 @@ class Daemon:
             replayed_lines=0,
             lines=0,
         )
-        self._stream = Stream(firm, journal, self._status)
+        self._stream = Stream(firm, journal, self._status, self._faults)
+        self._relief = Relief(self._faults)
+        self._stream.on_shortage = journal.on_shortage = self._relief.relieve_soon
         loop = asyncio.get_running_loop()
         loop.set_exception_handler(self._hear_of_error)
         for number in (signal.SIGTERM, signal.SIGINT):
             loop.add_signal_handler(number, self._stop)
         self._books = start_books(self._roster)
+        self._stream.is_mistaken = self._books.may_have_moved
         self._stream.observe(self._books)
         self._stream.start()
         await asyncio.wait([self._stream.replayed, self._stream.ended], return_when=asyncio.FIRST_COMPLETED)
@@ -86,12 +93,15 @@ class Daemon:
         await self._stream.ended
 
     async def _serve(self) -> None:
-        clients = Clients(self._stream, Limits(self._options.most_clients, self._options.most_unread))
-        rounds = Rounds(self._books, self._stream, Times(self._options.every, self._options.after))
+        limits = Limits(self._options.most_clients, self._options.most_unread)
+        clients = Clients(self._stream, limits, self._faults)
+        self._relief.look_at(clients.of_sockets)
+        self._relief.on_memory = clients.hold
+        rounds = Rounds(self._books, self._stream, Times(self._options.every, self._options.after), self._faults)
         if self._options.after is not None:
             self._stream.observe(rounds)
         self._stream.on_stop = partial(self._stop_taking, clients, rounds)
-        servers = []
+        servers: list[asyncio.Server | Acceptor] = []
         try:
             servers = await self._listen(clients)
             rounds.start()
@@ -109,38 +119,41 @@ class Daemon:
             await clients.close()
             self._remove_sockets()
 
-    async def _listen(self, clients: Clients) -> list[asyncio.Server]:
-        loop = asyncio.get_running_loop()
-        servers = [await self._serve_view()]
+    async def _listen(self, clients: Clients) -> list[asyncio.Server | Acceptor]:
+        servers: list[asyncio.Server | Acceptor] = [await self._serve_view()]
         if self._options.http is not None:
             await self._serve_http(self._options.http)
         for listener in self._options.listeners:
             bound = listener.bind(self._options.socket_mode)
-            self._sockets.append((listener, bound))
+            self._sockets[listener.path] = listener.path.lstat()
             client = partial(Client, clients, listener.rights)
-            servers.append(await loop.create_unix_server(client, sock=bound, backlog=BACKLOG))
+            name = listener.rights.socket.decode()
+            servers.append(Acceptor(bound, name, client, self._relief, self._faults))
         return servers
 
     async def _serve_http(self, address: str) -> None:
         try:
             from .metrics import Metrics
-            from .web import serve_http
+            from .web import Site, serve_http
         except ImportError as error:
             install = "apt-get install python3-aiohttp python3-prometheus-client, and Debian's /usr/bin/python3"
             raise Fault(Exit.WORDS, f"--http needs a package that is not there, {error.name}: {install}") from error
+        metrics = Metrics(self._books, self._status, self._faults)
         try:
-            await serve_http(address, self._books, Metrics(self._books, self._status), self._status)
+            await serve_http(address, lambda place: Site(place, self._books, metrics, self._status), self._relief)
         except ValueError as error:
             raise Fault(Exit.WORDS, f"--http: {error}") from error
         except OSError as error:
             raise Fault(Exit.SOCKET, f"cannot serve {address}: {reason(error)}") from error
 
     async def _serve_view(self) -> asyncio.Server:
-        mask = os.umask(0o777 & ~self._options.socket_mode)
+        mask, path = os.umask(0o777 & ~self._options.socket_mode), self._state.view_path
         try:
-            return await serve_view(self._state.view_path, self._books, self._status)
+            server = await serve_view(path, self._books, self._status, self._faults, self._relief)
+            self._sockets[path] = path.lstat()
+            return server
         except OSError as error:
-            raise Fault(Exit.SOCKET, f"cannot make the socket {self._state.view_path}: {reason(error)}") from error
+            raise Fault(Exit.SOCKET, f"cannot make the socket {path}: {reason(error)}") from error
         finally:
             os.umask(mask)
 
@@ -154,30 +167,53 @@ class Daemon:
         clients.stop_reading()
 
     def _remove_sockets(self) -> None:
-        for path in [self._state.view_path, *(listener.path for listener, _ in self._sockets)]:
+        """Removes its own: another firmd may have taken the name by now."""
+        for path, made in self._sockets.items():
             with suppress(OSError):
-                path.unlink()
+                if os.path.samestat(path.lstat(), made):
+                    path.unlink()
 
     async def _tick(self, clients: Clients) -> None:
         """Keeps what the status counts of clients, and warns of a journal that grows too long."""
         while True:
-            self._status.clients = len(clients.connected)
-            self._status.unread_replies = clients.unread_bytes()
-            used, most = self._status.journal_bytes, self._status.journal_limit
-            if used > most // 2 and not self._has_warned:
-                self._has_warned = True
-                say(
-                    f"warning: the journal has {used:,} of {most:,} bytes that firm reads; "
-                    "docs/SERVICE.md says how to begin anew"
-                )
+            try:
+                self._count(clients)
+            except Exception as error:
+                self._faults.note("status", error)
             await asyncio.sleep(TICK_SECONDS)
 
+    def _count(self, clients: Clients) -> None:
+        self._status.clients = len(clients.connected)
+        self._status.unread_replies = clients.unread_bytes()
+        used, most = self._status.journal_bytes, self._status.journal_limit
+        if used > most // 2 and not self._has_warned:
+            self._has_warned = True
+            say(
+                f"warning: the journal has {used:,} of {most:,} bytes that firm reads; "
+                "docs/SERVICE.md says how to begin anew"
+            )
+
     def _hear_of_error(self, loop: asyncio.AbstractEventLoop, context: dict[str, object]) -> None:
-        """An error that nobody caught: the books may be wrong from then on, so the service stops."""
-        loop.default_exception_handler(context)
-        if isinstance(context.get("exception"), OSError):
-            return  # of a connection, or of its acceptance: the others go on
-        self._stream.fail(Fault(Exit.INTERNAL, f"an error of firmd itself: {context.get('message')}"))
+        """An error that nobody caught. Stream and journal catch their own, so it ends its connection at most."""
+        error, transport = context.get("exception"), context.get("transport")
+        if isinstance(error, MemoryError) or isinstance(error, OSError) and error.errno in SHORTAGES:
+            self._relief.relieve(error)
+        elif isinstance(error, BaseException):
+            self._faults.note(part_of(context), error)
+        else:
+            self._faults.count(part_of(context), str(context.get("message")))
+        if isinstance(transport, asyncio.WriteTransport):
+            transport.abort()
+
+
+def part_of(context: dict[str, object]) -> str:
+    """The part of firmd that an error is of, as the metrics name it."""
+    source = context.get("protocol") or context.get("task") or context.get("future") or context.get("handle")
+    if isinstance(source, Client):
+        return "client"
+    if isinstance(source, asyncio.StreamReaderProtocol) or "View.serve" in repr(source):
+        return "view"
+    return "http" if "aiohttp" in f"{type(source).__module__} {source!r}" else "loop"
 
 
 def start_books(roster: bytes) -> Books:

@@ -1,10 +1,15 @@
-"""What stops the daemon, and the exit status of each."""
+"""What stops the daemon, and the exit status of each; and what it gets over."""
 
 from __future__ import annotations
 
 import sys
+import traceback
+from collections import Counter
 from contextlib import suppress
 from enum import IntEnum
+
+
+MOST_KINDS = 100  # of faults, that are told
 
 
 class Exit(IntEnum):
@@ -14,8 +19,8 @@ class Exit(IntEnum):
     INTERNAL = 1  # an error of firmd itself
     WORDS = 2
     ROSTER = 3
-    STATE = 4  # the state's folder, its lock or its journal
-    REPLAY = 5  # the journal's lines or firm's replies are not those that were kept
+    STATE = 4  # the state's folder, its lock or its journal can't be read or written now
+    JOURNAL = 5  # the journal is not what was written, or firm's replies are not those that were kept
     FIRM = 6  # firm can't be started, or ended by itself
     SOCKET = 7
 
@@ -26,6 +31,31 @@ class Fault(Exception):
     def __init__(self, status: Exit, text: str) -> None:
         super().__init__(text)
         self.status = status
+
+
+class Faults:
+    """What went wrong and ended a connection at most: counted by part, and each kind told once with its traceback."""
+
+    def __init__(self) -> None:
+        self.counts: Counter[str] = Counter()
+        self._told: set[tuple[str, ...]] = set()
+
+    def count(self, part: str, text: str) -> None:
+        """One without an error of Python's."""
+        self.counts[part] += 1
+        self._tell((part, text), f"{text}; further times are only counted")
+
+    def note(self, part: str, error: BaseException) -> None:
+        self.counts[part] += 1
+        frames = traceback.extract_tb(error.__traceback__)
+        kind = (part, type(error).__name__, *[f"{frame.filename}:{frame.lineno}" for frame in frames])
+        told = "".join(traceback.format_exception(error)).rstrip()
+        self._tell(kind, f"a fault of {part}, which ends a connection at most; others like it are only counted\n{told}")
+
+    def _tell(self, kind: tuple[str, ...], text: str) -> None:
+        if kind not in self._told and len(self._told) < MOST_KINDS:
+            self._told.add(kind)
+            say(text)
 
 
 def reason(error: OSError) -> str:

@@ -1,72 +1,42 @@
 """The journal: each line that firm is given, on the disk before firm has it.
 
-It is a folder of segments. NUMBER.lines holds the lines themselves, so all segments in their order are an input of
-firm. NUMBER.blocks has a record for each block of lines that were answered: where it ends, how many lines it has, and a
-digest of the lines and of their replies. `refused` names the lines that memory was refused to, which a replay must not
-obey.
+It is a folder of segments, NUMBER.lines, in the form that records.py describes, and their extent. Segments of an older
+firmd are read as they are; what comes is written behind them in today's form.
 """
 
 from __future__ import annotations
 
 import os
-from collections import defaultdict
-from collections.abc import Iterator
+import secrets
+import time
+from collections import deque
+from collections.abc import Callable, Iterator, Sequence
 from contextlib import suppress
-from dataclasses import dataclass, field
-from hashlib import blake2b
+from dataclasses import dataclass
+from functools import partial
 from pathlib import Path
+from threading import Lock
+from typing import NamedTuple, TypeVar
+from zlib import crc32
 
+from .extent import Extent, ExtentFile
 from .faults import Exit, Fault, reason
-from .lines import gets_reply
+from .files import sync_folder
+from .records import Batch, Block, Header, plain, refusals
+from .recovery import Segment, damaged, extent_path, find, read_file, segment_path, whole_text
+from .relief import SHORTAGES, Spare
+from .state import State
 
-PIECE_BYTES = 262_144  # of lines without a record, in a replay
-DIGEST_BYTES = 16
-REFUSED = "refused"
-
-
-def digest() -> blake2b:
-    return blake2b(digest_size=DIGEST_BYTES)
-
-
-def sync_folder(path: Path) -> None:
-    """Waits until the names in a folder are on the disk."""
-    folder = os.open(path, os.O_RDONLY | os.O_DIRECTORY)
-    try:
-        os.fsync(folder)
-    finally:
-        os.close(folder)
+PIECE_BYTES = 262_144  # of lines without a block, in a replay
+SHORTAGE_TRIES, SHORTAGE_SECONDS = 200, 0.05
+Result = TypeVar("Result")
 
 
-def whole_text(path: Path) -> bytes:
-    """A file's text, empty where there is no file.
+class Place(NamedTuple):
+    """Where lines that were written together stand among all lines."""
 
-    What follows the last LF is cut off: it was not on the disk as a whole, so nobody was answered.
-    """
-    data = path.read_bytes() if path.exists() else b""
-    end = data.rfind(b"\n") + 1
-    if end < len(data):
-        os.truncate(path, end)
-    return data[:end]
-
-
-@dataclass(frozen=True, slots=True)
-class Place:
-    """Where lines that were written together stand."""
-
-    segment: int
-    first_line: int  # counted in the segment from 0
-    end: int  # in bytes of the segment
-
-
-@dataclass(frozen=True, slots=True)
-class Record:
-    """A block of lines that were answered."""
-
-    segment: int
-    end: int  # in bytes of the segment
-    count: int
-    lines: str  # digests
-    replies: str
+    number: int  # of the first, from 1
+    end: int  # in bytes, as firm reads them
 
 
 @dataclass(frozen=True, slots=True)
@@ -76,183 +46,278 @@ class Piece:
     text: bytes
     count: int
     place: Place
-    record: Record | None
+    block: Block | None
     refused: frozenset[int]  # lines that memory was refused to, counted in the piece from 0
+    doubtful: frozenset[int]  # those of them that an older firmd kept
 
 
-@dataclass(slots=True)
-class Segment:
-    number: int
-    size: int = 0
-    lines: int = 0
-    records: list[Record] = field(default_factory=list)
+def milliseconds() -> int:
+    return time.time_ns() // 1_000_000
+
+
+def piece_end(text: bytes, start: int, most: int) -> int:
+    """Where a piece without a block ends: with a line, before the most if it can."""
+    end = text.rfind(b"\n", start, min(most, start + PIECE_BYTES)) + 1
+    return end if end else text.index(b"\n", start) + 1
 
 
 class Journal:
-    """The segments in a folder, of one process at a time. The replay's pieces come first, then lines are appended."""
+    """The segments in a state's folder, of one process at a time. The replay's pieces come first, then lines are
+    appended, by one thread; another may keep refusals meanwhile."""
 
-    def __init__(self, folder: Path, segment_bytes: int) -> None:
-        self.folder = folder
-        self.segment_bytes = segment_bytes
-        self._file = -1  # the last segment's lines
-        self._refused: defaultdict[int, set[int]] = defaultdict(set)
+    def __init__(self, state: State, segment_bytes: int) -> None:
+        self.state, self.folder, self.segment_bytes = state, state.journal_path, segment_bytes
+        self.on_shortage: Callable[[BaseException], None] = lambda error: None  # of a descriptor or memory
+        self._lock = Lock()
+        self._extent: ExtentFile | None = None  # none before the first segment of today's form
+        self._file = -1  # the last segment
+        self._spare = Spare()  # for the next one
+        self._size = self._synced = 0  # its bytes, and those of them that are synced
         try:
-            folder.mkdir(mode=0o700, exist_ok=True)
-            sync_folder(folder.parent)
-            self._segments = self._open()
+            self.folder.mkdir(mode=0o700, exist_ok=True)
+            sync_folder(self.folder.parent)
+            self._folder = os.open(self.folder, os.O_RDONLY | os.O_DIRECTORY)
+            self.found = find(state)  # what is there, and all that is appended
+            self._open_last()
         except OSError as error:
             raise self._fault("open", error) from error
-        self._last = self._segments[-1]
 
     @property
-    def size(self) -> int:
-        """Bytes of all segments."""
-        return sum(segment.size for segment in self._segments)
+    def is_of_today(self) -> bool:
+        """Whether no segment is of an older firmd."""
+        return self.found.since == 1
+
+    def place_of(self, number: int) -> tuple[Path, int]:
+        """The segment of a line, and the line's number there, from 1 and without headings."""
+        segment = [segment for segment in self.found.segments if segment.lines < number][-1]
+        return segment.path, number - segment.lines
+
+    # Opening
+
+    def _open_last(self) -> None:
+        """Opens the last segment, or begins the first, and syncs what a replay is about to obey."""
+        for path in self.folder.glob("*.lines"):
+            if int(path.stem) > len(self.found.segments):  # it was begun, and has nothing
+                path.unlink()
+        if self.found.since:
+            self.state.keep_id(self.found.state)
+            self._open_today(self.found.segments[-1])
+        elif self.found.segments:
+            self._sync_old(self.found.segments[-1])
+        else:
+            self._begin_segment()
+        self.state.keep_id(self._id())
+
+    def _open_today(self, last: Segment) -> None:
+        self._file = os.open(last.path, os.O_RDWR | os.O_APPEND)
+        if os.fstat(self._file).st_size > self.found.last_size:
+            os.ftruncate(self._file, self.found.last_size)
+        os.fsync(self._file)
+        os.fsync(self._folder)
+        self._size = self._synced = self.found.last_size
+        self._extent = ExtentFile(extent_path(self.folder))
+        self._extent.keep(self._reached())
+        self._extent.sync()
+
+    def _sync_old(self, last: Segment) -> None:
+        """The same of segments of an older firmd, and of its refusals."""
+        for path in (last.path, self.folder / "refused"):
+            with suppress(FileNotFoundError), open(path, "rb+") as file:
+                file.truncate(len(whole_text(path)))
+                os.fsync(file.fileno())
+        os.fsync(self._folder)
+
+    def _id(self) -> str:
+        """The state's, which is drawn where it has none."""
+        if self.state.id is None:
+            self.state.id = secrets.token_hex(8)
+        return self.state.id
+
+    # The replay
 
     def pieces(self) -> Iterator[Piece]:
-        """All lines in their order, each piece of one segment."""
-        for segment in self._segments:
+        """All lines in their order."""
+        blocks = deque(sorted(self.found.blocks, key=lambda block: block.start))
+        text, start, number = b"", 0, 1  # lines that are not given yet, and where they stand
+        for segment in list(self.found.segments):
+            data = read_file(segment.path)
+            text += data if segment.is_old else plain(data)
+            at = 0
+            for end, block in self._cuts(text, start, blocks):
+                piece = self._piece(text[at:end], Place(number, start + end), block)
+                at, number = end, number + piece.count
+                yield piece
+            text, start = text[at:], start + at
+
+    def _cuts(self, text: bytes, start: int, blocks: deque[Block]) -> Iterator[tuple[int, Block | None]]:
+        """Where the pieces of a text end, with their blocks; what is left is of a block that ends behind the text."""
+        at = 0
+        while at < len(text):
+            while blocks and blocks[0].start < start + at:
+                blocks.popleft()  # another one has its lines
+            block = blocks[0] if blocks else None
+            if block is None or block.start > start + at:
+                at = piece_end(text, at, len(text) if block is None else block.start - start)
+                yield at, None
+            elif block.end - start <= len(text):
+                at = block.end - start
+                yield at, blocks.popleft()
+            else:
+                return
+
+    def _piece(self, text: bytes, place: Place, block: Block | None) -> Piece:
+        count = text.count(b"\n")
+        if block is not None and (block.count != count or not text.endswith(b"\n")):
+            damaged(f"{self.folder}: the replies to lines {place.number} to {place.number + count - 1} are of others")
+        known = self.found.refused
+        refused = frozenset(number - place.number for number in known if 0 <= number - place.number < count)
+        doubtful = frozenset(below for below in refused if not known[place.number + below])
+        return Piece(text, count, place, block, refused, doubtful)
+
+    # What comes
+
+    def append(self, batches: Sequence[Batch], copied: int | None = None) -> Place:
+        """Writes whole lines and waits until they are on the disk; takes back what it wrote where that fails.
+
+        Lines that are copied have the time that they had, and are synced by `close` alone.
+        """
+        size = sum([len(batch.text) for batch in batches])
+        with self._lock:
+            found = self.found
             try:
-                data = self._lines_path(segment.number).read_bytes()
+                if not self.found.since or self._size + size > self.segment_bytes and self._has_lines():
+                    self._begin_segment()
+                time = milliseconds() if copied is None else copied
+                self._write(self._patiently(partial(self._records, batches, time)))
+                if copied is None:
+                    self._sync()
             except OSError as error:
-                raise self._fault("read", error) from error
-            for end, record in self._cuts(segment, data):
-                start = segment.size
-                yield self._piece(segment, data[start:end], record)
+                raise self._fault("write", error) from error
+            place = Place(found.lines + 1, found.size + size)
+            found.lines += sum([batch.lines for batch in batches])
+            found.size = place.end
+            return place
 
-    def append(self, text: bytes) -> Place:
-        """Writes whole lines and waits until they are on the disk; takes back what it wrote where that fails."""
-        try:
-            if self._last.size and self._last.size + len(text) > self.segment_bytes:
-                self._begin_segment()
-            self._write(text)
-        except OSError as error:
-            raise self._fault("write", error) from error
-        place = Place(self._last.number, self._last.lines, self._last.size + len(text))
-        self._last.lines += text.count(b"\n")
-        self._last.size = place.end
-        return place
-
-    def keep(self, record: Record) -> None:
+    def keep(self, block: Block) -> None:
         """Keeps what a later replay must give. It need not be on the disk soon: a replay compares what is there."""
-        text = f"{record.end} {record.count} {record.lines} {record.replies}\n"
-        try:
-            with open(self._blocks_path(record.segment), "ab") as file:
-                file.write(text.encode())
-        except OSError as error:
-            raise self._fault("write", error) from error
+        with self._lock:
+            try:
+                if not self.found.since:
+                    self._begin_segment()
+                self._write(block.text())
+            except OSError as error:
+                raise self._fault("write", error) from error
 
-    def keep_refused(self, segment: int, lines: list[int]) -> None:
+    def keep_refused(self, numbers: list[int], time: int | None = None) -> None:
         """Keeps on the disk that memory was refused to these lines, before that is answered."""
-        text = "".join(f"{segment} {line}\n" for line in lines)
+        with self._lock:
+            try:
+                self._write(refusals(numbers, milliseconds() if time is None else time))
+                self._sync()
+            except OSError as error:
+                raise self._fault("write", error) from error
+
+    def renew(self) -> None:
+        """Gives the state another id, for a copy that has lost what was answered since."""
+        self.state.id = secrets.token_hex(8)
         try:
-            with open(self.folder / REFUSED, "ab", buffering=0) as file:
-                file.write(text.encode())
-                os.fsync(file.fileno())
-            sync_folder(self.folder)
+            self._begin_segment()
         except OSError as error:
             raise self._fault("write", error) from error
+        self.state.keep_id(self.state.id)
 
     def close(self) -> None:
-        os.close(self._file)
+        """Brings the disk up to date: what is missing at the next start was there."""
+        try:
+            if self._extent is not None:
+                self._sync()
+                self._extent.sync()
+                self._extent.close()
+                os.close(self._file)
+            os.close(self._folder)
+        except OSError as error:
+            raise self._fault("write", error) from error
 
-    def _open(self) -> list[Segment]:
-        """Finds the segments, or begins the first, and syncs what a replay is about to obey."""
-        numbers = sorted(int(path.stem) for path in self.folder.glob("*.lines"))
-        if numbers != list(range(1, len(numbers) + 1)):
-            raise Fault(Exit.STATE, f"{self.folder}: segments are missing: those there are {numbers}")
-        if numbers:
-            self._open_lines(numbers[-1], os.O_RDWR | os.O_APPEND)
-            whole_text(self._lines_path(numbers[-1]))
-        else:
-            numbers = [1]
-            self._open_lines(1, os.O_RDWR | os.O_APPEND | os.O_CREAT | os.O_EXCL)
-        for number, line in self._read_numbers(self.folder / REFUSED):
-            self._refused[number].add(line)
-        self._sync()
-        return [self._read_segment(number) for number in numbers]
+    def _has_lines(self) -> bool:
+        """Whether the last segment has some."""
+        return self.found.lines > self.found.segments[-1].lines
 
-    def _open_lines(self, number: int, flags: int) -> None:
-        self._file = os.open(self._lines_path(number), flags, 0o600)
-
-    def _sync(self) -> None:
-        """Syncs what a firmd that was killed may have left without: the last segment, its name, and refusals."""
-        os.fsync(self._file)
-        with suppress(FileNotFoundError), open(self.folder / REFUSED, "rb") as refused:
-            os.fsync(refused.fileno())
-        sync_folder(self.folder)
-
-    def _read_segment(self, number: int) -> Segment:
-        """A segment whose lines are not read yet: its size is how far a replay has come."""
-        path = self._blocks_path(number)
-        records: list[Record] = []
-        for place, line in enumerate(whole_text(path).splitlines(), 1):
-            try:
-                end, count, lines, replies = line.decode().split()
-                records.append(Record(number, int(end), int(count), lines, replies))
-            except ValueError as error:
-                raise Fault(Exit.STATE, f"{path}:{place}: this is no record of a block") from error
-        return Segment(number, records=records)
-
-    def _read_numbers(self, path: Path) -> Iterator[tuple[int, int]]:
-        for place, line in enumerate(whole_text(path).splitlines(), 1):
-            try:
-                segment, number = map(int, line.split())
-            except ValueError as error:
-                raise Fault(Exit.STATE, f"{path}:{place}: these are no segment and line") from error
-            yield segment, number
-
-    def _cuts(self, segment: Segment, data: bytes) -> Iterator[tuple[int, Record | None]]:
-        """Where the pieces of a segment end, with the records of those that have one."""
-        path = self._lines_path(segment.number)
-        if data and not data.endswith(b"\n"):
-            raise Fault(Exit.STATE, f"{path}: the last line has no end, and further segments follow")
-        for record in segment.records:
-            if not segment.size < record.end <= len(data):
-                raise Fault(Exit.STATE, f"{path}: {len(data)} bytes, and {record.end} were answered")
-            yield record.end, record
-        while segment.size < len(data):
-            end = data.rfind(b"\n", segment.size, segment.size + PIECE_BYTES) + 1
-            yield end if end else data.index(b"\n", segment.size) + 1, None
-
-    def _piece(self, segment: Segment, text: bytes, record: Record | None) -> Piece:
-        place = Place(segment.number, segment.lines, segment.size + len(text))
-        count = text.count(b"\n")
-        name = f"{self._lines_path(segment.number)}, lines {segment.lines + 1} to {segment.lines + count}"
-        if record is None:
-            if not all(map(gets_reply, text.split(b"\n")[:-1])):
-                raise Fault(Exit.STATE, f"{name}: one of them gets no reply, so firmd did not write it")
-        elif count != record.count or blake2b(text, digest_size=DIGEST_BYTES).hexdigest() != record.lines:
-            raise Fault(Exit.REPLAY, f"{name}: these are not the lines that were answered")
-        refused = frozenset(line - segment.lines for line in self._refused[segment.number])
-        segment.lines += count
-        segment.size += len(text)
-        return Piece(text, count, place, record, refused & frozenset(range(count)) if refused else refused)
+    def _records(self, batches: Sequence[Batch], time: int) -> bytes:
+        parts: list[bytes] = []
+        number, back = self.found.lines + 1, self._size - self._synced
+        for batch in batches:
+            parts.append(batch.record(number, back, time))
+            number, back = number + batch.lines, back + len(parts[-1])
+        return b"".join(parts)
 
     def _begin_segment(self) -> None:
-        following = Segment(self._last.number + 1)
-        os.close(self._file)
-        self._open_lines(following.number, os.O_RDWR | os.O_APPEND | os.O_CREAT | os.O_EXCL)
-        sync_folder(self.folder)
-        self._segments.append(following)
-        self._last = following
+        """Begins the next segment, and has the extent say so before anything is answered from there."""
+        found, number = self.found, len(self.found.segments) + 1
+        path = segment_path(self.folder, number)
+        header = Header(
+            self._id(), number, self.state.roster_sum, found.lines, found.size, found.chain, milliseconds()
+        ).text()
+        if self._size > self._synced:
+            self._sync()
+        self._spare.give()
+        file = self._patiently(partial(os.open, path, os.O_RDWR | os.O_APPEND | os.O_CREAT | os.O_EXCL, 0o600))
+        self._spare.take()
+        if self._file >= 0:
+            os.close(self._file)
+        self._file, self._size, self._synced = file, 0, 0
+        self._write(header)
+        os.fsync(self._file)
+        os.fsync(self._folder)
+        self._synced, found.since = self._size, found.since or number
+        found.segments.append(Segment(number, path, False, found.lines, found.size))
+        if self._extent is None:
+            self._extent = self._patiently(partial(ExtentFile.make, extent_path(self.folder), self._reached()))
+        else:
+            self._extent.keep(self._reached())
+            self._extent.sync()
 
     def _write(self, text: bytes) -> None:
+        """Writes at the end of the last segment; takes it back where that fails."""
         try:
-            written = 0
+            written = self._patiently(partial(os.write, self._file, text))
             while written < len(text):
-                written += os.write(self._file, text[written:] if written else text)
-            os.fdatasync(self._file)
+                written += self._patiently(partial(os.write, self._file, text[written:]))
         except OSError:
-            with suppress(OSError):
-                os.truncate(self._file, self._last.size)
+            self._take_back(self._size)
             raise
+        self._size += len(text)
+        self.found.chain = crc32(text, self.found.chain)
 
-    def _lines_path(self, number: int) -> Path:
-        return self.folder / f"{number:08}.lines"
+    def _sync(self) -> None:
+        """Waits until all that is written is on the disk, and has the extent know of it."""
+        try:
+            os.fdatasync(self._file)
+        except OSError:  # whether it is there is not known, so it was never answered
+            self._take_back(self._synced)
+            raise
+        self._synced = self._size
+        if self._extent is not None:
+            self._extent.keep(self._reached())
 
-    def _blocks_path(self, number: int) -> Path:
-        return self.folder / f"{number:08}.blocks"
+    def _take_back(self, size: int) -> None:
+        with suppress(OSError):
+            os.ftruncate(self._file, size)
+
+    def _reached(self) -> Extent:
+        found = self.found
+        return Extent(self._id().encode(), found.since, len(found.segments), self._synced, found.chain)
+
+    def _patiently(self, work: Callable[[], Result]) -> Result:
+        """Does what may lack a descriptor or memory, again and again while clients are closed for it."""
+        for _ in range(SHORTAGE_TRIES):
+            try:
+                return work()
+            except (MemoryError, OSError) as error:
+                if isinstance(error, OSError) and error.errno not in SHORTAGES:
+                    raise
+                self.on_shortage(error)
+            time.sleep(SHORTAGE_SECONDS)
+        return work()
 
     def _fault(self, verb: str, error: OSError) -> Fault:
         return Fault(Exit.STATE, f"cannot {verb} the journal {error.filename or self.folder}: {reason(error)}")

@@ -6,6 +6,8 @@ import re
 
 MOST_BYTES = 256  # of a line without its end; a longer one is answered `! line-too-long`
 
+NO_MEMORY, OPERATOR_NO_MEMORY = b"no 14 memory", b"+ no 28 operator-memory"
+
 _FIRST_WORD = re.compile(rb"[ \t]*([^ \t]+)")
 _NAME = re.compile(rb"[a-z0-9-]{1,16}")
 
@@ -39,3 +41,20 @@ def addressee(line: bytes) -> bytes | None:
 def is_operators(line: bytes) -> bool:
     """Whether a line, without its LF, is the operator's, a faulty one too."""
     return first_word(line) == b"+"
+
+
+def outcome(reply: bytes) -> bytes:
+    """What stands behind the tenant and the number in a reply to a command; nothing in one to another line."""
+    parts = reply.split(b" ", 2)
+    return parts[2] if len(parts) == 3 and parts[1].isdigit() else b""
+
+
+def is_memory_refused(reply: bytes) -> bool:
+    """Whether memory was refused to the line. Names may end a reply as a refusal does: `.. move no 14 memory`."""
+    return outcome(reply) == NO_MEMORY or reply == OPERATOR_NO_MEMORY
+
+
+def changes_rows(reply: bytes) -> bool:
+    """Whether a command other than a round has changed rows: machines, jobs and tasks come, end or are drained."""
+    done = outcome(reply)
+    return done == b"ok" or done.startswith(b"ok evicted ")

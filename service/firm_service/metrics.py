@@ -11,6 +11,7 @@ from prometheus_client.exposition import CONTENT_TYPE_LATEST
 from prometheus_client.registry import Collector
 
 from .books import ROUND_SECONDS, Book, Books
+from .faults import Faults
 from .observers import Status
 
 
@@ -21,11 +22,12 @@ def longest_wait(book: Book) -> int:
 class BooksCollector(Collector):
     """The metrics of the books and of the daemon's status."""
 
-    def __init__(self, books: Books, status: Status) -> None:
-        self.books, self.status = books, status
+    def __init__(self, books: Books, status: Status, faults: Faults) -> None:
+        self.books, self.status, self.faults = books, status, faults
 
     def collect(self) -> Iterator[Metric]:
         yield from self._of_service()
+        yield self._faults()
         yield from self._of_tenants()
         yield self._refusals()
         yield self._round_seconds()
@@ -82,6 +84,13 @@ class BooksCollector(Collector):
                 refusals.add_metric([name, reason], count)
         return refusals
 
+    def _faults(self) -> Metric:
+        told = "Faults that ended a connection at most, by the part that had them, since the start."
+        found = CounterMetricFamily("firm_faults", told, labels=["part"])
+        for part, count in self.faults.counts.items():
+            found.add_metric([part], count)
+        return found
+
     def _round_seconds(self) -> Metric:
         times = self.books.round_times
         bounds = [*map(str, ROUND_SECONDS), "+Inf"]
@@ -95,9 +104,10 @@ class Metrics:
 
     content_type = CONTENT_TYPE_LATEST
 
-    def __init__(self, books: Books, status: Status) -> None:
+    def __init__(self, books: Books, status: Status, faults: Faults) -> None:
+        self.faults = faults
         self.registry = CollectorRegistry()
-        self.registry.register(BooksCollector(books, status))
+        self.registry.register(BooksCollector(books, status, faults))
         ProcessCollector(registry=self.registry)
         ProcessCollector(namespace="firm", pid=lambda: status.firm_process, registry=self.registry)
 

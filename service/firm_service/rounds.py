@@ -9,6 +9,8 @@ from dataclasses import dataclass
 from typing import Protocol
 
 from .books import Book, Books
+from .faults import Faults
+from .lines import changes_rows
 
 
 class Taker(Protocol):
@@ -29,8 +31,10 @@ class Times:
 class Rounds:
     """Asks for rounds: an observer that waits for changes, and owns its lines, whose replies go nowhere else."""
 
-    def __init__(self, books: Books, taker: Taker, times: Times) -> None:
-        self._books, self._taker, self._times = books, taker, times
+    sender = b"firmd"
+
+    def __init__(self, books: Books, taker: Taker, times: Times, faults: Faults) -> None:
+        self._books, self._taker, self._times, self._faults = books, taker, times, faults
         self._loop = asyncio.get_running_loop()
         self._awaited: dict[str, asyncio.TimerHandle] = {}  # tenants that changed, and when each is to have its round
         self._asked: deque[str] = deque()  # tenants whose rounds are not answered yet, in order
@@ -50,15 +54,21 @@ class Rounds:
         self._times = Times(None, None)
 
     def replied_all(self, lines: Sequence[bytes], replies: Sequence[bytes], seconds: float | None) -> None:
-        for reply in replies:
-            # Machines, jobs and tasks that come or go are answered `ok` alone, and a drain `ok evicted K`.
-            if reply.endswith(b" ok") or b" ok evicted " in reply:
-                self._changed(reply[: reply.index(b" ")].decode())
+        try:
+            for reply in replies:
+                # Most replies are none of these; whether one that looks so is one its words say.
+                if (reply.endswith(b" ok") or b" ok evicted " in reply) and changes_rows(reply):
+                    self._changed(reply[: reply.index(b" ")].decode())
+        except Exception as error:
+            self._faults.note("rounds", error)
 
     def answered(self, replies: bytes, count: int) -> None:
         # Not by the names in the replies: a tenant that was retired meanwhile is `! unknown-tenant`.
         for _ in range(count):
             self._asked.popleft()
+
+    def drop(self) -> None:
+        self._asked.clear()
 
     def _changed(self, tenant: str) -> None:
         after = self._times.after_seconds

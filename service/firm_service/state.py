@@ -4,13 +4,14 @@ from __future__ import annotations
 
 import fcntl
 import os
-import secrets
+import re
 import subprocess
 from collections.abc import Sequence
 from pathlib import Path
+from zlib import crc32
 
 from .faults import Exit, Fault, reason
-from .journal import sync_folder
+from .files import replace_synced, sync_folder, write_synced
 
 ROSTER, LOCK, JOURNAL, VIEW, ID = "roster.csv", "lock", "journal", "view", "id"
 
@@ -20,9 +21,8 @@ class State:
 
     def __init__(self, folder: Path) -> None:
         self.folder = folder
-        self.roster_path = folder / ROSTER
-        self.journal_path = folder / JOURNAL
-        self.view_path = folder / VIEW
+        self.roster_path, self.journal_path, self.view_path = folder / ROSTER, folder / JOURNAL, folder / VIEW
+        self.id_path = folder / ID
         try:
             if not folder.exists():
                 folder.mkdir(mode=0o750, parents=True)
@@ -31,10 +31,37 @@ class State:
         except OSError as error:
             raise Fault(Exit.STATE, f"cannot use the state {folder}: {reason(error)}") from error
         self._take_lock()
-        self._keep_id()
+        self.had_roster = self.roster_path.exists()  # so a start came as far as the journal
+        self.roster_sum = 0  # of the kept roster, once it is read
+        self.id = self._read_id()  # None before the first start is through
 
     def roster(self, given: Path | None, firm: Sequence[str]) -> bytes:
         """The roster of the state. The first one that firm accepts is kept; another one is refused from then on."""
+        text = self._choose_roster(given, firm)
+        self.roster_sum = crc32(text)
+        return text
+
+    def keep_id(self, name: str) -> None:
+        """Keeps the state's id, by which agents tell it from others."""
+        self.id = name
+        try:
+            if self._read_id() != name:
+                replace_synced(self.id_path, f"{name}\n".encode())
+        except OSError as error:
+            raise Fault(Exit.STATE, f"cannot keep an id in {self.folder}: {reason(error)}") from error
+
+    def _read_id(self) -> str | None:
+        try:
+            name = id_of(self.folder)
+        except FileNotFoundError:
+            return None
+        except (OSError, ValueError) as error:
+            raise Fault(Exit.STATE, f"cannot read {self.id_path}: {error}") from error
+        if re.fullmatch(r"[0-9a-z-]{1,40}", name) is None:
+            raise Fault(Exit.JOURNAL, f"{self.id_path}: this is no id of a state; restore the state from a copy")
+        return name
+
+    def _choose_roster(self, given: Path | None, firm: Sequence[str]) -> bytes:
         kept = read(self.roster_path) if self.roster_path.exists() else None
         if given is None:
             if kept is None:
@@ -63,22 +90,10 @@ class State:
         except OSError as error:
             raise Fault(Exit.STATE, f"cannot use the state {self.folder}: {reason(error)}") from error
 
-    def _keep_id(self) -> None:
-        """Draws the state's id, unless it has one."""
-        path = self.folder / ID
-        try:
-            if not path.exists():
-                new = path.with_suffix(".new")
-                write(new, f"{secrets.token_hex(8)}\n".encode())
-                new.replace(path)
-                sync_folder(self.folder)
-        except OSError as error:
-            raise Fault(Exit.STATE, f"cannot keep an id in {self.folder}: {reason(error)}") from error
-
     def _keep_roster(self, text: bytes, given: Path, firm: Sequence[str]) -> None:
         new = self.roster_path.with_suffix(".new")
         try:
-            write(new, text)
+            write_synced(new, text)
             try_roster(new, given, firm)
             new.replace(self.roster_path)
             sync_folder(self.folder)
@@ -98,14 +113,6 @@ def try_roster(path: Path, given: Path, firm: Sequence[str]) -> None:
         raise Fault(Exit.ROSTER, f"{given}: {said}; firmctl check-roster {given} names line, field and value")
     if done.returncode:
         raise Fault(Exit.FIRM, f"firm ended with status {done.returncode}, and said: {said}")
-
-
-def write(path: Path, text: bytes) -> None:
-    """Writes a file, and returns once it is on the disk."""
-    with open(path, "wb") as file:
-        file.write(text)
-        file.flush()
-        os.fsync(file.fileno())
 
 
 def id_of(folder: Path) -> str:

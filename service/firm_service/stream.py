@@ -1,7 +1,8 @@
 """The stream through firm: lines into the journal and to firm, replies to those who asked and to the observers.
 
-Two threads: the loop's, which takes lines and hands out replies, and a writer, which waits for the disk and for firm's
-input. All lines that come while the writer waits share its next write and its next sync.
+Three threads: the loop's, which takes lines and hands out replies; a writer, which waits for the disk and for firm's
+input; and one that waits for firm's end. All lines that come while the writer waits share its next write and its next
+sync.
 """
 
 from __future__ import annotations
@@ -13,31 +14,45 @@ import subprocess
 import time
 import traceback
 from collections import deque
-from collections.abc import Callable, Sequence
+from collections.abc import Callable, Iterator, Sequence
 from contextlib import suppress
 from dataclasses import dataclass, field
+from functools import partial
 from hashlib import blake2b
+from itertools import groupby
+from pathlib import Path
 from queue import SimpleQueue
 from threading import Event, Thread
 from typing import Protocol
 
-from .faults import Exit, Fault, reason
-from .journal import Journal, Piece, Place, Record, digest
-from .lines import first_word
+from .faults import Exit, Fault, Faults, reason
+from .journal import Journal, Piece, Place
+from .lines import NO_MEMORY, OPERATOR_NO_MEMORY, first_word, is_memory_refused
 from .observers import Observer, Status
+from .records import UNKNOWN, Batch, Block
 
 BLOCK_LINES = 1_024  # at least, in a block of the journal
+GROUP_BYTES = 1_048_576  # of lines that are written and synced together, unless one share has more
+DIGEST_BYTES = 16
 PIPE_BYTES = 1_048_576  # that a pipe to or from firm holds, where the system lets it
-READ_BYTES = 262_144
-NO_MEMORY = b" no 14 memory\n"
-OPERATOR_NO_MEMORY = b"+ no 28 operator-memory\n"
+READ_BYTES = 65_536  # a piece that needs no memory of its own from the system
+SHORTAGE_SECONDS, SHORTAGE_TRIES = 0.02, 500  # until what lacked memory is tried again, and how often at most
+
+
+class Shortage(MemoryError):
+    """Memory is lacking, and nothing was done yet."""
 
 
 class Owner(Protocol):
     """Who asked."""
 
+    sender: bytes  # as the journal names it
+
     def answered(self, replies: bytes, count: int) -> None:
         """The next replies to its lines, each with its LF."""
+
+    def drop(self) -> None:
+        """Ends it: replies could not be told."""
 
 
 @dataclass(slots=True, eq=False)
@@ -55,17 +70,16 @@ class Share:
 
 
 @dataclass(slots=True)
-class Block:
-    """Lines that were answered since the last record."""
+class Answered:
+    """Lines that were answered since the last block."""
 
-    segment: int
+    start: int
     end: int = 0
     count: int = 0
-    lines: blake2b = field(default_factory=digest)
-    replies: blake2b = field(default_factory=digest)
+    replies: blake2b = field(default_factory=lambda: blake2b(digest_size=DIGEST_BYTES))
 
-    def record(self) -> Record:
-        return Record(self.segment, self.end, self.count, self.lines.hexdigest(), self.replies.hexdigest())
+    def block(self) -> Block:
+        return Block(self.start, self.end, self.count, self.replies.hexdigest())
 
 
 class Firm:
@@ -97,38 +111,50 @@ class Firm:
 
     def end(self) -> str | None:
         """Waits for its end; what was wrong with it."""
-        status = self.process.wait()
         said = self._errors.read().decode(errors="replace").strip()
+        status = self.process.wait()
         if not status:
             return None
         return (f"status {status}" if status > 0 else f"signal {-status}") + (f", and said: {said}" if said else "")
 
 
 class Stream:
-    """Gives lines to firm and replies to their owners. All but the writer's methods runs on the loop's thread."""
+    """Gives lines to firm and replies to their owners. All but what other threads do runs on the loop's thread."""
 
-    def __init__(self, firm: Firm, journal: Journal, status: Status) -> None:
-        self.status = status
+    def __init__(self, firm: Firm, journal: Journal, status: Status, faults: Faults) -> None:
+        self.status, self._faults = status, faults
         self._observers: list[Observer] = []
         self.on_stop: Callable[[], None] = lambda: None  # called once, before the last lines are handed over
+        self.on_shortage: Callable[[BaseException], None] = lambda error: None  # of memory; called by any thread
+        # Whether memory can't have been refused to a line, before it is taken in: an older firmd was mistaken then.
+        self.is_mistaken: Callable[[bytes], bool] = lambda line: False
         self._loop = asyncio.get_running_loop()
         self.replayed: asyncio.Future[None] = self._loop.create_future()
         self.ended: asyncio.Future[None] = self._loop.create_future()  # has the fault, where there is one
         self._firm, self._journal = firm, journal
         self._taken: list[Share] = []  # since the loop's last turn
-        self._queue: SimpleQueue[list[Share] | Record | None] = SimpleQueue()  # to the writer; None: no more will come
+        self._queue: SimpleQueue[list[Share] | Block | None] = SimpleQueue()  # to the writer; None: no more will come
         self._owed: deque[Share] = deque()  # given to firm, in order
         self._half = b""  # of a reply
-        self._block = Block(1)
+        self._replies: list[bytes] = []  # that are not handed out yet
+        self._tries = 0  # since memory was there
+        self._answered = Answered(0)
         self._replay_is_sent = self._is_stopping = False
         self._may_write = Event()  # the replay is compared, or it is over anyway
         self._fault: Fault | None = None
-        self._writer = Thread(target=self._write, name="writer", daemon=True)
+        self._written: asyncio.Future[None] = self._loop.create_future()  # the writer has ended
+        self._firm_ended: asyncio.Future[str | None] = self._loop.create_future()  # has what was wrong with it
+        # All threads are there from the start: one more may be refused later.
+        self._threads = [Thread(target=work, daemon=True) for work in (self._write, self._wait_for_firm)]
 
     def start(self) -> None:
         """Begins with the replay; `replayed` and `ended` tell how far it is."""
+        try:
+            for thread in self._threads:
+                thread.start()
+        except RuntimeError as error:
+            raise Fault(Exit.INTERNAL, f"cannot start a thread: {error}") from error
         self._loop.add_reader(self._firm.output, self._read)
-        self._writer.start()
 
     def observe(self, observer: Observer) -> None:
         """Tells it of each line from now on."""
@@ -138,17 +164,20 @@ class Stream:
         """Takes whole lines, each of which gets a reply; False where firm can't read as many bytes any more."""
         if self.status.journal_bytes + len(text) > self.status.journal_limit:
             return False
-        self.status.journal_bytes += len(text)
         if not self._taken:
             self._loop.call_soon(self._hand_over)
         self._taken.append(Share(owner, text, count))
+        self.status.journal_bytes += len(text)
         return True
 
     def stop(self) -> None:
         """Answers what was taken, and ends; the caller takes no further lines."""
         if not self._is_stopping:
             self._is_stopping = True
-            self.on_stop()
+            try:
+                self.on_stop()
+            except Exception as error:
+                self._faults.note("client", error)
             self._hand_over()
             self._queue.put(None)
             self._may_write.set()
@@ -160,16 +189,26 @@ class Stream:
 
     def _hand_over(self) -> None:
         if self._taken:
-            self._queue.put(self._taken)
-            self._taken = []
+            try:
+                self._queue.put(self._taken)
+            except MemoryError as error:
+                self.on_shortage(error)
+                self._loop.call_later(SHORTAGE_SECONDS, self._hand_over)
+            else:
+                self._taken = []
 
-    # The writer's thread.
+    # Other threads.
+
+    def _wait_for_firm(self) -> None:
+        trouble = self._firm.end()
+        with suppress(RuntimeError):  # the loop has ended before
+            self._loop.call_soon_threadsafe(self._firm_ended.set_result, trouble)
 
     def _write(self) -> None:
         try:
             self._replay()
             self._may_write.wait()
-            while self._write_waiting():
+            while self.replayed.done() and self._write_waiting():  # a journal that is not as it was stays as it is
                 pass
         except BrokenPipeError:  # firm has ended; the reading side tells it
             pass
@@ -179,6 +218,7 @@ class Stream:
             self._loop.call_soon_threadsafe(self.fail, Fault(Exit.INTERNAL, f"the writer failed: {error!r}"))
         finally:
             self._firm.input.close()
+            self._loop.call_soon_threadsafe(self._written.set_result, None)
 
     def _replay(self) -> None:
         for piece in self._journal.pieces():
@@ -199,24 +239,35 @@ class Stream:
             given = self._queue.get()
             if given is None:
                 goes_on = False
-            elif isinstance(given, Record):
+            elif isinstance(given, Block):
                 self._journal.keep(given)
             else:
                 shares += given
-        if shares:
-            self._write_shares(shares)
+        for group in groups_of(shares):
+            self._write_shares(group)
         return goes_on
 
     def _write_shares(self, shares: list[Share]) -> None:
-        text = b"".join([share.text for share in shares])
-        place = self._journal.append(text)
-        line, end, now = place.first_line, place.end - len(text), time.monotonic()
+        batches, text = self._joined(shares)
+        place = self._journal.append(batches)
+        number, end, now = place.number, place.end - len(text), time.monotonic()
         for share in shares:
             end += len(share.text)
-            share.place, share.sent = Place(place.segment, line, end), now
-            line += share.count
+            share.place, share.sent = Place(number, end), now
+            number += share.count
         self._owed.extend(shares)
         self._firm.give(text)
+
+    def _joined(self, shares: list[Share]) -> tuple[list[Batch], bytes]:
+        """The lines of all, before any is written; waits where memory is lacking."""
+        for _ in range(SHORTAGE_TRIES):
+            try:
+                batches = batches_of(shares)
+                return batches, b"".join([batch.text for batch in batches])
+            except MemoryError as error:
+                self.on_shortage(error)
+                time.sleep(SHORTAGE_SECONDS)
+        raise Fault(Exit.INTERNAL, "memory is lacking")
 
     # The loop's thread.
 
@@ -235,100 +286,147 @@ class Stream:
             chunk = os.read(self._firm.output.fileno(), READ_BYTES)
         except BlockingIOError:
             return
-        if not chunk:
+        except MemoryError as error:
+            return self._wait_for_memory(error, self._read)
+        if chunk:
+            self._take_in(chunk)
+        else:
             self._loop.remove_reader(self._firm.output)
             self._loop.create_task(self._end())
-            return
-        *replies, self._half = (self._half + chunk).split(b"\n")
+
+    def _take_in(self, chunk: bytes) -> None:
         try:
-            self._answer(replies)
+            *replies, half = (self._half + chunk).split(b"\n")
+        except MemoryError as error:
+            return self._wait_for_memory(error, partial(self._take_in, chunk))
+        self._half, self._replies, self._tries = half, replies, 0
+        self._answer()
+
+    def _answer(self) -> None:
+        """Hands out the replies that are there."""
+        done = 0
+        try:
+            while done < len(self._replies):
+                done += self._answer_next(self._replies, done)
+            self._replies = []
+            if self._replay_is_sent and not self.replayed.done():
+                self._tell_replayed()
+        except Shortage as shortage:
+            self._replies = self._replies[done:]
+            self._wait_for_memory(shortage, self._answer)
         except Fault as fault:
             self._give_up(fault)
         except Exception as error:  # who is owed what is not known any more
             traceback.print_exc()
             self._give_up(Fault(Exit.INTERNAL, f"an error of firmd itself: {error!r}"))
 
-    def _answer(self, replies: list[bytes]) -> None:
-        """Hands out whole replies."""
-        done = 0
-        while done < len(replies):
-            if not self._owed:
-                reply = replies[done].decode(errors="replace")
-                raise Fault(Exit.FIRM, f"firm gave a reply that nobody asked for: {reply}")
-            share = self._owed[0]
-            count = min(share.count - share.answered, len(replies) - done)
-            self._answer_share(share, replies[done : done + count])
-            done += count
-            if share.answered == share.count:
-                self._owed.popleft()
-                self._end_share(share)
-        if self._replay_is_sent and not self.replayed.done():
-            self._tell_replayed()
+    def _wait_for_memory(self, error: MemoryError, again: Callable[[], None]) -> None:
+        """Tries again soon, and takes in nothing else until then; a restart may find memory where this does not."""
+        self._tries += 1
+        if self._tries > SHORTAGE_TRIES:
+            return self._give_up(Fault(Exit.INTERNAL, "memory is lacking"))
+        self.on_shortage(error)
+        self._loop.remove_reader(self._firm.output)
+        self._loop.call_later(SHORTAGE_SECONDS, self._go_on, again)
+
+    def _go_on(self, again: Callable[[], None]) -> None:
+        self._loop.add_reader(self._firm.output, self._read)
+        again()
+
+    def _answer_next(self, replies: list[bytes], done: int) -> int:
+        """Hands out the next replies to one share; how many."""
+        if not self._owed:
+            reply = replies[done].decode(errors="replace")
+            raise Fault(Exit.FIRM, f"firm gave a reply that nobody asked for: {reply}")
+        share = self._owed[0]
+        count = min(share.count - share.answered, len(replies) - done)
+        if share.piece is not None:
+            count = self._begin_piece(share, share.piece, count)
+        self._answer_share(share, replies[done : done + count])
+        if share.answered == share.count:
+            self._owed.popleft()
+            self._end_share(share)
+        return count
+
+    def _begin_piece(self, share: Share, piece: Piece, count: int) -> int:
+        """How many of a piece's next replies may be taken in at once: a refusal that may be a mistake is one alone."""
+        if share.answered == 0 and piece.block is not None:
+            self._end_block()  # of lines before, whose own record was lost
+        if not piece.doubtful:
+            return count
+        following = min([below for below in piece.doubtful if below >= share.answered], default=share.count)
+        if following > share.answered:
+            return min(count, following - share.answered)
+        line = piece.text.split(b"\n")[following]
+        if self.is_mistaken(line):
+            path, number = self._journal.place_of(piece.place.number + following)
+            raise Fault(Exit.JOURNAL, mistake(path, number, line))
+        return 1
 
     def _answer_share(self, share: Share, replies: list[bytes]) -> None:
         first, last = share.answered, share.answered + len(replies)
-        text = b"\n".join(replies) + b"\n"
+        try:
+            text = b"\n".join(replies) + b"\n"
+            share.lines = share.lines or share.text.split(b"\n")
+            lines = share.lines[first:last]
+        except MemoryError as error:
+            raise Shortage from error
         if NO_MEMORY in text or OPERATOR_NO_MEMORY in text:
             self._keep_refused(share, replies)
         if share.piece is not None and share.piece.refused:
             restore_refused(share.piece, first, replies)
             text = b"\n".join(replies) + b"\n"
-        self._digest_replies(share, text)
+        self._answered.replies.update(text)
         if share.owner is not None:
-            share.owner.answered(text, len(replies))
-        share.lines = share.lines or share.text.split(b"\n")
+            self._tell_owner(share.owner, text, len(replies))
         seconds = None if share.sent is None else time.monotonic() - share.sent
         try:
             for observer in self._observers:
-                observer.replied_all(share.lines[first:last], replies, seconds)
+                observer.replied_all(lines, replies, seconds)
         except Exception as error:
-            trouble = (
-                f"the books can't take in {replies[0]!r} to {share.lines[first]!r}, or a reply behind it: {error!r}"
-            )
+            trouble = f"the books can't take in {replies[0]!r} to {lines[0]!r}, or a reply behind it: {error!r}"
             raise Fault(Exit.INTERNAL, trouble) from error
         share.answered = last
         self.status.lines += len(replies)
 
+    def _tell_owner(self, owner: Owner, text: bytes, count: int) -> None:
+        try:
+            owner.answered(text, count)
+        except Exception as error:
+            if isinstance(error, MemoryError):
+                self.on_shortage(error)
+            else:
+                self._faults.note("client", error)
+            owner.drop()
+
     def _keep_refused(self, share: Share, replies: list[bytes]) -> None:
         """Memory may be there in a replay, so it must know. This waits for the disk, which is seldom needed."""
-        if share.piece is not None:
-            raise Fault(Exit.REPLAY, "memory was refused to the replay; start it again where there is more")
-        place = placed(share)
-        self._journal.keep_refused(
-            place.segment,
-            [
-                place.first_line + share.answered + number
-                for number, reply in enumerate(replies)
-                if reply + b"\n" == OPERATOR_NO_MEMORY or (reply + b"\n").endswith(NO_MEMORY)
-            ],
-        )
-
-    def _digest_replies(self, share: Share, text: bytes) -> None:
-        segment = placed(share).segment
-        if segment != self._block.segment:
-            self._end_block()
-            self._block = Block(segment)
-        self._block.replies.update(text)
+        first = placed(share).number + share.answered
+        numbers = [first + below for below, reply in enumerate(replies) if is_memory_refused(reply)]
+        if numbers and share.piece is not None:
+            raise Fault(Exit.FIRM, "memory was refused to the replay; start it again where there is more")
+        if numbers:
+            self._journal.keep_refused(numbers)
 
     def _end_share(self, share: Share) -> None:
-        block = self._block
-        block.lines.update(share.text)
-        block.count += share.count
-        block.end = placed(share).end
-        record = share.piece.record if share.piece is not None else None
-        if record is None:
-            if block.count >= BLOCK_LINES:
+        answered = self._answered
+        answered.count += share.count
+        answered.end = placed(share).end
+        block = share.piece.block if share.piece is not None else None
+        if block is None:
+            if answered.count >= BLOCK_LINES:
                 self._end_block()
             return
-        if block.record() != record:
-            what = f"segment {record.segment}, the {record.count} lines before byte {record.end}"
-            raise Fault(Exit.REPLAY, f"the replay gives other replies than were kept: {what}; was firm replaced?")
-        self._block = Block(record.segment)
+        if answered.block() != block:
+            last = placed(share).number + share.count - 1
+            what = f"lines {last - share.count + 1} to {last} of the journal"
+            raise Fault(Exit.JOURNAL, f"the replay gives other replies than were kept: {what}; was firm replaced?")
+        self._answered = Answered(block.end)
 
     def _end_block(self) -> None:
-        if self._block.count:
-            self._queue.put(self._block.record())
-            self._block = Block(self._block.segment)
+        if self._answered.count:
+            self._queue.put(self._answered.block())
+            self._answered = Answered(self._answered.end)
 
     def _give_up(self, fault: Fault) -> None:
         """Stops at once: no further reply can be told."""
@@ -340,31 +438,75 @@ class Stream:
 
     async def _end(self) -> None:
         """firm has ended, or is about to."""
-        self.stop()
-        trouble = await asyncio.to_thread(self._firm.end)
-        await asyncio.to_thread(self._writer.join)
-        if trouble is None and self._owed:
-            trouble = "status 0, and owed replies"
-        if trouble is not None:
-            self._fault = self._fault or Fault(Exit.FIRM, f"firm ended with {trouble}")
-        if self._fault is None:
-            self._fault = self._close_journal()
+        try:
+            self.stop()
+            trouble = await self._firm_ended
+            await self._written
+            if trouble is None and self._owed:
+                trouble = "status 0, and owed replies"
+            if trouble is not None:
+                self._fault = self._fault or Fault(Exit.FIRM, f"firm ended with {trouble}")
+            if self._fault is None:
+                self._fault = self._close_journal()
+        except Exception as error:  # the service must not wait for an end that has failed
+            self._fault = self._fault or Fault(Exit.INTERNAL, f"the end failed: {error!r}")
+        if self.ended.done():
+            return
         if self._fault is None:
             self.ended.set_result(None)
         else:
             self.ended.set_exception(self._fault)
 
     def _close_journal(self) -> Fault | None:
-        """Keeps the records that are left."""
+        """Keeps the blocks that are left."""
         self._end_block()
         try:
-            while not self._queue.empty():
-                if isinstance(record := self._queue.get(), Record):
-                    self._journal.keep(record)
+            while self.replayed.done() and not self._queue.empty():
+                if isinstance(block := self._queue.get(), Block):
+                    self._journal.keep(block)
+            self._journal.close()
         except Fault as fault:
             return fault
-        self._journal.close()
         return None
+
+
+def groups_of(shares: list[Share]) -> Iterator[list[Share]]:
+    """The shares in their order, as many at a time as are written together."""
+    group: list[Share] = []
+    size = 0
+    for share in shares:
+        if group and size + len(share.text) > GROUP_BYTES:
+            yield group
+            group, size = [], 0
+        group.append(share)
+        size += len(share.text)
+    if group:
+        yield group
+
+
+def batches_of(shares: list[Share]) -> list[Batch]:
+    """The lines of the shares, those of one sender that stand together as one batch."""
+    found: list[Batch] = []
+    for sender, group in groupby(shares, sender_of):
+        held = list(group)
+        text = held[0].text if len(held) == 1 else b"".join([share.text for share in held])
+        found.append(Batch(sender, text, sum([share.count for share in held])))
+    return found
+
+
+def sender_of(share: Share) -> bytes:
+    return share.owner.sender if share.owner is not None else UNKNOWN
+
+
+def mistake(path: Path, number: int, line: bytes) -> str:
+    """What is to be done about a refusal that was none."""
+    kept = f"'{int(path.stem)} {number - 1}' of {path.with_name('refused')}"
+    return (
+        f"{path}, line {number}, {line.decode(errors='replace')!r}: an older firmd took its reply, which may end with "
+        f"`move no 14 memory`, for a refusal of memory. Remove the line {kept}, and start firmd again: the line is "
+        "obeyed then. If firmd was restarted since, what it answered from then on may rest on the wrong state: see "
+        "docs/SERVICE.md"
+    )
 
 
 def placed(share: Share) -> Place:
@@ -386,5 +528,4 @@ def restore_refused(piece: Piece, first: int, replies: list[bytes]) -> None:
     for number in piece.refused:
         if first <= number < first + len(replies):
             tenant, count, *_ = replies[number - first].split(b" ")
-            refusal = OPERATOR_NO_MEMORY if tenant == b"+" else tenant + b" " + count + NO_MEMORY
-            replies[number - first] = refusal.rstrip(b"\n")
+            replies[number - first] = OPERATOR_NO_MEMORY if tenant == b"+" else b"%b %b %b" % (tenant, count, NO_MEMORY)

@@ -22,15 +22,17 @@ import time
 from collections import Counter
 from collections.abc import Callable, Iterator
 from dataclasses import asdict
-from functools import partial
 from pathlib import Path
 
 from .books import Book, Books
+from .faults import Faults
 from .observers import Status
+from .relief import Relief
 from .state import id_of
 
 MOST_CLIENTS = 64  # at a time
 MOST_UNREAD = 4 << 20  # bytes, beside the rows at first, that a watcher may leave unread before it is closed
+LINGER_SECONDS = 60.0  # for which one that is closed may still read
 
 Json = dict[str, object]
 Lists = dict[str, Callable[[Book], Iterator[Json]]]
@@ -120,9 +122,9 @@ LISTS: Lists = {"tasks": tasks_of, "machines": machines_of, "jobs": jobs_of}  # 
 class View:
     """Answers what may be asked once; see `Connection` for a watch."""
 
-    def __init__(self, books: Books, status: Status, state: str) -> None:
-        self.books, self.status, self.state = books, status, state
-        self.clients = 0
+    def __init__(self, books: Books, status: Status, faults: Faults, state: str) -> None:
+        self.books, self.status, self.faults, self.state = books, status, faults, state
+        self.connections: list[Connection] = []  # the newest last
 
     async def answer(self, request: Json) -> str:
         """The answer to a request other than to watch; raises `Refused`."""
@@ -159,12 +161,12 @@ class View:
 
     async def serve(self, reader: asyncio.StreamReader, writer: asyncio.StreamWriter) -> None:
         """One client, until it leaves."""
-        if self.clients == MOST_CLIENTS:
+        if len(self.connections) == MOST_CLIENTS:
             send(writer, {"error": "too-many-clients", "text": f"{MOST_CLIENTS} views are open; close one"})
             writer.close()
             return
-        self.clients += 1
         connection = Connection(self, writer)
+        self.connections.append(connection)
         try:
             while line := await reader.readline():
                 await connection.obey(line)
@@ -173,8 +175,10 @@ class View:
             pass
         except asyncio.CancelledError:  # the service ends; asyncio would report a cancelled connection as an error
             pass
+        except Exception as error:
+            self.faults.note("view", error)
         finally:
-            self.clients -= 1
+            self.connections.remove(connection)
             connection.unwatch()
             writer.close()
 
@@ -213,11 +217,15 @@ class Connection:
             book = rows_of(tenants[wanted]) if isinstance(wanted, str) and wanted in tenants else None
             answer = {"state": self.view.state, "book": book}
         self.most_unread = MOST_UNREAD + send(self.writer, answer)
-        self.view.books.watchers.append(self.tell)
+        self.view.books.watchers.append(self)
 
     def unwatch(self) -> None:
-        if self.tell in self.view.books.watchers:
-            self.view.books.watchers.remove(self.tell)
+        if self in self.view.books.watchers:
+            self.view.books.watchers.remove(self)
+
+    def drop(self, error: Exception) -> None:
+        self.view.faults.note("view", error)
+        self.writer.transport.abort()
 
     def tell(self, tenant: str | None, line: bytes, reply: bytes) -> None:
         """Sends a line and its reply, where they concern what is watched."""
@@ -227,6 +235,7 @@ class Connection:
             send(self.writer, {"error": "too-slow", "text": f"more than {self.most_unread:,} bytes were left unread"})
             self.unwatch()
             self.writer.close()
+            asyncio.get_running_loop().call_later(LINGER_SECONDS, self.writer.transport.abort)
             return
         text = line.decode("utf-8", "backslashreplace")
         send(self.writer, {"line": text, "reply": reply.decode("ascii"), "number": self.view.books.lines})
@@ -239,9 +248,14 @@ def send(writer: asyncio.StreamWriter, answer: Json) -> int:
     return len(text)
 
 
-async def serve_view(path: Path, books: Books, status: Status) -> asyncio.Server:
+async def serve_view(
+    path: Path, books: Books, status: Status, faults: Faults, relief: Relief | None = None
+) -> asyncio.Server:
     """Begins to answer on a Unix socket in the state's folder, with the mode that the umask leaves.
 
     Replaces the socket of a dead service; raises OSError where it can't be made, or the state's id can't be read.
     """
-    return await asyncio.start_unix_server(partial(View.serve, View(books, status, id_of(path.parent))), path)
+    view = View(books, status, faults, id_of(path.parent))
+    if relief is not None:
+        relief.look_at(lambda: {"(view)": [connection.writer.transport for connection in view.connections]})
+    return await asyncio.start_unix_server(view.serve, path)

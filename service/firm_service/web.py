@@ -3,9 +3,11 @@
 from __future__ import annotations
 
 import asyncio
+import logging
 import re
 import time
 from base64 import b64encode
+from collections.abc import Callable
 from dataclasses import dataclass
 from hashlib import sha256
 from heapq import nsmallest
@@ -16,8 +18,10 @@ from aiohttp import web
 from aiohttp.typedefs import Handler
 
 from .books import Book, Books
+from .faults import Faults
 from .metrics import Metrics
 from .observers import Status
+from .relief import Relief
 from .view import Json, jobs_of, status_of, summary_of, task_of
 
 MOST_CONNECTIONS = 100  # at a time
@@ -89,6 +93,7 @@ class Site:
 
     def __init__(self, address: Address, books: Books, metrics: Metrics, status: Status) -> None:
         self.address, self.books, self.metrics, self.status = address, books, metrics, status
+        self.faults = metrics.faults
         self.text = PAGE.read_text("utf-8")
         self.headers = {
             "Content-Security-Policy": policy_of(self.text),
@@ -121,6 +126,9 @@ class Site:
                 response = await handler(request)
             except web.HTTPException as error:
                 response = web.Response(status=error.status, text=f"{error.reason}\n")
+            except Exception as error:
+                self.faults.note("http", error)
+                response = web.Response(status=500, text="a fault of firmd\n")
         response.headers.update(self.headers)
         return response
 
@@ -149,14 +157,35 @@ class Busy(asyncio.Protocol):
             transport.close()
 
 
-async def serve_http(address: str, books: Books, metrics: Metrics, status: Status) -> asyncio.Server:
+class Noted(logging.Handler):
+    """Counts what aiohttp would log: requests that it can't read, and faults of its own."""
+
+    def __init__(self, faults: Faults) -> None:
+        super().__init__()
+        self.faults = faults
+
+    def emit(self, record: logging.LogRecord) -> None:
+        error = record.exc_info[1] if record.exc_info else None
+        self.faults.note("http", error or RuntimeError(record.getMessage()))
+
+
+async def serve_http(address: str, site: Callable[[Address], Site], relief: Relief | None = None) -> asyncio.Server:
     """Begins to serve; raises `ValueError` for a faulty address and `OSError` where it can't be had."""
     place = Address.read(address)
-    runner = web.AppRunner(Site(place, books, metrics, status).application(), access_log=None)
+    served = site(place)
+    logger = logging.Logger("firmd")
+    logger.addHandler(Noted(served.faults))
+    runner = web.AppRunner(served.application(), access_log=None, logger=logger)
     await runner.setup()
+    if runner.server is None:
+        raise RuntimeError("the runner has no server")
     server = runner.server
 
     def connection() -> asyncio.Protocol:
-        return server() if server is not None and len(server.connections) < MOST_CONNECTIONS else Busy()
+        return server() if len(server.connections) < MOST_CONNECTIONS else Busy()
 
+    if relief is not None:
+        relief.look_at(
+            lambda: {"(http)": [held.transport for held in server.connections if held.transport is not None]}
+        )
     return await asyncio.get_running_loop().create_server(connection, place.host, place.port)

@@ -7,6 +7,7 @@ import subprocess
 from collections.abc import Iterator
 from pathlib import Path
 
+from .kept import kept_lines, refused_lines
 from .lines import first_word
 from .tables import Row
 
@@ -19,12 +20,10 @@ class NotBuilt(Exception):
 
 def journal_of(state: Path, tenant: bytes) -> Iterator[bytes]:
     """The journal's lines of a tenant and those of the operator, without those that memory was refused to."""
-    folder = state / "journal"
-    kept = folder / "refused"
-    refused = {tuple(map(int, line.split())) for line in kept.read_bytes().splitlines()} if kept.exists() else set()
-    for path in sorted(folder.glob("*.lines"), key=lambda path: int(path.stem)):
-        for place, line in enumerate(path.read_bytes().split(b"\n")):
-            if first_word(line) in (tenant, b"+") and (int(path.stem), place) not in refused:
+    refused = refused_lines(state)
+    for kept in kept_lines(state):
+        for number, line in enumerate(kept.lines, kept.number):
+            if first_word(line) in (tenant, b"+") and number not in refused:
                 yield line + b"\n"
 
 

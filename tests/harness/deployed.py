@@ -11,6 +11,7 @@ sys.path.insert(0, str(SERVICE))
 
 from firm_service import roster  # noqa: E402 (found by the line before)
 from firm_service.books import LONGEST_WAIT, Book, Books  # noqa: E402
+from firm_service.faults import Faults  # noqa: E402
 from firm_service.lines import gets_reply  # noqa: E402
 from firm_service.observers import Status  # noqa: E402
 from firm_service.state import ID  # noqa: E402
@@ -19,6 +20,7 @@ from firm_service.view import MOST_CLIENTS, MOST_UNREAD, serve_view  # noqa: E40
 __all__ = [
     "Book",
     "Books",
+    "Faults",
     "ID",
     "LONGEST_WAIT",
     "MOST_CLIENTS",

@@ -1,0 +1,67 @@
+"""Takes connections to a socket, some at a time, so that no flood of them takes the descriptors of all others."""
+
+from __future__ import annotations
+
+import asyncio
+import socket
+from collections.abc import Callable
+
+from .faults import Faults
+from .relief import SHORTAGES, Relief
+
+AT_ONCE = 16  # connections of a socket in a turn of the loop
+BACKLOG = 1_024  # connections that wait to be accepted
+RETRY_SECONDS = 0.01  # until one that was closed has given its descriptor back
+
+
+class Acceptor:
+    """A socket that is listened on."""
+
+    def __init__(
+        self,
+        listening: socket.socket,
+        name: str,
+        protocol: Callable[[], asyncio.BaseProtocol],
+        relief: Relief,
+        faults: Faults,
+    ) -> None:
+        self._socket, self._name, self._protocol = listening, name, protocol
+        self._relief, self._faults = relief, faults
+        self._loop = asyncio.get_running_loop()
+        self._tasks: set[asyncio.Task[None]] = set()
+        self._is_closed = False
+        listening.listen(BACKLOG)
+        listening.setblocking(False)
+        self._listen()
+
+    def close(self) -> None:
+        self._is_closed = True
+        self._loop.remove_reader(self._socket)
+        self._socket.close()
+
+    def _listen(self) -> None:
+        if not self._is_closed:
+            self._loop.add_reader(self._socket, self._accept)
+
+    def _accept(self) -> None:
+        try:
+            for _ in range(AT_ONCE):
+                connection, _ = self._socket.accept()
+                task = self._loop.create_task(self._begin(connection))
+                self._tasks.add(task)
+                task.add_done_callback(self._tasks.discard)
+        except (BlockingIOError, InterruptedError, ConnectionAbortedError):
+            pass
+        except OSError as error:
+            if error.errno not in SHORTAGES:
+                self._faults.note("client", error)
+            elif not self._relief.make_room(self._name, self._socket):
+                self._loop.remove_reader(self._socket)
+                self._loop.call_later(RETRY_SECONDS, self._listen)
+
+    async def _begin(self, connection: socket.socket) -> None:
+        try:
+            await self._loop.connect_accepted_socket(self._protocol, connection)
+        except Exception as error:
+            connection.close()
+            self._faults.note("client", error)

@@ -1,0 +1,140 @@
+"""Prints a journal's lines, or writes it anew. docs/SERVICE.md says when."""
+
+from __future__ import annotations
+
+import argparse
+import copy
+import shutil
+import signal
+import sys
+import time
+from pathlib import Path
+from zlib import crc32
+
+from .daemon import SEGMENT_BYTES
+from .faults import Exit, Fault
+from .files import sync_folder
+from .journal import Journal
+from .kept import Kept, kept_lines, refused_lines
+from .lines import first_word
+from .records import Batch
+from .state import State, read
+
+COPIED_LINES = 4_096  # at a time, of an older segment
+EXITS = """\
+exit statuses:
+  0  it is done
+  2  the command line
+  3  the state's roster can't be read
+  4  the state can't be read or written, or firmd has it
+  5  the state lacks a part or has others than were written"""
+
+
+def opened(path: Path) -> tuple[State, Journal]:
+    """A state that no firmd has, and its journal, compared as at a start."""
+    if not path.is_dir():
+        raise Fault(Exit.STATE, f"there is no state {path}")
+    state = State(path)
+    state.roster_sum = crc32(read(state.roster_path))
+    return state, Journal(state, SEGMENT_BYTES)
+
+
+def print_lines(options: argparse.Namespace) -> None:
+    """As firm gets them in a replay, or as they were sent."""
+    refused = refused_lines(options.state)
+    for kept in kept_lines(options.state):
+        if options.senders:
+            sys.stdout.buffer.write(b"".join(described(kept, refused)))
+        else:
+            held = enumerate(kept.lines, kept.number)
+            text = [(first_word(line) or b"+") if number in refused else line for number, line in held]
+            sys.stdout.buffer.write(b"".join([line + b"\n" for line in text]))
+
+
+def described(kept: Kept, refused: set[int]) -> list[bytes]:
+    """The lines, each behind its number, time and sender."""
+    clock = time.strftime("%Y-%m-%dT%H:%M:%S", time.gmtime(kept.time // 1_000)) + f".{kept.time % 1_000:03}Z"
+    begins = b"%b %b" % (clock.encode() if kept.time else b"-", kept.sender)
+    return [
+        b"%d %b%b %b\n" % (number, begins, b" refused" if number in refused else b"", line)
+        for number, line in enumerate(kept.lines, kept.number)
+    ]
+
+
+def rewrite(options: argparse.Namespace) -> None:
+    """Writes all segments anew in today's form, beside the old ones, and then puts them in their place."""
+    state, source = opened(options.state)
+    if source.is_of_today and not options.forget_replies:
+        print(f"{source.folder}: all segments have today's form already")
+        return
+    draft, old = copy.copy(state), source.folder.with_name("journal.old")
+    draft.journal_path, draft.had_roster = source.folder.with_name("journal.new"), False
+    if old.exists():
+        raise Fault(Exit.STATE, f"{old} is there: move it away")
+    shutil.rmtree(draft.journal_path, ignore_errors=True)
+    target = Journal(draft, SEGMENT_BYTES)
+    copy_lines(options.state, target)
+    if not options.forget_replies:
+        for block in source.found.blocks:
+            target.keep(block)
+    for at in sorted(set(source.found.refused.values())):
+        target.keep_refused(sorted(number for number, kept in source.found.refused.items() if kept == at), at)
+    if (target.found.lines, target.found.size) != (source.found.lines, source.found.size):
+        raise Fault(Exit.INTERNAL, f"{target.found.lines} of {source.found.lines} lines were copied")
+    source.close()
+    target.close()
+    source.folder.rename(old)
+    target.folder.rename(source.folder)
+    sync_folder(state.folder)
+    print(f"{source.folder}: {source.found.lines:,} lines are written anew; the old segments are in {old}")
+
+
+def copy_lines(state: Path, target: Journal) -> None:
+    for kept in kept_lines(state):
+        for first in range(0, len(kept.lines), COPIED_LINES):
+            lines = kept.lines[first : first + COPIED_LINES]
+            text = b"".join([line + b"\n" for line in lines])
+            target.append([Batch(kept.sender, text, len(lines))], kept.time)
+
+
+def renew_id(options: argparse.Namespace) -> None:
+    state, journal = opened(options.state)
+    before = state.id
+    journal.renew()
+    journal.close()
+    print(f"{state.folder}: its id is {state.id} now, and was {before}: agents take its tasks for others")
+
+
+def parser() -> argparse.ArgumentParser:
+    raw = argparse.RawDescriptionHelpFormatter
+    found = argparse.ArgumentParser(prog="firm-journal", description=__doc__, epilog=EXITS, formatter_class=raw)
+    commands = found.add_subparsers(metavar="COMMAND", required=True)
+    for name, run, explained in [
+        ("print", print_lines, "the lines, as firm gets them in a replay; firmd may run"),
+        ("rewrite", rewrite, "write a journal of an older firmd anew, with a checksum for each record"),
+        ("new-id", renew_id, "give a restored copy an id of its own: agents end what ran for lines that it has lost"),
+    ]:
+        command = commands.add_parser(name, help=explained, description=explained)
+        command.add_argument("state", type=Path, metavar="STATE", help="firmd's state folder")
+        command.set_defaults(run=run)
+        if name == "print":
+            told = "each line behind its number, time and sender: a socket and a user, or firmd for its own rounds"
+            command.add_argument("--senders", action="store_true", help=told)
+        if name == "rewrite":
+            told = "leave out the digests of replies, for a firm that replies otherwise"
+            command.add_argument("--forget-replies", action="store_true", help=told)
+    return found
+
+
+def main() -> int:
+    signal.signal(signal.SIGPIPE, signal.SIG_DFL)  # as other programs of a pipe
+    options = parser().parse_args()
+    try:
+        options.run(options)
+    except Fault as fault:
+        print(f"firm-journal: {fault}", file=sys.stderr)
+        return fault.status
+    except OSError as error:
+        print(f"firm-journal: {error}", file=sys.stderr)
+        return Exit.STATE
+    return 0

@@ -1,0 +1,147 @@
+"""The journal's text: lines of firm, below headings that are comments to firm.
+
+A segment begins with its header, and has records behind it. A heading ends its line; lines follow the first kind alone:
+
+    #firm-journal 2 SUM STATE NUMBER ROSTER LINES BYTES CHAIN TIME
+    #lines SUM LENGTH NUMBER BACK TIME SENDER
+    #replies SUM START END COUNT DIGEST
+    #refused SUM TIME NUMBER,NUMBER..
+
+SUM is the CRC-32 of the heading's other text and the lines below it. It is to find damage, not a forger, who could
+write a digest as well; it takes a nanosecond a byte. Lines are numbered from 1, and their bytes from 0, over all
+segments and without headings, as firm reads them: so a record can stand in a segment of any other cut. Times are
+milliseconds since 1970, 0 where they are not known. No line that is kept begins with `#`, as such a line gets no reply.
+"""
+
+from __future__ import annotations
+
+import re
+from dataclasses import dataclass
+from typing import NamedTuple
+from zlib import crc32
+
+VERSION = 2  # the first had lines alone, with digests in files beside them
+HEADER, LINES, REPLIES, REFUSED = b"firm-journal %d" % VERSION, b"lines", b"replies", b"refused"
+HEADER_BEGINS = b"#firm-journal "
+UNKNOWN = b"?"  # the sender of a line that an older firmd kept
+
+_HEADING = re.compile(rb"#(firm-[a-z]+ [0-9]+|lines|replies|refused) ([0-9a-f]{8}) ([^\n]*)\n")
+
+
+def sealed(kind: bytes, fields: bytes, lines: bytes = b"") -> bytes:
+    """A heading with its checksum, and the lines below it."""
+    rest = fields + b"\n"
+    return b"#%b %08x %b%b" % (kind, crc32(lines, crc32(rest, crc32(kind))), rest, lines)
+
+
+@dataclass(frozen=True, slots=True)
+class Record:
+    """A heading, and the lines below it, that have their checksum."""
+
+    kind: bytes
+    place: int  # of the first byte in the segment
+    end: int
+    fields: list[bytes]
+
+    @property
+    def back(self) -> int:
+        """How many bytes before this record were not synced when it was written."""
+        return int(self.fields[2]) if self.kind == LINES else 0
+
+
+def record_at(data: bytes, place: int) -> Record | None:
+    """The record that begins there; None where none does, it is not whole, or has another checksum."""
+    found = _HEADING.match(data, place)
+    if found is None:
+        return None
+    kind, fields, end = found[1], found[3].split(b" "), found.end()
+    if kind == LINES:
+        if len(fields) != 5 or not fields[0].isdigit():
+            return None
+        end += int(fields[0])
+    if end > len(data) or crc32(memoryview(data)[found.start(3) : end], crc32(kind)) != int(found[2], 16):
+        return None
+    return Record(kind, place, end, fields)
+
+
+def is_synced_past(data: bytes, place: int) -> bool:
+    """Whether a whole record shows that what stands at this place was on the disk once: it was written only then.
+
+    A power cut may leave a write's later bytes without its earlier ones, but no write begins before those before it are
+    synced.
+    """
+    at = place
+    while (at := data.find(b"\n#lines ", at) + 1) > 0:
+        record = record_at(data, at)
+        if record is not None and at - record.back > place:
+            return True
+    return False
+
+
+def plain(data: bytes) -> bytes:
+    """The lines of a segment or of records, without their headings."""
+    parts = (b"\n" + data[:-1]).split(b"\n#")
+    bodies = [part[part.find(b"\n") + 1 :] for part in parts if b"\n" in part]
+    return b"\n".join(bodies) + b"\n" if bodies else b""
+
+
+@dataclass(frozen=True, slots=True)
+class Header:
+    """What a segment begins with: whose it is, and what stands before it."""
+
+    state: str  # the state's id
+    number: int
+    roster: int  # the checksum of the state's roster
+    lines: int  # in all segments before
+    size: int  # bytes of these lines
+    chain: int  # the checksum of all segments before, as they are on the disk
+    time: int
+
+    @classmethod
+    def read(cls, record: Record) -> Header:
+        state, number, roster, lines, size, chain, time = record.fields
+        return cls(state.decode(), int(number), int(roster, 16), int(lines), int(size), int(chain, 16), int(time))
+
+    def text(self) -> bytes:
+        fields = f"{self.state} {self.number} {self.roster:08x} {self.lines} {self.size} {self.chain:08x} {self.time}"
+        return sealed(HEADER, fields.encode())
+
+
+@dataclass(frozen=True, slots=True)
+class Block:
+    """Lines that were answered, and the digest of their replies."""
+
+    start: int  # in bytes of all lines
+    end: int
+    count: int
+    replies: str
+
+    @classmethod
+    def read(cls, record: Record) -> Block:
+        start, end, count, replies = record.fields
+        return cls(int(start), int(end), int(count), replies.decode())
+
+    def text(self) -> bytes:
+        return sealed(REPLIES, f"{self.start} {self.end} {self.count} {self.replies}".encode())
+
+
+class Batch(NamedTuple):
+    """Lines of one sender that are written together."""
+
+    sender: bytes
+    text: bytes
+    lines: int
+
+    def record(self, number: int, back: int, time: int) -> bytes:
+        return sealed(LINES, b"%d %d %d %d %b" % (len(self.text), number, back, time, self.sender), self.text)
+
+
+def refusals(numbers: list[int], time: int) -> bytes:
+    """The record of lines that memory was refused to."""
+    return sealed(REFUSED, b"%d %b" % (time, b",".join(b"%d" % number for number in numbers)))
+
+
+def read_refusals(record: Record) -> dict[int, int]:
+    """The lines, each with the time."""
+    time, numbers = record.fields
+    return {int(number): int(time) for number in numbers.split(b",")}

@@ -1,0 +1,378 @@
+#!/usr/bin/env python3
+"""Does to firmd what hostile tenants, readers and a poor host can do, and looks whether all others are served.
+
+usage: tests/hostile.py [--quick] [--only WORDS] [--program FILE] [--seed N]
+Each check has a line; the last line is 'N passed, M failed', and the exit status is 1 where one failed. It needs Python
+3 and the built program; HTTP needs python3-aiohttp and python3-prometheus-client, descriptors prlimit. What
+can't be asked here is said and skipped. --quick sends fewer HTTP requests.
+"""
+
+from __future__ import annotations
+
+import argparse
+import importlib.util
+import os
+import random
+import resource
+import shutil
+import signal
+import socket
+import sys
+import time
+import urllib.request
+from collections.abc import Iterator
+from concurrent.futures import ThreadPoolExecutor
+from contextlib import ExitStack, contextmanager, suppress
+from functools import partial
+from pathlib import Path
+
+import firmd
+from firmd import FIRMD, ROWS, Client, Daemon, Gone, Setup, wait_for
+from harness import program
+from harness.checks import Check, Skipped, count_ends, passes, require, run_script
+from harness.deployed import SERVICE
+from journal import MOVED, QUESTIONS
+
+CHECKS_AT_A_TIME = 4
+SOON_SECONDS = 0.3  # in which something that must not happen would have happened
+REQUEST = b"GET /metrics HTTP/1.1\r\nHost: localhost\r\nAccept: text/html\r\nConnection: close\r\n\r\n"
+# Requests at which parsers have failed.
+REQUESTS = [
+    b"GET http://[::1 HTTP/1.1\r\nHost: localhost\r\n\r\n",
+    b"GET //[ HTTP/1.1\r\n\r\n",
+    b"GET http://[v1.x]:99999/ HTTP/1.1\r\n\r\n",
+    b"GET http://a:b:c/ HTTP/1.1\r\nHost: localhost\r\n\r\n",
+    b"CONNECT [ HTTP/1.1\r\n\r\n",
+    b"GET /%zz%\xff HTTP/1.1\r\nHost: \xff\r\n\r\n",
+    b"GET / HTTP/1.1\r\nContent-Length: -1\r\n\r\n",
+    b"GET / HTTP/1.1\r\nTransfer-Encoding: chunked\r\n\r\nzz\r\n",
+    b"\0" * 300,
+]
+
+
+def http_daemon(setup: Setup, *options: str) -> tuple[list[str], int]:
+    """The options of a firmd with HTTP, and its port."""
+    missing = [module for module in ("aiohttp", "prometheus_client") if importlib.util.find_spec(module) is None]
+    if missing:
+        raise Skipped(f"{sys.executable} has no {' and no '.join(missing)}")
+    with socket.create_server(("127.0.0.1", 0)) as free:
+        port = int(free.getsockname()[1])
+    return [*options, "--http", f"127.0.0.1:{port}"], port
+
+
+def faults_of(port: int) -> dict[str, float]:
+    """The metric of faults by part."""
+    with urllib.request.urlopen(f"http://127.0.0.1:{port}/metrics", timeout=10) as answer:
+        rows = [row for row in answer.read().decode().splitlines() if row.startswith("firm_faults_total{")]
+    return {row.split('"')[1]: float(row.split()[-1]) for row in rows}
+
+
+def is_served(daemon: Daemon) -> None:
+    with daemon.client() as client:
+        require(client.ask(b"beta show").startswith(b"beta "), "another's line is answered")
+
+
+def ends_well(daemon: Daemon) -> None:
+    """SIGTERM ends it with 0, whatever it has told."""
+    daemon.running().send_signal(signal.SIGTERM)
+    status = daemon.status()
+    require(status == 0, f"status {status} at its stop: {daemon.said().decode()}")
+
+
+# Names.
+
+
+def names_of_refusals(setup: Setup) -> None:
+    """A round whose reply ends as a refusal of memory does is obeyed in each replay."""
+    for number in (signal.SIGKILL, signal.SIGTERM):
+        with setup.daemon() as daemon:
+            daemon.start()
+            with daemon.client() as client:
+                replies = [client.ask(line) for line in MOVED]
+                require(replies[-1].endswith(b" move no 14 memory"), replies[-1])
+            for _ in range(2):
+                daemon.running().send_signal(number)
+                daemon.status()
+                daemon.start()
+                with daemon.client() as client:
+                    text = b"".join(line + b"\n" for line in [*daemon.journal().splitlines(), *QUESTIONS])
+                    wanted = setup.alone(firmd.ROSTER, text)[-len(QUESTIONS) :]
+                    require([client.ask(line) for line in QUESTIONS] == wanted, "other replies than before")
+                    require(wanted[-1].endswith(b" at memory"), wanted)
+            daemon.stop()
+
+
+def names_of_changes(setup: Setup) -> None:
+    """Replies that end with a machine's name `ok` are no changes: no automatic round follows them."""
+    with setup.daemon("--after", "1") as daemon:
+        daemon.start()
+        with daemon.client() as client:
+            for line in [b"alpha machine ok 1", b"alpha job j 10", b"alpha task j a", b"alpha task j b"]:
+                require(client.ask(line).endswith(b" ok"), line)
+            wait_for(lambda: client.ask(b"alpha where a").endswith(b" at ok"), "a runs")
+            time.sleep(SOON_SECONDS)
+            rounds = daemon.journal().count(b" round\n")
+            for _ in range(5):
+                require(client.ask(b"alpha where a").endswith(b" at ok"), "a runs")
+                time.sleep(0.02)
+            time.sleep(SOON_SECONDS)
+            require(daemon.journal().count(b" round\n") == rounds, "rounds without a change")
+        daemon.stop()
+
+
+# HTTP and views.
+
+
+def exchange(port: int, text: bytes) -> None:
+    """Sends a request, and reads what comes until the connection is closed, or for a moment."""
+    with suppress(OSError), socket.create_connection(("127.0.0.1", port), timeout=10) as client:
+        client.settimeout(0.5)
+        client.sendall(text)
+        client.shutdown(socket.SHUT_WR)
+        while client.recv(65536):
+            pass
+
+
+def fuzzed(draw: random.Random) -> bytes:
+    """A request with some bytes changed, cut out, repeated, or put in the place of others."""
+    text = bytearray(draw.choice([REQUEST, *REQUESTS]))
+    for _ in range(draw.choice([1, 1, 2, 5])):
+        place = draw.randrange(len(text))
+        match draw.randrange(4):
+            case 0:
+                text[place] = draw.randrange(256)
+            case 1:
+                text[place:place] = draw.choice([b"[", b"]", b"://", b"@", b":", b"%", b"\r\n", b"\0", b" " * 9000])
+            case 2:
+                del text[place : place + draw.randrange(1, 9)]
+            case _:
+                text[place:place] = text[: draw.randrange(len(text))]
+        if not text:
+            text += REQUEST
+    return bytes(text)
+
+
+def hostile_requests(setup: Setup) -> None:
+    """No HTTP request ends firmd, whatever its parser makes of it; what can't be served is closed and counted."""
+    options, port = http_daemon(setup)
+    draw = random.Random(setup.seed)
+    with setup.daemon(*options) as daemon:
+        daemon.start()
+        for text in REQUESTS:
+            exchange(port, text)
+            is_served(daemon)
+        with ThreadPoolExecutor(8) as pool:
+            list(pool.map(partial(exchange, port), [fuzzed(draw) for _ in range(200 if setup.is_quick else 2_000)]))
+        is_served(daemon)
+        require(faults_of(port)["http"] >= 1, faults_of(port))
+        require(daemon.said().count(b"Traceback") <= 20, "each kind of fault is told once")
+        ends_well(daemon)
+
+
+FAULTY = """\
+import sys
+sys.path.insert(0, {service!r})
+from firm_service import clients, view
+def fail(*_):
+    raise KeyError("unforeseen")
+def answered(self, replies, count, original=clients.Client.answered):
+    fail() if b"beta" in replies else original(self, replies, count)
+clients.Client.answered = answered
+view.status_of = view.Connection.tell = fail
+if "--http" in sys.argv:
+    from firm_service import web
+    web.page_of = fail
+from firm_service.daemon import main
+sys.exit(main())
+"""
+
+
+def view_of(daemon: Daemon) -> Client:
+    return Client(daemon.state / "view")
+
+
+def unforeseen_faults(setup: Setup) -> None:
+    """A fault of a view, a watcher, a page or a client closes its connection; it is told once, and all else goes on."""
+    try:
+        options, port = http_daemon(setup)
+    except Skipped:
+        options, port = [], 0
+    with setup.daemon(*options) as daemon:
+        script = daemon.folder / "faulty.py"
+        script.write_text(FAULTY.format(service=str(SERVICE)))
+        daemon.words = [sys.executable, str(script)]
+        daemon.start()
+        with view_of(daemon) as watcher, daemon.client() as client:
+            require(b'"book"' in watcher.ask(b'{"ask": "watch", "tenant": "alpha"}'), "the rows")
+            for line in ROWS[:3]:
+                require(client.ask(line).endswith(b" ok"), line)
+            require(watcher.rest() == b"", "the watcher is closed")
+            for _ in range(3):
+                with view_of(daemon) as view:
+                    view.send(b'{"ask": "status"}\n')
+                    require(view.rest() == b"", "the view is closed")
+                with daemon.client() as other:
+                    other.send(b"beta show\n")
+                    require(other.rest() == b"", "the client is closed")
+            with view_of(daemon) as view:
+                require(b'"tasks"' in view.ask(b'{"ask": "tasks"}'), "other questions are answered")
+            require(client.ask(b"alpha show").startswith(b"alpha 4 ok"), "other clients are answered")
+        if port:
+            for _ in range(2):
+                exchange(port, b"GET /tenants/alpha.json HTTP/1.1\r\nHost: localhost\r\nConnection: close\r\n\r\n")
+            require(faults_of(port) == {"client": 3, "http": 2, "view": 4}, faults_of(port))
+        told = daemon.said().count(b"Traceback")
+        require(told == (4 if port else 3), f"{told} told: {daemon.said().decode()}")
+        ends_well(daemon)
+
+
+# Shortages.
+
+
+@contextmanager
+def crowd(path: Path, count: int) -> Iterator[None]:
+    """Holds so many connections, most of which wait to be accepted."""
+    with ExitStack() as held:
+        for _ in range(count):
+            client = held.enter_context(socket.socket(socket.AF_UNIX))
+            client.settimeout(firmd.REPLY_SECONDS)
+            client.connect(str(path))
+        yield
+
+
+def needs_prlimit() -> None:
+    if shutil.which("prlimit") is None:
+        raise Skipped("there is no prlimit")
+
+
+def used_up_descriptors(setup: Setup) -> None:
+    """A tenant that takes all descriptors loses its newest connections; segments are begun, and others are served."""
+    needs_prlimit()
+    with setup.daemon("--segment-bytes", "10000") as daemon:
+        for tenant in ("alpha", "beta"):
+            daemon.options += ["--client", f"{tenant}={daemon.folder / tenant}"]
+        daemon.words = ["prlimit", "--nofile=100:100", *FIRMD]
+        daemon.start()
+        with Client(daemon.folder / "beta") as client, crowd(daemon.folder / "alpha", 500):
+            wait_for(lambda: b"are lacking" in daemon.said(), "descriptors are used up")
+            for number in range(1, 1_501):
+                require(client.ask(b"beta show").startswith(b"beta %d ok" % number), number)
+            with Client(daemon.folder / "beta") as other:
+                require(other.ask(b"beta show").startswith(b"beta 1501 ok"), "a new connection of another tenant")
+        require(len(daemon.segments()) > 5, "segments")
+        wait_for(lambda: len(os.listdir(f"/proc/{daemon.running().pid}/fd")) < 40, "all are closed")
+        is_served(daemon)
+        daemon.stop()
+
+
+def used_up_memory(setup: Setup) -> None:
+    """Clients that leave more unread than there is memory are closed; where that does not help, a restart does."""
+    with setup.daemon("--most-unread", str(2**30)) as daemon:
+        daemon.options += ["--client", f"alpha={daemon.folder / 'alpha'}"]
+        daemon.start()
+        pid = daemon.running().pid
+        size = int(Path(f"/proc/{pid}/statm").read_text().split()[0]) * resource.getpagesize()
+        resource.prlimit(pid, resource.RLIMIT_AS, (size + 2**26, size + 2**26))
+        greedy = [Client(daemon.folder / "alpha") for _ in range(200)]
+        ends = time.monotonic() + firmd.REPLY_SECONDS
+        while b"are lacking" not in daemon.said():
+            require(time.monotonic() < ends, "memory is used up")
+            for one in greedy:
+                one.socket.settimeout(0.001)
+                with suppress(OSError):
+                    one.socket.send(b"alpha show\n" * 10_000)  # whose replies are not read
+        for one in greedy:
+            one.socket.close()
+        lines = daemon.journal().count(b"\n")
+        ends = time.monotonic() + 2 * firmd.REPLY_SECONDS
+        while daemon.running().poll() is None:  # a client that comes too early may be closed, or wait
+            require(time.monotonic() < ends, f"it neither serves nor ends: {daemon.said().decode()}")
+            with suppress(Gone, TimeoutError), daemon.client() as client:
+                client.socket.settimeout(1)
+                if client.ask(b"beta show").startswith(b"beta "):
+                    return ends_well(daemon)
+        require(daemon.running().poll() == 1 and b"memory is lacking" in daemon.said(), daemon.said())
+        daemon.start()  # as the unit does
+        is_served(daemon)
+        require(daemon.journal().count(b"\n") >= lines, "its lines")
+        daemon.stop()
+
+
+THREADLESS = """\
+import os, sys, threading
+sys.path.insert(0, {service!r})
+def start(self, original=threading.Thread.start):
+    if os.path.exists({flag!r}):
+        raise RuntimeError("can't start new thread")
+    original(self)
+threading.Thread.start = start
+from firm_service.daemon import main
+sys.exit(main())
+"""
+
+
+def refused_threads(setup: Setup) -> None:
+    """A host that gives no further thread can't keep firmd from its end; at its start it says so."""
+    with setup.daemon() as daemon:
+        script, flag = daemon.folder / "threadless.py", daemon.folder / "flag"
+        script.write_text(THREADLESS.format(service=str(SERVICE), flag=str(flag)))
+        daemon.words = [sys.executable, str(script)]
+        daemon.start()
+        flag.touch()
+        is_served(daemon)
+        daemon.stop()
+        daemon.refuses(1, "cannot start a thread")
+
+
+def successors_socket(setup: Setup) -> None:
+    """A firmd that ends slowly leaves the socket of its successor alone."""
+    with setup.daemon() as daemon, setup.daemon() as other:
+        daemon.start()
+        with daemon.client() as slow:
+            slow.send(b"alpha show\n" * 8_000)  # whose replies are not read
+            wait_for(lambda: daemon.journal().count(b"\n") == 8_000, "its lines are taken")
+            daemon.running().send_signal(signal.SIGTERM)
+            wait_for(lambda: b"stopping" in daemon.said(), "it stops")
+            other.options = ["--client", f"beta={daemon.any}"]
+            for _ in range(100):  # until the first does not listen any more
+                other.spawn()
+                wait_for(lambda: other.running().poll() is not None or b"ready" in other.said(), "it starts")
+                if b"ready" in other.said():
+                    break
+            require(daemon.running().poll() is None, "the first ends slowly")
+            require(daemon.status() == 0, daemon.said())
+        with Client(daemon.any) as client:
+            require(client.ask(b"beta show").startswith(b"beta 1 ok"), "the successor serves")
+        other.stop()
+
+
+SHORT = [
+    names_of_refusals,
+    names_of_changes,
+    hostile_requests,
+    unforeseen_faults,
+    used_up_descriptors,
+    refused_threads,
+    successors_socket,
+]
+LONG = [used_up_memory]
+
+
+def main() -> int:
+    parser = argparse.ArgumentParser(description=(__doc__ or "").splitlines()[0])
+    parser.add_argument("--quick", action="store_true", help="the part that tests/quick runs")
+    program.add_program(parser)
+    parser.add_argument("--only", default="", help="nothing but the checks whose names have these words")
+    parser.add_argument("--seed", type=int, default=random.randrange(10**6), help="of the requests (default: any)")
+    options = parser.parse_args()
+    print(f"seed {options.seed}", flush=True)
+    setup = Setup(options.program, options.quick, options.seed)
+    found = SHORT if options.quick else SHORT + LONG
+    named: dict[str, Check] = {check.__name__.replace("_", " "): partial(check, setup) for check in found}
+    chosen = {name: check for name, check in named.items() if options.only in name}
+    with ThreadPoolExecutor(CHECKS_AT_A_TIME) as pool:
+        return count_ends(list(pool.map(passes, chosen.keys(), chosen.values())))
+
+
+if __name__ == "__main__":
+    run_script(main)

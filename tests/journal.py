@@ -1,0 +1,540 @@
+#!/usr/bin/env python3
+"""Damages the state of firmd and looks whether each damage is told at the next start, and reads older journals.
+
+usage: tests/journal.py [--quick] [--only WORDS] [--program FILE] [--trials N] [--seed N]
+Each check has a line; the last line is 'N passed, M failed', and the exit status is 1 where one failed. It needs Python
+3 and the built program. --quick makes fewer trials of damage at random places.
+"""
+
+from __future__ import annotations
+
+import argparse
+import os
+import random
+import re
+import shutil
+import subprocess
+import time
+import zlib
+from collections.abc import Callable
+from concurrent.futures import ThreadPoolExecutor
+from dataclasses import dataclass
+from functools import partial
+from hashlib import blake2b
+from pathlib import Path
+
+import firmd
+from firmd import JOURNAL_TOOL, ROSTER, ROWS, SHOWN, Daemon, Setup
+from harness import program, service
+from harness.checks import Check, Missed, count_ends, passes, require, run_script
+
+CHECKS_AT_A_TIME = 4
+QUESTIONS = [b"alpha show", b"alpha costs", b"alpha where a", b"beta show", b"beta where l", b"alpha where no"]
+ROUNDS = [*ROWS, b"alpha round", b"beta round"]
+MOVED = [
+    b"alpha machine 14 4",
+    b"alpha job j 10",
+    *[b"alpha task j %b" % name for name in (b"a", b"b", b"c", b"no")],
+    b"alpha round",
+    b"alpha machine memory 4",
+    b"alpha round",  # three tasks share a machine for 3, and one moves for 2: task `no` from `14` to `memory`
+]
+
+
+def ask_all(daemon: Daemon, lines: list[bytes]) -> list[bytes]:
+    with firmd.Client(daemon.operator) as client:
+        return [client.ask(line) for line in lines]
+
+
+def serves(daemon: Daemon, lines: list[bytes], setup: Setup) -> None:
+    """Starts it, and asks that its journal has these lines and its state is what firm alone makes of them."""
+    daemon.start()
+    require(daemon.journal() == b"".join(line + b"\n" for line in lines), daemon.journal()[-300:])
+    asked = ask_all(daemon, QUESTIONS)
+    text = b"".join(line + b"\n" for line in [*lines, *QUESTIONS])
+    require(asked == setup.alone(ROSTER, text)[-len(QUESTIONS) :], asked)
+
+
+def tool(*words: str | Path) -> str:
+    """What the journal's tool writes."""
+    done = subprocess.run([*JOURNAL_TOOL, *words], capture_output=True, text=True)
+    require(done.returncode == 0, f"{words}: status {done.returncode}: {done.stderr}")
+    return done.stdout
+
+
+# The records.
+
+
+@dataclass(frozen=True)
+class Lines:
+    """A record of lines."""
+
+    number: int
+    time: float
+    sender: str
+    text: bytes
+
+
+def records_of(data: bytes) -> list[Lines]:
+    """The records of lines of a segment, each checksum of which is compared, by docs/SERVICE.md alone."""
+    found, place = list[Lines](), 0
+    while place < len(data):
+        heading = data[place : data.index(b"\n", place) + 1]
+        begins = re.fullmatch(rb"#(firm-journal 2|lines|replies|refused) ([0-9a-f]{8}) (.*\n)", heading, re.S)
+        if begins is None:
+            raise Missed(f"no heading at {place}: {heading!r}")
+        kind, checksum, rest = begins.groups()
+        end = place + len(heading)
+        if kind == b"lines":
+            length, number, _, clock, sender = rest.split()
+            end += int(length)
+            found.append(Lines(int(number), int(clock) / 1_000, sender.decode(), data[place + len(heading) : end]))
+        wanted = zlib.crc32(kind + rest + data[place + len(heading) : end])
+        require(int(checksum, 16) == wanted, f"the checksum at {place}: {heading!r}")
+        place = end
+    return found
+
+
+def senders(setup: Setup) -> None:
+    """Each record has its checksum, its time, and its sender: a socket and its user, or firmd for its own rounds."""
+    with setup.daemon("--after", "1") as daemon:
+        daemon.options += ["--client", f"alpha={daemon.folder / 'alpha'}"]
+        begun = time.time()
+        daemon.start()
+        with firmd.Client(daemon.folder / "alpha") as alpha, firmd.Client(daemon.operator) as operator:
+            require(all(alpha.ask(line).endswith(b" ok") for line in ROWS[:3]), "alpha's rows")
+            require(operator.ask(b"+ retire beta") == b"+ ok retired beta", "the operator")
+            firmd.wait_for(lambda: alpha.ask(b"alpha where a").endswith(b"at m1"), "a round")
+        with daemon.client() as client:
+            client.ask(b"gamma show")
+        ended = time.time()
+        daemon.stop()
+        records = [record for path in daemon.segments() for record in records_of(path.read_bytes())]
+        require([record.number for record in records] == list(range(1, len(records) + 1)), "the numbers")
+        require(all(begun - 0.01 <= record.time <= ended for record in records), "the times")
+        user = os.geteuid()
+        told = {(record.sender, record.text.split()[0]) for record in records}
+        wanted = {(f"alpha:{user}", b"alpha"), (f"+:{user}", b"+"), (f"*:{user}", b"gamma"), ("firmd", b"alpha")}
+        require(told == wanted, told)
+        printed = tool("print", daemon.state)
+        require(printed.encode() == daemon.journal(), printed)
+        printed = tool("print", "--senders", daemon.state)
+        clock = r"20\d\d-\d\d-\d\dT\d\d:\d\d:\d\d\.\d{3}Z"
+        require(re.search(rf"(?m)^1 {clock} alpha:{user} alpha machine m1 2$", printed), printed)
+        as_it_is = b"".join(path.read_bytes() for path in daemon.segments())
+        require(setup.alone(ROSTER, as_it_is) == setup.alone(ROSTER, daemon.journal()), "it is an input of firm")
+
+
+def newer_version(setup: Setup) -> None:
+    """A segment of a later version is told, and not taken for damage."""
+    with setup.daemon() as daemon:
+        daemon.start().stop()
+        path = daemon.segments()[0]
+        rest = path.read_bytes().split(b" ", 3)[3]
+        kind = b"firm-journal 3"
+        path.write_bytes(b"#%b %08x %b" % (kind, zlib.crc32(kind + rest), rest))
+        daemon.refuses(5, "version 3", "later firmd")
+
+
+# What is missing.
+
+
+def answered(daemon: Daemon, is_killed: bool, lines: int = 400) -> list[bytes]:
+    """Gives it lines, in several segments, and ends it."""
+    daemon.start()
+    said = [*ROUNDS, *[b"alpha show", b"beta show"] * (lines // 2)]
+    ask_all(daemon, said)
+    daemon.kill() if is_killed else daemon.stop()
+    require(len(daemon.segments()) > 2, "segments")
+    return said
+
+
+def missing_pieces(setup: Setup) -> None:
+    """A state that lacks a piece is not served: a segment, the extent, the id, all segments, the whole journal."""
+    for is_killed in (False, True):
+        with setup.daemon("--segment-bytes", "4000") as daemon:
+            said = answered(daemon, is_killed)
+            journal, away = daemon.state / "journal", daemon.folder / "away"
+            pieces = [daemon.segments()[-1], daemon.segments()[1], daemon.segments()[0], journal / "extent", journal]
+            for piece in [*pieces, daemon.state / "id"]:
+                piece.rename(away)
+                daemon.refuses(5, str(piece) if piece.name in ("extent", "id") else str(journal))
+                if piece == journal:
+                    piece.rmdir()  # firmd makes the folder anew, and nothing in it
+                away.rename(piece)
+            for path in daemon.segments():
+                path.rename(daemon.folder / path.name)
+            daemon.refuses(5, "segments are missing")
+            for path in daemon.folder.glob("*.lines"):
+                path.rename(journal / path.name)
+            serves(daemon, said, setup)
+            daemon.stop()
+
+
+def other_pieces(setup: Setup) -> None:
+    """A state with a piece of another one, or one that is older, is not served."""
+    with setup.daemon("--segment-bytes", "4000") as daemon, setup.daemon("--segment-bytes", "4000") as other:
+        said = answered(daemon, True)
+        shutil.copytree(daemon.state, daemon.folder / "copy", ignore=shutil.ignore_patterns("view", "lock"))
+        more = [b"alpha show"] * 200
+        daemon.start()
+        ask_all(daemon, more)
+        daemon.kill()
+        answered(other, True)
+        journal, copy = daemon.state / "journal", daemon.folder / "copy"
+        pieces = [(path, copy / "journal" / path.name) for path in sorted((copy / "journal").iterdir())[-2:]]
+        pieces += [(path, other.state / "journal" / path.name) for path in daemon.segments()[1:3]]
+        pieces += [(journal / "extent", other.state / "journal" / "extent"), (daemon.state / "id", other.state / "id")]
+        for _, foreign in pieces:
+            name = foreign.relative_to(copy if copy in foreign.parents else other.state)
+            own = (daemon.state / name).read_bytes()
+            (daemon.state / name).write_bytes(foreign.read_bytes())
+            daemon.refuses(5, str(journal) if name.parent.name else str(daemon.state / name))
+            (daemon.state / name).write_bytes(own)
+        first, second = daemon.segments()[:2]
+        texts = [second.read_bytes(), first.read_bytes()]
+        first.write_bytes(texts[0]), second.write_bytes(texts[1])
+        daemon.refuses(5, "00000001.lines")
+        first.write_bytes(texts[1]), second.write_bytes(texts[0])
+        serves(daemon, said + more, setup)
+        daemon.stop()
+
+
+def changed_roster(setup: Setup) -> None:
+    """A kept roster that was changed is told, where none is named to compare it with."""
+    with setup.daemon() as daemon:
+        daemon.start().stop()
+        kept = daemon.state / "roster.csv"
+        kept.write_bytes(ROSTER.replace(b"1000000000,1,2", b"1000000000,1,3"))
+        with open(daemon.folder / "errors", "wb") as errors:
+            words = [*firmd.FIRMD, "--firm", daemon.firm, "--state", str(daemon.state), "--socket", str(daemon.any)]
+            status = subprocess.run(words, stderr=errors, timeout=firmd.START_SECONDS).returncode
+        require(status == 5 and b"not the roster that the state began with" in daemon.said(), daemon.said())
+
+
+# Crashes, which are none of the damages.
+
+
+def begun_segments(setup: Setup) -> None:
+    """A kill while a segment begins leaves nothing in the way, however much of its header is there."""
+    with setup.daemon("--segment-bytes", "4000") as daemon:
+        said = answered(daemon, True)
+        following = daemon.state / "journal" / f"{len(daemon.segments()) + 1:08}.lines"
+        header = daemon.segments()[-1].read_bytes().split(b"\n")[0] + b"\n"
+        for text in (b"", header[:5], header[:40], header, b"\0" * 100):
+            following.write_bytes(text)
+            serves(daemon, said, setup)
+            said += QUESTIONS
+            daemon.kill()
+            following = daemon.state / "journal" / f"{len(daemon.segments()) + 1:08}.lines"
+    with setup.daemon() as daemon:  # the first one
+        (daemon.state / "journal").mkdir(parents=True)
+        for text in (b"", header[:40], header):
+            (daemon.state / "journal" / "00000001.lines").write_bytes(text)
+            serves(daemon, [], setup)
+            daemon.kill()
+            shutil.rmtree(daemon.state / "journal")
+            (daemon.state / "journal").mkdir()
+            (daemon.state / "id").unlink()
+
+
+def power_cuts(setup: Setup) -> None:
+    """An extent that is older than its segment loses nothing; behind it a torn end is cut off, and a damage is told."""
+    with setup.daemon() as daemon:
+        daemon.start()
+        ask_all(daemon, ROUNDS)
+        daemon.kill()
+        extent, path = daemon.state / "journal" / "extent", daemon.segments()[-1]
+        early = extent.read_bytes()
+        said = [*ROUNDS, *[b"alpha show"] * 50]
+        daemon.start()
+        ask_all(daemon, said[len(ROUNDS) :])
+        daemon.kill()
+        late, whole = extent.read_bytes(), path.read_bytes()
+        places = [found.start() + 1 for found in re.finditer(rb"\n#lines ", whole)]
+
+        def cut(text: bytes, kept: bytes) -> None:
+            extent.write_bytes(kept)
+            path.write_bytes(text)
+
+        cut(whole, early)
+        serves(daemon, said, setup)
+        daemon.kill()
+        cut(whole[:-1], early)  # the last write is torn: it was not answered
+        serves(daemon, said[:-1], setup)
+        daemon.kill()
+        cut(whole[:-3] + b"\0\0\0", early)
+        serves(daemon, said[:-1], setup)
+        daemon.kill()
+        cut(whole[:-1], late)
+        daemon.refuses(5, f"{path}: {len(whole) - 1} bytes, and {len(whole)} were answered")
+        at = places[-10]
+        line = whole.index(b"\n", at) + 3
+        cut(whole[:line] + b"X" + whole[line + 1 :], early)  # it was answered, as others were written behind it
+        daemon.refuses(5, f"{path}, at byte {at} of {len(whole)}", "others follow")
+        cut(whole[: places[-10]] + whole[places[-9] :], early)  # a whole record is away
+        daemon.refuses(5, f"{path}, at byte {at}")
+        cut(whole, late)
+        serves(daemon, said, setup)
+        daemon.stop()
+
+
+# Journals of an older firmd.
+
+
+def write_old(daemon: Daemon, setup: Setup, segments: list[list[bytes]], refused: tuple[int, ...] = ()) -> None:
+    """A state as an older firmd left it: lines alone, and the digests of each segment's first half beside them."""
+    journal = daemon.state / "journal"
+    journal.mkdir(parents=True)
+    (daemon.state / "roster.csv").write_bytes(ROSTER)
+    (daemon.state / "id").write_text("0123456789abcdef\n")
+    lines = [line for segment in segments for line in segment]
+    replies = service.serve(ROSTER, b"".join(line + b"\n" for line in lines), refused)
+    for number, segment in enumerate(segments, 1):
+        path = journal / f"{number:08}.lines"
+        path.write_bytes(b"".join(line + b"\n" for line in segment))
+        half = len(segment) // 2
+        texts = [b"".join(line + b"\n" for line in part[:half]) for part in (segment, replies)]
+        digests = [blake2b(text, digest_size=16).hexdigest() for text in texts]
+        path.with_suffix(".blocks").write_text(f"{len(texts[0])} {half} {digests[0]} {digests[1]}\n")
+        replies = replies[len(segment) :]
+    if refused:
+        starts = [sum(map(len, segments[:number])) for number in range(len(segments))]
+        for place in refused:
+            number = max(number for number, start in enumerate(starts, 1) if start <= place)
+            with open(journal / "refused", "a") as marks:
+                marks.write(f"{number} {place - starts[number - 1]}\n")
+
+
+OLD = [[*ROUNDS, *[b"alpha show"] * 20], [b"alpha task j b", *[b"beta show"] * 20]]
+
+
+def old_journals(setup: Setup) -> None:
+    """A journal of an older firmd is read and gone on with, and written anew on request; nothing is lost thereby."""
+    said = [line for segment in OLD for line in segment]
+    for is_rewritten in (False, True):
+        with setup.daemon("--segment-bytes", "2000") as daemon:
+            write_old(daemon, setup, OLD)
+            serves(daemon, said, setup)
+            daemon.stop()
+            serves(daemon, said + QUESTIONS, setup)
+            daemon.kill()
+            kept = said + 2 * QUESTIONS
+            journal = daemon.state / "journal"
+            if is_rewritten:
+                require(f"{len(kept)} lines are written anew" in tool("rewrite", daemon.state), "it tells")
+                require(not [*journal.glob("*.blocks")] and (daemon.state / "journal.old").is_dir(), "the old ones")
+                require("today's form already" in tool("rewrite", daemon.state), "nothing is left to be done")
+                records = [record for path in daemon.segments() for record in records_of(path.read_bytes())]
+                known = {(record.sender, record.time > 0) for record in records}
+                require(known == {("?", False), (f"+:{os.geteuid()}", True)}, known)
+            for path in sorted(journal.iterdir()):
+                if path.name != "extent":
+                    flip(path, random.Random(1))
+                    daemon.refuses(5, str(journal))
+                    flip(path, random.Random(1))
+            require((daemon.state / "id").read_text() == "0123456789abcdef\n", "its id")
+            serves(daemon, kept, setup)
+            daemon.stop()
+
+
+def old_damage(setup: Setup) -> None:
+    """Of an older journal that was not gone on with yet, a lost segment and what has a digest are told."""
+    with setup.daemon() as daemon:
+        write_old(daemon, setup, OLD)
+        journal = daemon.state / "journal"
+        first, second = daemon.segments()
+        second.rename(daemon.folder / "away")
+        daemon.refuses(5, "segments are missing", "00000002.blocks")
+        (daemon.folder / "away").rename(second)
+        text = first.read_bytes()
+        first.write_bytes(text.replace(b"task j a", b"task j b", 1))
+        daemon.refuses(5, "00000001.lines, lines 1 to", "not the lines that were answered")
+        first.write_bytes(text[:60])
+        daemon.refuses(5, "00000001.lines")
+        first.write_bytes(text)
+        kept = first.with_suffix(".blocks").read_bytes()
+        first.with_suffix(".blocks").write_bytes(b"no record\n")
+        daemon.refuses(5, "00000001.blocks:1", "no record")
+        first.with_suffix(".blocks").write_bytes(kept)
+        (journal / "refused").write_bytes(b"9 9\n")
+        daemon.refuses(5, "refused:1")
+        (journal / "refused").unlink()
+        journal.rename(daemon.folder / "away")
+        daemon.refuses(5, "no segments")
+        journal.rmdir()
+        (daemon.folder / "away").rename(journal)
+        serves(daemon, [line for segment in OLD for line in segment], setup)
+        daemon.stop()
+
+
+def old_mistakes(setup: Setup) -> None:
+    """A round's reply that an older firmd took for a refusal of memory is told, and where; real refusals stay."""
+    with setup.daemon() as daemon:
+        replies = setup.alone(ROSTER, b"".join(line + b"\n" for line in MOVED))
+        require(replies[-1].endswith(b" move no 14 memory"), replies[-1])
+        write_old(daemon, setup, [MOVED[:5], MOVED[5:]])
+        refused = daemon.state / "journal" / "refused"
+        refused.write_bytes(b"2 3\n")
+        daemon.refuses(5, "00000002.lines, line 4", "alpha round", "Remove the line '2 3'", str(refused))
+        refused.unlink()
+        serves(daemon, MOVED, setup)
+        daemon.stop()
+    with setup.daemon() as daemon:
+        marks = (len(MOVED) - 3, len(MOVED))  # a round before the names are there, and a task behind the move
+        lines = [*MOVED, b"alpha task j x"]
+        write_old(daemon, setup, [lines[:5], lines[5:]], marks)
+        for rewritten in (False, True):
+            if rewritten:
+                tool("rewrite", daemon.state)
+            daemon.start()
+            with daemon.client() as client:
+                wanted = service.serve(ROSTER, b"".join(line + b"\n" for line in [*lines, *QUESTIONS]), marks)
+                require([client.ask(line) for line in QUESTIONS] == wanted[len(lines) :], "the refusals stay")
+            lines += QUESTIONS
+            daemon.kill()
+
+
+def new_ids(setup: Setup) -> None:
+    """A restored copy gets an id of its own, and goes on with all its lines."""
+    with setup.daemon() as daemon:
+        daemon.start()
+        ask_all(daemon, ROUNDS)
+        daemon.stop()
+        before = (daemon.state / "id").read_text()
+        require(before.strip() in tool("new-id", daemon.state), "it tells")
+        require((daemon.state / "id").read_text() != before, "its id")
+        serves(daemon, ROUNDS, setup)
+        done = subprocess.run([*JOURNAL_TOOL, "new-id", str(daemon.state)], capture_output=True, text=True)
+        require(done.returncode == 4 and "is in use by process" in done.stderr, done)
+        daemon.stop()
+
+
+# Damage at random places.
+
+
+def flip(path: Path, draw: random.Random) -> None:
+    """Flips a bit; once more with the same numbers, and it is as before."""
+    data = bytearray(path.read_bytes())
+    data[draw.randrange(len(data))] ^= 1 << draw.randrange(8)
+    path.write_bytes(data)
+
+
+def cut_end(path: Path, draw: random.Random) -> None:
+    data = path.read_bytes()
+    path.write_bytes(data[: draw.randrange(len(data))])
+
+
+def cut_out(path: Path, draw: random.Random) -> None:
+    data = path.read_bytes()
+    start, end = sorted(draw.choices(range(len(data) + 1), k=2))
+    path.write_bytes(data[:start] + data[end:])
+
+
+def cut_records(path: Path, draw: random.Random) -> None:
+    """Takes whole records away."""
+    data = path.read_bytes()
+    places = [0, *(found.start() + 1 for found in re.finditer(rb"\n(?=#)", data)), len(data)]
+    start, end = sorted(draw.choices(places, k=2))
+    path.write_bytes(data[:start] + data[end:])
+
+
+def repeat(path: Path, draw: random.Random) -> None:
+    data = path.read_bytes()
+    start, end = sorted(draw.choices(range(len(data) + 1), k=2))
+    path.write_bytes(data[:end] + data[start:])
+
+
+def empty(path: Path, draw: random.Random) -> None:
+    """Zeros in the place of some bytes, as a file system leaves."""
+    data = path.read_bytes()
+    start, end = sorted(draw.choices(range(len(data) + 1), k=2))
+    path.write_bytes(data[:start] + bytes(end - start) + data[end:])
+
+
+def remove(path: Path, _: random.Random) -> None:
+    path.unlink()
+
+
+DAMAGES: list[Callable[[Path, random.Random], None]] = [flip, flip, flip, cut_end, cut_out, cut_records, repeat, empty]
+DAMAGES.append(remove)
+
+
+def random_damage(setup: Setup, part: int, trials: int) -> None:
+    """Any damage to any file of a state, stopped or killed, is told at the start, or has no effect."""
+    draw = random.Random(setup.seed + part)
+    with setup.daemon("--segment-bytes", "3000") as daemon:
+        is_killed = part % 2 == 0
+        said = answered(daemon, is_killed, 200)
+        alone = setup.alone(ROSTER, b"".join(line + b"\n" for line in [*said, *QUESTIONS]))[len(said) :]
+        kept = daemon.folder / "kept"
+        shutil.copytree(daemon.state, kept, ignore=shutil.ignore_patterns("view"))
+        told = 0
+        for trial in range(trials):
+            shutil.rmtree(daemon.state)
+            shutil.copytree(kept, daemon.state)
+            path = draw.choice([path for path in sorted(daemon.state.rglob("*")) if path.is_file()])
+            damage = draw.choice(DAMAGES)
+            damage(path, draw)
+            what = f"trial {trial}: {damage.__name__} of {path.relative_to(daemon.state)}"
+            told += is_told(daemon, said, alone, what)
+        require(told > trials // 3, f"{told} of {trials} were told")
+
+
+def is_told(daemon: Daemon, said: list[bytes], alone: list[bytes], what: str) -> bool:
+    """Whether a start tells of a damage; where it doesn't, nothing may be lost or changed."""
+    process, ends = daemon.spawn(), time.monotonic() + firmd.START_SECONDS
+    while process.poll() is None and b"firmd: ready" not in daemon.said():
+        require(time.monotonic() < ends, f"{what}: it neither starts nor ends")
+        time.sleep(0.005)
+    if process.poll() is not None:
+        require(process.poll() in (3, 5) and b"Traceback" not in daemon.said(), f"{what}: {daemon.said().decode()}")
+        return True
+    require(daemon.journal() == b"".join(line + b"\n" for line in said), f"{what}: it serves other lines")
+    require(ask_all(daemon, QUESTIONS) == alone, f"{what}: it serves another state")
+    daemon.kill()
+    return False
+
+
+SHORT = [
+    senders,
+    newer_version,
+    missing_pieces,
+    other_pieces,
+    changed_roster,
+    begun_segments,
+    power_cuts,
+    old_journals,
+    old_damage,
+    old_mistakes,
+    new_ids,
+]
+
+
+def checks(setup: Setup, trials: int) -> dict[str, Check]:
+    """Each check's name, and the check."""
+    found: dict[str, Check] = {check.__name__.replace("_", " "): partial(check, setup) for check in SHORT}
+    for part in range(CHECKS_AT_A_TIME):
+        name = f"random damage, {trials // CHECKS_AT_A_TIME} trials, part {part}"
+        found[name] = partial(random_damage, setup, part, trials // CHECKS_AT_A_TIME)
+    return found
+
+
+def main() -> int:
+    parser = argparse.ArgumentParser(description=(__doc__ or "").splitlines()[0])
+    parser.add_argument("--quick", action="store_true", help="the part that tests/quick runs")
+    program.add_program(parser)
+    parser.add_argument("--only", default="", help="nothing but the checks whose names have these words")
+    parser.add_argument("--trials", type=int, help="of damage at random places")
+    parser.add_argument("--seed", type=int, default=random.randrange(10**6), help="of the damage (default: any)")
+    options = parser.parse_args()
+    print(f"seed {options.seed}", flush=True)
+    setup = Setup(options.program, options.quick, options.seed)
+    trials = options.trials or (40 if options.quick else 600)
+    chosen = {name: check for name, check in checks(setup, trials).items() if options.only in name}
+    with ThreadPoolExecutor(CHECKS_AT_A_TIME) as pool:
+        return count_ends(list(pool.map(passes, chosen.keys(), chosen.values())))
+
+
+if __name__ == "__main__":
+    run_script(main)
