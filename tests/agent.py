@@ -32,7 +32,7 @@ from pathlib import Path
 from typing import Any, TypeVar
 
 from harness.checks import Check, Missed, Skipped, count_ends, passes, print_skipped, require, run_script
-from harness.deployed import ID, SERVICE, Books, Status, serve_view
+from harness.deployed import ID, SERVICE, Books, Faults, Status, serve_view
 from harness.program import ROOT, add_program
 
 AGENT = [sys.executable, str(SERVICE / "firm-agent")]
@@ -87,7 +87,8 @@ class StandIn:
         return asyncio.run_coroutine_threadsafe(work, self.loop).result(LIMIT_SECONDS)
 
     async def _serve(self) -> list[asyncio.AbstractServer]:
-        view = await serve_view(self.folder / "view", self.books, Status(time.time(), 0, 0, 0, 0, 1, 0, 0))
+        status = Status(time.time(), 0, 0, 0, 0, 1, 0, 0)
+        view = await serve_view(self.folder / "view", self.books, status, Faults())
         return [view, await asyncio.start_unix_server(self._client, self.folder / "socket")]
 
     async def _client(self, reader: asyncio.StreamReader, writer: asyncio.StreamWriter) -> None:
@@ -226,8 +227,13 @@ class Case:
                 found.setdefault(Path(os.fsdecode(runs[0])).name.rpartition(".")[0], []).append(int(entry.name))
         return found
 
+    def run_folder(self, task: str, run: int) -> Path:
+        """The folder of a run here, of an agent of any age."""
+        (found,) = [*self.folder.glob(f"state/runs/{task}.{run}"), *self.folder.glob(f"state/runs/*/{task}.{run}")]
+        return found
+
     def supervisor(self, task: str, run: int) -> int:
-        return int(json.loads(self.text(f"state/runs/{task}.{run}/process"))["pid"])
+        return int(json.loads((self.run_folder(task, run) / "process").read_text())["pid"])
 
     def events(self, kind: str) -> list[dict[str, Any]]:
         """The agent's events of a kind."""
@@ -293,7 +299,8 @@ def start_to_done() -> None:
         case.go("a")
         require(case.status() == 0, "the agent's status")
         require(case.firmd.asked == ["alpha done b", "alpha done a"], case.firmd.asked)
-        require(case.text("state/runs/a.1/output") == "alpha j\nto-stderr\n", case.text("state/runs/a.1/output"))
+        output = (case.run_folder("a", 1) / "output").read_text()
+        require(output == "alpha j\nto-stderr\n", output)
         require(not case.processes() and not is_there(supervisor), "something is left")
 
 
@@ -511,7 +518,7 @@ def reused_number() -> None:
         for pid in [case.supervisor("a", 1), *case.processes()["a"]]:
             with contextlib.suppress(ProcessLookupError):  # a sleep of the task's that ends meanwhile
                 os.kill(pid, signal.SIGKILL)
-        file = case.folder / "state/runs/a.1/process"
+        file = case.run_folder("a", 1) / "process"
         file.write_text(json.dumps({**json.loads(file.read_text()), "pid": stranger.pid}))
         case.firmd.round("move a m1 m2")
         case.start("--until-empty")
@@ -537,6 +544,61 @@ def never_begun() -> None:
         case.go("a")
         require(case.status() == 0, "the agent's status")
         require(case.text("a.log") == "begin m1\nend\n", case.text("a.log"))
+
+
+def events_moved_away() -> None:
+    """A day whose events were moved away lends nothing to the next: runs of the same task and number are begun."""
+    for put_back in (False, True):
+        with Case("", a=command("echo $FIRM_RUN >> a.log; exec sleep 0.1")) as case:
+            case.start("--until-empty")
+            case.until(lambda: case.events("state"), "it has begun")
+            early = case.text("state/events.jsonl")
+            case.firmd.round("start a m1")
+            require(case.status() == 0, "the agent's status")
+            events = case.folder / "state/events.jsonl"
+            events.rename(case.folder / "events-of-yesterday")
+            if put_back:  # as from a copy: the numbers come again, and so does the name
+                events.write_text(early)
+            case.firmd.say("task j a")
+            case.firmd.round("start a m1")
+            case.start("--until-empty")
+            require(case.status() == 0, "the agent's status")
+            runs = case.text("a.log").split()
+            require(len(set(runs)) == 2, f"{runs}; the agent said:\n{case.told()}")
+            require(case.firmd.asked == ["alpha done a", "alpha done a"], case.firmd.asked)
+
+
+def runs_of_an_older_agent() -> None:
+    """What an older agent has begun, in folders without the state's name, is found, followed and ended."""
+    with Case("", a=command(WAITS_FOR_GO), b=command(WAITS_FOR_GO), c=command(WAITS_FOR_GO)) as case:
+        (case.folder / "state").mkdir()
+        case.firmd.round("start a m1 start b m1 start c m1")
+        tasks = case.firmd.books.tenants["alpha"].tasks
+        rows: list[dict[str, object]] = [{"event": "state", "name": "alpha-1"}]
+        for number, task in enumerate("ab", 1):
+            row = {"task": task, "line": tasks[task].line, "state": "first", "job": "j", "weight": 10, "machine": "m1"}
+            rows.append({"event": "start", "run": number, **row})
+            ask = {"folder": str(case.folder / f"state/runs/{task}.{number}"), "command": WAITS_FOR_GO, "grace": 0.2}
+            names = {"FIRM_TASK": task, "FIRM_MACHINE": "m1"}
+            ask |= {"directory": str(case.folder), "environment": names}
+            words = [sys.executable, "-I", "-S", str(SERVICE / "firm_service" / "supervisor.py")]
+            with subprocess.Popen(words, stdin=subprocess.PIPE, stdout=subprocess.PIPE, text=True) as asked:
+                if asked.stdin is None or asked.stdout is None:
+                    raise Missed("a process without pipes")
+                asked.stdin.write(json.dumps(ask) + "\n")
+                asked.stdin.flush()
+                require('"running"' in asked.stdout.readline(), f"{task} runs")
+                asked.stdin.close()
+        (case.folder / "state/events.jsonl").write_text("".join(json.dumps({"time": 1, **row}) + "\n" for row in rows))
+        case.start("--until-empty")
+        case.until_runs("a", "b", "c")
+        case.firmd.round("preempt a m1")
+        case.until_runs("b", "c")
+        case.go("a", "b", "c")
+        case.firmd.round("start a m2")
+        require(case.status() == 0, "the agent's status")
+        counts = {task: case.text(f"{task}.log").count("begin") for task in "abc"}
+        require(counts == {"a": 2, "b": 1, "c": 1}, counts)
 
 
 def over_ssh() -> None:
@@ -869,6 +931,8 @@ QUICK = [
     lost_supervisor,
     reused_number,
     never_begun,
+    events_moved_away,
+    runs_of_an_older_agent,
     full_disk,
 ]
 LONG = [

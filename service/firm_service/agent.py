@@ -9,6 +9,7 @@ import argparse
 import asyncio
 import contextlib
 import json
+import secrets
 import shlex
 import signal
 import sys
@@ -294,7 +295,8 @@ class Agent:
         """Records the start, then makes it, so that no restart can make it twice."""
         number, weight = self.history.last_run + 1, self.book.jobs[task.job] if self.book else None
         row = {"job": task.job, "weight": weight, "machine": task.machine}
-        self.state.record("start", run=number, **asdict(key), **row)
+        place = {"folder": f"{self.history.name}/{key.task}.{number}", "token": secrets.token_hex(4)}
+        self.state.record("start", run=number, **asdict(key), **row, **place)
         self.group.create_task(self.drive(self.history.runs[number], work))
 
     def forget(self, keys: set[Key]) -> None:
@@ -400,8 +402,9 @@ class Agent:
     def request(self, run: Run, machine: Machine, work: Work | None) -> Event:
         """What the supervisor is asked: to follow the run, and to begin it where there is work."""
         is_here = machine.ssh is None
-        runs = self.state.folder / "runs" if is_here else Path(machine.runs, self.history.name)
-        request: Event = {"folder": str(runs / run.name)}
+        runs = self.state.folder / "runs" if is_here else Path(machine.runs)
+        folder = run.folder or (run.name if is_here else f"{self.history.name}/{run.name}")
+        request: Event = {"folder": str(runs / folder), "token": run.token}
         if work is not None:
             names = {"TENANT": self.table.tenant, "JOB": run.job, "TASK": run.key.task, "MACHINE": run.machine}
             request["command"], request["grace"] = work.command, work.grace

@@ -38,6 +38,8 @@ class Run:
     key: Key
     job: str
     machine: str
+    folder: str | None = None  # below the machine's runs; None: as an older agent named it
+    token: str | None = None  # that no other run has, one of an older history neither
     ends: str | None = None  # why its end is asked for
 
     @property
@@ -73,7 +75,8 @@ class History:
         elif kind == "start":
             self.last_run = event["run"]
             key = Key(event["task"], event["line"], event.get("state", ""))
-            self.runs[self.last_run] = Run(self.last_run, key, event["job"], event["machine"])
+            more = (event.get("folder"), event.get("token"))
+            self.runs[self.last_run] = Run(self.last_run, key, event["job"], event["machine"], *more)
         elif kind == "end":
             self.runs[event["run"]].ends = event["why"]
         elif kind in ("ended", "lost", "void"):

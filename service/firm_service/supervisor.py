@@ -32,6 +32,7 @@ NOT_STARTED = 127  # the shell's own status for a command that it can't run
 
 class Request(NamedTuple):
     folder: str  # of the run
+    token: str | None = None  # that this run alone has; None: of an older agent
     command: str | None = None  # for the shell; None: whatever was begun is followed, and nothing new
     directory: str = "."
     environment: dict[str, str] | None = None  # beside this process's own
@@ -80,10 +81,10 @@ def write_whole(path: Path, text: str) -> None:
     draft.replace(path)
 
 
-def claim(folder: Path, process: Process | None) -> bool:
+def claim(folder: Path, process: Process | None, token: str | None = None) -> bool:
     """Takes the run for the process, or for nobody; of many that try only one succeeds."""
     draft = folder / f"claim.{os.getpid()}"
-    write_whole(draft, json.dumps(process and process._asdict()))
+    write_whole(draft, json.dumps(process and {**process._asdict(), "token": token}))
     try:
         os.link(draft, folder / "process")
     except FileExistsError:
@@ -169,7 +170,7 @@ def begin(request: Request, command: str) -> None:
         for number in SIGNALS:
             signal.signal(number, signal.SIG_DFL)  # one that is ignored would never come
         signal.pthread_sigmask(signal.SIG_BLOCK, SIGNALS)
-        if claim(Path(request.folder), Process.of(os.getpid())):
+        if claim(Path(request.folder), Process.of(os.getpid()), request.token):
             keep(request, command, writing)
     except BaseException:
         sys.excepthook(*sys.exc_info())
@@ -224,10 +225,11 @@ def say(event: str, **more: object) -> None:
     print(json.dumps({"event": event, **more}), flush=True)
 
 
-def follow(folder: Path) -> None:
+def follow(folder: Path, token: str | None) -> None:
     """Tells of a run that is claimed, until it ends or nobody asks any more."""
     claimed = json.loads((folder / "process").read_text())
-    if claimed is None:
+    # Another run's token: the agent's events were put back to an older state, and its numbers come again.
+    if claimed is None or claimed.pop("token", None) != token and token is not None:
         return say("void")
     process = Process(**claimed)
     descriptor = process.open()
@@ -256,7 +258,7 @@ def main() -> None:
         begin(request, request.command)
     elif claim(folder, None):
         return say("void")
-    follow(folder)
+    follow(folder, request.token)
 
 
 if __name__ == "__main__":
