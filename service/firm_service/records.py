@@ -26,6 +26,7 @@ HEADER_BEGINS = b"#firm-journal "
 UNKNOWN = b"?"  # the sender of a line that an older firmd kept
 
 _HEADING = re.compile(rb"#(firm-[a-z]+ [0-9]+|lines|replies|refused) ([0-9a-f]{8}) ([^\n]*)\n")
+_HEADINGS = re.compile(rb"\n#[^\n]*")
 
 
 def sealed(kind: bytes, fields: bytes, lines: bytes = b"") -> bytes:
@@ -80,9 +81,7 @@ def is_synced_past(data: bytes, place: int) -> bool:
 
 def plain(data: bytes) -> bytes:
     """The lines of a segment or of records, without their headings."""
-    parts = (b"\n" + data[:-1]).split(b"\n#")
-    bodies = [part[part.find(b"\n") + 1 :] for part in parts if b"\n" in part]
-    return b"\n".join(bodies) + b"\n" if bodies else b""
+    return _HEADINGS.sub(b"", b"\n" + data)[1:]
 
 
 @dataclass(frozen=True, slots=True)
