@@ -55,8 +55,8 @@ class State:
             name = id_of(self.folder)
         except FileNotFoundError:
             return None
-        except (OSError, ValueError) as error:
-            raise Fault(Exit.STATE, f"cannot read {self.id_path}: {error}") from error
+        except OSError as error:
+            raise Fault(Exit.STATE, f"cannot read {self.id_path}: {reason(error)}") from error
         if re.fullmatch(r"[0-9a-z-]{1,40}", name) is None:
             raise Fault(Exit.JOURNAL, f"{self.id_path}: this is no id of a state; restore the state from a copy")
         return name
@@ -117,7 +117,7 @@ def try_roster(path: Path, given: Path, firm: Sequence[str]) -> None:
 
 def id_of(folder: Path) -> str:
     """The id of a state: no other state has it, so its lines' numbers are told from another's by it."""
-    return (folder / ID).read_text().strip()
+    return (folder / ID).read_text("ascii", "replace").strip()
 
 
 def read(path: Path) -> bytes:
