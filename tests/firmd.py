@@ -485,6 +485,8 @@ def full_disk(setup: Setup, make_full: Callable[[Daemon], Callable[[], None]]) -
                 daemon.journal().count(b"\n") == len([reply for reply in answered if not reply.startswith(b"?")]),
                 "its lines",
             )
+            daemon.start()  # which needs no room
+            daemon.kill()
             make_room()
             daemon.words = FIRMD
             daemon.start()
