@@ -9,11 +9,14 @@ Each check has a line; the last line is 'N passed, M failed', and the exit statu
 from __future__ import annotations
 
 import argparse
+import json
 import os
 import random
 import re
 import shutil
 import subprocess
+import sys
+import threading
 import time
 import zlib
 from collections.abc import Callable
@@ -27,6 +30,7 @@ import firmd
 from firmd import JOURNAL_TOOL, ROSTER, ROWS, SHOWN, Daemon, Setup
 from harness import program, service
 from harness.checks import Check, Missed, count_ends, passes, require, run_script
+from harness.deployed import SERVICE
 
 CHECKS_AT_A_TIME = 4
 QUESTIONS = [b"alpha show", b"alpha costs", b"alpha where a", b"beta show", b"beta where l", b"alpha where no"]
@@ -279,6 +283,84 @@ def power_cuts(setup: Setup) -> None:
         daemon.stop()
 
 
+SHADOWED = """\
+import json, os, sys
+sys.path.insert(0, {service!r})
+def keep(name, data):
+    draft = os.path.join({shadow!r}, "draft")
+    with open(draft, "wb") as file:
+        file.write(data)
+    os.replace(draft, os.path.join({shadow!r}, name))
+def shadowed(real):
+    def sync(file):
+        real(file)
+        path = os.readlink(f"/proc/self/fd/{{file}}")
+        if not os.path.isdir(path):
+            with open(f"/proc/self/fd/{{file}}", "rb") as copied:
+                keep(str(os.fstat(file).st_ino), copied.read())
+        elif path.endswith("/journal"):
+            keep("names", json.dumps({{entry.name: entry.inode() for entry in os.scandir(path)}}).encode())
+    return sync
+os.fsync, os.fdatasync = shadowed(os.fsync), shadowed(os.fdatasync)
+from firm_service.daemon import main
+sys.exit(main())
+"""
+
+
+def cut_power(daemon: Daemon, shadow: Path, draw: random.Random) -> None:
+    """Leaves of the journal what was synced: names by their folder's sync, contents by the file's.
+
+    Of what was written since, the extent may be there, and any part of the last segment's end.
+    """
+    journal = daemon.state / "journal"
+    names: dict[str, int] = json.loads((shadow / "names").read_text())
+    extent, last = (journal / "extent").read_bytes(), daemon.segments()[-1]
+    unsynced = last.read_bytes()
+    for path in journal.iterdir():
+        path.unlink()
+    for name, inode in names.items():
+        kept = shadow / str(inode)
+        (journal / name).write_bytes(kept.read_bytes() if kept.exists() else b"")
+    if draw.random() < 0.5:
+        (journal / "extent").write_bytes(extent)
+    if last.exists() and draw.random() < 0.7:
+        synced = last.read_bytes()
+        rest = unsynced[len(synced) :][: draw.randrange(200)]
+        last.write_bytes(synced + draw.choice([rest, bytes(len(rest)), rest[:-1] + b"\0"]))
+    shutil.rmtree(shadow)
+    shadow.mkdir()
+    for path in journal.iterdir():  # which are on the disk now, and may have numbers that others had
+        shutil.copy(path, shadow / str(path.stat().st_ino))
+    names = {path.name: path.stat().st_ino for path in journal.iterdir()}
+    (shadow / "names").write_text(json.dumps(names))
+
+
+def power_cuts_at_any_moment(setup: Setup) -> None:
+    """Whatever of the unsynced is lost, each answered line is there, with its reply; and none of it is a damage."""
+    draw = random.Random(setup.seed)
+    tenants = [firmd.Tenant(f"t{place}", setup.seed + place) for place in range(3)]
+    with setup.daemon("--segment-bytes", "15000", "--after", "1", roster=firmd.roster_of(tenants)) as daemon:
+        shadow, script = daemon.folder / "shadow", daemon.folder / "shadowed.py"
+        shadow.mkdir()
+        script.write_text(SHADOWED.format(service=str(SERVICE), shadow=str(shadow)))
+        daemon.words = [sys.executable, str(script)]
+        for _ in range(4 if setup.is_quick else 40):
+            daemon.start()
+            works = [
+                partial(firmd.converse, tenant, daemon.client(), False, random.Random(draw.random()), 10**9)
+                for tenant in tenants
+            ]
+            killer = threading.Timer(draw.uniform(0.05, 0.4), daemon.kill)
+            killer.start()
+            raised = firmd.in_threads(works)
+            killer.join()
+            require(all(isinstance(error, firmd.Gone) for error in raised), raised)
+            cut_power(daemon, shadow, draw)
+        daemon.start().stop()
+        require(sum(len(tenant.answered) for tenant in tenants) > 100, "lines were answered")
+        firmd.check_kept(setup, daemon, tenants)
+
+
 # Journals of an older firmd.
 
 
@@ -504,6 +586,7 @@ SHORT = [
     changed_roster,
     begun_segments,
     power_cuts,
+    power_cuts_at_any_moment,
     old_journals,
     old_damage,
     old_mistakes,
