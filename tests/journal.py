@@ -458,7 +458,11 @@ def old_mistakes(setup: Setup) -> None:
         write_old(daemon, setup, [MOVED[:5], MOVED[5:]])
         refused = daemon.state / "journal" / "refused"
         refused.write_bytes(b"2 3\n")
-        daemon.refuses(5, "00000002.lines, line 4", "alpha round", "Remove the line '2 3'", str(refused))
+        daemon.refuses(5, "00000002.lines, line 4", "alpha round", "remove the line '2 3'", str(refused))
+        tool("rewrite", daemon.state)
+        daemon.refuses(5, f"line {len(MOVED)}, 'alpha round'", "put journal.old in the place of")
+        shutil.rmtree(daemon.state / "journal")
+        (daemon.state / "journal.old").rename(daemon.state / "journal")
         refused.unlink()
         serves(daemon, MOVED, setup)
         daemon.stop()

@@ -500,12 +500,14 @@ def sender_of(share: Share) -> bytes:
 
 def mistake(path: Path, number: int, line: bytes) -> str:
     """What is to be done about a refusal that was none."""
-    kept = f"'{int(path.stem)} {number - 1}' of {path.with_name('refused')}"
+    marks = path.with_name("refused")
+    cure = f"remove the line '{int(path.stem)} {number - 1}' of {marks}, and start firmd again: the line is obeyed then"
+    if not marks.exists():  # the segment was rewritten
+        cure = f"put journal.old in the place of {path.parent}, start firmd over it, and rewrite it only then"
     return (
         f"{path}, line {number}, {line.decode(errors='replace')!r}: an older firmd took its reply, which may end with "
-        f"`move no 14 memory`, for a refusal of memory. Remove the line {kept}, and start firmd again: the line is "
-        "obeyed then. If firmd was restarted since, what it answered from then on may rest on the wrong state: see "
-        "docs/SERVICE.md"
+        f"`move no 14 memory`, for a refusal of memory: {cure}. If firmd was restarted since the mistake, what it "
+        "answered from then on may rest on the wrong state: see docs/SERVICE.md"
     )
 
 
