@@ -23,47 +23,17 @@ from collections.abc import Callable
 from concurrent.futures import ThreadPoolExecutor
 from dataclasses import dataclass
 from functools import partial
-from hashlib import blake2b
 from pathlib import Path
 
 import firmd
-from firmd import JOURNAL_TOOL, ROSTER, ROWS, SHOWN, Daemon, Setup
+import journal_tool
+from firmd import JOURNAL_TOOL, ROSTER, ROWS, Daemon, Setup
 from harness import program, service
 from harness.checks import Check, Missed, count_ends, passes, require, run_script
 from harness.deployed import SERVICE
+from journal_kit import MOVED, OLD, QUESTIONS, ROUNDS, answered, ask_all, serves, tool, write_old
 
 CHECKS_AT_A_TIME = 4
-QUESTIONS = [b"alpha show", b"alpha costs", b"alpha where a", b"beta show", b"beta where l", b"alpha where no"]
-ROUNDS = [*ROWS, b"alpha round", b"beta round"]
-MOVED = [
-    b"alpha machine 14 4",
-    b"alpha job j 10",
-    *[b"alpha task j %b" % name for name in (b"a", b"b", b"c", b"no")],
-    b"alpha round",
-    b"alpha machine memory 4",
-    b"alpha round",  # three tasks share a machine for 3, and one moves for 2: task `no` from `14` to `memory`
-]
-
-
-def ask_all(daemon: Daemon, lines: list[bytes]) -> list[bytes]:
-    with firmd.Client(daemon.operator) as client:
-        return [client.ask(line) for line in lines]
-
-
-def serves(daemon: Daemon, lines: list[bytes], setup: Setup) -> None:
-    """Starts it, and asks that its journal has these lines and its state is what firm alone makes of them."""
-    daemon.start()
-    require(daemon.journal() == b"".join(line + b"\n" for line in lines), daemon.journal()[-300:])
-    asked = ask_all(daemon, QUESTIONS)
-    text = b"".join(line + b"\n" for line in [*lines, *QUESTIONS])
-    require(asked == setup.alone(ROSTER, text)[-len(QUESTIONS) :], asked)
-
-
-def tool(*words: str | Path) -> str:
-    """What the journal's tool writes."""
-    done = subprocess.run([*JOURNAL_TOOL, *words], capture_output=True, text=True)
-    require(done.returncode == 0, f"{words}: status {done.returncode}: {done.stderr}")
-    return done.stdout
 
 
 # The records.
@@ -143,16 +113,6 @@ def newer_version(setup: Setup) -> None:
 # What is missing.
 
 
-def answered(daemon: Daemon, is_killed: bool, lines: int = 400) -> list[bytes]:
-    """Gives it lines, in several segments, and ends it."""
-    daemon.start()
-    said = [*ROUNDS, *[b"alpha show", b"beta show"] * (lines // 2)]
-    ask_all(daemon, said)
-    daemon.kill() if is_killed else daemon.stop()
-    require(len(daemon.segments()) > 2, "segments")
-    return said
-
-
 def missing_pieces(setup: Setup) -> None:
     """A state that lacks a piece is not served: a segment, the extent, the id, all segments, the whole journal."""
     for is_killed in (True,) if setup.is_quick else (False, True):
@@ -163,8 +123,6 @@ def missing_pieces(setup: Setup) -> None:
             for piece in [*pieces, daemon.state / "id"]:
                 piece.rename(away)
                 daemon.refuses(5, str(piece) if piece.name in ("extent", "id") else str(journal))
-                if piece == journal:
-                    piece.rmdir()  # firmd makes the folder anew, and nothing in it
                 away.rename(piece)
             for path in daemon.segments():
                 path.rename(daemon.folder / path.name)
@@ -173,6 +131,57 @@ def missing_pieces(setup: Setup) -> None:
                 path.rename(journal / path.name)
             serves(daemon, said, setup)
             daemon.stop()
+
+
+def damaged_ids(setup: Setup) -> None:
+    """An id that was changed is told, whatever its bytes are."""
+    with setup.daemon() as daemon:
+        daemon.start()
+        ask_all(daemon, ROUNDS)
+        daemon.stop()
+        path = daemon.state / "id"
+        kept = path.read_bytes()
+        changed = [bytes([kept[0] ^ 1 << bit]) + kept[1:] for bit in range(8)]
+        for text in [*changed, b"", b"\n", kept[:-2], kept[:-1] + b" 7\n", b"0123456789abcdef\n"]:
+            path.write_bytes(text)
+            daemon.refuses(5, str(path))
+        path.write_bytes(kept)
+        serves(daemon, ROUNDS, setup)
+        daemon.stop()
+
+
+def lost_beginnings(setup: Setup) -> None:
+    """A state that lost several pieces, so that the rest could be a beginning, is not begun anew."""
+    with setup.daemon() as daemon:
+        daemon.start()
+        ask_all(daemon, ROUNDS)
+        daemon.stop()
+        kept, journal, roster = daemon.folder / "kept", daemon.state / "journal", daemon.state / "roster.csv"
+        shutil.copytree(daemon.state, kept)
+        first, extent = daemon.segments()[0], journal / "extent"
+        size = first.stat().st_size
+        rows: list[tuple[list[Path], dict[Path, bytes], Path]] = [
+            ([roster], {}, roster),
+            ([roster, daemon.state / "id"], {}, roster),
+            ([roster, journal], {}, roster),
+            ([journal], {}, journal),
+            ([first, extent], {}, journal),
+            ([extent], {first: b""}, journal),
+            ([extent], {first: bytes(size)}, journal),
+            ([extent], {first: bytes(100)}, journal),
+            ([], {journal / "00000001 (copy).lines": b"x"}, journal / "00000001 (copy).lines"),
+        ]
+        for away, written, told in rows:
+            for path in away:
+                shutil.rmtree(path) if path.is_dir() else path.unlink()
+            for path, text in written.items():
+                path.write_bytes(text)
+            for _ in range(2):
+                daemon.refuses(5, str(told))
+            shutil.rmtree(daemon.state)
+            shutil.copytree(kept, daemon.state)
+        serves(daemon, ROUNDS, setup)
+        daemon.stop()
 
 
 def other_pieces(setup: Setup) -> None:
@@ -225,7 +234,7 @@ def begun_segments(setup: Setup) -> None:
         said = answered(daemon, True)
         following = daemon.state / "journal" / f"{len(daemon.segments()) + 1:08}.lines"
         header = daemon.segments()[-1].read_bytes().split(b"\n")[0] + b"\n"
-        for text in (b"", header[:5], header[:40], header, b"\0" * 100):
+        for text in (b"", header[:5], header[:40], header, b"\0" * 100, b"\0" * 20 + header[20:]):
             following.write_bytes(text)
             serves(daemon, said, setup)
             said += QUESTIONS
@@ -233,7 +242,8 @@ def begun_segments(setup: Setup) -> None:
             following = daemon.state / "journal" / f"{len(daemon.segments()) + 1:08}.lines"
     with setup.daemon() as daemon:  # the first one
         (daemon.state / "journal").mkdir(parents=True)
-        for text in (b"", header[:40], header):
+        (daemon.state / "roster.csv").write_bytes(ROSTER)
+        for text in (b"", header[:40], header, b"\0" * 20 + header[20:]):
             (daemon.state / "journal" / "00000001.lines").write_bytes(text)
             serves(daemon, [], setup)
             daemon.kill()
@@ -364,33 +374,6 @@ def power_cuts_at_any_moment(setup: Setup) -> None:
 # Journals of an older firmd.
 
 
-def write_old(daemon: Daemon, setup: Setup, segments: list[list[bytes]], refused: tuple[int, ...] = ()) -> None:
-    """A state as an older firmd left it: lines alone, and the digests of each segment's first half beside them."""
-    journal = daemon.state / "journal"
-    journal.mkdir(parents=True)
-    (daemon.state / "roster.csv").write_bytes(ROSTER)
-    (daemon.state / "id").write_text("0123456789abcdef\n")
-    lines = [line for segment in segments for line in segment]
-    replies = service.serve(ROSTER, b"".join(line + b"\n" for line in lines), refused)
-    for number, segment in enumerate(segments, 1):
-        path = journal / f"{number:08}.lines"
-        path.write_bytes(b"".join(line + b"\n" for line in segment))
-        half = len(segment) // 2
-        texts = [b"".join(line + b"\n" for line in part[:half]) for part in (segment, replies)]
-        digests = [blake2b(text, digest_size=16).hexdigest() for text in texts]
-        path.with_suffix(".blocks").write_text(f"{len(texts[0])} {half} {digests[0]} {digests[1]}\n")
-        replies = replies[len(segment) :]
-    if refused:
-        starts = [sum(map(len, segments[:number])) for number in range(len(segments))]
-        for place in refused:
-            number = max(number for number, start in enumerate(starts, 1) if start <= place)
-            with open(journal / "refused", "a") as marks:
-                marks.write(f"{number} {place - starts[number - 1]}\n")
-
-
-OLD = [[*ROUNDS, *[b"alpha show"] * 20], [b"alpha task j b", *[b"beta show"] * 20]]
-
-
 def old_journals(setup: Setup) -> None:
     """A journal of an older firmd is read and gone on with, and written anew on request; nothing is lost thereby."""
     said = [line for segment in OLD for line in segment]
@@ -435,6 +418,16 @@ def old_damage(setup: Setup) -> None:
         first.write_bytes(text[:60])
         daemon.refuses(5, "00000001.lines")
         first.write_bytes(text)
+        text, kept = second.read_bytes(), second.with_suffix(".blocks").read_bytes()
+        for lost in (b"", bytes(len(text)), bytes(100)):
+            second.write_bytes(lost)
+            daemon.refuses(5, "00000002.lines: 0 bytes, and")
+            second.with_suffix(".blocks").unlink()
+            (journal / "refused").write_bytes(b"2 3\n")
+            daemon.refuses(5, "refused:1")
+            (journal / "refused").unlink()
+            second.with_suffix(".blocks").write_bytes(kept)
+        second.write_bytes(text)
         kept = first.with_suffix(".blocks").read_bytes()
         first.with_suffix(".blocks").write_bytes(b"no record\n")
         daemon.refuses(5, "00000001.blocks:1", "no record")
@@ -443,29 +436,55 @@ def old_damage(setup: Setup) -> None:
         daemon.refuses(5, "refused:1")
         (journal / "refused").unlink()
         journal.rename(daemon.folder / "away")
-        daemon.refuses(5, "no segments")
-        journal.rmdir()
+        daemon.refuses(5, "no segments", f"or remove {daemon.state / 'id'}")
         (daemon.folder / "away").rename(journal)
+        (daemon.state / "roster.csv").rename(daemon.folder / "kept.csv")
+        given = daemon.folder / "roster.csv"
+        given.write_bytes(ROSTER.replace(b"1000000000,1,2", b"1000000000,0,9"))
+        daemon.refuses(5, str(daemon.state / "roster.csv"))
+        given.write_bytes(ROSTER)
+        (daemon.folder / "kept.csv").rename(daemon.state / "roster.csv")
         serves(daemon, [line for segment in OLD for line in segment], setup)
         daemon.stop()
 
 
+def old_beginnings(setup: Setup) -> None:
+    """What an older firmd leaves that is killed in its first start is begun, or told with its cure."""
+    for has_roster, has_segment in ((False, False), (True, False), (True, True)):
+        with setup.daemon() as daemon:
+            journal, name = daemon.state / "journal", daemon.state / "id"
+            journal.mkdir(parents=True)
+            name.write_text("0123456789abcdef\n")
+            if has_roster:
+                (daemon.state / "roster.csv").write_bytes(ROSTER)
+            if has_segment:
+                (journal / "00000001.lines").touch()
+            elif has_roster:
+                daemon.refuses(5, f"or remove {name} if no line of it was ever answered")
+                name.unlink()
+            for said in (QUESTIONS[:0], QUESTIONS):
+                serves(daemon, said, setup)
+                daemon.kill()
+
+
 def old_mistakes(setup: Setup) -> None:
     """A round's reply that an older firmd took for a refusal of memory is told, and where; real refusals stay."""
-    with setup.daemon() as daemon:
-        replies = setup.alone(ROSTER, b"".join(line + b"\n" for line in MOVED))
-        require(replies[-1].endswith(b" move no 14 memory"), replies[-1])
-        write_old(daemon, setup, [MOVED[:5], MOVED[5:]])
-        refused = daemon.state / "journal" / "refused"
-        refused.write_bytes(b"2 3\n")
-        daemon.refuses(5, "00000002.lines, line 4", "alpha round", "remove the line '2 3'", str(refused))
-        tool("rewrite", daemon.state)
-        daemon.refuses(5, f"line {len(MOVED)}, 'alpha round'", "put journal.old in the place of")
-        shutil.rmtree(daemon.state / "journal")
-        (daemon.state / "journal.old").rename(daemon.state / "journal")
-        refused.unlink()
-        serves(daemon, MOVED, setup)
-        daemon.stop()
+    replies = setup.alone(ROSTER, b"".join(line + b"\n" for line in MOVED))
+    require(replies[-1].endswith(b" move no 14 memory"), replies[-1])
+    for before in (None, "rewrite", "new-id"):
+        with setup.daemon() as daemon:
+            write_old(daemon, setup, [MOVED[:5], MOVED[5:]])
+            (daemon.state / "journal" / "refused").write_bytes(b"2 3\n")
+            if before is not None:
+                tool(before, daemon.state)
+                shutil.rmtree(daemon.state / "journal.old", ignore_errors=True)
+            cure = f"`firm-journal rewrite --obey {len(MOVED)} {daemon.state}`"
+            daemon.refuses(5, "alpha round", cure, *([] if before == "rewrite" else ["00000002.lines, line 4"]))
+            done = subprocess.run([*JOURNAL_TOOL, "rewrite", "--obey", "2", daemon.state], capture_output=True)
+            require(done.returncode == 2 and b"was not refused to line 2" in done.stderr, done)
+            tool("rewrite", "--obey", str(len(MOVED)), daemon.state)
+            serves(daemon, MOVED, setup)
+            daemon.stop()
     with setup.daemon() as daemon:
         marks = (len(MOVED) - 3, len(MOVED))  # a round before the names are there, and a task behind the move
         lines = [*MOVED, b"alpha task j x"]
@@ -481,19 +500,52 @@ def old_mistakes(setup: Setup) -> None:
             daemon.kill()
 
 
-def new_ids(setup: Setup) -> None:
-    """A restored copy gets an id of its own, and goes on with all its lines."""
-    with setup.daemon() as daemon:
-        daemon.start()
-        ask_all(daemon, ROUNDS)
-        daemon.stop()
-        before = (daemon.state / "id").read_text()
-        require(before.strip() in tool("new-id", daemon.state), "it tells")
-        require((daemon.state / "id").read_text() != before, "its id")
-        serves(daemon, ROUNDS, setup)
-        done = subprocess.run([*JOURNAL_TOOL, "new-id", str(daemon.state)], capture_output=True, text=True)
-        require(done.returncode == 4 and "is in use by process" in done.stderr, done)
-        daemon.stop()
+FAILING = """\
+import os, sys
+from pathlib import Path
+from zlib import crc32
+sys.path.insert(0, {service!r})
+from firm_service.faults import Fault
+from firm_service.journal import Journal
+from firm_service.records import Batch
+from firm_service.state import State
+state = State(Path({state!r}))
+state.roster_sum = crc32(state.roster_path.read_bytes())
+journal = Journal(state, 400)
+def append(line):
+    journal.append([Batch(b"*:0", line + b"\\n", 1)])
+append(b"alpha machine m1 2")
+append(b"alpha job j 10")
+real = os.{call}
+def fail(*words):
+    os.{call} = real
+    raise OSError(5, "it failed")
+os.{call} = fail
+told = 0
+for work in [lambda: append({line!r}), lambda: journal.keep_refused([2]), lambda: append(b"alpha show"), journal.close]:
+    try:
+        work()
+    except Fault as fault:
+        told += str(fault).endswith("it failed")
+print(told)
+"""
+
+
+def failed_writes(setup: Setup) -> None:
+    """After a write or a sync that failed nothing more is written, and the state starts with what was answered."""
+    rows = [("fdatasync", b"alpha task j a"), ("fsync", b"x" * 400), ("write", b"x"), ("pwrite", b"x")]
+    for call, line in rows:
+        with setup.daemon() as daemon:
+            daemon.state.mkdir()
+            (daemon.state / "roster.csv").write_bytes(ROSTER)
+            script = FAILING.format(service=str(SERVICE), state=str(daemon.state), call=call, line=line)
+            done = subprocess.run([sys.executable, "-c", script], capture_output=True, text=True)
+            require(done.stdout == "4\n", f"{call}: {done.stdout} {done.stderr}")
+            daemon.start()
+            lines = daemon.journal().splitlines()
+            require(lines[:2] == [b"alpha machine m1 2", b"alpha job j 10"], f"{call}: {lines}")
+            require(len(lines) == 2 or lines[2:] == [line] and call == "pwrite", f"{call}: {lines}")
+            daemon.kill()
 
 
 # Damage at random places.
@@ -586,6 +638,8 @@ SHORT = [
     senders,
     newer_version,
     missing_pieces,
+    damaged_ids,
+    lost_beginnings,
     other_pieces,
     changed_roster,
     begun_segments,
@@ -593,8 +647,10 @@ SHORT = [
     power_cuts_at_any_moment,
     old_journals,
     old_damage,
+    old_beginnings,
     old_mistakes,
-    new_ids,
+    failed_writes,
+    *journal_tool.SHORT,
 ]
 
 

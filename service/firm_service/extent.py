@@ -10,7 +10,7 @@ import os
 from pathlib import Path
 from typing import NamedTuple
 
-from .faults import Exit, Fault
+from .faults import RESTORE, Exit, Fault
 from .files import replace_synced
 from .records import VERSION, record_at, sealed
 
@@ -35,7 +35,7 @@ class Extent(NamedTuple):
             return None
         record = record_at(text, 0)
         if record is None or record.kind != KIND or record.end != len(text):
-            raise Fault(Exit.JOURNAL, f"{path}: this is not what firmd wrote; restore the state from a copy")
+            raise Fault(Exit.JOURNAL, f"{path}: this is not what firmd wrote; {RESTORE}")
         state, since, segment, size, chain = filter(None, record.fields)
         return cls(state, int(since), int(segment), int(size), int(chain, 16))
 

@@ -10,6 +10,7 @@ from enum import IntEnum
 
 
 MOST_KINDS = 100  # of faults, that are told
+RESTORE = "restore the state from a copy"  # where a part of it is missing or changed
 
 
 class Exit(IntEnum):

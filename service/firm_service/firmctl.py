@@ -15,6 +15,7 @@ from pathlib import Path
 from typing import Any
 
 from . import roster, tables
+from .faults import Fault
 from .tables import Column, Row, names, number, text
 from .why import NotBuilt, why
 
@@ -191,6 +192,8 @@ def why_command(options: argparse.Namespace) -> None:
         raise Failure(NOT_BUILT, str(reason)) from reason
     except OSError as error:
         raise Failure(NO_SERVICE, f"cannot read the journal: {error}") from error
+    except Fault as fault:
+        raise Failure(NO_SERVICE, str(fault)) from fault
     show(options, answer, lambda answer: known + "".join(line + "\n" for line in answer["reasons"]))
 
 

@@ -11,7 +11,7 @@ import secrets
 import time
 from collections import deque
 from collections.abc import Callable, Iterator, Sequence
-from contextlib import suppress
+from contextlib import contextmanager, suppress
 from dataclasses import dataclass
 from functools import partial
 from pathlib import Path
@@ -23,9 +23,9 @@ from .extent import Extent, ExtentFile
 from .faults import Exit, Fault, reason
 from .files import sync_folder
 from .records import Batch, Block, Header, plain, refusals
-from .recovery import Segment, damaged, extent_path, find, read_file, segment_path, whole_text
+from .recovery import Found, Segment, damaged, extent_path, find, read_file, segment_path, whole_text
 from .relief import SHORTAGES, Spare
-from .state import State
+from .state import ID_BYTES, NEW_JOURNAL, OLD_ID_BYTES, OLD_JOURNAL, State
 
 PIECE_BYTES = 262_144  # of lines without a block, in a replay
 SHORTAGE_TRIES, SHORTAGE_SECONDS = 200, 0.05
@@ -61,23 +61,41 @@ def piece_end(text: bytes, start: int, most: int) -> int:
     return end if end else text.index(b"\n", start) + 1
 
 
+def finish_rewrite(state: State) -> None:
+    """Puts a journal that is written anew in the place of the former, where a crash came before that."""
+    new = state.folder / NEW_JOURNAL
+    if not state.journal_path.exists() and (state.folder / OLD_JOURNAL).exists() and new.exists():
+        new.rename(state.journal_path)
+
+
+class Shortage(MemoryError):
+    """Memory is lacking, and nothing was done yet."""
+
+
+def is_shortage(error: BaseException) -> bool:
+    return isinstance(error, MemoryError) or isinstance(error, OSError) and error.errno in SHORTAGES
+
+
 class Journal:
     """The segments in a state's folder, of one process at a time. The replay's pieces come first, then lines are
-    appended, by one thread; another may keep refusals meanwhile."""
+    appended, by one thread; another may keep refusals meanwhile. A draft is a folder in which it is written anew."""
 
-    def __init__(self, state: State, segment_bytes: int) -> None:
-        self.state, self.folder, self.segment_bytes = state, state.journal_path, segment_bytes
+    def __init__(self, state: State, segment_bytes: int, draft: Path | None = None) -> None:
+        self.state, self.folder, self.segment_bytes = state, draft or state.journal_path, segment_bytes
         self.on_shortage: Callable[[BaseException], None] = lambda error: None  # of a descriptor or memory
         self._lock = Lock()
+        self._is_short = False  # what is under way waits for a descriptor or memory
+        self._trouble: Fault | None = None  # a write or a sync has failed: what the disk has is not known any more
         self._extent: ExtentFile | None = None  # none before the first segment of today's form
         self._file = -1  # the last segment
         self._spare = Spare()  # for the next one
         self._size = self._synced = 0  # its bytes, and those of them that are synced
         try:
+            finish_rewrite(state)
+            self.found = Found() if draft else find(state)  # what is there, and all that is appended
             self.folder.mkdir(mode=0o700, exist_ok=True)
             sync_folder(self.folder.parent)
             self._folder = os.open(self.folder, os.O_RDONLY | os.O_DIRECTORY)
-            self.found = find(state)  # what is there, and all that is appended
             self._open_last()
         except OSError as error:
             raise self._fault("open", error) from error
@@ -98,6 +116,7 @@ class Journal:
         """Opens the last segment, or begins the first, and syncs what a replay is about to obey."""
         for path in self.folder.glob("*.lines"):
             if int(path.stem) > len(self.found.segments):  # it was begun, and has nothing
+                path.with_suffix(".blocks").unlink(missing_ok=True)
                 path.unlink()
         if self.found.since:
             self.state.keep_id(self.found.state)
@@ -128,9 +147,11 @@ class Journal:
         os.fsync(self._folder)
 
     def _id(self) -> str:
-        """The state's, which is drawn where it has none."""
+        """The state's, which is drawn where it has none; one of today's tells that there is an extent."""
         if self.state.id is None:
-            self.state.id = secrets.token_hex(8)
+            self.state.id = secrets.token_hex(
+                OLD_ID_BYTES if self.found.segments and not self.found.since else ID_BYTES
+            )
         return self.state.id
 
     # The replay
@@ -182,17 +203,14 @@ class Journal:
         Lines that are copied have the time that they had, and are synced by `close` alone.
         """
         size = sum([len(batch.text) for batch in batches])
-        with self._lock:
+        with self._lock, self._writing():
             found = self.found
-            try:
-                if not self.found.since or self._size + size > self.segment_bytes and self._has_lines():
-                    self._begin_segment()
-                time = milliseconds() if copied is None else copied
-                self._write(self._patiently(partial(self._records, batches, time)))
-                if copied is None:
-                    self._sync()
-            except OSError as error:
-                raise self._fault("write", error) from error
+            if not self.found.since or self._size + size > self.segment_bytes and self._has_lines():
+                self._begin_segment()
+            time = milliseconds() if copied is None else copied
+            self._write(self._patiently(partial(self._records, batches, time)))
+            if copied is None:
+                self._sync()
             place = Place(found.lines + 1, found.size + size)
             found.lines += sum([batch.lines for batch in batches])
             found.size = place.end
@@ -200,43 +218,61 @@ class Journal:
 
     def keep(self, block: Block) -> None:
         """Keeps what a later replay must give. It need not be on the disk soon: a replay compares what is there."""
-        with self._lock:
-            try:
-                if not self.found.since:
-                    self._begin_segment()
-                self._write(block.text())
-            except OSError as error:
-                raise self._fault("write", error) from error
+        with self._lock, self._writing():
+            if not self.found.since:
+                self._begin_segment()
+            self._write(block.text())
 
     def keep_refused(self, numbers: list[int], time: int | None = None) -> None:
-        """Keeps on the disk that memory was refused to these lines, before that is answered."""
-        with self._lock:
-            try:
-                self._write(refusals(numbers, milliseconds() if time is None else time))
+        """Keeps on the disk that memory was refused to these lines, before that is answered.
+
+        It raises `Shortage` and does not wait for memory, since the loop's thread calls it, which makes room meanwhile.
+        """
+        text = refusals(numbers, milliseconds() if time is None else time)
+        while not self._lock.acquire(timeout=SHORTAGE_SECONDS):
+            if self._is_short:
+                raise Shortage
+        try:
+            with self._writing():
+                self._write(text, is_patient=False)
                 self._sync()
-            except OSError as error:
-                raise self._fault("write", error) from error
+        finally:
+            self._lock.release()
 
     def renew(self) -> None:
         """Gives the state another id, for a copy that has lost what was answered since."""
-        self.state.id = secrets.token_hex(8)
-        try:
+        with self._lock, self._writing():
+            if not self.found.since:
+                self._begin_segment()  # so the last header has the former id, where a crash comes before the id is kept
+            self.state.id = secrets.token_hex(ID_BYTES)
             self._begin_segment()
-        except OSError as error:
-            raise self._fault("write", error) from error
         self.state.keep_id(self.state.id)
 
     def close(self) -> None:
         """Brings the disk up to date: what is missing at the next start was there."""
-        try:
+        with self._lock, self._writing():
             if self._extent is not None:
                 self._sync()
                 self._extent.sync()
                 self._extent.close()
                 os.close(self._file)
             os.close(self._folder)
+
+    @contextmanager
+    def _writing(self) -> Iterator[None]:
+        """Remembers a failure: whatever is written behind it could make the extent say what the disk has not."""
+        if self._trouble is not None:
+            raise self._trouble
+        try:
+            yield
+        except Shortage:
+            raise
         except OSError as error:
-            raise self._fault("write", error) from error
+            self._trouble = self._fault("write", error)
+            raise self._trouble from error
+        except BaseException as error:
+            self._trouble = Fault(Exit.INTERNAL, f"the journal failed before: {error!r}")
+            raise
 
     def _has_lines(self) -> bool:
         """Whether the last segment has some."""
@@ -261,10 +297,13 @@ class Journal:
             self._sync()
         self._spare.give()
         file = self._patiently(partial(os.open, path, os.O_RDWR | os.O_APPEND | os.O_CREAT | os.O_EXCL, 0o600))
-        self._spare.take()
         if self._file >= 0:
-            os.close(self._file)
-        self._file, self._size, self._synced = file, 0, 0
+            os.dup2(file, self._file, inheritable=False)
+            self._spare.keep(file)  # whose descriptor another thread could take once it is closed
+        else:
+            self._file = file
+            self._spare.take()
+        self._size = self._synced = 0
         self._write(header)
         os.fsync(self._file)
         os.fsync(self._folder)
@@ -276,14 +315,17 @@ class Journal:
             self._extent.keep(self._reached())
             self._extent.sync()
 
-    def _write(self, text: bytes) -> None:
+    def _write(self, text: bytes, is_patient: bool = True) -> None:
         """Writes at the end of the last segment; takes it back where that fails."""
+        written = 0
         try:
-            written = self._patiently(partial(os.write, self._file, text))
             while written < len(text):
-                written += self._patiently(partial(os.write, self._file, text[written:]))
-        except OSError:
-            self._take_back(self._size)
+                write = partial(os.write, self._file, text[written:])
+                written += self._patiently(write) if is_patient else write()
+        except (MemoryError, OSError) as error:
+            is_back = self._take_back(self._size)
+            if is_back and not is_patient and is_shortage(error):
+                raise Shortage from error
             raise
         self._size += len(text)
         self.found.chain = crc32(text, self.found.chain)
@@ -299,9 +341,11 @@ class Journal:
         if self._extent is not None:
             self._extent.keep(self._reached())
 
-    def _take_back(self, size: int) -> None:
+    def _take_back(self, size: int) -> bool:
         with suppress(OSError):
             os.ftruncate(self._file, size)
+            return True
+        return False
 
     def _reached(self) -> Extent:
         found = self.found
@@ -309,15 +353,19 @@ class Journal:
 
     def _patiently(self, work: Callable[[], Result]) -> Result:
         """Does what may lack a descriptor or memory, again and again while clients are closed for it."""
-        for _ in range(SHORTAGE_TRIES):
-            try:
-                return work()
-            except (MemoryError, OSError) as error:
-                if isinstance(error, OSError) and error.errno not in SHORTAGES:
-                    raise
-                self.on_shortage(error)
-            time.sleep(SHORTAGE_SECONDS)
-        return work()
+        try:
+            for _ in range(SHORTAGE_TRIES):
+                try:
+                    return work()
+                except (MemoryError, OSError) as error:
+                    if not is_shortage(error):
+                        raise
+                    self.on_shortage(error)
+                self._is_short = True
+                time.sleep(SHORTAGE_SECONDS)
+            return work()
+        finally:
+            self._is_short = False
 
     def _fault(self, verb: str, error: OSError) -> Fault:
         return Fault(Exit.STATE, f"cannot {verb} the journal {error.filename or self.folder}: {reason(error)}")

@@ -3,7 +3,6 @@
 from __future__ import annotations
 
 import argparse
-import copy
 import shutil
 import signal
 import sys
@@ -15,16 +14,17 @@ from .daemon import SEGMENT_BYTES
 from .faults import Exit, Fault
 from .files import sync_folder
 from .journal import Journal
-from .kept import Kept, kept_lines, refused_lines
+from .kept import Kept, found_now, kept_lines
 from .lines import first_word
 from .records import Batch
-from .state import State, read
+from .recovery import Found
+from .state import NEW_JOURNAL, OLD_JOURNAL, State, read
 
 COPIED_LINES = 4_096  # at a time, of an older segment
 EXITS = """\
 exit statuses:
   0  it is done
-  2  the command line
+  2  the command line, or a line to be obeyed that is obeyed already
   3  the state's roster can't be read
   4  the state can't be read or written, or firmd has it
   5  the state lacks a part or has others than were written"""
@@ -41,17 +41,17 @@ def opened(path: Path) -> tuple[State, Journal]:
 
 def print_lines(options: argparse.Namespace) -> None:
     """As firm gets them in a replay, or as they were sent."""
-    refused = refused_lines(options.state)
-    for kept in kept_lines(options.state):
+    found = found_now(options.state)
+    for kept in kept_lines(found):
         if options.senders:
-            sys.stdout.buffer.write(b"".join(described(kept, refused)))
+            sys.stdout.buffer.write(b"".join(described(kept, found.refused)))
         else:
             held = enumerate(kept.lines, kept.number)
-            text = [(first_word(line) or b"+") if number in refused else line for number, line in held]
+            text = [(first_word(line) or b"+") if number in found.refused else line for number, line in held]
             sys.stdout.buffer.write(b"".join([line + b"\n" for line in text]))
 
 
-def described(kept: Kept, refused: set[int]) -> list[bytes]:
+def described(kept: Kept, refused: dict[int, int]) -> list[bytes]:
     """The lines, each behind its number, time and sender."""
     clock = time.strftime("%Y-%m-%dT%H:%M:%S", time.gmtime(kept.time // 1_000)) + f".{kept.time % 1_000:03}Z"
     begins = b"%b %b" % (clock.encode() if kept.time else b"-", kept.sender)
@@ -64,37 +64,44 @@ def described(kept: Kept, refused: set[int]) -> list[bytes]:
 def rewrite(options: argparse.Namespace) -> None:
     """Writes all segments anew in today's form, beside the old ones, and then puts them in their place."""
     state, source = opened(options.state)
-    if source.is_of_today and not options.forget_replies:
+    if source.is_of_today and not options.forget_replies and not options.obey:
         print(f"{source.folder}: all segments have today's form already")
         return
-    draft, old = copy.copy(state), source.folder.with_name("journal.old")
-    draft.journal_path, draft.had_roster = source.folder.with_name("journal.new"), False
+    unknown = sorted(set(options.obey) - source.found.refused.keys())
+    if unknown:
+        raise Fault(Exit.WORDS, f"memory was not refused to line {unknown[0]}, so it is obeyed")
+    draft, old = state.folder / NEW_JOURNAL, state.folder / OLD_JOURNAL
     if old.exists():
         raise Fault(Exit.STATE, f"{old} is there: move it away")
-    shutil.rmtree(draft.journal_path, ignore_errors=True)
-    target = Journal(draft, SEGMENT_BYTES)
-    copy_lines(options.state, target)
-    if not options.forget_replies:
-        for block in source.found.blocks:
-            target.keep(block)
-    for at in sorted(set(source.found.refused.values())):
-        target.keep_refused(sorted(number for number, kept in source.found.refused.items() if kept == at), at)
-    if (target.found.lines, target.found.size) != (source.found.lines, source.found.size):
-        raise Fault(Exit.INTERNAL, f"{target.found.lines} of {source.found.lines} lines were copied")
+    shutil.rmtree(draft, ignore_errors=True)
+    target = Journal(state, SEGMENT_BYTES, draft)
+    copy_all(source.found, target, options)
     source.close()
     target.close()
     source.folder.rename(old)
-    target.folder.rename(source.folder)
+    draft.rename(source.folder)
     sync_folder(state.folder)
     print(f"{source.folder}: {source.found.lines:,} lines are written anew; the old segments are in {old}")
 
 
-def copy_lines(state: Path, target: Journal) -> None:
-    for kept in kept_lines(state):
+def copy_all(found: Found, target: Journal, options: argparse.Namespace) -> None:
+    """The lines, the digests of replies, and the refusals."""
+    for kept in kept_lines(found):
         for first in range(0, len(kept.lines), COPIED_LINES):
             lines = kept.lines[first : first + COPIED_LINES]
             text = b"".join([line + b"\n" for line in lines])
             target.append([Batch(kept.sender, text, len(lines))], kept.time)
+    if (target.found.lines, target.found.size) != (found.lines, found.size):
+        raise Fault(Exit.INTERNAL, f"{target.found.lines} of {found.lines} lines were copied")
+    if not options.forget_replies:
+        for block in found.blocks:
+            target.keep(block)
+    times: dict[int, list[int]] = {}
+    for number, at in sorted(found.refused.items()):
+        if number not in options.obey:
+            times.setdefault(at, []).append(number)
+    for at, numbers in times.items():
+        target.keep_refused(numbers, at)
 
 
 def renew_id(options: argparse.Namespace) -> None:
@@ -123,6 +130,8 @@ def parser() -> argparse.ArgumentParser:
         if name == "rewrite":
             told = "leave out the digests of replies, for a firm that replies otherwise"
             command.add_argument("--forget-replies", action="store_true", help=told)
+            told = "have a line obeyed that an older firmd took for one that memory was refused to; may be given again"
+            command.add_argument("--obey", type=int, action="append", default=[], metavar="NUMBER", help=told)
     return found
 
 

@@ -3,12 +3,17 @@
 from __future__ import annotations
 
 from collections.abc import Iterator
+from contextlib import suppress
 from dataclasses import dataclass
 from pathlib import Path
+from zlib import crc32
 
-from .records import HEADER_BEGINS, LINES, REFUSED, UNKNOWN, read_refusals, record_at
-from .recovery import marks_of, whole_text
-from .state import JOURNAL
+from .faults import Exit, Fault
+from .records import LINES, UNKNOWN, record_at
+from .recovery import Found, damaged, extent_path, find
+from .state import JOURNAL, StateFolder
+
+TRIES = 4  # as firmd may begin a segment meanwhile
 
 
 @dataclass(frozen=True, slots=True)
@@ -21,39 +26,43 @@ class Kept:
     lines: list[bytes]  # without their ends
 
 
-def segments_of(state: Path) -> list[Path]:
-    return sorted((state / JOURNAL).glob("*.lines"), key=lambda path: int(path.stem))
+def found_now(folder: Path) -> Found:
+    """What the journal has at this moment, compared as at a start; behind that, firmd may go on."""
+    if not (folder / JOURNAL).is_dir():
+        raise Fault(Exit.STATE, f"{folder} is no state of firmd, or was never served")
+    tries = 0
+    while True:
+        before, tries = extent_now(folder), tries + 1
+        try:
+            state = StateFolder(folder)
+            state.roster_sum = crc32(state.roster_path.read_bytes())
+            return find(state)
+        except Fault:
+            if tries == TRIES or extent_now(folder) == before:
+                raise
 
 
-def kept_lines(state: Path) -> Iterator[Kept]:
-    """All lines in their order, up to the first record that is not whole."""
-    number = 1
-    for path in segments_of(state):
-        data = whole_text(path)
-        if not data.startswith(HEADER_BEGINS):
-            lines = data.split(b"\n")[:-1]
-            yield Kept(number, 0, UNKNOWN, lines)
-            number += len(lines)
+def extent_now(folder: Path) -> bytes:
+    with suppress(FileNotFoundError):
+        return extent_path(folder / JOURNAL).read_bytes()
+    return b""
+
+
+def kept_lines(found: Found) -> Iterator[Kept]:
+    """All lines in their order."""
+    for segment in found.segments:
+        data = segment.path.read_bytes()
+        if segment is found.segments[-1]:
+            data = data[: found.last_size]
+        if segment.is_old:
+            yield Kept(segment.lines + 1, 0, UNKNOWN, data.split(b"\n")[:-1])
             continue
         place = 0
-        while (record := record_at(data, place)) is not None:
+        while place < len(data):
+            record = record_at(data, place)
+            if record is None:
+                damaged(f"{segment.path}, at byte {place} of {len(data)}: it was changed meanwhile")
             place = record.end
             if record.kind == LINES:
                 lines = data[place - int(record.fields[0]) : place].split(b"\n")[:-1]
-                yield Kept(number, int(record.fields[3]), record.fields[4], lines)
-                number += len(lines)
-
-
-def refused_lines(state: Path) -> set[int]:
-    """The numbers of the lines that memory was refused to."""
-    found: set[int] = set()
-    firsts, number = dict[int, int](), 1
-    for path in segments_of(state):
-        data = whole_text(path)
-        firsts[int(path.stem)] = number
-        number += data.count(b"\n") - data.count(b"\n#") - data.startswith(b"#")
-        found.update(*[read_refusals(record) for record in marks_of(data) if record.kind == REFUSED])
-    for line in whole_text(state / JOURNAL / "refused").splitlines():
-        segment, below = map(int, line.split())
-        found.add(firsts[segment] + below)
-    return found
+                yield Kept(int(record.fields[1]), int(record.fields[3]), record.fields[4], lines)

@@ -6,6 +6,7 @@ at once; its records are looked at one by one only to name the place of a damage
 
 from __future__ import annotations
 
+import re
 from dataclasses import dataclass, field
 from hashlib import blake2b
 from pathlib import Path
@@ -13,7 +14,7 @@ from typing import NoReturn
 from zlib import crc32
 
 from .extent import Extent
-from .faults import Exit, Fault, reason
+from .faults import RESTORE, Exit, Fault, reason
 from .lines import gets_reply
 from .records import (
     HEADER,
@@ -29,11 +30,10 @@ from .records import (
     read_refusals,
     record_at,
 )
-from .state import State
+from .state import StateFolder
 
 DIGEST_BYTES = 16
 HEADER_BYTES = 512  # at most
-RESTORE = "restore the state from a copy"
 
 
 @dataclass(frozen=True, slots=True)
@@ -75,8 +75,8 @@ def extent_path(folder: Path) -> Path:
     return folder / "extent"
 
 
-def damaged(text: str) -> NoReturn:
-    raise Fault(Exit.JOURNAL, f"{text}; {RESTORE}")
+def damaged(text: str, other_cure: str = "") -> NoReturn:
+    raise Fault(Exit.JOURNAL, f"{text}; {RESTORE}{other_cure}")
 
 
 def read_file(path: Path) -> bytes:
@@ -86,19 +86,20 @@ def read_file(path: Path) -> bytes:
         raise Fault(Exit.STATE, f"cannot open the journal {path}: {reason(error)}") from error
 
 
-def find(state: State) -> Found:
+def find(state: StateFolder) -> Found:
     """Reads and compares all segments; the last one is left out where it was begun and has nothing."""
     folder = state.journal_path
-    numbers, extent = numbers_of(folder), Extent.read(extent_path(folder))
+    extent = Extent.read(extent_path(folder))
+    numbers = numbers_of(folder)
     if extent is not None:
         return find_today(state, numbers, extent)
+    if not numbers and state.id is not None and (state.is_of_today or state.had_roster):
+        cure = "" if state.is_of_today else f", or remove {state.id_path} if no line of it was ever answered"
+        damaged(f"{folder} has no segments, and the state was begun with some", cure)
+    if state.is_of_today:
+        damaged(f"{extent_path(folder)} is missing, which says how far the segments reach")
     if numbers and is_newborn(segment_path(folder, numbers[-1])):
-        if numbers[-1] > 1 or state.id is None:
-            numbers.pop()
-    if not numbers and state.id is not None and state.had_roster:
-        old = folder.with_name("journal.old")
-        cure = f"; if it was being rewritten, rename {old} to it" if old.exists() else ""
-        damaged(f"{folder} has no segments, and the state was begun with some{cure}")
+        numbers.pop()
     found, paths = Found(), [segment_path(folder, number) for number in numbers]
     for path in paths:
         if read_file(path).startswith(HEADER_BEGINS):
@@ -107,7 +108,7 @@ def find(state: State) -> Found:
     return found
 
 
-def find_today(state: State, numbers: list[int], extent: Extent) -> Found:
+def find_today(state: StateFolder, numbers: list[int], extent: Extent) -> Found:
     """The same where there are segments of today's form, which have an extent."""
     folder, last = state.journal_path, extent.segment
     if len(numbers) == last + 1 and is_newborn(segment_path(folder, last + 1)):
@@ -127,27 +128,48 @@ def find_today(state: State, numbers: list[int], extent: Extent) -> Found:
         damaged(f"{extent_path(folder)}: it is that of the state {found.state}, not {headers[last].state}")
     if state.id is None and found.lines:  # one without lines may have none yet: it is written last
         damaged(f"{state.id_path} is missing, which was {found.state}")
-    if state.id not in (None, found.state):
+    if state.id not in (None, found.state) and not is_being_renewed(state.id, headers, found):
         damaged(f"{state.id_path}: it is {state.id}, and the journal that of {found.state}")
     return found
 
 
+def is_being_renewed(name: str | None, headers: dict[int, Header], found: Found) -> bool:
+    """Whether the state gets another id, which is kept behind a segment that begins with it: this one is the former."""
+    last = max(headers)
+    return headers[last].lines == found.lines and last - 1 in headers and headers[last - 1].state == name
+
+
 def is_newborn(path: Path) -> bool:
-    """Whether a segment of this version has no record yet: it was begun, and nothing answered from it."""
+    """Whether a segment of this version has no record yet: it was begun, and nothing answered from it.
+
+    Its header may be there in parts. An older segment's first line does not begin so, but with a zero byte, where firm
+    refuses it.
+    """
     data = read_file(path)
-    if data.startswith(HEADER_BEGINS):
-        return b"\n" not in data[:-1]
-    return HEADER_BEGINS.startswith(data) or not data.strip(b"\0")
+    is_begun = data[:1] in (b"", b"#", b"\0") and len(data) <= HEADER_BYTES and b"\n" not in data[:-1]
+    return is_begun and not has_marks(path)
+
+
+def has_marks(path: Path) -> bool:
+    """Whether an older firmd kept digests or a refusal of the segment's lines."""
+    number = b"%d" % int(path.stem)
+    marks = [line.split()[:1] for line in whole_text(path.with_name("refused")).splitlines()]
+    return whole_text(path.with_suffix(".blocks")) != b"" or [number] in marks
 
 
 def numbers_of(folder: Path) -> list[int]:
     """The segments that are there, none missing between them."""
-    found = sorted(int(path.stem) for path in folder.glob("*.lines"))
+    paths = sorted(folder.glob("*.lines"))
+    for path in paths:
+        if re.fullmatch(r"[0-9]{8,10}", path.stem) is None:
+            raise Fault(Exit.JOURNAL, f"{path} is no segment of the journal, by its name; move it away")
+    found = sorted(int(path.stem) for path in paths)
     if found != list(range(1, len(found) + 1)):
         damaged(f"{folder}: segments are missing: those there are {found}")
-    orphans = [path.name for path in folder.glob("*.blocks") if not path.with_suffix(".lines").exists()]
-    if orphans:
-        damaged(f"{folder}: segments are missing: there are {', '.join(sorted(orphans))} without their lines")
+    orphans = [path for path in folder.glob("*.blocks") if not path.with_suffix(".lines").exists()]
+    lost = [path.name for path in orphans if whole_text(path)]  # one without a record was left by an older firmd
+    if lost:
+        damaged(f"{folder}: segments are missing: there are {', '.join(sorted(lost))} without their lines")
     return found
 
 
@@ -254,7 +276,7 @@ def take_old_segments(found: Found, paths: list[Path], may_be_torn: bool) -> Non
         take_old_segment(found, path, may_be_torn and path == paths[-1])
     if paths:
         kept = paths[0].with_name("refused")
-        found.refused = old_refusals(kept, found.segments)
+        found.refused = old_refusals(kept, found.segments, found.lines)
         found.chain = crc32(whole_text(kept), found.chain)
 
 
@@ -297,13 +319,17 @@ def old_blocks(path: Path, size: int) -> list[tuple[int, Block, str]]:
     return found
 
 
-def old_refusals(path: Path, segments: list[Segment]) -> dict[int, int]:
-    """The lines that memory was refused to, by an older firmd's file of them; their time is not known."""
+def old_refusals(path: Path, segments: list[Segment], lines: int) -> dict[int, int]:
+    """Those of all lines that memory was refused to, by an older firmd's file; their time is not known."""
     found: dict[int, int] = {}
+    ends = [segment.lines for segment in segments[1:]] + [lines]
     for place, line in enumerate(whole_text(path).splitlines(), 1):
         try:
-            number, below = map(int, line.split())
-            found[segments[range(1, len(segments) + 1).index(number)].lines + below + 1] = 0
+            segment, below = map(int, line.split())
+            number = segments[range(1, len(segments) + 1).index(segment)].lines + below + 1
         except ValueError as error:
             raise Fault(Exit.JOURNAL, f"{path}:{place}: these are no segment and line; {RESTORE}") from error
+        if below < 0 or number > ends[segment - 1]:
+            damaged(f"{path}:{place}: the segment {segment} has not as many lines")
+        found[number] = 0
     return found

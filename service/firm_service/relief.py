@@ -33,6 +33,11 @@ class Spare:
             os.close(self._file)
             self._file = -1
 
+    def keep(self, file: int) -> None:
+        """Holds this one, which is not needed otherwise."""
+        self.give()
+        self._file = file
+
     def take(self) -> bool:
         """Whether it is held again."""
         with suppress(OSError):

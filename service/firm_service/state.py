@@ -10,19 +10,46 @@ from collections.abc import Sequence
 from pathlib import Path
 from zlib import crc32
 
-from .faults import Exit, Fault, reason
+from .faults import RESTORE, Exit, Fault, reason
 from .files import replace_synced, sync_folder, write_synced
 
 ROSTER, LOCK, JOURNAL, VIEW, ID = "roster.csv", "lock", "journal", "view", "id"
+OLD_JOURNAL, NEW_JOURNAL = "journal.old", "journal.new"  # the one that was rewritten, and the one that is written
+OLD_ID_BYTES, ID_BYTES = 8, 10  # an older firmd kept the id before its journal, this one once the journal is there
 
 
-class State:
-    """A folder that this process alone has, as long as it lives."""
+class StateFolder:
+    """What a state's folder has beside the journal, as any process reads it."""
 
     def __init__(self, folder: Path) -> None:
         self.folder = folder
         self.roster_path, self.journal_path, self.view_path = folder / ROSTER, folder / JOURNAL, folder / VIEW
         self.id_path = folder / ID
+        self.had_roster = self.roster_path.exists()  # so a start came as far as the journal
+        self.roster_sum = 0  # of the kept roster, once it is read
+        self.id = self._read_id()  # None before the first start is through
+
+    @property
+    def is_of_today(self) -> bool:
+        """Whether the id is one that was kept behind a journal of today's form."""
+        return self.id is not None and len(self.id) == 2 * ID_BYTES
+
+    def _read_id(self) -> str | None:
+        try:
+            name = id_of(self.folder)
+        except FileNotFoundError:
+            return None
+        except OSError as error:
+            raise Fault(Exit.STATE, f"cannot read {self.id_path}: {reason(error)}") from error
+        if re.fullmatch(r"[0-9a-z-]{1,40}", name) is None:
+            raise Fault(Exit.JOURNAL, f"{self.id_path}: this is no id of a state; {RESTORE}")
+        return name
+
+
+class State(StateFolder):
+    """A folder that this process alone has, as long as it lives."""
+
+    def __init__(self, folder: Path) -> None:
         try:
             if not folder.exists():
                 folder.mkdir(mode=0o750, parents=True)
@@ -30,10 +57,8 @@ class State:
             self._lock = os.open(folder / LOCK, os.O_RDWR | os.O_CREAT, 0o600)
         except OSError as error:
             raise Fault(Exit.STATE, f"cannot use the state {folder}: {reason(error)}") from error
-        self._take_lock()
-        self.had_roster = self.roster_path.exists()  # so a start came as far as the journal
-        self.roster_sum = 0  # of the kept roster, once it is read
-        self.id = self._read_id()  # None before the first start is through
+        self._take_lock(folder)
+        super().__init__(folder)
 
     def roster(self, given: Path | None, firm: Sequence[str]) -> bytes:
         """The roster of the state. The first one that firm accepts is kept; another one is refused from then on."""
@@ -50,19 +75,10 @@ class State:
         except OSError as error:
             raise Fault(Exit.STATE, f"cannot keep an id in {self.folder}: {reason(error)}") from error
 
-    def _read_id(self) -> str | None:
-        try:
-            name = id_of(self.folder)
-        except FileNotFoundError:
-            return None
-        except OSError as error:
-            raise Fault(Exit.STATE, f"cannot read {self.id_path}: {reason(error)}") from error
-        if re.fullmatch(r"[0-9a-z-]{1,40}", name) is None:
-            raise Fault(Exit.JOURNAL, f"{self.id_path}: this is no id of a state; restore the state from a copy")
-        return name
-
     def _choose_roster(self, given: Path | None, firm: Sequence[str]) -> bytes:
         kept = read(self.roster_path) if self.roster_path.exists() else None
+        if kept is None:
+            self._require_new()
         if given is None:
             if kept is None:
                 raise Fault(Exit.ROSTER, f"the state {self.folder} is new: name a roster, --roster FILE")
@@ -78,17 +94,29 @@ class State:
             )
         return text
 
-    def _take_lock(self) -> None:
+    def _require_new(self) -> None:
+        """Asks that no start came as far as the journal; only an older firmd kept the id before a roster."""
+        folders = [self.folder / name for name in (JOURNAL, OLD_JOURNAL, NEW_JOURNAL)]
+        if self.is_of_today or any(path for folder in folders for path in folder.glob("*.lines")):
+            raise Fault(Exit.JOURNAL, f"{self.roster_path} is missing, with which the state began; {RESTORE}")
+        try:
+            if self.id is not None:
+                self.id_path.unlink()
+                self.id = None
+        except OSError as error:
+            raise Fault(Exit.STATE, f"cannot use the state {self.folder}: {reason(error)}") from error
+
+    def _take_lock(self, folder: Path) -> None:
         try:
             fcntl.flock(self._lock, fcntl.LOCK_EX | fcntl.LOCK_NB)
         except BlockingIOError as error:
             holder = os.pread(self._lock, 20, 0).decode(errors="replace").strip()
-            raise Fault(Exit.STATE, f"the state {self.folder} is in use by process {holder or 'unknown'}") from error
+            raise Fault(Exit.STATE, f"the state {folder} is in use by process {holder or 'unknown'}") from error
         try:
             os.ftruncate(self._lock, 0)
             os.pwrite(self._lock, f"{os.getpid()}\n".encode(), 0)
         except OSError as error:
-            raise Fault(Exit.STATE, f"cannot use the state {self.folder}: {reason(error)}") from error
+            raise Fault(Exit.STATE, f"cannot use the state {folder}: {reason(error)}") from error
 
     def _keep_roster(self, text: bytes, given: Path, firm: Sequence[str]) -> None:
         new = self.roster_path.with_suffix(".new")

@@ -20,13 +20,12 @@ from dataclasses import dataclass, field
 from functools import partial
 from hashlib import blake2b
 from itertools import groupby
-from pathlib import Path
 from queue import SimpleQueue
 from threading import Event, Thread
 from typing import Protocol
 
 from .faults import Exit, Fault, Faults, reason
-from .journal import Journal, Piece, Place
+from .journal import Journal, Piece, Place, Shortage
 from .lines import NO_MEMORY, OPERATOR_NO_MEMORY, first_word, is_memory_refused
 from .observers import Observer, Status
 from .records import UNKNOWN, Batch, Block
@@ -37,10 +36,6 @@ DIGEST_BYTES = 16
 PIPE_BYTES = 1_048_576  # that a pipe to or from firm holds, where the system lets it
 READ_BYTES = 65_536  # a piece that needs no memory of its own from the system
 SHORTAGE_SECONDS, SHORTAGE_TRIES = 0.02, 500  # until what lacked memory is tried again, and how often at most
-
-
-class Shortage(MemoryError):
-    """Memory is lacking, and nothing was done yet."""
 
 
 class Owner(Protocol):
@@ -359,9 +354,18 @@ class Stream:
             return min(count, following - share.answered)
         line = piece.text.split(b"\n")[following]
         if self.is_mistaken(line):
-            path, number = self._journal.place_of(piece.place.number + following)
-            raise Fault(Exit.JOURNAL, mistake(path, number, line))
+            raise Fault(Exit.JOURNAL, self._mistake(piece.place.number + following, line))
         return 1
+
+    def _mistake(self, number: int, line: bytes) -> str:
+        """What is to be done about a refusal that was none."""
+        path, below = self._journal.place_of(number)
+        return (
+            f"{path}, line {below}, {line.decode(errors='replace')!r}: an older firmd took its reply, which may end "
+            "with `move no 14 memory`, for a refusal of memory. To have the line obeyed, run "
+            f"`firm-journal rewrite --obey {number} {path.parents[1]}`, and start firmd again. If firmd was restarted "
+            "since the mistake, what it answered from then on may rest on the wrong state: see docs/SERVICE.md"
+        )
 
     def _answer_share(self, share: Share, replies: list[bytes]) -> None:
         first, last = share.answered, share.answered + len(replies)
@@ -496,19 +500,6 @@ def batches_of(shares: list[Share]) -> list[Batch]:
 
 def sender_of(share: Share) -> bytes:
     return share.owner.sender if share.owner is not None else UNKNOWN
-
-
-def mistake(path: Path, number: int, line: bytes) -> str:
-    """What is to be done about a refusal that was none."""
-    marks = path.with_name("refused")
-    cure = f"remove the line '{int(path.stem)} {number - 1}' of {marks}, and start firmd again: the line is obeyed then"
-    if not marks.exists():  # the segment was rewritten
-        cure = f"put journal.old in the place of {path.parent}, start firmd over it, and rewrite it only then"
-    return (
-        f"{path}, line {number}, {line.decode(errors='replace')!r}: an older firmd took its reply, which may end with "
-        f"`move no 14 memory`, for a refusal of memory: {cure}. If firmd was restarted since the mistake, what it "
-        "answered from then on may rest on the wrong state: see docs/SERVICE.md"
-    )
 
 
 def placed(share: Share) -> Place:

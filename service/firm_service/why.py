@@ -7,7 +7,7 @@ import subprocess
 from collections.abc import Iterator
 from pathlib import Path
 
-from .kept import kept_lines, refused_lines
+from .kept import found_now, kept_lines
 from .lines import first_word
 from .tables import Row
 
@@ -20,10 +20,10 @@ class NotBuilt(Exception):
 
 def journal_of(state: Path, tenant: bytes) -> Iterator[bytes]:
     """The journal's lines of a tenant and those of the operator, without those that memory was refused to."""
-    refused = refused_lines(state)
-    for kept in kept_lines(state):
+    found = found_now(state)
+    for kept in kept_lines(found):
         for number, line in enumerate(kept.lines, kept.number):
-            if first_word(line) in (tenant, b"+") and number not in refused:
+            if first_word(line) in (tenant, b"+") and number not in found.refused:
                 yield line + b"\n"
 
 
@@ -40,7 +40,8 @@ def last_round(output: str) -> tuple[str, list[str]]:
 
 
 def why(task: Row, state: Path) -> Row:
-    """The reasons for a task, a row of the view; raises `NotBuilt`, and `OSError` where the state can't be read."""
+    """The reasons for a task, a row of the view; raises `NotBuilt`, and where the state can't be read `OSError` or
+    `Fault`."""
     program = Path(os.environ.get("FIRM_EXPLAIN", PROGRAM))
     if not program.exists():
         raise NotBuilt(f"the reasons come from firm_explain, which is not built: there is no {program}")

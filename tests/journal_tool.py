@@ -1,0 +1,140 @@
+"""Checks of firm-journal, which tests/journal.py runs: what it prints and writes anew, and crashes meanwhile."""
+
+from __future__ import annotations
+
+import os
+import subprocess
+import sys
+import threading
+from pathlib import Path
+
+import firmd
+from firmd import JOURNAL_TOOL, Setup
+from harness.checks import require
+from harness.deployed import SERVICE
+from journal_kit import OLD, ROUNDS, answered, ask_all, serves, tool, write_old
+
+
+def cut_rewrites(setup: Setup) -> None:
+    """A crash while a journal is written anew leaves the former one or the new one in its place."""
+    said = [line for segment in OLD for line in segment]
+    with setup.daemon() as daemon:
+        write_old(daemon, setup, OLD)
+        journal = daemon.state / "journal"
+        (daemon.state / "journal.new").mkdir()
+        (daemon.state / "journal.new" / "00000001.lines").write_bytes(b"#firm-jour")
+        tool("rewrite", daemon.state)
+        journal.rename(daemon.state / "journal.new")  # as between the two renames
+        serves(daemon, said, setup)
+        require(not (daemon.state / "journal.new").exists(), "the new one is in its place")
+        daemon.stop()
+
+
+def cut_renewals(setup: Setup) -> None:
+    """A crash before the new id is kept leaves a state that gets it at its start; else a former id is no id."""
+    said = [line for segment in OLD for line in segment]
+    for is_old in (False, True):
+        with setup.daemon() as daemon:
+            if is_old:
+                write_old(daemon, setup, OLD)
+            else:
+                daemon.start()
+                ask_all(daemon, said)
+                daemon.kill()
+            path = daemon.state / "id"
+            before = path.read_bytes()
+            tool("new-id", daemon.state)
+            after = path.read_bytes()
+            path.write_bytes(before)
+            serves(daemon, said, setup)
+            require(path.read_bytes() == after != before, "the new id")
+            daemon.kill()
+            path.write_bytes(before)
+            daemon.refuses(5, str(path))
+
+
+def new_ids(setup: Setup) -> None:
+    """A restored copy gets an id of its own, and goes on with all its lines."""
+    with setup.daemon() as daemon:
+        daemon.start()
+        ask_all(daemon, ROUNDS)
+        daemon.stop()
+        before = (daemon.state / "id").read_text()
+        require(before.strip() in tool("new-id", daemon.state), "it tells")
+        require((daemon.state / "id").read_text() != before, "its id")
+        serves(daemon, ROUNDS, setup)
+        done = subprocess.run([*JOURNAL_TOOL, "new-id", str(daemon.state)], capture_output=True, text=True)
+        require(done.returncode == 4 and "is in use by process" in done.stderr, done)
+        daemon.stop()
+
+
+def printed(*words: str | Path) -> tuple[int, str, str]:
+    """The status, the lines and the faults of `firm-journal print`."""
+    done = subprocess.run([*JOURNAL_TOOL, "print", *words], capture_output=True, text=True)
+    return done.returncode, done.stdout, done.stderr
+
+
+def printed_damage(setup: Setup) -> None:
+    """`firm-journal print` and `firmctl why` tell of a damage or a missing state, and print no part of it."""
+    with setup.daemon("--segment-bytes", "3000") as daemon:
+        answered(daemon, True)
+        first, second, *_, last = daemon.segments()
+        texts = {path: path.read_bytes() for path in (first, second, last)}
+        changed = texts[first].replace(b"alpha task j a", b"Blpha task j a", 1)
+        rows = [(first, changed), (first, texts[first][:-9]), (second, texts[first]), (last, texts[last][:-1])]
+        for path, text in [*rows, (last, b"")]:
+            path.write_bytes(text)
+            status, lines, told = printed(daemon.state)
+            require((status, lines) == (5, "") and str(path.parent) in told, f"{path.name}: {status} {told}")
+            path.write_bytes(texts[path])
+        last.unlink()
+        require(printed(daemon.state)[:2] == (5, ""), "a segment is missing")
+        last.write_bytes(texts[last] + texts[last][-40:-2])  # an end that was torn
+        require(printed("--senders", daemon.state)[1].count("\n") == daemon.journal().count(b"\n") - 1, "all lines")
+        status, _, told = printed(daemon.folder / "none")
+        require(status == 4 and "no state" in told, told)
+        last.write_bytes(texts[last])
+        daemon.start()
+        explain = Path(firmd.stand_in(daemon.folder, "#!/bin/sh\ncat > /dev/null\n"))
+        words: list[str | Path] = [sys.executable, SERVICE / "firmctl", "--state", daemon.state, "why", "a", "alpha"]
+        for path in (first, second):
+            path.unlink()
+            path.mkdir() if path == first else path.write_bytes(b"")
+            done = subprocess.run(
+                words, capture_output=True, text=True, env={**os.environ, "FIRM_EXPLAIN": str(explain)}
+            )
+            told = f"{path.name}: status {done.returncode}: {done.stderr}"
+            require(done.returncode == 3 and done.stderr.startswith("firmctl: ") and path.name in done.stderr, told)
+            path.rmdir() if path == first else path.unlink()
+            path.write_bytes(texts[path])
+
+
+def printed_meanwhile(setup: Setup) -> None:
+    """A journal is printed as it is at some moment while firmd goes on, begins segments, and is refused memory."""
+    with setup.daemon("--segment-bytes", "1500") as daemon:
+        daemon.start()
+        is_over = threading.Event()
+
+        def ask() -> None:
+            with daemon.client() as client:
+                while not is_over.is_set():
+                    client.send(b"alpha show\n" * 20)
+                    require(all(client.reply().startswith(b"alpha ") for _ in range(20)), "replies")
+
+        def look() -> None:
+            try:
+                counts = [0]
+                for _ in range(4 if setup.is_quick else 40):
+                    status, lines, told = printed(daemon.state)
+                    require(status == 0, told)
+                    counts.append(lines.count("alpha show\n"))
+                    require(len(lines) == counts[-1] * len("alpha show\n"), lines[-100:])
+                require(counts == sorted(counts) and counts[-1] > counts[1], counts)
+            finally:
+                is_over.set()
+
+        require(firmd.in_threads([ask, look]) == [], "they end well")
+        daemon.stop()
+
+
+SHORT = [cut_rewrites, cut_renewals, new_ids, printed_damage, printed_meanwhile]
