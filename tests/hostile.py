@@ -17,6 +17,7 @@ import resource
 import shutil
 import signal
 import socket
+import subprocess
 import sys
 import time
 import urllib.request
@@ -31,7 +32,7 @@ from firmd import FIRMD, ROWS, Client, Daemon, Gone, Setup, wait_for
 from harness import program
 from harness.checks import Check, Skipped, count_ends, passes, require, run_script
 from harness.deployed import SERVICE
-from journal import MOVED, QUESTIONS
+from journal_kit import MOVED, QUESTIONS
 
 CHECKS_AT_A_TIME = 4
 SOON_SECONDS = 0.3  # in which something that must not happen would have happened
@@ -265,6 +266,96 @@ def used_up_descriptors(setup: Setup) -> None:
         daemon.stop()
 
 
+FILLED = """\
+import os, resource, sys
+from pathlib import Path
+from zlib import crc32
+sys.path.insert(0, {service!r})
+from firm_service.journal import Journal
+from firm_service.records import Batch
+from firm_service.state import State
+state = State(Path({state!r}))
+state.roster_sum = crc32(state.roster_path.read_bytes())
+journal = Journal(state, 300)
+journal.on_shortage = lambda error: sys.exit(f"segment {{len(journal.found.segments) + 1}}: {{error}}")
+resource.setrlimit(resource.RLIMIT_NOFILE, (64, 64))
+def fill():
+    try:
+        while True:
+            os.open(os.devnull, os.O_RDONLY)
+    except OSError:
+        pass
+fill()
+while len(journal.found.segments) < 5:
+    journal.append([Batch(b"*:0", b"alpha show\\n" * 5, 5)])
+    fill()
+print(len(journal.found.segments))
+"""
+
+
+def spare_descriptor(setup: Setup) -> None:
+    """The descriptor that is held for segments is there for each, while others take all that become free."""
+    with setup.daemon() as daemon:
+        daemon.state.mkdir()
+        (daemon.state / "roster.csv").write_bytes(firmd.ROSTER)
+        script = FILLED.format(service=str(SERVICE), state=str(daemon.state))
+        done = subprocess.run([sys.executable, "-c", script], capture_output=True, text=True)
+        require(done.stdout == "5\n", done.stderr)
+
+
+LACKING = """\
+import os, sys
+sys.path.insert(0, {service!r})
+from firm_service import journal, relief
+is_asked, has_room = [], []
+def relieve(self, error):
+    has_room.extend(is_asked)
+relief.Relief.relieve = relieve
+def keep_refused(self, numbers, time=None, original=journal.Journal.keep_refused):
+    is_asked.append(True)
+    original(self, numbers, time)
+journal.Journal.keep_refused = keep_refused
+def write(file, text, original=os.write):
+    if {is_write} and bytes(text[:8]) == b"#refused" and not has_room:
+        raise OSError(12, "no memory")
+    return original(file, text)
+def opened(path, *words, original=os.open, **named):
+    if not {is_write} and str(path).endswith("2.lines") and not has_room:
+        raise OSError(24, "no descriptor")
+    return original(path, *words, **named)
+os.write, os.open = write, opened
+from firm_service.daemon import main
+sys.exit(main())
+"""
+REFUSING = """\
+#!{python}
+import sys, time
+for number, line in enumerate(sys.stdin, 1):
+    if "refused" in line:
+        time.sleep(0.5)
+    print("alpha", number, "no 14 memory" if "refused" in line else "ok", flush=True)
+"""
+
+
+def refusals_in_shortages(setup: Setup) -> None:
+    """A refusal that lacks memory, or waits for a segment that lacks a descriptor, is kept once there is room."""
+    for is_write in (True, False):
+        with setup.daemon("--segment-bytes", "400") as daemon:
+            script = daemon.folder / "lacking.py"
+            script.write_text(LACKING.format(service=str(SERVICE), is_write=is_write))
+            daemon.words = [sys.executable, str(script)]
+            daemon.firm = firmd.stand_in(daemon.folder, REFUSING.format(python=sys.executable))
+            daemon.start()
+            with daemon.client() as client:
+                client.send(b"alpha machine refused 1\n")
+                wait_for(lambda: b"refused" in daemon.journal(), "the line is written")
+                client.send(b"alpha machine m 1\n" * 20)  # which begin a segment
+                replies = [client.reply() for _ in range(21)]
+                require(replies[:2] == [b"alpha 1 no 14 memory", b"alpha 2 ok"], replies)
+            require(b"#refused " in b"".join(path.read_bytes() for path in daemon.segments()), "it is kept")
+            daemon.kill()
+
+
 def used_up_memory(setup: Setup) -> None:
     """Clients that leave more unread than there is memory are closed; where that does not help, a restart does."""
     with setup.daemon("--most-unread", str(2**30)) as daemon:
@@ -352,6 +443,8 @@ SHORT = [
     hostile_requests,
     unforeseen_faults,
     used_up_descriptors,
+    spare_descriptor,
+    refusals_in_shortages,
     refused_threads,
     successors_socket,
 ]
