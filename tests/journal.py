@@ -141,7 +141,7 @@ def damaged_ids(setup: Setup) -> None:
         daemon.stop()
         path = daemon.state / "id"
         kept = path.read_bytes()
-        changed = [bytes([kept[0] ^ 1 << bit]) + kept[1:] for bit in range(8)]
+        changed = [bytes([kept[0] ^ 1 << bit]) + kept[1:] for bit in ((0, 7) if setup.is_quick else range(8))]
         for text in [*changed, b"", b"\n", kept[:-2], kept[:-1] + b" 7\n", b"0123456789abcdef\n"]:
             path.write_bytes(text)
             daemon.refuses(5, str(path))
@@ -176,7 +176,7 @@ def lost_beginnings(setup: Setup) -> None:
                 shutil.rmtree(path) if path.is_dir() else path.unlink()
             for path, text in written.items():
                 path.write_bytes(text)
-            for _ in range(2):
+            for _ in range(1 if setup.is_quick else 2):  # nor after it was told
                 daemon.refuses(5, str(told))
             shutil.rmtree(daemon.state)
             shutil.copytree(kept, daemon.state)

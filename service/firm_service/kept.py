@@ -11,7 +11,7 @@ from zlib import crc32
 from .faults import Exit, Fault
 from .records import LINES, UNKNOWN, record_at
 from .recovery import Found, damaged, extent_path, find
-from .state import JOURNAL, StateFolder
+from .state import JOURNAL, StateFolder, read
 
 TRIES = 4  # as firmd may begin a segment meanwhile
 
@@ -35,7 +35,7 @@ def found_now(folder: Path) -> Found:
         before, tries = extent_now(folder), tries + 1
         try:
             state = StateFolder(folder)
-            state.roster_sum = crc32(state.roster_path.read_bytes())
+            state.roster_sum = crc32(read(state.roster_path))
             return find(state)
         except Fault:
             if tries == TRIES or extent_now(folder) == before:
