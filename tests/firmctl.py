@@ -669,8 +669,8 @@ def reasons_are_told() -> None:
         folder = started.state / "journal"
         folder.mkdir()
         (started.state / "roster.csv").write_bytes(ROSTER)
-        (folder / "2.lines").write_bytes(b"alpha task batch d m1\n\t alpha round\r\n+ retire beta\n")
-        (folder / "1.lines").write_bytes(b"beta job low 2\nalpha job web 10\nalpha job no-memory 1\n")
+        (folder / "00000002.lines").write_bytes(b"alpha task batch d m1\n\t alpha round\r\n+ retire beta\n")
+        (folder / "00000001.lines").write_bytes(b"beta job low 2\nalpha job web 10\nalpha job no-memory 1\n")
         (folder / "refused").write_bytes(b"1 2\n")
         done = firmctl("why", "d", "--state", str(started.state), FIRM_EXPLAIN=str(stand_in))
         lines = done.output.decode().splitlines()

@@ -538,9 +538,11 @@ def no_rights(setup: Setup) -> None:
         journal = daemon.state / "journal"
         journal.rename(daemon.folder / "away")
         journal.write_bytes(b"")
-        daemon.refuses(4, "cannot open the journal", "File exists")
+        daemon.refuses(4, "cannot open the journal", "Not a directory")
         journal.unlink()
-        (journal / "00000001.lines").mkdir(parents=True)
+        (daemon.folder / "away").rename(journal)
+        (journal / "00000001.lines").unlink()
+        (journal / "00000001.lines").mkdir()
         daemon.refuses(4, "cannot open the journal", "Is a directory")
 
 
