@@ -16,7 +16,6 @@ import re
 import shutil
 import subprocess
 import sys
-import threading
 import time
 import zlib
 from collections.abc import Callable
@@ -170,6 +169,7 @@ def lost_beginnings(setup: Setup) -> None:
             ([extent], {first: bytes(size)}, journal),
             ([extent], {first: bytes(100)}, journal),
             ([], {journal / "00000001 (copy).lines": b"x"}, journal / "00000001 (copy).lines"),
+            ([], {journal / "1.lines": b"x"}, journal / "1.lines"),
         ]
         for away, written, told in rows:
             for path in away:
@@ -345,6 +345,14 @@ def cut_power(daemon: Daemon, shadow: Path, draw: random.Random) -> None:
     (shadow / "names").write_text(json.dumps(names))
 
 
+def kill_behind(daemon: Daemon, tenants: list[firmd.Tenant], lines: int) -> None:
+    """Kills it once that number of lines was answered."""
+    try:
+        firmd.wait_for(lambda: sum(len(tenant.answered) for tenant in tenants) >= lines, "lines are answered")
+    finally:
+        daemon.kill()
+
+
 def power_cuts_at_any_moment(setup: Setup) -> None:
     """Whatever of the unsynced is lost, each answered line is there, with its reply; and none of it is a damage."""
     draw = random.Random(setup.seed)
@@ -360,10 +368,9 @@ def power_cuts_at_any_moment(setup: Setup) -> None:
                 partial(firmd.converse, tenant, daemon.client(), False, random.Random(draw.random()), 10**9)
                 for tenant in tenants
             ]
-            killer = threading.Timer(draw.uniform(0.05, 0.4), daemon.kill)
-            killer.start()
+            answered_lines = sum(len(tenant.answered) for tenant in tenants) + draw.randrange(30, 300)
+            works.append(partial(kill_behind, daemon, tenants, answered_lines))
             raised = firmd.in_threads(works)
-            killer.join()
             require(all(isinstance(error, firmd.Gone) for error in raised), raised)
             cut_power(daemon, shadow, draw)
         daemon.start().stop()
@@ -481,7 +488,7 @@ def old_mistakes(setup: Setup) -> None:
             cure = f"`firm-journal rewrite --obey {len(MOVED)} {daemon.state}`"
             daemon.refuses(5, "alpha round", cure, *([] if before == "rewrite" else ["00000002.lines, line 4"]))
             done = subprocess.run([*JOURNAL_TOOL, "rewrite", "--obey", "2", daemon.state], capture_output=True)
-            require(done.returncode == 2 and b"was not refused to line 2" in done.stderr, done)
+            require(done.returncode == 2 and b"line 2 is none" in done.stderr, done)
             tool("rewrite", "--obey", str(len(MOVED)), daemon.state)
             serves(daemon, MOVED, setup)
             daemon.stop()

@@ -11,7 +11,7 @@ from pathlib import Path
 import firmd
 from firmd import JOURNAL_TOOL, Setup
 from harness.checks import require
-from harness.deployed import SERVICE
+from harness.deployed import SERVICE, found_now, kept_lines
 from journal_kit import OLD, ROUNDS, answered, ask_all, serves, tool, write_old
 
 
@@ -24,7 +24,12 @@ def cut_rewrites(setup: Setup) -> None:
         (daemon.state / "journal.new").mkdir()
         (daemon.state / "journal.new" / "00000001.lines").write_bytes(b"#firm-jour")
         tool("rewrite", daemon.state)
-        journal.rename(daemon.state / "journal.new")  # as between the two renames
+        new = journal.rename(daemon.state / "journal.new")  # as between the two renames
+        old, rest = (daemon.state / "journal.old" / "00000002.lines"), b"beta show\n"
+        text = old.read_bytes()
+        old.write_bytes(text + rest)  # so the new one is of an earlier moment
+        daemon.refuses(5, f"{new} has not the lines of {old.parent}")
+        old.write_bytes(text)
         serves(daemon, said, setup)
         require(not (daemon.state / "journal.new").exists(), "the new one is in its place")
         daemon.stop()
@@ -110,9 +115,14 @@ def printed_damage(setup: Setup) -> None:
 
 
 def printed_meanwhile(setup: Setup) -> None:
-    """A journal is printed as it is at some moment while firmd goes on, begins segments, and is refused memory."""
+    """A journal is printed as it is at some moment, while firmd goes on and begins segments."""
     with setup.daemon("--segment-bytes", "1500") as daemon:
         daemon.start()
+        with daemon.client() as client:
+            client.ask(b"alpha show")
+            found = found_now(daemon.state)
+            client.ask(b"alpha show")  # which may be refused memory, and that is not known to what was found
+        require([kept.lines for kept in kept_lines(found)] == [[b"alpha show"]], "the lines of that moment")
         is_over = threading.Event()
 
         def ask() -> None:

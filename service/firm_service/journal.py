@@ -62,10 +62,14 @@ def piece_end(text: bytes, start: int, most: int) -> int:
 
 
 def finish_rewrite(state: State) -> None:
-    """Puts a journal that is written anew in the place of the former, where a crash came before that."""
-    new = state.folder / NEW_JOURNAL
-    if not state.journal_path.exists() and (state.folder / OLD_JOURNAL).exists() and new.exists():
-        new.rename(state.journal_path)
+    """Puts a journal that was written anew in the place of the former, where a crash came before that."""
+    new, old = state.folder / NEW_JOURNAL, state.folder / OLD_JOURNAL
+    if state.journal_path.exists() or not new.exists() or not old.exists():
+        return
+    rewritten, former = find(state, new), find(state, old)
+    if (rewritten.lines, rewritten.size) != (former.lines, former.size):
+        damaged(f"{state.journal_path} is missing, and {new} has not the lines of {old}")
+    new.rename(state.journal_path)
 
 
 class Shortage(MemoryError):
@@ -92,7 +96,7 @@ class Journal:
         self._size = self._synced = 0  # its bytes, and those of them that are synced
         try:
             finish_rewrite(state)
-            self.found = Found() if draft else find(state)  # what is there, and all that is appended
+            self.found = Found() if draft else find(state, self.folder)  # what is there, and all that is appended
             self.folder.mkdir(mode=0o700, exist_ok=True)
             sync_folder(self.folder.parent)
             self._folder = os.open(self.folder, os.O_RDONLY | os.O_DIRECTORY)

@@ -24,7 +24,7 @@ COPIED_LINES = 4_096  # at a time, of an older segment
 EXITS = """\
 exit statuses:
   0  it is done
-  2  the command line, or a line to be obeyed that is obeyed already
+  2  the command line, or a line to be obeyed that no older firmd took for a refused one
   3  the state's roster can't be read
   4  the state can't be read or written, or firmd has it
   5  the state lacks a part or has others than were written"""
@@ -67,9 +67,9 @@ def rewrite(options: argparse.Namespace) -> None:
     if source.is_of_today and not options.forget_replies and not options.obey:
         print(f"{source.folder}: all segments have today's form already")
         return
-    unknown = sorted(set(options.obey) - source.found.refused.keys())
-    if unknown:
-        raise Fault(Exit.WORDS, f"memory was not refused to line {unknown[0]}, so it is obeyed")
+    for number in options.obey:
+        if source.found.refused.get(number) != 0:  # the time of a refusal that an older firmd kept is not known
+            raise Fault(Exit.WORDS, f"line {number} is none that an older firmd took for a refused one")
     draft, old = state.folder / NEW_JOURNAL, state.folder / OLD_JOURNAL
     if old.exists():
         raise Fault(Exit.STATE, f"{old} is there: move it away")

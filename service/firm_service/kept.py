@@ -36,7 +36,7 @@ def found_now(folder: Path) -> Found:
         try:
             state = StateFolder(folder)
             state.roster_sum = crc32(read(state.roster_path))
-            return find(state)
+            return find(state, state.journal_path)
         except Fault:
             if tries == TRIES or extent_now(folder) == before:
                 raise

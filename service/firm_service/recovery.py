@@ -86,13 +86,12 @@ def read_file(path: Path) -> bytes:
         raise Fault(Exit.STATE, f"cannot open the journal {path}: {reason(error)}") from error
 
 
-def find(state: StateFolder) -> Found:
-    """Reads and compares all segments; the last one is left out where it was begun and has nothing."""
-    folder = state.journal_path
+def find(state: StateFolder, folder: Path) -> Found:
+    """Reads and compares all segments of a folder; the last one is left out where it was begun and has nothing."""
     extent = Extent.read(extent_path(folder))
     numbers = numbers_of(folder)
     if extent is not None:
-        return find_today(state, numbers, extent)
+        return find_today(state, folder, numbers, extent)
     if not numbers and state.id is not None and (state.is_of_today or state.had_roster):
         cure = "" if state.is_of_today else f", or remove {state.id_path} if no line of it was ever answered"
         damaged(f"{folder} has no segments, and the state was begun with some", cure)
@@ -108,9 +107,9 @@ def find(state: StateFolder) -> Found:
     return found
 
 
-def find_today(state: StateFolder, numbers: list[int], extent: Extent) -> Found:
+def find_today(state: StateFolder, folder: Path, numbers: list[int], extent: Extent) -> Found:
     """The same where there are segments of today's form, which have an extent."""
-    folder, last = state.journal_path, extent.segment
+    last = extent.segment
     if len(numbers) == last + 1 and is_newborn(segment_path(folder, last + 1)):
         numbers.pop()
     if len(numbers) != last:
@@ -161,7 +160,7 @@ def numbers_of(folder: Path) -> list[int]:
     """The segments that are there, none missing between them."""
     paths = sorted(folder.glob("*.lines"))
     for path in paths:
-        if re.fullmatch(r"[0-9]{8,10}", path.stem) is None:
+        if not re.fullmatch(r"[0-9]+", path.stem) or path != segment_path(folder, int(path.stem)):
             raise Fault(Exit.JOURNAL, f"{path} is no segment of the journal, by its name; move it away")
     found = sorted(int(path.stem) for path in paths)
     if found != list(range(1, len(found) + 1)):

@@ -12,6 +12,7 @@ sys.path.insert(0, str(SERVICE))
 from firm_service import roster  # noqa: E402 (found by the line before)
 from firm_service.books import LONGEST_WAIT, Book, Books  # noqa: E402
 from firm_service.faults import Faults  # noqa: E402
+from firm_service.kept import found_now, kept_lines  # noqa: E402
 from firm_service.lines import gets_reply  # noqa: E402
 from firm_service.observers import Status  # noqa: E402
 from firm_service.state import ID  # noqa: E402
@@ -27,7 +28,9 @@ __all__ = [
     "MOST_UNREAD",
     "SERVICE",
     "Status",
+    "found_now",
     "gets_reply",
+    "kept_lines",
     "roster",
     "serve_view",
 ]
