@@ -11,7 +11,7 @@ import secrets
 import time
 from collections import deque
 from collections.abc import Callable, Iterator, Sequence
-from contextlib import contextmanager, suppress
+from contextlib import suppress
 from dataclasses import dataclass
 from functools import partial
 from pathlib import Path
@@ -80,6 +80,25 @@ def is_shortage(error: BaseException) -> bool:
     return isinstance(error, MemoryError) or isinstance(error, OSError) and error.errno in SHORTAGES
 
 
+class Writing:
+    """Remembers a failure: whatever is written behind it could make the extent say what the disk has not."""
+
+    def __init__(self, fault_of: Callable[[OSError], Fault]) -> None:
+        self._fault_of = fault_of
+        self._trouble: Fault | None = None
+
+    def __enter__(self) -> None:
+        if self._trouble is not None:
+            raise self._trouble
+
+    def __exit__(self, kind: object, error: BaseException | None, trace: object) -> None:
+        if isinstance(error, OSError):
+            self._trouble = self._fault_of(error)
+            raise self._trouble from error
+        if error is not None and not isinstance(error, Shortage):
+            self._trouble = Fault(Exit.INTERNAL, f"the journal failed before: {error!r}")
+
+
 class Journal:
     """The segments in a state's folder, of one process at a time. The replay's pieces come first, then lines are
     appended, by one thread; another may keep refusals meanwhile. A draft is a folder in which it is written anew."""
@@ -89,7 +108,7 @@ class Journal:
         self.on_shortage: Callable[[BaseException], None] = lambda error: None  # of a descriptor or memory
         self._lock = Lock()
         self._is_short = False  # what is under way waits for a descriptor or memory
-        self._trouble: Fault | None = None  # a write or a sync has failed: what the disk has is not known any more
+        self._writing = Writing(partial(self._fault, "write"))
         self._extent: ExtentFile | None = None  # none before the first segment of today's form
         self._file = -1  # the last segment
         self._spare = Spare()  # for the next one
@@ -207,7 +226,7 @@ class Journal:
         Lines that are copied have the time that they had, and are synced by `close` alone.
         """
         size = sum([len(batch.text) for batch in batches])
-        with self._lock, self._writing():
+        with self._lock, self._writing:
             found = self.found
             if not self.found.since or self._size + size > self.segment_bytes and self._has_lines():
                 self._begin_segment()
@@ -222,7 +241,7 @@ class Journal:
 
     def keep(self, block: Block) -> None:
         """Keeps what a later replay must give. It need not be on the disk soon: a replay compares what is there."""
-        with self._lock, self._writing():
+        with self._lock, self._writing:
             if not self.found.since:
                 self._begin_segment()
             self._write(block.text())
@@ -237,7 +256,7 @@ class Journal:
             if self._is_short:
                 raise Shortage
         try:
-            with self._writing():
+            with self._writing:
                 self._write(text, is_patient=False)
                 self._sync()
         finally:
@@ -245,7 +264,7 @@ class Journal:
 
     def renew(self) -> None:
         """Gives the state another id, for a copy that has lost what was answered since."""
-        with self._lock, self._writing():
+        with self._lock, self._writing:
             if not self.found.since:
                 self._begin_segment()  # so the last header has the former id, where a crash comes before the id is kept
             self.state.id = secrets.token_hex(ID_BYTES)
@@ -254,29 +273,13 @@ class Journal:
 
     def close(self) -> None:
         """Brings the disk up to date: what is missing at the next start was there."""
-        with self._lock, self._writing():
+        with self._lock, self._writing:
             if self._extent is not None:
                 self._sync()
                 self._extent.sync()
                 self._extent.close()
                 os.close(self._file)
             os.close(self._folder)
-
-    @contextmanager
-    def _writing(self) -> Iterator[None]:
-        """Remembers a failure: whatever is written behind it could make the extent say what the disk has not."""
-        if self._trouble is not None:
-            raise self._trouble
-        try:
-            yield
-        except Shortage:
-            raise
-        except OSError as error:
-            self._trouble = self._fault("write", error)
-            raise self._trouble from error
-        except BaseException as error:
-            self._trouble = Fault(Exit.INTERNAL, f"the journal failed before: {error!r}")
-            raise
 
     def _has_lines(self) -> bool:
         """Whether the last segment has some."""
