@@ -568,6 +568,32 @@ def events_moved_away() -> None:
             require(case.firmd.asked == ["alpha done a", "alpha done a"], case.firmd.asked)
 
 
+def events_put_back(is_moved: bool, has_other_number: bool) -> None:
+    """A task that runs while its events are put back to a copy, or moved away, is begun again only once it has ended."""
+    stubborn = "trap 'sleep 0.5; rmdir a.lock; exit 0' TERM; echo begin >> a.log; while :; do sleep 0.05; done"
+    with Case("", a=command(f"mkdir a.lock || echo two >> doubled; {stubborn}"), b=command(WAITS_FOR_GO)) as case:
+        case.start()
+        case.until(lambda: case.events("state"), "it has begun")
+        early = "" if is_moved else case.text("state/events.jsonl")
+        case.firmd.round("start a m1")
+        case.until(lambda: case.events("running") and case.text("a.log"), "a is known to run")
+        old = [case.supervisor("a", 1), *case.processes()["a"]]
+        case.kill()
+        (case.folder / "state/events.jsonl").write_text(early)
+        if has_other_number:
+            case.firmd.round("preempt a m1 start b m1")
+        case.start()
+        if has_other_number:
+            case.until_runs("a", "b")
+            case.firmd.round("start a m2")
+        case.until(lambda: case.text("a.log").count("begin") == 2, "a begins again")
+        require(not any(map(is_there, old)), f"the other run is still there\n{case.told()}")
+        require(not case.text("doubled"), "two processes of one task at a time")
+        require(f"a.1, process {old[0]}, runs too and is unknown here: it is ended first" in case.told(), case.told())
+        time.sleep(SOON_SECONDS)
+        require(case.text("a.log").count("begin") == 2, "it has begun once more")
+
+
 def runs_of_an_older_agent() -> None:
     """What an older agent has begun, in folders without the state's name, is found, followed and ended."""
     with Case("", a=command(WAITS_FOR_GO), b=command(WAITS_FOR_GO), c=command(WAITS_FOR_GO)) as case:
@@ -957,6 +983,9 @@ def checks(program: str, is_quick: bool) -> dict[str, Check]:
     """Each check's name, and the check."""
     kills = 4 if is_quick else 40
     found: dict[str, Check] = {name_of(check): check for check in QUICK + ([] if is_quick else LONG)}
+    for is_moved, where in ((False, "put back"), (True, "moved away")):
+        for has_other, number in ((False, "number"), (True, "other number")):
+            found[f"a run whose events are {where}, {number}"] = partial(events_put_back, is_moved, has_other)
     found[f"killed at any moment, {kills} times"] = partial(killed_at_any_moment, kills)
     if not is_quick:
         found["example"] = partial(example, program)

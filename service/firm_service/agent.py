@@ -393,6 +393,8 @@ class Agent:
             case {"event": "running", "pid": int(pid)}:
                 self.state.record("running", run=run.number, pid=pid)
                 tell(f"{run} {'still runs' if is_old else 'runs'}, process {pid}")
+            case {"event": "foreign", "run": str(other), "pid": int(pid)}:
+                tell(f"{run}: {other}, process {pid}, runs too and is unknown here: it is ended first")
             case {"event": "ended", "status": int(), "asked": bool()} | {"event": "lost" | "void"}:
                 return {**event}
             case _:
@@ -408,6 +410,7 @@ class Agent:
         if work is not None:
             names = {"TENANT": self.table.tenant, "JOB": run.job, "TASK": run.key.task, "MACHINE": run.machine}
             request["command"], request["grace"] = work.command, work.grace
+            request["own"] = str(runs if is_here else runs / self.history.name)
             request["directory"] = str(self.table.folder / machine.directory) if is_here else machine.directory
             request["environment"] = {f"FIRM_{name}": value for name, value in names.items()}
         return request

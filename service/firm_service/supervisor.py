@@ -3,7 +3,8 @@
 It stands alone: ssh carries it to machines that have only Python 3.9. On standard input comes one line, a request; each
 further line asks for the end of the run, and the end of input leaves it alone. On standard output each event of the run
 is a line of JSON: `running`, and one of `ended`, `lost` (the supervisor was killed, and what it had started is ended
-now) and `void` (the run was never begun, and never will be).
+now) and `void` (the run was never begun, and never will be). Before them come `foreign`, one for each run of this task
+that the agent does not know, as where its events were put back from a copy: it is ended before anything else is done.
 
 The run's folder has `output`, `process` (the process that has claimed the run, or null) and, once no process is left,
 `status`.
@@ -32,6 +33,9 @@ NOT_STARTED = 127  # the shell's own status for a command that it can't run
 
 class Request(NamedTuple):
     folder: str  # of the run
+    own: str | None = (
+        None  # the folder of all runs of this agent alone: those in it, and in the histories' folders there
+    )
     token: str | None = None  # that this run alone has; None: of an older agent
     command: str | None = None  # for the shell; None: whatever was begun is followed, and nothing new
     directory: str = "."
@@ -225,13 +229,56 @@ def say(event: str, **more: object) -> None:
     print(json.dumps({"event": event, **more}), flush=True)
 
 
+def claim_of(folder: Path) -> tuple[Process | None, str | None]:
+    """The process that has claimed a run, None where nobody may begin it, and its token. Raises OSError without a claim."""
+    claimed = json.loads((folder / "process").read_text())
+    if claimed is None:
+        return None, None
+    token = claimed.pop("token", None)
+    return Process(**claimed), token
+
+
+def runs_of(task: str, own: Path) -> Iterator[Path]:
+    """The folders of a task's runs, of all histories of an agent."""
+    for folder in own.iterdir():
+        name, dot, _ = folder.name.rpartition(".")
+        if name == task:
+            yield folder
+        elif not dot and folder.is_dir():  # of a history
+            yield from (run for run in folder.iterdir() if run.name.rpartition(".")[0] == task)
+
+
+def end_foreign(folder: Path, process: Process) -> None:
+    """Ends a run that the agent does not know. What the agent asks for meanwhile is read later."""
+    descriptor = process.open()
+    if descriptor is not None:
+        say("foreign", run=folder.name, pid=process.pid)
+        with contextlib.suppress(ProcessLookupError):
+            signal.pidfd_send_signal(descriptor, signal.SIGTERM)
+        select.select([descriptor], [], [])
+        os.close(descriptor)
+    end_strays(folder)
+
+
+def end_rivals(folder: Path, own: Path) -> None:
+    """Ends all other runs of a task that is to be begun."""
+    for run in runs_of(folder.name.rpartition(".")[0], own):
+        if run != folder and not (run / "status").exists():
+            with contextlib.suppress(FileNotFoundError):  # nothing has claimed it
+                process, _ = claim_of(run)
+                if process is not None:
+                    end_foreign(run, process)
+
+
 def follow(folder: Path, token: str | None) -> None:
     """Tells of a run that is claimed, until it ends or nobody asks any more."""
-    claimed = json.loads((folder / "process").read_text())
+    process, claimed = claim_of(folder)
     # Another run's token: the agent's events were put back to an older state, and its numbers come again.
-    if claimed is None or claimed.pop("token", None) != token and token is not None:
+    if process is not None and token is not None and claimed != token:
+        end_foreign(folder, process)
+        process = None
+    if process is None:
         return say("void")
-    process = Process(**claimed)
     descriptor = process.open()
     if descriptor is not None:
         say("running", pid=process.pid, start=process.start)
@@ -255,6 +302,8 @@ def main() -> None:
     folder.mkdir(parents=True, exist_ok=True)
     request = Request(str(folder), **asked)
     if request.command is not None:
+        if request.own is not None:
+            end_rivals(folder, Path(request.own).absolute())
         begin(request, request.command)
     elif claim(folder, None):
         return say("void")
