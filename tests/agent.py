@@ -569,7 +569,7 @@ def events_moved_away() -> None:
 
 
 def events_put_back(is_moved: bool, has_other_number: bool) -> None:
-    """A task that runs while its events are put back to a copy, or moved away, is begun again only once it has ended."""
+    """A task that runs while its events are put back to a copy, or moved away, ends before it is begun again."""
     stubborn = "trap 'sleep 0.5; rmdir a.lock; exit 0' TERM; echo begin >> a.log; while :; do sleep 0.05; done"
     with Case("", a=command(f"mkdir a.lock || echo two >> doubled; {stubborn}"), b=command(WAITS_FOR_GO)) as case:
         case.start()

@@ -3,17 +3,16 @@
 
 usage: tests/hostile.py [--quick] [--only WORDS] [--program FILE] [--seed N]
 Each check has a line; the last line is 'N passed, M failed', and the exit status is 1 where one failed. It needs Python
-3 and the built program; HTTP needs python3-aiohttp and python3-prometheus-client, descriptors prlimit. What
-can't be asked here is said and skipped. --quick sends fewer HTTP requests.
+3 and the built program; HTTP needs python3-aiohttp and python3-prometheus-client, for this Python or Debian's, and
+descriptors prlimit. What can't be asked here is said and skipped. --quick sends fewer HTTP requests.
 """
 
 from __future__ import annotations
 
 import argparse
-import importlib.util
+import json
 import os
 import random
-import resource
 import shutil
 import signal
 import socket
@@ -22,19 +21,22 @@ import sys
 import time
 import urllib.request
 from collections.abc import Iterator
-from concurrent.futures import ThreadPoolExecutor
+from concurrent.futures import Future, ThreadPoolExecutor
 from contextlib import ExitStack, contextmanager, suppress
-from functools import partial
+from functools import cache, partial
 from pathlib import Path
 
 import firmd
 from firmd import FIRMD, ROWS, Client, Daemon, Gone, Setup, wait_for
 from harness import program
-from harness.checks import Check, Skipped, count_ends, passes, require, run_script
-from harness.deployed import SERVICE
+from harness.checks import Check, Skipped, count_ends, passes, print_skipped, require, run_script
+from harness.deployed import HIGH_WATER, LINES_OF_SOCKET, SERVICE
 from journal_kit import MOVED, QUESTIONS
 
 CHECKS_AT_A_TIME = 4
+UNREAD_LINES = 10_000
+NO_HTTP = f"neither {sys.executable} nor /usr/bin/python3 has aiohttp and prometheus_client"
+ALL_SECONDS = 120.0  # for a hundred thousand lines on a busy host
 SOON_SECONDS = 0.3  # in which something that must not happen would have happened
 REQUEST = b"GET /metrics HTTP/1.1\r\nHost: localhost\r\nAccept: text/html\r\nConnection: close\r\n\r\n"
 # Requests at which parsers have failed.
@@ -51,14 +53,27 @@ REQUESTS = [
 ]
 
 
-def http_daemon(setup: Setup, *options: str) -> tuple[list[str], int]:
-    """The options of a firmd with HTTP, and its port."""
-    missing = [module for module in ("aiohttp", "prometheus_client") if importlib.util.find_spec(module) is None]
-    if missing:
-        raise Skipped(f"{sys.executable} has no {' and no '.join(missing)}")
+@cache
+def python_with_http() -> str | None:
+    """A Python that has what HTTP needs: this one, or Debian's."""
+    for python in (sys.executable, "/usr/bin/python3"):
+        words = [python, "-c", "import aiohttp, prometheus_client"]
+        with suppress(FileNotFoundError):
+            if subprocess.run(words, stdin=subprocess.DEVNULL, capture_output=True).returncode == 0:
+                return python
+    return None
+
+
+def with_http(daemon: Daemon) -> int:
+    """Has firmd serve HTTP; the port."""
+    python = python_with_http()
+    if python is None:
+        raise Skipped(NO_HTTP)
     with socket.create_server(("127.0.0.1", 0)) as free:
         port = int(free.getsockname()[1])
-    return [*options, "--http", f"127.0.0.1:{port}"], port
+    daemon.words = [python, *daemon.words[1:]]
+    daemon.options += ["--http", f"127.0.0.1:{port}"]
+    return port
 
 
 def faults_of(port: int) -> dict[str, float]:
@@ -155,9 +170,9 @@ def fuzzed(draw: random.Random) -> bytes:
 
 def hostile_requests(setup: Setup) -> None:
     """No HTTP request ends firmd, whatever its parser makes of it; what can't be served is closed and counted."""
-    options, port = http_daemon(setup)
     draw = random.Random(setup.seed)
-    with setup.daemon(*options) as daemon:
+    with setup.daemon() as daemon:
+        port = with_http(daemon)
         daemon.start()
         for text in REQUESTS:
             exchange(port, text)
@@ -170,9 +185,14 @@ def hostile_requests(setup: Setup) -> None:
         ends_well(daemon)
 
 
-FAULTY = """\
+PATCHED = """\
 import sys
 sys.path.insert(0, {service!r})
+{patch}
+from firm_service.daemon import main
+sys.exit(main())
+"""
+FAULTY = """\
 from firm_service import clients, view
 def fail(*_):
     raise KeyError("unforeseen")
@@ -183,25 +203,21 @@ view.status_of = view.Connection.tell = fail
 if "--http" in sys.argv:
     from firm_service import web
     web.page_of = fail
-from firm_service.daemon import main
-sys.exit(main())
 """
 
 
-def view_of(daemon: Daemon) -> Client:
-    return Client(daemon.state / "view")
+def patch(daemon: Daemon, text: str) -> None:
+    """Has firmd run with parts in the place of its own."""
+    script = daemon.folder / "patched.py"
+    script.write_text(PATCHED.format(service=str(SERVICE), patch=text))
+    daemon.words = [daemon.words[0], str(script)]
 
 
 def unforeseen_faults(setup: Setup) -> None:
     """A fault of a view, a watcher, a page or a client closes its connection; it is told once, and all else goes on."""
-    try:
-        options, port = http_daemon(setup)
-    except Skipped:
-        options, port = [], 0
-    with setup.daemon(*options) as daemon:
-        script = daemon.folder / "faulty.py"
-        script.write_text(FAULTY.format(service=str(SERVICE)))
-        daemon.words = [sys.executable, str(script)]
+    with setup.daemon() as daemon:
+        port = with_http(daemon) if python_with_http() is not None else 0
+        patch(daemon, FAULTY)
         daemon.start()
         with view_of(daemon) as watcher, daemon.client() as client:
             require(b'"book"' in watcher.ask(b'{"ask": "watch", "tenant": "alpha"}'), "the rows")
@@ -356,58 +372,163 @@ def refusals_in_shortages(setup: Setup) -> None:
             daemon.kill()
 
 
-def used_up_memory(setup: Setup) -> None:
-    """Clients that leave more unread than there is memory are closed; where that does not help, a restart does."""
-    with setup.daemon("--most-unread", str(2**30)) as daemon:
+def view_of(daemon: Daemon) -> Client:
+    return Client(daemon.state / "view")
+
+
+def status_of(daemon: Daemon) -> dict[str, int]:
+    """What firmd tells of itself."""
+    with view_of(daemon) as view:
+        found: dict[str, int] = json.loads(view.ask(b'{"ask": "status"}'))["status"]
+        return found
+
+
+def leave_unread(daemon: Daemon, client: Client) -> bool:
+    """Has a client leave from 256 KiB to 560,000 bytes of replies unread; whether one was closed for it."""
+    before = status_of(daemon)["unread_replies"]
+    client.send(b"alpha show\n" * UNREAD_LINES)  # whose replies have 770,000 bytes, of which the system takes some
+
+    def is_closed() -> bool:
+        return b"left more unread than they may" in daemon.said()
+
+    wait_for(lambda: is_closed() or status_of(daemon)["unread_replies"] > before + HIGH_WATER, "it is not read")
+    return is_closed()
+
+
+def bounded_replies(setup: Setup) -> None:
+    """Clients that leave more unread together than they may lose the newest of the socket with most, and no other."""
+    for bound in ("--most-unread-of-socket", "--most-unread-in-all"):
+        with setup.daemon(bound, "1500000") as daemon, ExitStack() as held:
+            daemon.options += ["--client", f"alpha={daemon.folder / 'alpha'}"]
+            daemon.start()
+            other = held.enter_context(daemon.client())
+            if bound == "--most-unread-in-all":
+                require(not leave_unread(daemon, other), "the first of all")
+            crowd = [held.enter_context(Client(daemon.folder / "alpha")) for _ in range(7)]
+            ended = next(client for client in reversed(crowd) if leave_unread(daemon, client))
+            asked = crowd[crowd.index(ended) :]
+            require(len(asked) > 1, "one alone has more than 1,500,000 bytes")
+            require(status_of(daemon)["unread_replies"] <= 1_500_000, status_of(daemon))
+            replies = [client.end().count(b"\n") for client in asked]
+            lost = [count < UNREAD_LINES for count in replies]
+            require(lost == sorted(lost) and not lost[0] and lost[-1], f"replies from the oldest on: {replies}")
+            if bound == "--most-unread-in-all":
+                require(other.end().count(b"\n") == UNREAD_LINES, "that of the other socket has all replies")
+            require(crowd[0].ask(b"alpha show").startswith(b"alpha "), "those that have read are served")
+            is_served(daemon)
+            ends_well(daemon)
+
+
+def bounded_lines(setup: Setup) -> None:
+    """Clients of a socket are not read while they are owed too many replies; others are, and all are answered."""
+    text = (b"alpha show" + b" " * 240 + b"\n") * 8_000  # so many may be owed to one client
+    with setup.daemon() as daemon, ThreadPoolExecutor(14) as pool:
         daemon.options += ["--client", f"alpha={daemon.folder / 'alpha'}"]
         daemon.start()
-        pid = daemon.running().pid
-        size = int(Path(f"/proc/{pid}/statm").read_text().split()[0]) * resource.getpagesize()
-        resource.prlimit(pid, resource.RLIMIT_AS, (size + 2**26, size + 2**26))
-        greedy = [Client(daemon.folder / "alpha") for _ in range(200)]
-        ends = time.monotonic() + firmd.REPLY_SECONDS
-        while b"are lacking" not in daemon.said():
-            require(time.monotonic() < ends, "memory is used up")
-            for one in greedy:
-                one.socket.settimeout(0.001)
-                with suppress(OSError):
-                    one.socket.send(b"alpha show\n" * 10_000)  # whose replies are not read
-        for one in greedy:
-            one.socket.close()
-        lines = daemon.journal().count(b"\n")
-        ends = time.monotonic() + 2 * firmd.REPLY_SECONDS
-        while daemon.running().poll() is None:  # a client that comes too early may be closed, or wait
-            require(time.monotonic() < ends, f"it neither serves nor ends: {daemon.said().decode()}")
-            with suppress(Gone, TimeoutError), daemon.client() as client:
-                client.socket.settimeout(1)
-                if client.ask(b"beta show").startswith(b"beta "):
-                    return ends_well(daemon)
-        require(daemon.running().poll() == 1 and b"memory is lacking" in daemon.said(), daemon.said())
-        daemon.start()  # as the unit does
-        is_served(daemon)
-        require(daemon.journal().count(b"\n") >= lines, "its lines")
-        daemon.stop()
+        firm = daemon.firm_process()
+        os.kill(firm, signal.SIGSTOP)
+
+        def ask(client: Client) -> int:
+            client.socket.settimeout(ALL_SECONDS)
+            client.send(text)
+            return client.end().count(b"\n")
+
+        def crowd(count: int) -> list[Future[int]]:
+            return [pool.submit(ask, Client(daemon.folder / "alpha")) for _ in range(count)]
+
+        answers = crowd(10)
+        wait_for(lambda: status_of(daemon)["journal_bytes"] > 0.9 * LINES_OF_SOCKET, "lines are taken")
+        time.sleep(SOON_SECONDS)
+        taken = status_of(daemon)["journal_bytes"]
+        require(taken < LINES_OF_SOCKET < 10 * len(text), f"{taken} bytes of lines are taken")
+        answers += crowd(4)  # of which nothing is read
+        time.sleep(SOON_SECONDS)
+        with daemon.client() as other:
+            other.send(b"beta show\n")
+            wait_for(lambda: status_of(daemon)["journal_bytes"] == taken + 10, "a line of another socket is taken")
+            os.kill(firm, signal.SIGCONT)
+            require(other.reply().startswith(b"beta 1 ok"), "and answered")
+        require([answer.result() for answer in answers] == [8_000] * 14, "each line is answered")
+        ends_well(daemon)
+
+
+def read_again(setup: Setup) -> None:
+    """A client that fails while none is read, for a shortage of memory, is lost alone: all others are read again."""
+    with setup.daemon() as daemon:
+        patch(daemon, SHORT_OF_MEMORY)
+        daemon.start()
+        with daemon.client() as first, daemon.client() as second, daemon.client() as newest:
+            for client in (first, second, newest):
+                require(client.ask(b"alpha show").startswith(b"alpha "), "they are served")
+            daemon.running().send_signal(signal.SIGUSR1)
+            require(first.rest() == newest.rest() == b"", "the one that failed is closed, and the newest")
+            require(second.ask(b"alpha show").startswith(b"alpha 4 ok"), "the other is read again")
+            is_served(daemon)
+        ends_well(daemon)
+
+
+def repeated_faults(setup: Setup) -> None:
+    """A reader that fails each time it is called ends firmd with 1, instead of a busy loop."""
+    for module, name in (("stream", "READ_BYTES"), ("accept", "AT_ONCE")):
+        with setup.daemon() as daemon:
+            patch(daemon, f"from firm_service import {module}\n{module}.{name} = 'none'")
+            daemon.start()
+            with daemon.client() as client:
+                client.send(b"alpha show\n")
+                require(daemon.status() == 1, daemon.said())
+            require(b"fails each time: TypeError" in daemon.said(), daemon.said())
+
+
+def failed_waits(setup: Setup) -> None:
+    """A fault of a thread that waits for firm, or closes its input, does not keep firmd from its end."""
+    for call, status in (("end", 6), ("close_input", 1)):
+        with setup.daemon() as daemon:
+            patch(daemon, FAILING.format(call=call))
+            daemon.start()
+            is_served(daemon)
+            daemon.running().send_signal(signal.SIGTERM)
+            require(daemon.status() == status and b"MemoryError" in daemon.said(), daemon.said())
 
 
 THREADLESS = """\
-import os, sys, threading
-sys.path.insert(0, {service!r})
+import os, threading
 def start(self, original=threading.Thread.start):
     if os.path.exists({flag!r}):
         raise RuntimeError("can't start new thread")
     original(self)
 threading.Thread.start = start
-from firm_service.daemon import main
-sys.exit(main())
+"""
+# At SIGUSR1 memory is lacking, and the first client that is held for it fails.
+SHORT_OF_MEMORY = """\
+import signal
+from firm_service import clients, relief
+failing = []
+def choose_reading(self, original=clients.Client.choose_reading):
+    if failing:
+        raise failing.pop()
+    original(self)
+def __init__(self, faults, original=relief.Relief.__init__):
+    original(self, faults)
+    def lack():
+        failing.append(MemoryError())
+        self.relieve(MemoryError())
+    self._loop.add_signal_handler(signal.SIGUSR1, lack)
+clients.Client.choose_reading, relief.Relief.__init__ = choose_reading, __init__
+"""
+FAILING = """\
+from firm_service import stream
+def fail(self, original=stream.Firm.{call}):
+    original(self)
+    raise MemoryError
+stream.Firm.{call} = fail
 """
 
 
 def refused_threads(setup: Setup) -> None:
     """A host that gives no further thread can't keep firmd from its end; at its start it says so."""
     with setup.daemon() as daemon:
-        script, flag = daemon.folder / "threadless.py", daemon.folder / "flag"
-        script.write_text(THREADLESS.format(service=str(SERVICE), flag=str(flag)))
-        daemon.words = [sys.executable, str(script)]
+        flag = daemon.folder / "flag"
+        patch(daemon, THREADLESS.format(flag=str(flag)))
         daemon.start()
         flag.touch()
         is_served(daemon)
@@ -437,7 +558,7 @@ def successors_socket(setup: Setup) -> None:
         other.stop()
 
 
-SHORT = [
+CHECKS = [
     names_of_refusals,
     names_of_changes,
     hostile_requests,
@@ -445,10 +566,14 @@ SHORT = [
     used_up_descriptors,
     spare_descriptor,
     refusals_in_shortages,
+    bounded_replies,
+    bounded_lines,
+    read_again,
+    repeated_faults,
+    failed_waits,
     refused_threads,
     successors_socket,
 ]
-LONG = [used_up_memory]
 
 
 def main() -> int:
@@ -460,8 +585,9 @@ def main() -> int:
     options = parser.parse_args()
     print(f"seed {options.seed}", flush=True)
     setup = Setup(options.program, options.quick, options.seed)
-    found = SHORT if options.quick else SHORT + LONG
-    named: dict[str, Check] = {check.__name__.replace("_", " "): partial(check, setup) for check in found}
+    named: dict[str, Check] = {check.__name__.replace("_", " "): partial(check, setup) for check in CHECKS}
+    if python_with_http() is None:
+        print_skipped("unforeseen faults, in the page", NO_HTTP)
     chosen = {name: check for name, check in named.items() if options.only in name}
     with ThreadPoolExecutor(CHECKS_AT_A_TIME) as pool:
         return count_ends(list(pool.map(passes, chosen.keys(), chosen.values())))

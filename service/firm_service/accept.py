@@ -6,7 +6,7 @@ import asyncio
 import socket
 from collections.abc import Callable
 
-from .faults import Faults
+from .faults import Fault, Faults, Reader
 from .relief import SHORTAGES, Relief
 
 AT_ONCE = 16  # connections of a socket in a turn of the loop
@@ -30,18 +30,24 @@ class Acceptor:
         self._loop = asyncio.get_running_loop()
         self._tasks: set[asyncio.Task[None]] = set()
         self._is_closed = False
+        self._reader = Reader("client", self._accept, faults, self._give_up)
         listening.listen(BACKLOG)
         listening.setblocking(False)
         self._listen()
 
     def close(self) -> None:
         self._is_closed = True
-        self._loop.remove_reader(self._socket)
+        if self._socket.fileno() >= 0:
+            self._loop.remove_reader(self._socket)
         self._socket.close()
+
+    def _give_up(self, fault: Fault) -> None:
+        self.close()
+        self._faults.give_up(fault)
 
     def _listen(self) -> None:
         if not self._is_closed:
-            self._loop.add_reader(self._socket, self._accept)
+            self._loop.add_reader(self._socket, self._reader)
 
     def _accept(self) -> None:
         try:
@@ -54,10 +60,10 @@ class Acceptor:
             pass
         except OSError as error:
             if error.errno not in SHORTAGES:
-                self._faults.note("client", error)
-            elif not self._relief.make_room(self._name, self._socket):
-                self._loop.remove_reader(self._socket)
+                raise
+            if not self._relief.make_room(self._name, self._socket):
                 self._loop.call_later(RETRY_SECONDS, self._listen)
+                self._loop.remove_reader(self._socket)
 
     async def _begin(self, connection: socket.socket) -> None:
         try:

@@ -12,11 +12,14 @@ import socket
 import stat
 import struct
 from collections import deque
+from contextlib import suppress
 from dataclasses import dataclass
 from pathlib import Path
-from typing import Protocol
+from typing import NamedTuple, Protocol
 
 from . import lines
+from .bounds import LINES_IN_ALL, LINES_OF_SOCKET, NOTE_BYTES, SHARE_BYTES, UNREAD_PIECE
+from .bounds import Account, Backlog, Bounds, Unread
 from .faults import Exit, Fault, Faults, reason, say
 from .observers import Status
 from .relief import Held
@@ -40,6 +43,9 @@ JOURNAL_FULL = b"? journal-full: firm can't read further lines; the operator mus
 TOO_MANY = b"? too-many-clients: %d are connected\n"
 UNREAD = b"? unread-replies: more than %d bytes were not read; further replies are dropped\n"
 STOPPING = b"? stopping: no further lines are taken\n"
+MOST_UNREAD = (
+    "the clients of a socket, or all, left more unread than they may: the newest of the socket with most is closed"
+)
 
 
 class Taker(Protocol):
@@ -83,6 +89,14 @@ class Rights:
 class Limits:
     clients: int
     unread_bytes: int  # of replies, for each client
+    unread_together: Bounds  # of replies too
+
+
+class Owed(NamedTuple):
+    """Lines that came together."""
+
+    asked: int  # the client's lines up to them
+    size: int  # what they take in memory
 
 
 @dataclass(frozen=True, slots=True)
@@ -101,9 +115,27 @@ class Clients:
         self.connected: dict[Client, None] = {}  # the newest last
         self.buffer = bytearray(PIECE_BYTES)  # of all clients: nothing stays in it
         self.is_held = False  # none is read
+        self.unread = Account(limits.unread_together)
+        self.backlog = Backlog(Bounds(LINES_OF_SOCKET, LINES_IN_ALL))
 
-    def unread_bytes(self) -> int:
-        return sum(client.transport.get_write_buffer_size() for client in self.connected)
+    def left(self, socket: bytes, size: int) -> None:
+        """Takes in that a socket's clients have so much more unread, or less; closes some where that is too much."""
+        self.unread.add(socket, size)
+        if size <= 0 or not self.unread.is_over(socket):
+            return
+        for client in self.connected:  # some may have read meanwhile
+            client.count_unread()
+        while (fullest := self.unread.fullest()) is not None:
+            newest = next((one for one in reversed(self.connected) if one.is_behind(fullest)), None)
+            if newest is None:
+                break
+            self.faults.count("unread", MOST_UNREAD)
+            newest.drop()
+
+    def owe(self, socket: bytes, size: int) -> None:
+        """Takes in that a socket's clients are owed the replies to so much more, or less; holds them where needed."""
+        if self.backlog.add(socket, size):
+            self._choose_readings()
 
     def of_sockets(self) -> Held:
         """The connections of each socket."""
@@ -115,8 +147,19 @@ class Clients:
     def hold(self, is_held: bool) -> None:
         """Reads none of them, or each again."""
         self.is_held = is_held
+        self._choose_readings()
+
+    def unread_bytes(self) -> int:
+        return sum(client.unread_bytes() for client in self.connected)
+
+    def _choose_readings(self) -> None:
         for client in self.connected:
-            client.choose_reading()
+            try:
+                client.choose_reading()
+            except Exception as error:  # it alone is lost: the others must be read again
+                with suppress(MemoryError):
+                    client.drop()
+                    self.faults.note("client", error)
 
     def stop_reading(self) -> None:
         for client in self.connected:
@@ -143,6 +186,9 @@ class Client(asyncio.BufferedProtocol):
         self._half = b""  # of a line
         self._asked = self._answered = 0  # lines given to firm, and their replies
         self._notes: deque[Note] = deque()
+        self._owed: deque[Owed] = deque()  # in order
+        self._unread = Unread()  # replies that the transport does not have yet: it has no more than one piece
+        self._left = 0  # bytes of replies that are known to be unread, those of the transport too
         self._has_ended = False  # it sends no more, or is sent no more
         self._is_stopped = self._is_full = self._is_reading = False
 
@@ -157,17 +203,21 @@ class Client(asyncio.BufferedProtocol):
             transport.abort()
 
     def _begin(self) -> None:
-        self.transport.set_write_buffer_limits(high=HIGH_WATER)
+        self.transport.set_write_buffer_limits(high=0)  # what it can't write at once is kept here, and counted
         self.sender = b"%b:%d" % (self.rights.socket, user_of(self.transport))
         self._is_reading = True
         most = self._clients.limits.clients
         if len(self._clients.connected) >= most:
             self.close_with(TOO_MANY % most)
         self._clients.connected[self] = None
+        # Not at once: asyncio is about to begin to read, and an early 3.11 would not heed that it was paused before.
+        asyncio.get_running_loop().call_soon(self.choose_reading)
 
     def connection_lost(self, error: Exception | None) -> None:
         self._has_ended = True
         self._clients.connected.pop(self, None)
+        self._unread.clear()
+        self.count_unread()
 
     def get_buffer(self, sizehint: int) -> bytearray:
         return self._clients.buffer
@@ -189,22 +239,33 @@ class Client(asyncio.BufferedProtocol):
 
     def pause_writing(self) -> None:
         self._is_full = True
-        self.choose_reading()
 
     def resume_writing(self) -> None:
         self._is_full = False
+        self._flush()
+        self.count_unread()
         self.choose_reading()
 
     def answered(self, replies: bytes, count: int) -> None:
         self._answered += count
+        self._settle()
         if self._notes and self._notes[0].behind <= self._answered:
             replies = self._with_notes(replies, count)
         self._write(replies)
         self.choose_reading()
         self._close_at_end()
 
+    def is_behind(self, socket: bytes) -> bool:
+        """Whether it is of the socket and has left replies unread."""
+        return self._left > 0 and self.rights.socket == socket
+
+    def unread_bytes(self) -> int:
+        return self._unread.size + self.transport.get_write_buffer_size()
+
     def drop(self) -> None:
         self.transport.abort()
+        self._unread.clear()
+        self.count_unread()
 
     def stop_reading(self) -> None:
         self._is_stopped = True
@@ -215,8 +276,8 @@ class Client(asyncio.BufferedProtocol):
         if self.transport.is_closing():
             return
         self._has_ended = True
-        self.transport.write(text)
-        self.transport.close()
+        self._unread.add(text)
+        self._close()
         asyncio.get_running_loop().call_later(LINGER_SECONDS, self.transport.abort)
 
     def _take(self, text: bytes) -> None:
@@ -243,6 +304,9 @@ class Client(asyncio.BufferedProtocol):
             return
         if self._clients.taker.take(self, text, count):
             self._asked += count
+            owed = Owed(self._asked, len(text) + SHARE_BYTES)
+            self._owed.append(owed)
+            self._clients.owe(self.rights.socket, owed.size)
         elif count == 1:
             self._note(JOURNAL_FULL)
         else:  # some may fit
@@ -254,6 +318,15 @@ class Client(asyncio.BufferedProtocol):
             self._write(text)
         else:
             self._notes.append(Note(self._asked, text))
+            self._clients.owe(self.rights.socket, NOTE_BYTES)
+
+    def _settle(self) -> None:
+        """Takes in which lines are answered, and so which notes will be told."""
+        size = 0
+        while self._owed and self._owed[0].asked <= self._answered:
+            size += self._owed.popleft().size
+        if size:
+            self._clients.owe(self.rights.socket, -size)
 
     def _with_notes(self, replies: bytes, count: int) -> bytes:
         """The replies, with the notes that stand between them and behind them."""
@@ -265,21 +338,33 @@ class Client(asyncio.BufferedProtocol):
             note = self._notes.popleft()
             parts += [*lines[told - first : note.behind - first], note.text]
             told = note.behind
+            self._clients.owe(self.rights.socket, -NOTE_BYTES)
         return b"".join(parts + lines[told - first :])
 
     def _write(self, text: bytes) -> None:
         if self.transport.is_closing():
             return
-        self.transport.write(text)
+        if len(text) <= UNREAD_PIECE and not self._is_full:
+            self.transport.write(text)
+        else:
+            self._unread.add(text)
+            self._flush()
+        self.count_unread()
         most = self._clients.limits.unread_bytes
-        if self.transport.get_write_buffer_size() > most:
+        if self._left > most and not self.transport.is_closing():
             say(f"a client is closed: it left more than {most} bytes of replies unread")
             self.close_with(UNREAD % most)
+
+    def _flush(self) -> None:
+        """Gives the transport what it can write at once."""
+        while self._unread.size and not self._is_full:
+            self.transport.write(self._unread.take())
 
     def choose_reading(self) -> None:
         waiting = self._asked - self._answered + len(self._notes)
         is_stopped = self._is_stopped or self._has_ended or self._clients.is_held
-        reads = not (is_stopped or self._is_full or waiting > LINES_AHEAD)
+        is_ahead = waiting > LINES_AHEAD or self._left > HIGH_WATER or self._clients.backlog.is_full(self.rights.socket)
+        reads = not (is_stopped or is_ahead)
         if reads != self._is_reading and not self.transport.is_closing():
             self._is_reading = reads
             if reads:
@@ -289,7 +374,21 @@ class Client(asyncio.BufferedProtocol):
 
     def _close_at_end(self) -> None:
         if self._has_ended and self._asked == self._answered:
-            self.transport.close()
+            self._close()
+
+    def _close(self) -> None:
+        """Closes once all is read that it was sent."""
+        while self._unread.size:
+            self.transport.write(self._unread.take())
+        self.transport.close()
+        self.count_unread()
+
+    def count_unread(self) -> None:
+        """Tells what it has left unread since the last look."""
+        left = self.unread_bytes()
+        if left != self._left:
+            more, self._left = left - self._left, left
+            self._clients.left(self.rights.socket, more)
 
 
 def user_of(transport: asyncio.BaseTransport) -> int:

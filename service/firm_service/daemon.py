@@ -20,6 +20,7 @@ from pathlib import Path
 
 from .accept import Acceptor
 from .books import Books
+from .bounds import MEBIBYTE, Bounds
 from .clients import Client, Clients, Limits, Listener, Rights
 from .faults import Exit, Fault, Faults, reason, say
 from .journal import Journal
@@ -35,6 +36,8 @@ from .view import serve_view
 MOST_INPUT = 2**32  # bytes that firm reads
 SEGMENT_BYTES = 16 * 2**20
 TICK_SECONDS = 0.5  # between looks at what the status counts
+# Eight clients at their own limit, and four such sockets: while fewer are at it, each of the others has all of its own.
+UNREAD_OF_SOCKET, UNREAD_IN_ALL = 64 * MEBIBYTE, 256 * MEBIBYTE
 SPARE_FILES = 256  # open files beside the clients'
 BUILT = Path(__file__).resolve().parents[2] / "crates" / "firm" / "out" / "firm"
 EXITS = """\
@@ -78,6 +81,7 @@ class Daemon:
         )
         self._stream = Stream(firm, journal, self._status, self._faults)
         self._relief = Relief(self._faults)
+        self._faults.give_up = self._stream.fail
         self._stream.on_shortage = journal.on_shortage = self._relief.relieve_soon
         loop = asyncio.get_running_loop()
         loop.set_exception_handler(self._hear_of_error)
@@ -93,7 +97,8 @@ class Daemon:
         await self._stream.ended
 
     async def _serve(self) -> None:
-        limits = Limits(self._options.most_clients, self._options.most_unread)
+        together = Bounds(self._options.most_unread_of_socket, self._options.most_unread_in_all)
+        limits = Limits(self._options.most_clients, self._options.most_unread, together)
         clients = Clients(self._stream, limits, self._faults)
         self._relief.look_at(clients.of_sockets)
         self._relief.on_memory = clients.hold
@@ -185,6 +190,7 @@ class Daemon:
     def _count(self, clients: Clients) -> None:
         self._status.clients = len(clients.connected)
         self._status.unread_replies = clients.unread_bytes()
+        self._status.owed_bytes = clients.backlog.account.total
         used, most = self._status.journal_bytes, self._status.journal_limit
         if used > most // 2 and not self._has_warned:
             self._has_warned = True
@@ -316,7 +322,10 @@ def parser() -> argparse.ArgumentParser:
     most_clients = partial(number, 1, 10**5)
     told = "at a time (default: %(default)s)"
     limits.add_argument("--most-clients", type=most_clients, default=1_000, metavar="N", help=told)
-    add_bytes(limits, "--most-unread", 2**40, 8 * 2**20, "of replies that a client may leave unread")
+    add_bytes(limits, "--most-unread", 2**40, 8 * MEBIBYTE, "of replies that a client may leave unread")
+    told = "that the clients of a socket may leave unread together"
+    add_bytes(limits, "--most-unread-of-socket", 2**40, UNREAD_OF_SOCKET, told)
+    add_bytes(limits, "--most-unread-in-all", 2**40, UNREAD_IN_ALL, "that all clients may leave unread")
     add_bytes(limits, "--journal-limit", MOST_INPUT, MOST_INPUT, "of all segments; firm reads no more")
     add_bytes(limits, "--segment-bytes", MOST_INPUT, SEGMENT_BYTES, "of a segment of the journal")
     return found

@@ -5,12 +5,13 @@ from __future__ import annotations
 import sys
 import traceback
 from collections import Counter
+from collections.abc import Callable
 from contextlib import suppress
 from enum import IntEnum
 
-
 MOST_KINDS = 100  # of faults, that are told
 RESTORE = "restore the state from a copy"  # where a part of it is missing or changed
+MOST_IN_A_ROW = 8  # faults of a reader: the loop calls it again at once, so further ones would be a busy loop
 
 
 class Exit(IntEnum):
@@ -39,6 +40,7 @@ class Faults:
 
     def __init__(self) -> None:
         self.counts: Counter[str] = Counter()
+        self.give_up: Callable[[Fault], None] = lambda fault: None  # ends the service; what was taken is answered
         self._told: set[tuple[str, ...]] = set()
 
     def count(self, part: str, text: str) -> None:
@@ -57,6 +59,25 @@ class Faults:
         if kind not in self._told and len(self._told) < MOST_KINDS:
             self._told.add(kind)
             say(text)
+
+
+class Reader:
+    """What the loop calls whenever a file can be read; where it fails again and again, the service ends."""
+
+    def __init__(self, part: str, read: Callable[[], None], faults: Faults, give_up: Callable[[Fault], None]) -> None:
+        self._part, self._read, self._faults, self._give_up = part, read, faults, give_up
+        self._in_a_row = 0
+
+    def __call__(self) -> None:
+        try:
+            self._read()
+            self._in_a_row = 0
+        except Exception as error:
+            self._in_a_row += 1
+            if self._in_a_row < MOST_IN_A_ROW:
+                self._faults.note(self._part, error)
+            else:
+                self._give_up(Fault(Exit.INTERNAL, f"a reader of {self._part} fails each time: {error!r}"))
 
 
 def reason(error: OSError) -> str:

@@ -41,6 +41,7 @@ class BooksCollector(Collector):
             ("firm_replayed_lines", "Lines replayed at the start.", status.replayed_lines),
             ("firm_clients", "Clients that are connected.", status.clients),
             ("firm_unread_reply_bytes", "Replies that clients have not read yet.", status.unread_replies),
+            ("firm_unanswered_line_bytes", "Lines that are not answered yet, in memory.", status.owed_bytes),
             ("firm_journal_bytes", "The journal's size.", status.journal_bytes),
             ("firm_journal_limit_bytes", "The size at which firm reads no further.", status.journal_limit),
             ("firm_start_time_seconds", "When the service started, in seconds since 1970.", status.started),

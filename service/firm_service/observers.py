@@ -32,3 +32,4 @@ class Status:
     journal_limit: int  # the most that firm reads
     replayed_lines: int  # at the start
     lines: int  # answered, those of the replay among them
+    owed_bytes: int = 0  # of lines that are not answered yet, with what they take beside their text; as the unread

@@ -104,10 +104,10 @@ class Relief:
 
     def _hold(self) -> None:
         if not self._is_held:
+            self._loop.call_later(HOLD_SECONDS, self._release)  # first, so that nothing that fails below can hold them
             self._is_held, self._ballast = True, None
             self.on_memory(True)
             self._close_one()
-            self._loop.call_later(HOLD_SECONDS, self._release)
 
     def _release(self) -> None:
         with suppress(MemoryError):  # then the next shortage is met without it

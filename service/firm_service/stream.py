@@ -24,7 +24,7 @@ from queue import SimpleQueue
 from threading import Event, Thread
 from typing import Protocol
 
-from .faults import Exit, Fault, Faults, reason
+from .faults import Exit, Fault, Faults, Reader, reason
 from .journal import Journal, Piece, Place, Shortage
 from .lines import NO_MEMORY, OPERATOR_NO_MEMORY, first_word, is_memory_refused
 from .observers import Observer, Status
@@ -104,6 +104,9 @@ class Firm:
         while rest:
             rest = rest[os.write(self.input.fileno(), rest) :]
 
+    def close_input(self) -> None:
+        self.input.close()
+
     def end(self) -> str | None:
         """Waits for its end; what was wrong with it."""
         said = self._errors.read().decode(errors="replace").strip()
@@ -140,6 +143,7 @@ class Stream:
         self._written: asyncio.Future[None] = self._loop.create_future()  # the writer has ended
         self._firm_ended: asyncio.Future[str | None] = self._loop.create_future()  # has what was wrong with it
         # All threads are there from the start: one more may be refused later.
+        self._reader = Reader("stream", self._read, faults, self._give_up)
         self._threads = [Thread(target=work, daemon=True) for work in (self._write, self._wait_for_firm)]
 
     def start(self) -> None:
@@ -149,7 +153,7 @@ class Stream:
                 thread.start()
         except RuntimeError as error:
             raise Fault(Exit.INTERNAL, f"cannot start a thread: {error}") from error
-        self._loop.add_reader(self._firm.output, self._read)
+        self._loop.add_reader(self._firm.output, self._reader)
 
     def observe(self, observer: Observer) -> None:
         """Tells it of each line from now on."""
@@ -195,9 +199,11 @@ class Stream:
     # Other threads.
 
     def _wait_for_firm(self) -> None:
-        trouble = self._firm.end()
-        with suppress(RuntimeError):  # the loop has ended before
-            self._loop.call_soon_threadsafe(self._firm_ended.set_result, trouble)
+        try:
+            trouble = self._firm.end()
+        except BaseException as error:  # whatever it is, the end of the service waits for this
+            trouble = f"an end that could not be read: {error!r}"
+        self._tell_loop(self._firm_ended.set_result, trouble)
 
     def _write(self) -> None:
         try:
@@ -208,12 +214,25 @@ class Stream:
         except BrokenPipeError:  # firm has ended; the reading side tells it
             pass
         except Fault as fault:
-            self._loop.call_soon_threadsafe(self.fail, fault)
-        except Exception as error:  # whatever it is, the loop must hear of it
-            self._loop.call_soon_threadsafe(self.fail, Fault(Exit.INTERNAL, f"the writer failed: {error!r}"))
-        finally:
-            self._firm.input.close()
-            self._loop.call_soon_threadsafe(self._written.set_result, None)
+            self._tell_loop(self.fail, fault)
+        except BaseException as error:  # whatever it is, the loop must hear of it
+            self._tell_loop(self.fail, Fault(Exit.INTERNAL, f"the writer failed: {error!r}"))
+        try:
+            self._firm.close_input()
+        except BaseException as error:
+            self._tell_loop(self._give_up, Fault(Exit.INTERNAL, f"firm's input can't be closed: {error!r}"))
+        self._tell_loop(self._written.set_result, None)
+
+    def _tell_loop(self, call: Callable[..., None], *arguments: object) -> None:
+        """Has the loop call it soon; the end of the service waits for it, so a lack of memory may only delay it."""
+        for _ in range(SHORTAGE_TRIES):
+            try:
+                self._loop.call_soon_threadsafe(call, *arguments)
+                return
+            except MemoryError:
+                time.sleep(SHORTAGE_SECONDS)
+            except RuntimeError:  # the loop has ended before
+                return
 
     def _replay(self) -> None:
         for piece in self._journal.pieces():
@@ -320,12 +339,18 @@ class Stream:
         self._tries += 1
         if self._tries > SHORTAGE_TRIES:
             return self._give_up(Fault(Exit.INTERNAL, "memory is lacking"))
-        self.on_shortage(error)
-        self._loop.remove_reader(self._firm.output)
-        self._loop.call_later(SHORTAGE_SECONDS, self._go_on, again)
+        try:
+            self._loop.call_later(SHORTAGE_SECONDS, self._go_on, again)
+            self._loop.remove_reader(self._firm.output)
+            self.on_shortage(error)
+        except MemoryError:
+            self._give_up(Fault(Exit.INTERNAL, "memory is lacking"))
 
     def _go_on(self, again: Callable[[], None]) -> None:
-        self._loop.add_reader(self._firm.output, self._read)
+        try:
+            self._loop.add_reader(self._firm.output, self._reader)
+        except MemoryError as error:
+            return self._wait_for_memory(error, again)
         again()
 
     def _answer_next(self, replies: list[bytes], done: int) -> int:
@@ -341,6 +366,7 @@ class Stream:
         if share.answered == share.count:
             self._owed.popleft()
             self._end_share(share)
+            share.text, share.lines = b"", []  # the writer may have the share, with many others, for some time yet
         return count
 
     def _begin_piece(self, share: Share, piece: Piece, count: int) -> int:
@@ -434,11 +460,14 @@ class Stream:
 
     def _give_up(self, fault: Fault) -> None:
         """Stops at once: no further reply can be told."""
-        self._loop.remove_reader(self._firm.output)
-        self._owed.clear()
-        self.fail(fault)
-        self._firm.process.kill()
-        self._loop.create_task(self._end())
+        try:
+            self._loop.remove_reader(self._firm.output)
+            self._owed.clear()
+            self.fail(fault)
+            self._firm.process.kill()
+            self._loop.create_task(self._end())
+        except MemoryError:  # not even an end can be begun; what was answered is on the disk
+            os._exit(Exit.INTERNAL)
 
     async def _end(self) -> None:
         """firm has ended, or is about to."""

@@ -230,7 +230,7 @@ def say(event: str, **more: object) -> None:
 
 
 def claim_of(folder: Path) -> tuple[Process | None, str | None]:
-    """The process that has claimed a run, None where nobody may begin it, and its token. Raises OSError without a claim."""
+    """The process that has claimed a run, None where it is void, and its token; raises OSError without a claim."""
     claimed = json.loads((folder / "process").read_text())
     if claimed is None:
         return None, None

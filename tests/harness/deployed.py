@@ -10,7 +10,9 @@ SERVICE = ROOT / "service"
 sys.path.insert(0, str(SERVICE))
 
 from firm_service import roster  # noqa: E402 (found by the line before)
+from firm_service.bounds import LINES_OF_SOCKET  # noqa: E402
 from firm_service.books import LONGEST_WAIT, Book, Books  # noqa: E402
+from firm_service.clients import HIGH_WATER  # noqa: E402
 from firm_service.faults import Faults  # noqa: E402
 from firm_service.kept import found_now, kept_lines  # noqa: E402
 from firm_service.lines import gets_reply  # noqa: E402
@@ -22,7 +24,9 @@ __all__ = [
     "Book",
     "Books",
     "Faults",
+    "HIGH_WATER",
     "ID",
+    "LINES_OF_SOCKET",
     "LONGEST_WAIT",
     "MOST_CLIENTS",
     "MOST_UNREAD",
