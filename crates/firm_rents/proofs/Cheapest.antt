@@ -63,7 +63,7 @@ any_at j (x ∷ xs) e =
     (λ (h : list_any (λ k. k == j) xs ≡ true). let rest = any_at j xs h in (suc rest.0, omega (arith, rest.1), rest.2))
     (or_cases (x == j) (list_any (λ k. k == j) xs) e)
 
-own_at : (home : Option ℕ) (preferred : List ℕ) (j : ℕ) → runs_at home j ≡ true
+pub own_at : (home : Option ℕ) (preferred : List ℕ) (j : ℕ) → runs_at home j ≡ true
     → (i : ℕ) × (i < length (option_to_list home ++ preferred)) × (slice_index (option_to_list home ++ preferred) i ≡ j)
 own_at None preferred j e = absurd (true≢false (sym e))
 own_at (Some home) preferred j e = (zero, omega arith, eqb-true home j e)

@@ -6,3 +6,8 @@ pub mod Bounding
 pub mod OtherSlots
 pub mod CostParts
 pub mod NearestByBoth
+pub mod Lexicographic
+pub mod Levels
+pub mod Comparing
+pub mod Suiting
+mod Examples

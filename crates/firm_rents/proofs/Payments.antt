@@ -11,11 +11,11 @@ use Rattle.firm_rules.specs.declared.rounds.Choice.{Choice}
 use Rattle.firm_rules.specs.declared.rounds.Choice.TheVariants.{On, Wait}
 use Rattle.firm_rules.specs.Placement.{Demand, Case, total, goes_to, load, IsPlace, IsLegal, tasks_cost}
 use Rattle.firm_rules.specs.Placement.{load_cost, placement_cost}
-use Rattle.firm_rents.specs.Rents.{rent, paid, least_on, least_paid, all_least, takings, gain, gains, RentsBound}
+use Rattle.firm_rents.specs.Rents.{paid, least_on, least_paid, all_least, takings, gain, gains, RentsBound}
 use Rattle.firm_rents.specs.Rents.{RentsShowLeast, EachChoiceCostsItsExcess, Show, Suit, RentsThatShowSuit}
 use Rattle.firm_rents.specs.Rents.{task_at, choice_at, CostsMore}
 
-total_zero : (f : ℕ → ℕ) (n : ℕ) → ((i : ℕ) → i < n → f i ≡ 0) → total f n ≡ 0
+pub total_zero : (f : ℕ → ℕ) (n : ℕ) → ((i : ℕ) → i < n → f i ≡ 0) → total f n ≡ 0
 total_zero f zero h = refl
 total_zero f (suc n) h = omega (arith, total_zero f n (λ i l. h i (omega arith)), h n (omega arith))
 
@@ -23,11 +23,11 @@ pub total_same : (f g : ℕ → ℕ) (n : ℕ) → ((i : ℕ) → i < n → f i 
 total_same f g zero h = refl
 total_same f g (suc n) h = omega (arith, total_same f g n (λ i l. h i (omega arith)), h n (omega arith))
 
-total-le : (f g : ℕ → ℕ) (n : ℕ) → ((i : ℕ) → i < n → f i ≤ g i) → total f n ≤ total g n
+pub total-le : (f g : ℕ → ℕ) (n : ℕ) → ((i : ℕ) → i < n → f i ≤ g i) → total f n ≤ total g n
 total-le f g zero h = omega arith
 total-le f g (suc n) h = omega (arith, total-le f g n (λ i l. h i (omega arith)), h n (omega arith))
 
-total-add : (f g : ℕ → ℕ) (n : ℕ) → total (λ i. f i + g i) n ≡ total f n + total g n
+pub total-add : (f g : ℕ → ℕ) (n : ℕ) → total (λ i. f i + g i) n ≡ total f n + total g n
 total-add f g zero = refl
 total-add f g (suc n) = omega (arith, total-add f g n)
 
@@ -49,43 +49,48 @@ pub total_more : (f : ℕ → ℕ) (n : ℕ) → total f (n + 1) ≡ total f n +
 total_more f n = let e : n + 1 ≡ suc n = omega arith in ap (total f) e
 
 -- THE RENTS OF THE TASKS ARE THOSE OF THE LOADS
-abbrev rents_of : List ℕ → List Choice → ℕ
-rents_of rents [] = 0
-rents_of rents (choice ∷ placement) = rent rents choice + rents_of rents placement
+abbrev pub sum_over : (Choice → ℕ) → List Choice → ℕ
+sum_over v [] = 0
+sum_over v (choice ∷ placement) = v choice + sum_over v placement
 
--- one choice's part of the rents of a machine
-one_rent : (m : ℕ) (rents : List ℕ) (choice : Choice) → IsPlace m choice
-    → total (λ j. cond (goes_to j choice) 1 0 * slice_index rents j) m ≡ rent rents choice
-one_rent m rents Wait h = total_zero (λ (j : ℕ). 0 * slice_index rents j) m (λ j l. zero-mul (slice_index rents j))
-one_rent m rents (On k) h =
-    total_same (λ (j : ℕ). cond (eqb k j) 1 0 * slice_index rents j)
-    (λ (j : ℕ). cond (eqb k j) (slice_index rents j) 0) m
-    (λ j l. sides (eqb k j) (slice_index rents j))
-    ∙ total_at (λ (j : ℕ). slice_index rents j) m k h
+-- a number for each machine, and 0 for waiting
+abbrev pub on_machine : (ℕ → ℕ) → Choice → ℕ
+on_machine u (On j) = u j
+on_machine u Wait = 0
+
+-- one choice's part of the sum over the loads
+one_part : (m : ℕ) (u : ℕ → ℕ) (choice : Choice) → IsPlace m choice
+    → total (λ j. cond (goes_to j choice) 1 0 * u j) m ≡ on_machine u choice
+one_part m u Wait h = total_zero (λ (j : ℕ). 0 * u j) m (λ j l. zero-mul (u j))
+one_part m u (On k) h =
+    total_same (λ (j : ℕ). cond (eqb k j) 1 0 * u j) (λ (j : ℕ). cond (eqb k j) (u j) 0) m
+    (λ j l. sides (eqb k j) (u j))
+    ∙ total_at u m k h
   where
     sides : (b : Bool) (r : ℕ) → cond b 1 0 * r ≡ cond b r 0
     sides true r = omega arith
     sides false r = zero-mul r
 
-by_machine : (m : ℕ) (rents : List ℕ) (placement : List Choice) → All (IsPlace m) placement
-    → rents_of rents placement ≡ total (λ j. load placement j * slice_index rents j) m
-by_machine m rents [] h =
-    sym (total_zero (λ (j : ℕ). 0 * slice_index rents j) m (λ j l. zero-mul (slice_index rents j)))
-by_machine m rents (choice ∷ placement) h =
-    let split : total (λ j. load (choice ∷ placement) j * slice_index rents j) m
-    ≡ total (λ j. cond (goes_to j choice) 1 0 * slice_index rents j + load placement j * slice_index rents j) m =
-    total_same (λ (j : ℕ). load (choice ∷ placement) j * slice_index rents j)
-    (λ (j : ℕ). cond (goes_to j choice) 1 0 * slice_index rents j + load placement j * slice_index rents j) m
-    (λ j l. ap (λ n. n * slice_index rents j) (sum_by-cons (λ (c : Choice). cond (goes_to j c) 1 0) choice placement)
-    ∙ add-mul (cond (goes_to j choice) 1 0) (load placement j) (slice_index rents j)) in
+pub by_machine : (m : ℕ) (u : ℕ → ℕ) (placement : List Choice) → All (IsPlace m) placement
+    → sum_over (on_machine u) placement ≡ total (λ j. load placement j * u j) m
+by_machine m u [] h = sym (total_zero (λ (j : ℕ). 0 * u j) m (λ j l. zero-mul (u j)))
+by_machine m u (choice ∷ placement) h =
+    let split : total (λ j. load (choice ∷ placement) j * u j) m
+    ≡ total (λ j. cond (goes_to j choice) 1 0 * u j + load placement j * u j) m =
+    total_same (λ (j : ℕ). load (choice ∷ placement) j * u j)
+    (λ (j : ℕ). cond (goes_to j choice) 1 0 * u j + load placement j * u j) m
+    (λ j l. ap (λ n. n * u j) (sum_by-cons (λ (c : Choice). cond (goes_to j c) 1 0) choice placement)
+    ∙ add-mul (cond (goes_to j choice) 1 0) (load placement j) (u j)) in
     omega (
       arith,
       split,
-      total-add (λ (j : ℕ). cond (goes_to j choice) 1 0 * slice_index rents j)
-          (λ (j : ℕ). load placement j * slice_index rents j) m,
-      one_rent m rents choice (All-head (IsPlace m) choice placement h),
-      by_machine m rents placement (All-tail (IsPlace m) choice placement h),
+      total-add (λ (j : ℕ). cond (goes_to j choice) 1 0 * u j) (λ (j : ℕ). load placement j * u j) m,
+      one_part m u choice (All-head (IsPlace m) choice placement h),
+      by_machine m u placement (All-tail (IsPlace m) choice placement h),
     )
+
+abbrev rents_of : List ℕ → List Choice → ℕ
+rents_of rents placement = sum_over (on_machine (slice_index rents)) placement
 
 -- A MACHINE'S GAIN IS NO LESS THAN WHAT ITS LOAD BRINGS
 takings-le : (spread r s n : ℕ) → n ≤ s → takings spread r n ≤ gain spread r s
@@ -149,7 +154,7 @@ paid-le case rents placement legal =
     omega (
       arith,
       each,
-      by_machine m rents placement legal.places,
+      by_machine m (slice_index rents) placement legal.places,
       total-add (λ (j : ℕ). load_cost case.spread (load placement j))
           (λ (j : ℕ). gain case.spread (slice_index rents j) (slice_index case.slots j)) m,
     )
@@ -166,7 +171,7 @@ pub shown : RentsShowLeast
 shown case rents placement is other legal = omega (arith, is, bound case rents other legal)
 
 -- the demand at a place of a list of them
-abbrev demand_in : List Demand → ℕ → Demand
+abbrev pub demand_in : List Demand → ℕ → Demand
 demand_in tasks i = slice_index_or tasks i (record { home = None; preferred = []; delay = 0; job = 0 })
 
 excess : (case : Case) (rents : List ℕ) (tasks : List Demand) (placement : List Choice)
@@ -231,7 +236,8 @@ pub load_step : (spread n : ℕ) → load_cost spread (suc n) ≡ load_cost spre
 load_step spread n = omega (arith, load_is spread (suc n), load_is spread n, mul-add spread (tri n) n)
 
 -- equal sums of terms that are no larger have terms that are no smaller
-total-ge : (f g : ℕ → ℕ) (n : ℕ) → ((i : ℕ) → i < n → f i ≤ g i) → total g n ≤ total f n → (i : ℕ) → i < n → g i ≤ f i
+pub total-ge : (f g : ℕ → ℕ) (n : ℕ) → ((i : ℕ) → i < n → f i ≤ g i) → total g n ≤ total f n → (i : ℕ) → i < n
+    → g i ≤ f i
 total-ge f g zero h e i l = absurd (omega arith)
 total-ge f g (suc n) h e i l =
     let sums : total f n ≤ total g n = total-le f g n (λ i l. h i (omega arith)) in
@@ -270,7 +276,7 @@ suits case rents placement legal shows =
       arith,
       shows,
       all_least-le case rents case.tasks placement legal.one_each legal.places,
-      by_machine m rents placement legal.places,
+      by_machine m (slice_index rents) placement legal.places,
       total-add (λ (j : ℕ). load_cost case.spread (load placement j))
           (λ (j : ℕ). gain case.spread (slice_index rents j) (slice_index case.slots j)) m,
     ) in
@@ -379,7 +385,7 @@ shows case rents placement legal suit =
       each,
       all,
       bound case rents placement legal,
-      by_machine m rents placement legal.places,
+      by_machine m (slice_index rents) placement legal.places,
       total-add (λ (j : ℕ). load_cost case.spread (load placement j))
           (λ (j : ℕ). gain case.spread (slice_index rents j) (slice_index case.slots j)) m,
     )

@@ -4,3 +4,4 @@ pub mod Placed
 pub mod OtherSlots
 pub mod CostParts
 pub mod TwoTables
+pub mod Levels

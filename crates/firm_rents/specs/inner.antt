@@ -1,3 +1,4 @@
 pub mod Demands
 pub mod Lowest
 pub mod Bounds
+pub mod Classes

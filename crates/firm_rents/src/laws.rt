@@ -1,5 +1,6 @@
 //! Laws of rents, each the contract of a function that does nothing.
 ghost use Rattle.firm_rents.specs.Rents.{EachChoiceCostsItsExcess, RentsBound, RentsShowLeast, RentsThatShowSuit};
+ghost use Rattle.firm_rents.specs.Levels.{RentsShowFirst};
 ghost use Rattle.firm_rents.specs.OtherSlots.{OneMoreMachineSaves, OtherSlotsCost};
 
 /// Whatever the rents, the cost of a legal placement plus the gains of the machines is no less than what the tasks
@@ -23,6 +24,12 @@ pub fn each_choice_costs_its_excess()
 /// and no free slot is worth more than it costs.
 pub fn rents_that_show_suit()
     ensures { RentsThatShowSuit }
+{}
+
+/// A legal placement is the round's if rents in levels suit it: each task's choice is its cheapest, each machine's last
+/// task is paid for and no free slot is worth more than it costs, compared lexicographically.
+pub fn rents_show_first()
+    ensures { RentsShowFirst }
 {}
 
 /// With other slots on the same machines, no legal placement undercuts one that rents show to be least by more than the

@@ -5,7 +5,9 @@ mod both;
 mod bounds;
 mod cases;
 mod choices;
+mod classes;
 mod cost_parts;
+mod first;
 mod laws;
 mod placed;
 mod rents;
@@ -16,10 +18,12 @@ pub use both::Nearest;
 pub use bounds::{Shown, shows_least};
 pub use cases::Case;
 pub use choices::{cheapest_other, excess, least_paid, paid};
+pub use classes::{Class, LevelRents};
 pub use cost_parts::{Parts, parts_of};
+pub use first::shows_first;
 pub use laws::{
     each_choice_costs_its_excess, one_more_machine_saves, other_slots_cost, rents_bound,
-    rents_show_least, rents_that_show_suit,
+    rents_show_first, rents_show_least, rents_that_show_suit,
 };
 pub use placed::placement_of;
 pub use rents::Rents;

@@ -2,8 +2,8 @@
 use super::rows::{with_job, with_machine, with_task};
 use super::{limits, name, slots, weight};
 use firm_rents::{
-    Case, Parts, Rents, cheapest_other, high_rents, lost_by_slot, low_rents, parts_of,
-    placement_of, saved_by_machine, saved_by_slot, shows_least,
+    Case, Class, LevelRents, Parts, Rents, cheapest_other, high_rents, lost_by_slot, low_rents,
+    parts_of, placement_of, saved_by_machine, saved_by_slot, shows_first, shows_least,
 };
 use firm_rules::{Choice, Preferred, Rows};
 use std::alloc::{AllocError, Global};
@@ -136,10 +136,51 @@ fn expect_rents(rt: &impl Abort, alloc: Global, case: &Case) -> Result<(), Alloc
     Ok(())
 }
 
+// Rents of 10 each by which m1 is dearer than m2 at this time.
+fn dearer_at(alloc: Global, time: u32) -> Result<LevelRents, AllocError> {
+    let all = Class {
+        parent: 0,
+        time: 0,
+        number: 1,
+    };
+    let dearer = Class {
+        parent: 0,
+        time,
+        number: 2,
+    };
+    Ok(LevelRents {
+        amounts: vec![in alloc; 10, 10]?,
+        places: vec![in alloc; 1, 0, 0]?,
+        classes: vec![in alloc; all, dearer]?,
+    })
+}
+
+fn expect_first(
+    rt: &impl Abort,
+    alloc: Global,
+    case: &Case,
+    (time, placement, wanted): (u32, &[Choice], bool),
+) -> Result<(), AllocError> {
+    let rents = dearer_at(alloc, time)?;
+    assert!(rt; shows_first(case, &rents, placement) == wanted);
+    Ok(())
+}
+
+// A task has four times: w2 those from 12, w3 those from 16. So m1 may be dearer from w3's choice of m1 on, and neither
+// later nor before w2's.
+fn expect_firsts(rt: &impl Abort, alloc: Global, case: &Case) -> Result<(), AllocError> {
+    expect_first(rt, alloc, case, (17, &LEAST, true))?;
+    expect_first(rt, alloc, case, (12, &LEAST, false))?;
+    expect_first(rt, alloc, case, (19, &LEAST, false))?;
+    expect_first(rt, alloc, case, (17, &[M1, WAIT, WAIT, M2, M1], false))?;
+    expect_first(rt, alloc, case, (17, &BEFORE, false))
+}
+
 fn expect_case(rt: &impl Abort, alloc: Global, rows: &Rows) -> Result<(), AllocError> {
     let case = Case::of(alloc, rows)?;
     assert!(rt; !case.is_legal(&[M1, M1, M1, WAIT, WAIT]));
     expect_parts(rt, &case);
+    expect_firsts(rt, alloc, &case)?;
     expect_rents(rt, alloc, &case)
 }
 

@@ -1,0 +1,5 @@
+use Rattle.firm_rents.proofs.Levels.{shown_first}
+use Rattle.firm_rents.proofs.laws.rents_show_first.Goals as goal
+
+pub returns : goal.returns
+returns c = shown_first
