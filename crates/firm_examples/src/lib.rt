@@ -11,6 +11,7 @@ pub mod paths;
 pub mod rents;
 pub mod rounds;
 pub mod rules;
+pub mod saved;
 pub mod table;
 pub mod tenant;
 pub mod text;

@@ -21,6 +21,7 @@ pub mod Names
 pub mod Cuts
 pub mod Shown
 pub mod Turns
+pub mod Restores
 pub mod Forgets
 pub mod Counts
 pub mod Examples

@@ -2,4 +2,5 @@
 pub mod Tables
 pub mod Order
 pub mod Steps
+pub mod Restored
 pub mod Inside

@@ -1,5 +1,5 @@
 //! The network of a tenant.
-ghost use Rattle.std.specs.Prelude.{◌≡◌, ◌≢◌, ◌+◌, ◌^◌, ◌<◌, ◌≤◌, ◌↔◌, false, true, [], IfOk, OnOk, OnErr, IsTrue, ℕ};
+ghost use Rattle.std.specs.Prelude.{◌≡◌, ◌≢◌, ◌+◌, ◌^◌, ◌<◌, ◌≤◌, ◌↔◌, false, true, IfOk, OnOk, OnErr, IsTrue, ℕ};
 ghost use Rattle.std.specs.Prelude.{IfSome, IfNone};
 ghost use Rattle.std.specs.Prelude.{length, map, pos, slice_index_or};
 ghost use Rattle.std.specs.List.{All};
@@ -13,6 +13,8 @@ ghost use Rattle.firm_flow.specs.NetFlow.{SameButFlow, IsLeastFlow};
 ghost use Rattle.firm_flow.specs.Flow.{cost_of, carried};
 ghost use Rattle.firm_rules.specs.Book.{opening_rows, machine_names, job_names, task_names, with_machine, with_job};
 ghost use Rattle.firm_rules.specs.Book.{with_task, without_machine, without_job, without_task, running_on, has_tasks};
+ghost use Rattle.firm_rules.specs.Book.{with_task_placed, most_waited};
+ghost use Rattle.firm_rules.specs.Sound.{HasRoom};
 ghost use Rattle.firm_rules.specs.Names.{is_among};
 ghost use Rattle.firm_rules.specs.ArenaUse.{arena_nodes, arena_arcs};
 ghost use Rattle.firm_rules.specs.Placement.{is_legal};
@@ -29,8 +31,8 @@ use crate::edits::{
     unlink, unlink_preferred, unlink_slots,
 };
 use crate::growth::{NewTask, grow_jobs, grow_machines, grow_tasks};
-use crate::ids::{GraphRefusal, JobParts, MachineIds, TaskArcs, TaskParts, find_machine};
-use crate::moves::{Heads, evict_tasks, forget_machine, settle_tasks};
+use crate::ids::{GraphRefusal, JobParts, MachineIds, Stand, TaskArcs, TaskParts, find_machine};
+use crate::moves::{Heads, evict_tasks, forget_machine, home_of, place_task, settle_tasks};
 use crate::order::SearchOrder;
 use firm_flow::in_any_order;
 use firm_net::{ArcId, Net, NodeId, Way};
@@ -463,6 +465,31 @@ impl Graph {
         };
         settle_tasks(&mut self.net, &self.rows, &heads, &self.tasks, choices);
         self.rows.settle(choices);
+    }
+
+    // Puts the task at a place on the machine of this name, or lets it wait, with what it has waited.
+    pub(crate) fn place_task(&mut self, place: usize, machine: Option<Name>, waited: u32)
+        requires there { place < length self.old.rows.tasks }
+        requires machine_there { IfSome machine (λ name. is_among (machine_names self.old.rows) name ≡ true) }
+        requires room { IfSome machine (λ _. HasRoom (with_task_placed self.old.rows place machine waited)) }
+        requires waited { waited ≤ most_waited }
+        requires running { IfSome machine (λ _. waited ≡ 0) }
+        ensures rows { self.new.rows ≡ with_task_placed self.old.rows place machine waited }
+        ensures asked { self.new.asked ≡ self.old.asked }
+        ensures graph { IsGraph self.new }
+    {
+        let heads = Heads {
+            machines: &self.machines,
+            hub: self.hub,
+        };
+        let stand = Stand {
+            node: home_of(&self.rows, &heads, machine),
+            runs: machine.is_some(),
+            waited,
+        };
+        let parts = self.tasks[place];
+        place_task(&mut self.net, &self.rows, parts, place, stand);
+        self.rows.place_task(place, machine, waited);
     }
 
     // How many nodes and arcs more the net has room for.

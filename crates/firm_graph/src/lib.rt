@@ -12,6 +12,7 @@ mod network;
 mod order;
 mod plan;
 mod preferred;
+mod restore;
 mod start;
 
 pub use graph::Graph;

@@ -1,11 +1,12 @@
 //! The arcs of tasks that start, move, or are thrown out of their machine.
 ghost use Rattle.std.specs.Prelude.{◌≡◌, ◌≤◌, ◌<◌, ◌+◌, length, slice_index_or, min, List, ℕ, Option, None, Some};
-ghost use Rattle.std.specs.Prelude.{if◌then◌else◌, map, All, position, bytes_eq, slice_set};
+ghost use Rattle.std.specs.Prelude.{if◌then◌else◌, map, All, position, bytes_eq, slice_set, true, IfSome};
 ghost use Rattle.std.specs.List.{AllZip};
-ghost use Rattle.firm_rules.specs.Book.{is_on, evicted, most_waited};
+ghost use Rattle.firm_rules.specs.Book.{is_on, evicted, most_waited, machine_names};
+ghost use Rattle.firm_rules.specs.Names.{is_among};
 ghost use Rattle.firm_rules.specs.Placement.{IsPlace};
 ghost use Rattle.firm_rules.specs.Round.{rows_after};
-ghost use Rattle.firm_graph.specs.Graph.{Graph as GraphRow, Mirrors, weight_under};
+ghost use Rattle.firm_graph.specs.Graph.{Graph as GraphRow, Mirrors, weight_under, home_node};
 ghost use Rattle.firm_graph.specs.inner.Steps.{IsPlacing, IsFitting, Stands, moved, refitted, with_task_at, task_at};
 ghost use Rattle.firm_graph.specs.inner.Steps.{with_forgetting_at, forgetting_rows, thrown_out_first};
 
@@ -175,6 +176,24 @@ fn settle_task(net: &mut Net, rows: &Rows, parts: &TaskParts, place: usize, stan
     let leaving = where_runs(stand.runs, rows.limits().churn() as u32);
     let weight = weight_of(rows, place);
     rate(net, parts.arcs.wait, 1, weight + stand.waited + leaving);
+}
+
+/// Where the stay arc of a task leads that runs on the machine of this name, or waits.
+pub(crate) fn home_of(rows: &Rows, heads: &Heads<'_>, machine: Option<Name>) -> NodeId
+    requires machines { length heads.now.machines.now ≡ length rows.now.machines }
+    requires there { IfSome machine (λ name. is_among (machine_names rows.now) name ≡ true) }
+    ensures { result ≡ home_node (machine_names rows.now) (map (λ parts. parts.node) heads.now.machines.now)
+        heads.now.hub machine }
+{
+    rows.limits();
+    let Some(name) = machine else {
+        return heads.hub;
+    };
+    let Some(place) = rows.machine_place(name) else {
+        unreachable!()
+    };
+    let parts = &heads.machines[place];
+    parts.node
 }
 
 // How the task at a place stands after a round that makes this choice for it.

@@ -8,12 +8,14 @@ use Rattle.firm_rules.specs.Book.{Book}
 use Rattle.firm_rules.specs.declared.commands.Command.TheVariants.{Round}
 use Rattle.firm_rules.specs.declared.replies.Reply.{Reply}
 use Rattle.firm_tenant.specs.Step.{is_memory}
-use Rattle.firm_text.specs.Rosters.{RosterRow, most_places}
+use Rattle.firm_text.specs.Rosters.{most_places}
 use Rattle.firm_text.specs.declared.registers.Entry.{Entry}
+use Rattle.firm_table.specs.Places.{Place}
 use Rattle.firm_table.specs.Answers.{text_of_answer}
 use Rattle.firm_rounds.specs.Rounds.{weigh}
 use Rattle.firm_rounds.specs.Passes.{QueueId}
-use Rattle.firm_table.specs.inner.Line.{State, state_is, tenants_are}
+use Rattle.firm_table.specs.Tenants.{tenants_are}
+use Rattle.firm_table.specs.inner.Line.{State, state_is}
 use Rattle.firm_hall.specs.Desks.{DeskIs, IsStep}
 use Rattle.firm_hall.specs.inner.Held.{FirstIsFor, OneWaits, filled, held_text}
 use Rattle.firm_hall.specs.inner.Held.{waits_for}
@@ -36,20 +38,20 @@ filled_if place None answers = answers
 filled_if place (Some reply) answers = filled place reply answers
 
 -- what still holds of other places and answers
-pub record Turned (roster : List RosterRow) (register : List Entry) (queue : QueueId) (answers later : List HeldAnswer)
+pub record Turned (opening : List Place) (register : List Entry) (queue : QueueId) (answers later : List HeldAnswer)
     (desk_states after : List DeskState) : Type 0 where
   pub desk_states_are : AreDeskStates queue later after
   pub counts : map desk_state_counts after ≡ map desk_state_counts desk_states
   pub placed : ArePlaced later
   pub keeps : (output text : List ℕ) (written now : Option (List ℕ))
-      → TellsParts roster register desk_states answers output text written now
-      → TellsParts roster register after later output text written now
+      → TellsParts opening register desk_states answers output text written now
+      → TellsParts opening register after later output text written now
 
-module _ (roster : List RosterRow) (register : List Entry) (queue : QueueId) (place : ℕ) (answers : List HeldAnswer)
+module _ (opening : List Place) (register : List Entry) (queue : QueueId) (place : ℕ) (answers : List HeldAnswer)
     (desk_states : List DeskState) (default : DeskState)
     (are : AreDeskStates queue answers desk_states) (placed : ArePlaced answers) (low : place < most_places) where
   stayed : (before last : DeskState) → before ≡ get_or desk_states place default → last ≡ before
-      → Turned roster register queue answers answers desk_states (set desk_states place last)
+      → Turned opening register queue answers answers desk_states (set desk_states place last)
   stayed before last at same =
       let whole : set desk_states place last ≡ desk_states =
       ap (set desk_states place) (same ∙ at) ∙ set-get_or desk_states place default in
@@ -63,7 +65,7 @@ module _ (roster : List RosterRow) (register : List Entry) (queue : QueueId) (pl
 
   came : (asked desk : DeskIs) (reply : Reply) → Away asked ≡ get_or desk_states place default
       → IsStep asked Round reply desk
-      → Turned roster register queue answers (filled place reply answers) desk_states
+      → Turned opening register queue answers (filled place reply answers) desk_states
       (set desk_states place (Home desk))
   came asked desk reply away back =
       record {
@@ -83,7 +85,7 @@ module _ (roster : List RosterRow) (register : List Entry) (queue : QueueId) (pl
             let asked_same : weigh asked_at desk_states ≡ weigh asked_at (set desk_states place (Home desk)) =
             sym (asked_back queue place answers desk_states asked desk reply default are low away back) in
             let state : List (Option Book) → List ℕ → State =
-            λ books text. state_is roster (tenants_are register books) (output ++ text) in
+            λ books text. state_is opening (tenants_are register books) (output ++ text) in
             subst (λ (n : ℕ). Tells
             (state (map (book_at marks) (set desk_states place (Home desk)))
             (held_text marks (filled place reply answers))) n
@@ -96,7 +98,7 @@ module _ (roster : List RosterRow) (register : List Entry) (queue : QueueId) (pl
 
   pub turned : (before last : DeskState) (reply : Option Reply) → before ≡ get_or desk_states place default
       → IsTurned before last reply
-      → Turned roster register queue answers (filled_if place reply answers) desk_states (set desk_states place last)
+      → Turned opening register queue answers (filled_if place reply answers) desk_states (set desk_states place last)
   turned before last None at turn = stayed before last at turn
   turned (Away asked) (Home desk) (Some reply) at turn = came asked desk reply at turn
   turned (Away asked) (Away other) (Some reply) at turn = absurd turn
@@ -162,9 +164,9 @@ pub came_back : (queue : QueueId) (register : List Entry) (desk_states : List De
     → CameBack (serving_is queue register desk_states held)
     (serving_is queue register (set desk_states place last) (held_is (filled place reply held.answers) held.output))
 came_back queue register desk_states held place before last default reply stands low at turn =
-    let turn_of = λ (roster : List RosterRow).
-    turned roster register queue place held.answers desk_states default stands.desk_states stands.placed low before last
-    (Some reply) at turn in
+    let turn_of = λ (opening : List Place).
+    turned opening register queue place held.answers desk_states default stands.desk_states stands.placed low before
+    last (Some reply) at turn in
     record {
       stands = record {
         desk_states = (turn_of []).desk_states_are;
@@ -172,7 +174,7 @@ came_back queue register desk_states held place before last default reply stands
         placed = (turn_of []).placed;
       };
       follows = record { same_hall = refl; fewer = omega (arith, length_filled place reply held.answers) };
-      keeps = λ roster text written now told. (turn_of roster).keeps held.output text written now told;
+      keeps = λ opening text written now told. (turn_of opening).keeps held.output text written now told;
     }
 
 -- and where none came

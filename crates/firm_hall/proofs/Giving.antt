@@ -5,11 +5,12 @@ use Rattle.std.specs.Prelude.{Bool, true, false, ◌==◌, map, Option, Result, 
 use Rattle.std.proofs.Math.Seq.{take-length}
 use Rattle.std.specs.Io.KnownBytes.{Appends}
 use Rattle.std.proofs.KnownBytes.{Appends-nil}
-use Rattle.firm_text.specs.Rosters.{RosterRow}
 use Rattle.firm_text.specs.declared.registers.Entry.{Entry}
+use Rattle.firm_table.specs.Places.{Place}
 use Rattle.firm_table.specs.Answers.{text_of_answer}
-use Rattle.firm_table.specs.Service.{Answers, BeginsAnswers}
-use Rattle.firm_table.specs.inner.Line.{state_is, tenants_are}
+use Rattle.firm_table.specs.Service.{AnswersFrom, BeginsAnswersFrom}
+use Rattle.firm_table.specs.Tenants.{tenants_are}
+use Rattle.firm_table.specs.inner.Line.{state_is}
 use Rattle.firm_rounds.specs.Rounds.{weigh}
 use Rattle.firm_rounds.specs.Passes.{QueueId}
 use Rattle.firm_hall.specs.inner.Held.{FirstIsKnown, NoneWaits, answer_in, held_text}
@@ -47,19 +48,19 @@ pub popped_placed : (answers rest : List HeldAnswer) (answer : HeldAnswer) → a
 popped_placed answers rest answer is placed = (subst ArePlaced is placed).1
 
 -- and its text is still to be written
-pub popped_tells : (roster : List RosterRow) (register : List Entry) (desk_states : List DeskState)
+pub popped_tells : (opening : List Place) (register : List Entry) (desk_states : List DeskState)
     (answers rest : List HeldAnswer)
     (answer : HeldAnswer) (output later : List ℕ) → answers ≡ answer ∷ rest
     → ((marks : ℕ → Bool) → later ≡ output ++ text_of_answer (answer_in marks answer))
     → (text : List ℕ) (written now : Option (List ℕ))
-    → TellsParts roster register desk_states answers output text written now
-    → TellsParts roster register desk_states rest later text written now
-popped_tells roster register desk_states answers rest answer output later is added text written now told marks =
+    → TellsParts opening register desk_states answers output text written now
+    → TellsParts opening register desk_states rest later text written now
+popped_tells opening register desk_states answers rest answer output later is added text written now told marks =
     let pending : output ++ held_text marks answers ≡ later ++ held_text marks rest =
     ap (λ (xs : List HeldAnswer). output ++ held_text marks xs) is
     ∙ sym (append_assoc output (text_of_answer (answer_in marks answer)) (held_text marks rest))
     ∙ ap (λ (l : List ℕ). l ++ held_text marks rest) (sym (added marks)) in
-    subst (λ (l : List ℕ). Tells (state_is roster (tenants_are register (map (book_at marks) desk_states)) l)
+    subst (λ (l : List ℕ). Tells (state_is opening (tenants_are register (map (book_at marks) desk_states)) l)
     (weigh asked_at desk_states) text written now) pending (told marks)
 
 -- no mark for any place
@@ -67,46 +68,47 @@ abbrev unmarked : ℕ → Bool
 unmarked place = false
 
 -- what was written begins the output
-pub begun : (roster : List RosterRow) (register : List Entry) (desk_states : List DeskState) (answers : List HeldAnswer)
+pub begun : (opening : List Place) (register : List Entry) (desk_states : List DeskState) (answers : List HeldAnswer)
     (output text : List ℕ) (written now : Option (List ℕ))
-    → TellsParts roster register desk_states answers output text written now → BeginsAnswers roster text written now
-begun roster register desk_states answers output text written now told =
-    tells_begins (state_with unmarked roster register desk_states answers output)
+    → TellsParts opening register desk_states answers output text written now
+    → BeginsAnswersFrom opening text written now
+begun opening register desk_states answers output text written now told =
+    tells_begins (state_with unmarked opening register desk_states answers output)
     (weigh asked_at desk_states) text written now now 0
     [] (output ++ held_text unmarked answers) (told unmarked) refl (omega arith) (Appends-nil now)
 
 -- and so it does where some of what was to be written was
-pub partly : (roster : List RosterRow) (register : List Entry) (desk_states : List DeskState)
+pub partly : (opening : List Place) (register : List Entry) (desk_states : List DeskState)
     (answers : List HeldAnswer)
     (output text : List ℕ) (written now later : Option (List ℕ)) (count : ℕ) → count ≤ length output
-    → Appends now later (take count output) → TellsParts roster register desk_states answers output text written now
-    → BeginsAnswers roster text written later
-partly roster register desk_states answers output text written now later count few wrote told =
-    tells_begins (state_with unmarked roster register desk_states answers output)
+    → Appends now later (take count output) → TellsParts opening register desk_states answers output text written now
+    → BeginsAnswersFrom opening text written later
+partly opening register desk_states answers output text written now later count few wrote told =
+    tells_begins (state_with unmarked opening register desk_states answers output)
     (weigh asked_at desk_states) text written now later
     count output (held_text unmarked answers) (told unmarked) refl few wrote
 
-pub wholly : (roster : List RosterRow) (register : List Entry) (desk_states : List DeskState)
+pub wholly : (opening : List Place) (register : List Entry) (desk_states : List DeskState)
     (answers : List HeldAnswer)
     (output text : List ℕ) (written now later : Option (List ℕ))
-    → Appends now later output → TellsParts roster register desk_states answers output text written now
-    → BeginsAnswers roster text written later
-wholly roster register desk_states answers output text written now later wrote told =
-    partly roster register desk_states answers output text written now later (length output) (omega arith)
+    → Appends now later output → TellsParts opening register desk_states answers output text written now
+    → BeginsAnswersFrom opening text written later
+wholly opening register desk_states answers output text written now later wrote told =
+    partly opening register desk_states answers output text written now later (length output) (omega arith)
     (subst (Appends now later) (sym (take-length output)) wrote) told
 
 -- all that was to be written was
-pub written_all : (roster : List RosterRow) (register : List Entry) (desk_states : List DeskState)
+pub written_all : (opening : List Place) (register : List Entry) (desk_states : List DeskState)
     (answers : List HeldAnswer)
     (output held text : List ℕ) (written now later : Option (List ℕ)) → held ≡ []
-    → Appends now later output → TellsParts roster register desk_states answers output text written now
-    → TellsParts roster register desk_states answers held text written later
-written_all roster register desk_states answers output held text written now later none wrote told marks =
+    → Appends now later output → TellsParts opening register desk_states answers output text written now
+    → TellsParts opening register desk_states answers held text written later
+written_all opening register desk_states answers output held text written now later none wrote told marks =
     let same : held_text marks answers ≡ held ++ held_text marks answers =
     ap (λ (l : List ℕ). l ++ held_text marks answers) (sym none) in
-    subst (λ (l : List ℕ). Tells (state_is roster (tenants_are register (map (book_at marks) desk_states)) l)
+    subst (λ (l : List ℕ). Tells (state_is opening (tenants_are register (map (book_at marks) desk_states)) l)
     (weigh asked_at desk_states) text written later) same
-    (tells_written (state_with marks roster register desk_states answers output)
+    (tells_written (state_with marks opening register desk_states answers output)
     (weigh asked_at desk_states) text written now later output (held_text marks answers) (told marks) refl wrote)
 
 -- where no round is away, each answer is known
@@ -134,11 +136,11 @@ all_known queue (Waiting place name asked ∷ rest) desk_states are placed back 
     not_both e f = let g : true ≡ false = sym e ∙ f in cc
 
 -- nothing is still to be written: what was is the output
-pub answers_all : (roster : List RosterRow) (register : List Entry) (desk_states : List DeskState)
+pub answers_all : (opening : List Place) (register : List Entry) (desk_states : List DeskState)
     (answers : List HeldAnswer)
     (output text : List ℕ) (written now : Option (List ℕ)) → answers ≡ [] → output ≡ []
-    → TellsParts roster register desk_states answers output text written now → Answers roster text written now
-answers_all roster register desk_states answers output text written now none_held none told =
+    → TellsParts opening register desk_states answers output text written now → AnswersFrom opening text written now
+answers_all opening register desk_states answers output text written now none_held none told =
     let t = (told unmarked).told in
     let empty : output ++ held_text unmarked answers ≡ [] =
     ap (λ (l : List ℕ). l ++ held_text unmarked answers) none ∙ ap (held_text unmarked) none_held in
@@ -170,24 +172,24 @@ pub wrote : {T E : Type 0} (r : Result T E) (queue : QueueId) (register : List E
     → OnErr r ((count : ℕ) × (count ≤ length held.output) × Appends now later (take count held.output))
     → Wrote r (serving_is queue register desk_states held) (serving_is queue register desk_states after) now later
 wrote (Ok x) queue register desk_states held after now later all none same part = record {
-  passes = λ roster text written told.
-      subst (λ (xs : List HeldAnswer). TellsParts roster register desk_states xs after.output text written later)
+  passes = λ opening text written told.
+      subst (λ (xs : List HeldAnswer). TellsParts opening register desk_states xs after.output text written later)
       (sym same)
-      (written_all roster register desk_states held.answers held.output after.output text written now later none all
+      (written_all opening register desk_states held.answers held.output after.output text written now later none all
       told);
-  begins = λ roster text written told.
-      wholly roster register desk_states held.answers held.output text written now later all told;
+  begins = λ opening text written told.
+      wholly opening register desk_states held.answers held.output text written now later all told;
 }
 wrote (Err e) queue register desk_states held after now later all none same part = record {
   passes = tt;
-  begins = λ roster text written told.
-      partly roster register desk_states held.answers held.output text written now later part.0 part.1 part.2 told;
+  begins = λ opening text written told.
+      partly opening register desk_states held.answers held.output text written now later part.0 part.1 part.2 told;
 }
 
 -- nothing is written yet
 pub nothing_written : (old : ServingIs) (now : Option (List ℕ)) → Begins old now now
-nothing_written old now roster text written told =
-    begun roster old.register old.desk_states old.answers old.output text written now told
+nothing_written old now opening text written told =
+    begun opening old.register old.desk_states old.answers old.output text written now told
 
 -- the first answer is put behind the output
 pub popped_stands : (queue : QueueId) (register : List Entry) (desk_states : List DeskState) (held after : HeldIs)
@@ -203,8 +205,8 @@ pub popped_keeps : (queue : QueueId) (register : List Entry) (desk_states : List
     (first : HeldAnswer) → held.answers ≡ first ∷ after.answers
     → ((marks : ℕ → Bool) → after.output ≡ held.output ++ text_of_answer (answer_in marks first))
     → Keeps (serving_is queue register desk_states held) (serving_is queue register desk_states after)
-popped_keeps queue register desk_states held after first is put roster text written now told =
-    popped_tells roster register desk_states held.answers after.answers first held.output after.output is put text
+popped_keeps queue register desk_states held after first is put opening text written now told =
+    popped_tells opening register desk_states held.answers after.answers first held.output after.output is put text
     written now
     told
 

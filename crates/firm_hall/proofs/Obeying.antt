@@ -9,7 +9,7 @@ use Rattle.firm_rules.specs.Book.{Book, opening_book}
 use Rattle.firm_text.specs.Inputs.{input_lines}
 use Rattle.firm_text.specs.Registers.{IsRegister, admissions_at, occupied, place_for, place_in, vacant}
 use Rattle.firm_text.specs.Registers.{with_tenant, without_tenant}
-use Rattle.firm_text.specs.Rosters.{RosterRow, most_places}
+use Rattle.firm_text.specs.Rosters.{most_places}
 use Rattle.firm_text.specs.declared.inputs.Line.TheVariants.{Operator}
 use Rattle.firm_text.specs.declared.operator.OperatorLine.{OperatorLine}
 use Rattle.firm_text.specs.declared.operator.OperatorLine.TheVariants.{Admit, Retire, Faulty}
@@ -18,8 +18,10 @@ use Rattle.firm_text.specs.declared.operator.OperatorRefusal.TheVariants.{NoSuch
 use Rattle.firm_text.specs.declared.operator.OperatorReply.{OperatorReply}
 use Rattle.firm_text.specs.declared.operator.OperatorReply.TheVariants.{Admitted, Retired, Refused}
 use Rattle.firm_text.specs.declared.registers.Entry.{Entry}
+use Rattle.firm_table.specs.Places.{Place}
 use Rattle.firm_table.specs.declared.answers.LineAnswer.TheVariants.{ToOperator}
-use Rattle.firm_table.specs.inner.Line.{IsRight, tenants_are}
+use Rattle.firm_table.specs.Tenants.{tenants_are}
+use Rattle.firm_table.specs.inner.Line.{IsRight}
 use Rattle.firm_table.specs.inner.Adding.{OneMoreIsTold, AdmissionsAreAnswered, AdmissionsFindNoMemory}
 use Rattle.firm_table.specs.inner.Adding.{AdmissionsAreRefused, RetirementsAreAnswered, RetirementsAreRefused}
 use Rattle.firm_rounds.specs.Rounds.{weigh}
@@ -37,26 +39,26 @@ use Rattle.firm_hall.proofs.DeskStates.{weigh_set, each_set}
 use Rattle.firm_hall.proofs.Taking.{line_told, text_push}
 
 -- what is held once the operator has its reply: one line more is told
-abbrev pub Told : List RosterRow → List Entry → List Entry → List DeskState → List DeskState → List HeldAnswer → List ℕ
+abbrev pub Told : List Place → List Entry → List Entry → List DeskState → List DeskState → List HeldAnswer → List ℕ
     → OperatorLine → OperatorReply → Type 0
-Told roster register later desk_states after answers output request reply =
+Told opening register later desk_states after answers output request reply =
     (text text_after : List ℕ) (written now : Option (List ℕ))
     → input_lines text_after ≡ input_lines text ++ Operator request ∷ []
-    → TellsParts roster register desk_states answers output text written now
-    → TellsParts roster later after (answers ++ Known (ToOperator reply) ∷ []) output text_after written now
+    → TellsParts opening register desk_states answers output text written now
+    → TellsParts opening later after (answers ++ Known (ToOperator reply) ∷ []) output text_after written now
 
 obeyed_told : OneMoreIsTold
-    → (roster : List RosterRow) (register later : List Entry) (desk_states after : List DeskState)
+    → (opening : List Place) (register later : List Entry) (desk_states after : List DeskState)
     (answers : List HeldAnswer)
     (output : List ℕ) (request : OperatorLine) (reply : OperatorReply)
     → ((marks : ℕ → Bool)
     → IsRight (tenants_are register (map (book_at marks) desk_states)) (tenants_are later (map (book_at marks) after))
     (Operator request) (ToOperator reply))
-    → weigh asked_at after ≡ weigh asked_at desk_states → Told roster register later desk_states after answers output
+    → weigh asked_at after ≡ weigh asked_at desk_states → Told opening register later desk_states after answers output
     request reply
-obeyed_told one_more roster register later desk_states after answers output request reply right same =
-    line_told one_more roster register later desk_states after answers (answers ++ Known (ToOperator reply) ∷ []) output
-    (Operator request)
+obeyed_told one_more opening register later desk_states after answers output request reply right same =
+    line_told one_more opening register later desk_states after answers (answers ++ Known (ToOperator reply) ∷ [])
+    output (Operator request)
     (λ marks. record {
       answer = record {
         answer = ToOperator reply;
@@ -69,47 +71,47 @@ obeyed_told one_more roster register later desk_states after answers output requ
 
 -- a line of the operator that asks for nothing
 pub faulty_told : OneMoreIsTold
-    → (roster : List RosterRow) (register : List Entry) (desk_states : List DeskState) (answers : List HeldAnswer)
+    → (opening : List Place) (register : List Entry) (desk_states : List DeskState) (answers : List HeldAnswer)
     (output : List ℕ)
     (refusal : OperatorRefusal)
-    → Told roster register register desk_states desk_states answers output (Faulty refusal) (Refused refusal)
-faulty_told one_more roster register desk_states answers output refusal =
-    obeyed_told one_more roster register register desk_states desk_states answers output (Faulty refusal)
+    → Told opening register register desk_states desk_states answers output (Faulty refusal) (Refused refusal)
+faulty_told one_more opening register desk_states answers output refusal =
+    obeyed_told one_more opening register register desk_states desk_states answers output (Faulty refusal)
     (Refused refusal)
     (λ marks. record { answers = λ places shows. refl; leaves = λ places shows. shows }) refl
 
 -- an admission to which the register gives no place, or memory is refused
 pub admission_refused : OneMoreIsTold → AdmissionsAreRefused
-    → (roster : List RosterRow) (register : List Entry) (desk_states : List DeskState) (answers : List HeldAnswer)
+    → (opening : List Place) (register : List Entry) (desk_states : List DeskState) (answers : List HeldAnswer)
     (output : List ℕ)
     (name : List ℕ)
     (limits : TenantLimits) (refusal : OperatorRefusal) → place_for register name ≡ Err refusal
-    → Told roster register register desk_states desk_states answers output (Admit name limits) (Refused refusal)
-admission_refused one_more refused roster register desk_states answers output name limits refusal none_given =
-    obeyed_told one_more roster register register desk_states desk_states answers output (Admit name limits)
+    → Told opening register register desk_states desk_states answers output (Admit name limits) (Refused refusal)
+admission_refused one_more refused opening register desk_states answers output name limits refusal none_given =
+    obeyed_told one_more opening register register desk_states desk_states answers output (Admit name limits)
     (Refused refusal)
     (λ marks. refused (tenants_are register (map (book_at marks) desk_states)) name limits refusal none_given) refl
 
 pub admission_found_no_memory : OneMoreIsTold → AdmissionsFindNoMemory
-    → (roster : List RosterRow) (register : List Entry) (desk_states : List DeskState) (answers : List HeldAnswer)
+    → (opening : List Place) (register : List Entry) (desk_states : List DeskState) (answers : List HeldAnswer)
     (output : List ℕ)
     (name : List ℕ)
     (limits : TenantLimits) (place : ℕ) → place_for register name ≡ Ok place
-    → Told roster register register desk_states desk_states answers output (Admit name limits) (Refused Memory)
-admission_found_no_memory one_more none roster register desk_states answers output name limits place given =
-    obeyed_told one_more roster register register desk_states desk_states answers output (Admit name limits)
+    → Told opening register register desk_states desk_states answers output (Admit name limits) (Refused Memory)
+admission_found_no_memory one_more none opening register desk_states answers output name limits place given =
+    obeyed_told one_more opening register register desk_states desk_states answers output (Admit name limits)
     (Refused Memory)
     (λ marks. none (tenants_are register (map (book_at marks) desk_states)) name limits place given) refl
 
 -- a retirement of a tenant that is not there
 pub retirement_refused : OneMoreIsTold → RetirementsAreRefused
-    → (roster : List RosterRow) (register : List Entry) (desk_states : List DeskState) (answers : List HeldAnswer)
+    → (opening : List Place) (register : List Entry) (desk_states : List DeskState) (answers : List HeldAnswer)
     (output : List ℕ)
     (name : List ℕ)
     → place_in register name ≡ None
-    → Told roster register register desk_states desk_states answers output (Retire name) (Refused NoSuchTenant)
-retirement_refused one_more refused roster register desk_states answers output name none =
-    obeyed_told one_more roster register register desk_states desk_states answers output (Retire name)
+    → Told opening register register desk_states desk_states answers output (Retire name) (Refused NoSuchTenant)
+retirement_refused one_more refused opening register desk_states answers output name none =
+    obeyed_told one_more opening register register desk_states desk_states answers output (Retire name)
     (Refused NoSuchTenant)
     (λ marks. refused (tenants_are register (map (book_at marks) desk_states)) name none) refl
 
@@ -207,16 +209,16 @@ module _ (queue : QueueId) (register : List Entry) (answers : List HeldAnswer) (
 
 -- and both are told
 pub admission_told : OneMoreIsTold → AdmissionsAreAnswered
-    → (roster : List RosterRow) (register : List Entry) (desk_states after : List DeskState) (answers : List HeldAnswer)
+    → (opening : List Place) (register : List Entry) (desk_states after : List DeskState) (answers : List HeldAnswer)
     (output : List ℕ) (name : List ℕ)
     (limits : TenantLimits) (place : ℕ) → place_for register name ≡ Ok place
     → weigh asked_at after ≡ weigh asked_at desk_states
     → ((marks : ℕ → Bool)
     → map (book_at marks) after ≡ set (map (book_at marks) desk_states) place (Some (opening_book limits)))
-    → Told roster register (with_tenant register place name) desk_states after answers output (Admit name limits)
+    → Told opening register (with_tenant register place name) desk_states after answers output (Admit name limits)
     (Admitted name)
-admission_told one_more answered roster register desk_states after answers output name limits place given asked books =
-    obeyed_told one_more roster register (with_tenant register place name) desk_states after answers output
+admission_told one_more answered opening register desk_states after answers output name limits place given asked books =
+    obeyed_told one_more opening register (with_tenant register place name) desk_states after answers output
     (Admit name limits)
     (Admitted name)
     (λ marks. rw (books marks) (answered (tenants_are register (map (book_at marks) desk_states)) name limits
@@ -224,14 +226,15 @@ admission_told one_more answered roster register desk_states after answers outpu
     asked
 
 pub retirement_told : OneMoreIsTold → RetirementsAreAnswered
-    → (roster : List RosterRow) (register : List Entry) (desk_states after : List DeskState) (answers : List HeldAnswer)
+    → (opening : List Place) (register : List Entry) (desk_states after : List DeskState) (answers : List HeldAnswer)
     (output : List ℕ) (name : List ℕ)
     (place : ℕ) → IsRegister register → place_in register name ≡ Some place
     → weigh asked_at after ≡ weigh asked_at desk_states
     → ((marks : ℕ → Bool) → map (book_at marks) after ≡ set (map (book_at marks) desk_states) place None)
-    → Told roster register (without_tenant register place) desk_states after answers output (Retire name) (Retired name)
-retirement_told one_more answered roster register desk_states after answers output name place sound found asked books =
-    obeyed_told one_more roster register (without_tenant register place) desk_states after answers output (Retire name)
+    → Told opening register (without_tenant register place) desk_states after answers output (Retire name)
+    (Retired name)
+retirement_told one_more answered opening register desk_states after answers output name place sound found asked books =
+    obeyed_told one_more opening register (without_tenant register place) desk_states after answers output (Retire name)
     (Retired name)
     (λ marks. rw (books marks) (answered (tenants_are register (map (book_at marks) desk_states)) name place
     sound found))

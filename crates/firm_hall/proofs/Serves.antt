@@ -4,25 +4,25 @@ use Rattle.std.proofs.Common.{length-append, arith, inl}
 use Rattle.std.specs.Prelude.{Bool, false, Option}
 use Rattle.std.specs.Io.KnownBytes.{Appends}
 use Rattle.std.proofs.KnownBytes.{Appends-nil, Appends-kept, Consumes-nil}
-use Rattle.firm_text.specs.Rosters.{RosterRow}
 use Rattle.firm_text.specs.declared.registers.Entry.{Entry}
-use Rattle.firm_table.specs.Output.{output_of}
-use Rattle.firm_table.specs.Service.{Device, device, Served, Stopped}
+use Rattle.firm_table.specs.Places.{Place}
+use Rattle.firm_table.specs.Output.{output_from}
+use Rattle.firm_table.specs.Service.{Device, device, ServedFrom, StoppedFrom}
 use Rattle.firm_table.specs.Telling.{ToldToTheEnd}
 use Rattle.firm_table.specs.declared.faults.ServeFault.TheVariants.{Memory}
 use Rattle.firm_rounds.specs.Rounds.{weigh}
 use Rattle.firm_rounds.specs.Passes.{QueueId, pop_is, new_pops}
-use Rattle.firm_hall.specs.Counts.{ServedWith}
+use Rattle.firm_hall.specs.Counts.{ServedWithFrom}
 use Rattle.firm_hall.specs.inner.Held.{held_text}
 use Rattle.firm_hall.specs.inner.Serving.{asked_at, TellsParts}
 use Rattle.firm_hall.specs.declared.desk_states.DeskState.{DeskState}
 use Rattle.firm_hall.specs.declared.held.HeldAnswer.{HeldAnswer}
 
 -- nothing was read yet
-pub unread : (roster : List RosterRow) (most : ℕ) (left written : Option (List ℕ)) (read_failed write_failed : Bool)
+pub unread : (opening : List Place) (most : ℕ) (left written : Option (List ℕ)) (read_failed write_failed : Bool)
     → read_failed ≡ false → write_failed ≡ false
-    → Stopped roster most (device left left read_failed) (device written written write_failed) Memory
-unread roster most left written read_failed write_failed reads writes = record {
+    → StoppedFrom opening most (device left left read_failed) (device written written write_failed) Memory
+unread opening most left written read_failed write_failed reads writes = record {
   answered = [];
   rest = [];
   read = Consumes-nil left;
@@ -38,18 +38,18 @@ unread roster most left written read_failed write_failed reads writes = record {
 }
 
 -- all was read, and nothing is still to be written
-pub served_with : (roster : List RosterRow) (register : List Entry) (desk_states : List DeskState)
+pub served_with : (opening : List Place) (register : List Entry) (desk_states : List DeskState)
     (answers : List HeldAnswer)
     (output : List ℕ) (most : ℕ) (reader writer : Device) → answers ≡ [] → output ≡ []
-    → ToldToTheEnd (TellsParts roster register desk_states answers output) most reader writer
-    → Served roster most reader writer → ServedWith roster most reader writer (weigh asked_at desk_states)
-served_with roster register desk_states answers output most reader writer none_held none end served =
+    → ToldToTheEnd (TellsParts opening register desk_states answers output) most reader writer
+    → ServedFrom opening most reader writer → ServedWithFrom opening most reader writer (weigh asked_at desk_states)
+served_with opening register desk_states answers output most reader writer none_held none end served =
     let marks : ℕ → Bool = λ place. false in
     let tells = end.told.told marks in
     let t = tells.told in
     let empty : output ++ held_text marks answers ≡ [] =
     ap (λ (l : List ℕ). l ++ held_text marks answers) none ∙ ap (held_text marks) none_held in
-    let whole : t.sent ≡ output_of roster t.lines =
+    let whole : t.sent ≡ output_from opening t.lines =
     sym (append-nil t.sent) ∙ ap (λ (l : List ℕ). t.sent ++ l) (sym empty) ∙ t.whole in
     let counted = tells.counted in
     record {
@@ -61,7 +61,7 @@ served_with roster register desk_states answers output most reader writer none_h
         answers = record {
           lines = t.lines;
           are_lines = t.are_lines;
-          wrote = Appends-kept writer.before end.told.until writer.after (output_of roster t.lines)
+          wrote = Appends-kept writer.before end.told.until writer.after (output_from opening t.lines)
               (subst (Appends writer.before end.told.until) whole t.wrote) end.told.kept;
         };
         reads = served.reads;
@@ -71,21 +71,21 @@ served_with roster register desk_states answers output most reader writer none_h
       exact = λ all. omega (arith, counted.least, counted.most, all);
     }
 
--- the same, of the rosters that a body knows to be this one, and of a count that it knows
-pub served_by : (roster own now : List RosterRow) (register : List Entry) (desk_states : List DeskState)
+-- the same, of the places that a body knows to be these, and of a count that it knows
+pub served_by : (opening own now : List Place) (register : List Entry) (desk_states : List DeskState)
     (answers : List HeldAnswer)
-    (output : List ℕ) (most asked : ℕ) (reader writer : Device) → own ≡ roster → now ≡ own
+    (output : List ℕ) (most asked : ℕ) (reader writer : Device) → own ≡ opening → now ≡ own
     → asked ≡ weigh asked_at desk_states → answers ≡ [] → output ≡ []
     → ToldToTheEnd (TellsParts now register desk_states answers output) most reader writer
-    → Served own most reader writer
-    → ServedWith roster most reader writer asked
-served_by roster own now register desk_states answers output most asked reader writer is same all none_held none end
+    → ServedFrom own most reader writer
+    → ServedWithFrom opening most reader writer asked
+served_by opening own now register desk_states answers output most asked reader writer is same all none_held none end
     served =
-    let here : ServedWith now most reader writer (weigh asked_at desk_states) =
+    let here : ServedWithFrom now most reader writer (weigh asked_at desk_states) =
     served_with now register desk_states answers output most reader writer none_held none end
-    (subst (λ (r : List RosterRow). Served r most reader writer) (sym same) served) in
-    subst (λ (r : List RosterRow). ServedWith r most reader writer asked) (same ∙ is)
-    (subst (λ (n : ℕ). ServedWith now most reader writer n) (sym all) here)
+    (subst (λ (r : List Place). ServedFrom r most reader writer) (sym same) served) in
+    subst (λ (r : List Place). ServedWithFrom r most reader writer asked) (same ∙ is)
+    (subst (λ (n : ℕ). ServedWithFrom now most reader writer n) (sym all) here)
 
 -- a pass for each worker
 pub pops_wide : (id : QueueId) (n : ℕ) → length (new_pops id n) ≡ n

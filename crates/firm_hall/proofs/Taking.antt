@@ -16,14 +16,16 @@ use Rattle.firm_tenant.specs.Step.{step, is_memory}
 use Rattle.firm_tenant.specs.Laws.{RepliesTellTheirMarks}
 use Rattle.firm_text.specs.Inputs.{input_lines}
 use Rattle.firm_text.specs.Registers.{IsRegister, place_in}
-use Rattle.firm_text.specs.Rosters.{RosterRow, most_places}
+use Rattle.firm_text.specs.Rosters.{most_places}
 use Rattle.firm_text.specs.declared.inputs.Line.{Line}
 use Rattle.firm_text.specs.declared.inputs.Line.TheVariants.{Nothing, Long, Nameless, For}
 use Rattle.firm_text.specs.declared.registers.Entry.{Entry}
+use Rattle.firm_table.specs.Places.{Place}
 use Rattle.firm_table.specs.Answers.{text_of_answer}
 use Rattle.firm_table.specs.declared.answers.LineAnswer.{LineAnswer}
 use Rattle.firm_table.specs.declared.answers.LineAnswer.TheVariants.{Silent, LineTooLong, UnknownTenant, Replied}
-use Rattle.firm_table.specs.inner.Line.{IsAnswer, IsRight, tenants_are}
+use Rattle.firm_table.specs.Tenants.{tenants_are}
+use Rattle.firm_table.specs.inner.Line.{IsAnswer, IsRight}
 use Rattle.firm_rounds.specs.Rounds.{weigh}
 use Rattle.firm_rounds.specs.Passes.{QueueId}
 use Rattle.firm_table.specs.inner.Adding.{OneMoreIsTold, TenantsAreAnswered, StrangersAreAnswered}
@@ -54,18 +56,18 @@ pub record LineStep (register later_register : List Entry) (desk_states after : 
   pub adds : AddsAnswer (weigh asked_at desk_states) (weigh asked_at after) line answer.answer
 
 pub line_told : OneMoreIsTold
-    → (roster : List RosterRow) (register later_register : List Entry) (desk_states after : List DeskState)
+    → (opening : List Place) (register later_register : List Entry) (desk_states after : List DeskState)
     (answers later : List HeldAnswer) (output : List ℕ) (line : Line)
     → ((marks : ℕ → Bool) → LineStep register later_register desk_states after answers later output line marks)
     → (text text_after : List ℕ) (written now : Option (List ℕ))
     → input_lines text_after ≡ input_lines text ++ line ∷ []
-    → TellsParts roster register desk_states answers output text written now
-    → TellsParts roster later_register after later output text_after written now
-line_told one_more roster register later_register desk_states after answers later output line steps text text_after
+    → TellsParts opening register desk_states answers output text written now
+    → TellsParts opening later_register after later output text_after written now
+line_told one_more opening register later_register desk_states after answers later output line steps text text_after
     written
     now more told marks =
     let s = steps marks in
-    tells_more one_more (state_with marks roster register desk_states answers output)
+    tells_more one_more (state_with marks opening register desk_states answers output)
     (tenants_are later_register (map (book_at marks) after)) (output ++ held_text marks later) line
     (weigh asked_at desk_states) (weigh asked_at after) text text_after written now more s.answer s.adds (told marks)
 
@@ -309,17 +311,17 @@ module _ (register : List Entry) (queue : QueueId) (place : ℕ) (name : List �
   taken known tell Gone answer t = absurd t
 
 -- the same, of what a body knows of the desk state that it put there and of the answers that it left
-pub record TakenBy (roster : List RosterRow) (register : List Entry) (queue : QueueId) (answers later : List HeldAnswer)
+pub record TakenBy (opening : List Place) (register : List Entry) (queue : QueueId) (answers later : List HeldAnswer)
     (desk_states after : List DeskState) (output : List ℕ) (line : Line) : Type 0 where
   pub desk_states_are : AreDeskStates queue later after
   pub counts : map desk_state_counts after ≡ map desk_state_counts desk_states
   pub placed : ArePlaced later
   pub takes : (text text_after : List ℕ) (written now : Option (List ℕ))
       → input_lines text_after ≡ input_lines text ++ line ∷ []
-      → TellsParts roster register desk_states answers output text written now
-      → TellsParts roster register after later output text_after written now
+      → TellsParts opening register desk_states answers output text written now
+      → TellsParts opening register after later output text_after written now
 
-pub taken_by : (roster : List RosterRow) (register : List Entry) (queue : QueueId) (place : ℕ) (name : List ℕ)
+pub taken_by : (opening : List Place) (register : List Entry) (queue : QueueId) (place : ℕ) (name : List ℕ)
     (command : Command) (answers later : List HeldAnswer) (desk_states : List DeskState) (output : List ℕ)
     (default before last : DeskState) (answer : HeldAnswer)
     → AreDeskStates queue answers desk_states → ArePlaced answers → before ≡ get_or desk_states place default
@@ -328,8 +330,8 @@ pub taken_by : (roster : List RosterRow) (register : List Entry) (queue : QueueI
     → later ≡ answers ++ answer ∷ [] → OneMoreIsTold → TenantsAreAnswered → RepliesTellTheirMarks
     → IsTakenAt before place name command last answer
     → place < most_places
-    → TakenBy roster register queue answers later desk_states (set desk_states place last) output (For name command)
-taken_by roster register queue place name command answers later desk_states output default
+    → TakenBy opening register queue answers later desk_states (set desk_states place last) output (For name command)
+taken_by opening register queue place name command answers later desk_states output default
     (Home desk) last answer are placed at sound found held one_more known tell t low =
     let done = taken register queue place name command answers desk_states output default desk are at sound found low
     known
@@ -340,35 +342,35 @@ taken_by roster register queue place name command answers later desk_states outp
       counts = done.counts;
       placed = placed_push answers answer placed done.placed;
       takes = λ text text_after written now more told.
-          line_told one_more roster register register desk_states (set desk_states place last) answers
+          line_told one_more opening register register desk_states (set desk_states place last) answers
           (answers ++ answer ∷ []) output
           (For name command) done.steps text text_after written now more told;
     })
-taken_by roster register queue place name command answers later desk_states output default
+taken_by opening register queue place name command answers later desk_states output default
     (Away asked) last answer are placed at sound found held one_more known tell t low = absurd t
-taken_by roster register queue place name command answers later desk_states output default
+taken_by opening register queue place name command answers later desk_states output default
     (Empty empty) last answer are placed at sound found held one_more known tell t low = absurd t
-taken_by roster register queue place name command answers later desk_states output default Gone last answer are placed
+taken_by opening register queue place name command answers later desk_states output default Gone last answer are placed
     at
     sound found held one_more known tell t low = absurd t
 
-module _ (one_more : OneMoreIsTold) (roster : List RosterRow) (register : List Entry) (desk_states : List DeskState)
+module _ (one_more : OneMoreIsTold) (opening : List Place) (register : List Entry) (desk_states : List DeskState)
     (answers later : List HeldAnswer) (output : List ℕ) (line : Line) where
   pub nothing_follows : line ≡ Nothing → later ≡ answers → (text text_after : List ℕ) (written now : Option (List ℕ))
       → input_lines text_after ≡ input_lines text ++ line ∷ []
-      → TellsParts roster register desk_states answers output text written now
-      → TellsParts roster register desk_states later output text_after written now
+      → TellsParts opening register desk_states answers output text written now
+      → TellsParts opening register desk_states later output text_after written now
   nothing_follows is held =
-      rw (is, held) (line_told one_more roster register register desk_states desk_states answers answers output Nothing
+      rw (is, held) (line_told one_more opening register register desk_states desk_states answers answers output Nothing
       (nothing_step register desk_states answers output))
 
   pub long_follows : line ≡ Long → later ≡ answers ++ Known LineTooLong ∷ []
       → (text text_after : List ℕ) (written now : Option (List ℕ))
       → input_lines text_after ≡ input_lines text ++ line ∷ []
-      → TellsParts roster register desk_states answers output text written now
-      → TellsParts roster register desk_states later output text_after written now
+      → TellsParts opening register desk_states answers output text written now
+      → TellsParts opening register desk_states later output text_after written now
   long_follows is held =
-      rw (is, held) (line_told one_more roster register register desk_states desk_states answers
+      rw (is, held) (line_told one_more opening register register desk_states desk_states answers
       (answers ++ Known LineTooLong ∷ [])
       output Long
       (long_step register desk_states answers output))
@@ -376,21 +378,21 @@ module _ (one_more : OneMoreIsTold) (roster : List RosterRow) (register : List E
   pub nameless_follows : line ≡ Nameless → later ≡ answers ++ Known UnknownTenant ∷ []
       → (text text_after : List ℕ) (written now : Option (List ℕ))
       → input_lines text_after ≡ input_lines text ++ line ∷ []
-      → TellsParts roster register desk_states answers output text written now
-      → TellsParts roster register desk_states later output text_after written now
+      → TellsParts opening register desk_states answers output text written now
+      → TellsParts opening register desk_states later output text_after written now
   nameless_follows is held =
-      rw (is, held) (line_told one_more roster register register desk_states desk_states answers
+      rw (is, held) (line_told one_more opening register register desk_states desk_states answers
       (answers ++ Known UnknownTenant ∷ []) output Nameless (nameless_step register desk_states answers output))
 
   pub stranger_follows : StrangersAreAnswered → (name : List ℕ) (command : Command) → line ≡ For name command
       → place_in register name ≡ None → later ≡ answers ++ Known UnknownTenant ∷ []
       → (text text_after : List ℕ) (written now : Option (List ℕ))
       → input_lines text_after ≡ input_lines text ++ line ∷ []
-      → TellsParts roster register desk_states answers output text written now
-      → TellsParts roster register desk_states later output text_after written now
+      → TellsParts opening register desk_states answers output text written now
+      → TellsParts opening register desk_states later output text_after written now
   stranger_follows strangers name command is none held =
       rw (is, held)
-      (line_told one_more roster register register desk_states desk_states answers
+      (line_told one_more opening register register desk_states desk_states answers
       (answers ++ Known UnknownTenant ∷ []) output
       (For name command)
       (λ marks. stranger_step register desk_states answers output marks strangers name command none))

@@ -13,9 +13,10 @@ use Rattle.firm_text.specs.declared.inputs.Line.{Line}
 use Rattle.firm_table.specs.Places.{MarkedLine}
 use Rattle.firm_table.specs.Answers.{tells_memory, text_of_answer}
 use Rattle.firm_table.specs.declared.answers.LineAnswer.{LineAnswer}
-use Rattle.firm_table.specs.Output.{answers_of, output_of}
-use Rattle.firm_table.specs.Service.{BeginsAnswers}
-use Rattle.firm_table.specs.inner.Line.{State, TenantsState, IsAnswer, state_is}
+use Rattle.firm_table.specs.Output.{answers_from, output_from}
+use Rattle.firm_table.specs.Service.{BeginsAnswersFrom}
+use Rattle.firm_table.specs.Tenants.{TenantsState}
+use Rattle.firm_table.specs.inner.Line.{State, IsAnswer, state_is}
 use Rattle.firm_table.specs.inner.Adding.{OneMoreIsTold}
 use Rattle.firm_hall.specs.Counts.{rounds_in, round_of, refusal_in, refusals_in}
 use Rattle.firm_hall.specs.inner.Held.{answer_in, held_text}
@@ -50,21 +51,21 @@ pub tells_more : OneMoreIsTold
     → (state : State) (tenants : TenantsState) (pending : List ℕ) (line : Line) (asked later : ℕ) (text after : List ℕ)
     (written now : Option (List ℕ)) → input_lines after ≡ input_lines text ++ line ∷ []
     → (a : IsAnswer state.tenants tenants line state.pending pending) → AddsAnswer asked later line a.answer
-    → Tells state asked text written now → Tells (state_is state.roster tenants pending) later after written now
+    → Tells state asked text written now → Tells (state_is state.opening tenants pending) later after written now
 tells_more one_more state tenants pending line asked later text after written now more a adds tells =
     let q = one_more state text after written now tenants pending line tells.told more a in
     let old = tells.told.lines in
-    let answers = answers_of state.roster old in
+    let answers = answers_from state.opening old in
     let given : MarkedLine = (line, tells_memory a.answer) in
     let long : length old ≡ length answers =
     sym (length-map old (λ (g : MarkedLine). g.1)) ∙ ap length tells.told.are_lines.marks
     ∙ length-map answers tells_memory in
-    let rounds : rounds_in q.0.lines (answers_of state.roster q.0.lines)
+    let rounds : rounds_in q.0.lines (answers_from state.opening q.0.lines)
     ≡ rounds_in old answers + round_of line a.answer =
-    ap (λ (ls : List MarkedLine). rounds_in ls (answers_of state.roster q.0.lines)) q.1
+    ap (λ (ls : List MarkedLine). rounds_in ls (answers_from state.opening q.0.lines)) q.1
     ∙ ap (λ (xs : List LineAnswer). rounds_in (old ++ given ∷ []) xs) q.2
     ∙ rounds_more old answers given a.answer long in
-    let refusals : refusals_in (answers_of state.roster q.0.lines) ≡ refusals_in answers + refusal_in a.answer =
+    let refusals : refusals_in (answers_from state.opening q.0.lines) ≡ refusals_in answers + refusal_in a.answer =
     ap refusals_in q.2 ∙ refusals_more answers a.answer in
     let counted = tells.counted in
     record {
@@ -87,14 +88,14 @@ held_push marks answers answer =
 pub tells_begins : (state : State) (asked : ℕ) (text : List ℕ) (written now later : Option (List ℕ)) (count : ℕ)
     (front held : List ℕ) → Tells state asked text written now
     → state.pending ≡ front ++ held → count ≤ length front → Appends now later (take count front)
-    → BeginsAnswers state.roster text written later
+    → BeginsAnswersFrom state.opening text written later
 tells_begins state asked text written now later count front held tells both few wrote = record {
   lines = tells.told.lines;
   are_lines = tells.told.are_lines;
   count = length tells.told.sent + count;
   wrote =
       let sent = tells.told.sent in
-      let cut_off : take (length sent + count) (output_of state.roster tells.told.lines) ≡ sent ++ take count front =
+      let cut_off : take (length sent + count) (output_from state.opening tells.told.lines) ≡ sent ++ take count front =
       ap (take (length sent + count)) (sym tells.told.whole ∙ ap (λ (l : List ℕ). sent ++ l) both)
       ∙ take-append-add sent (front ++ held) count
       ∙ ap (λ (l : List ℕ). sent ++ l) (take_front count front held few) in
@@ -109,7 +110,7 @@ tells_begins state asked text written now later count front held tells both few 
 pub tells_written : (state : State) (asked : ℕ) (text : List ℕ) (written now later : Option (List ℕ))
     (front held : List ℕ) → Tells state asked text written now
     → state.pending ≡ front ++ held → Appends now later front
-    → Tells (state_is state.roster state.tenants held) asked text written later
+    → Tells (state_is state.opening state.tenants held) asked text written later
 tells_written state asked text written now later front held tells both wrote =
     let t = tells.told in
     record {

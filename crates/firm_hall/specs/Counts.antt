@@ -10,9 +10,9 @@ use Rattle.firm_text.specs.declared.inputs.Line.{Line}
 use Rattle.firm_text.specs.declared.inputs.Line.TheVariants.{Nothing, Long, Nameless, For, Operator}
 use Rattle.firm_text.specs.Rosters.{RosterRow}
 use Rattle.firm_table.specs.Interleaving.{is_round}
-use Rattle.firm_table.specs.Places.{MarkedLine}
-use Rattle.firm_table.specs.Output.{answers_of}
-use Rattle.firm_table.specs.Service.{Device, Served}
+use Rattle.firm_table.specs.Places.{MarkedLine, Place, opening_places}
+use Rattle.firm_table.specs.Output.{answers_from}
+use Rattle.firm_table.specs.Service.{Device, ServedFrom}
 use Rattle.firm_table.specs.declared.answers.LineAnswer.{LineAnswer}
 use Rattle.firm_table.specs.declared.answers.LineAnswer.TheVariants.{Silent, LineTooLong, UnknownTenant, Replied}
 use Rattle.firm_table.specs.declared.answers.LineAnswer.TheVariants.{ToOperator}
@@ -64,8 +64,12 @@ pub record Counted (asked : ℕ) (lines : List MarkedLine) (answers : List LineA
 
 -- What Ok says of a service: what was written is the output for all that was read; and this many rounds were asked, all
 -- that the lines ask for if no reply of a tenant says that memory was refused.
-pub record ServedWith (roster : List RosterRow) (most : ℕ) (reader writer : Device) (asked : ℕ) : Type 0 where
-  pub served : Served roster most reader writer
-  pub counted : Counted asked served.answers.lines (answers_of roster served.answers.lines)
-  pub exact : refusals_in (answers_of roster served.answers.lines) ≡ 0
-      → asked ≡ rounds_in served.answers.lines (answers_of roster served.answers.lines)
+pub record ServedWithFrom (places : List Place) (most : ℕ) (reader writer : Device) (asked : ℕ) : Type 0 where
+  pub served : ServedFrom places most reader writer
+  pub counted : Counted asked served.answers.lines (answers_from places served.answers.lines)
+  pub exact : refusals_in (answers_from places served.answers.lines) ≡ 0
+      → asked ≡ rounds_in served.answers.lines (answers_from places served.answers.lines)
+
+-- the same for a service of a roster
+abbrev pub ServedWith : List RosterRow → ℕ → Device → Device → ℕ → Type 0
+ServedWith roster = ServedWithFrom (opening_places roster)

@@ -1,13 +1,10 @@
 //! The hall as a clerk: lines are answered while rounds are away.
-ghost use Rattle.std.specs.Prelude.{◌≡◌, ℕ, ◌+◌, ◌-◌, ◌++◌, ◌∷◌, IfErr, IfOk, List, OnErr, OnOk, Option, [], false};
+ghost use Rattle.std.specs.Prelude.{◌≡◌, ℕ, ◌+◌, All, IfOk, List, Option, []};
 ghost use Rattle.std.specs.Prelude.{length, vec_capacity};
-ghost use Rattle.firm_text.specs.Inputs.{input_lines};
 ghost use Rattle.firm_text.specs.Rosters.{most_places};
-ghost use Rattle.firm_table.specs.Service.{Answers, BeginsAnswers};
-ghost use Rattle.firm_table.specs.inner.Faults.{IsWritingFault};
-ghost use Rattle.firm_rounds.specs.Passes.{QueueIs};
+ghost use Rattle.firm_table.specs.Openings.{places_opened};
+ghost use Rattle.firm_rounds.specs.Passes.{QueueIs, new_puts};
 ghost use Rattle.firm_rounds.specs.Rounds.{weigh};
-ghost use Rattle.firm_hall.specs.Opening.{opening_desks, unused_places};
 ghost use Rattle.firm_hall.specs.inner.Ending.{AreOf};
 ghost use Rattle.firm_hall.specs.inner.Serving.{IsFinished, IsOpen, IsReserved, IsWrittenOut, TellsAll, asked_at};
 
@@ -17,6 +14,7 @@ use crate::ending::Ended;
 use crate::serving::Serving;
 use crate::setting::Setting;
 use crossbeam_utils::sync::Key;
+use firm_rounds::PutPass;
 use firm_table::{Clerk, ServeFault};
 use firm_text::{Line, PLACES, Sink, Source};
 use firm_tray::LOOKS_BEFORE_SLEEP;
@@ -36,25 +34,24 @@ pub(crate) struct HallClerk<'h, R: Wait> {
 }
 
 impl<'h, R: Wait> HallClerk<'h, R> {
-    /// The clerk before the first line, with all tenants at home. Takes all memory of its own here; fails only if that
-    /// is refused.
+    /// The clerk before the first line, with all tenants at home. These are the passes of the hall's places. Takes all
+    /// memory of its own here; fails only if that is refused.
     pub(crate) fn open(
         setting: Setting<'h, R>,
-        desks: Vec<Desk>,
-        empty: Vec<EmptyDesk>,
+        passes: Vec<PutPass>,
     ) -> Result<HallClerk<'h, R>, AllocError>
-        requires desks { desks.items ≡ opening_desks setting.hall.now.id 0 setting.roster.now }
-        requires empty { empty.items ≡ unused_places setting.hall.now.id (length setting.roster.now)
-            (most_places - length setting.roster.now) }
+        requires passes { passes.items ≡ new_puts setting.hall.now.id most_places }
+        requires unused { All (λ p. p.put ≡ 0) passes.items }
         ensures open { IfOk result (λ clerk. IsOpen clerk.setting.hall.now.id clerk.serving) }
         ensures told { IfOk result (λ clerk. (written : Option (List ℕ))
-            → TellsAll clerk.setting.roster.now clerk.serving [] written written) }
+            → TellsAll (places_opened clerk.setting.opening) clerk.serving [] written written) }
         ensures hall { IfOk result (λ clerk. clerk.setting.hall.now ≡ setting.entry.hall.now) }
-        ensures roster { IfOk result (λ clerk. clerk.setting.roster.now ≡ setting.entry.roster.now) }
+        ensures opening { IfOk result (λ clerk. places_opened clerk.setting.opening
+            ≡ places_opened setting.entry.opening) }
     {
         let room = Vec::with_capacity(setting.alloc, PLACES)?;
         let empty_room = Vec::with_capacity(setting.alloc, PLACES)?;
-        let serving = Serving::open(&setting, desks, empty)?;
+        let serving = Serving::open(&setting, passes)?;
         Ok(HallClerk {
             setting,
             serving,
@@ -85,11 +82,12 @@ impl<'h, R: Wait> Clerk for HallClerk<'h, R> {
 
     ghost kept = { λ clerk. clerk.setting.hall.now };
 
-    ghost roster = { λ clerk. clerk.setting.roster.now };
+    ghost opening = { λ clerk. places_opened clerk.setting.opening };
 
     ghost is_open = { λ clerk. IsOpen clerk.setting.hall.now.id clerk.serving };
 
-    ghost told = { λ clerk text written now. TellsAll clerk.setting.roster.now clerk.serving text written now };
+    ghost told = { λ clerk text written now.
+        TellsAll (places_opened clerk.setting.opening) clerk.serving text written now };
 
     ghost is_written_out = { λ clerk. IsWrittenOut clerk.serving };
 

@@ -64,6 +64,33 @@ impl Hall {
         open_hall(alloc, roster, PLACES, workers)
     }
 
+    // A hall of this many places, with a pass for each of them and for each worker. Takes all its memory here; fails
+    // only if that is refused.
+    pub(crate) fn open_bare(
+        alloc: Global,
+        places: usize,
+        workers: usize,
+    ) -> Result<(Hall, Vec<PutPass>, Vec<WorkerPass>), AllocError>
+        requires workers { (1 ≤ workers) × (workers ≤ 8) }
+        requires places { places ≤ most_places }
+        ensures counts { IfOk result (λ r. (r.0.puts ≡ places) × (r.0.pops ≡ workers)) }
+        ensures puts { IfOk result (λ r. r.1.items ≡ new_puts r.0.id places) }
+        ensures unused { IfOk result (λ r. All (λ p. p.put ≡ 0) r.1.items) }
+        ensures passes { IfOk result (λ r. r.2.items ≡ new_pops r.0.id workers) }
+        ensures of_this { IfOk result (λ r. All (λ p. p.queue ≡ r.0.id) r.2.items) }
+    {
+        let (queue, puts, pops) = Queue::open(alloc, places, workers)?;
+        let passes = open_passes(alloc, pops)?;
+        let answers = Arc::new(alloc, EventCount::new())?;
+        let hall = Hall {
+            queue,
+            stop: CachePadded::new(AtomicU64::new(0)),
+            bell: Bell::new(workers),
+            answers,
+        };
+        Ok((hall, puts, passes))
+    }
+
     /// Tells the workers to end once the queue is empty. Takes no memory.
     pub fn shut(&self) {
         self.stop.store(1, Ordering::SeqCst);
@@ -138,18 +165,10 @@ fn open_hall(
         (λ r. All (λ d. d.queue ≡ r.0.id) r.1.items × All (λ p. p.queue ≡ r.0.id) r.2.items) }
     ensures empty_of_this { IfOk result (λ r. All (λ e. e.queue ≡ r.0.id) r.3.items) }
 {
-    let (queue, mut puts, pops) = Queue::open(alloc, places, workers)?;
+    let (hall, mut puts, passes) = Hall::open_bare(alloc, places, workers)?;
     let rest = puts.split_off(roster.len())?;
     let desks = open_desks(alloc, roster, puts)?;
     let empty = open_empty(alloc, rest)?;
-    let passes = open_passes(alloc, pops)?;
-    let answers = Arc::new(alloc, EventCount::new())?;
-    let hall = Hall {
-        queue,
-        stop: CachePadded::new(AtomicU64::new(0)),
-        bell: Bell::new(workers),
-        answers,
-    };
     Ok((hall, desks, passes, empty))
 }
 

@@ -41,6 +41,15 @@ impl Place {
         }
     }
 
+    // A place that was given so often, and where no round was asked yet.
+    pub(crate) fn given_before(pass: PutPass, admissions: u32) -> Place
+        requires unused { pass.put ≡ 0 }
+        requires few { admissions ≤ most_admissions }
+        ensures { result ≡ place_is pass.queue pass.place 0 admissions }
+    {
+        Place { pass, admissions }
+    }
+
     // The place, given once more.
     pub(crate) fn given(self) -> Place
         requires { self.admissions < most_admissions }

@@ -1,10 +1,10 @@
 //! The service: a hall, its desks and one to eight workers, from the first byte to the last.
 ghost use Rattle.std.specs.Prelude.{◌≡◌, ℕ, ◌+◌, ◌≤◌, ◌^◌, List, Option, [], All, IfOk, IfErr, OnOk, false, length};
-ghost use Rattle.std.specs.Prelude.{true};
 ghost use Rattle.std.specs.Thread.{IsSync};
-ghost use Rattle.firm_table.specs.Service.{Stopped, device};
+ghost use Rattle.firm_table.specs.Openings.{places_opened};
+ghost use Rattle.firm_table.specs.Service.{Stopped, StoppedFrom, device};
 ghost use Rattle.firm_text.specs.Rosters.{most_places};
-ghost use Rattle.firm_hall.specs.Counts.{ServedWith};
+ghost use Rattle.firm_hall.specs.Counts.{ServedWith, ServedWithFrom};
 ghost use Rattle.firm_hall.specs.inner.Ending.{AreOf, Ran};
 ghost use Rattle.firm_hall.specs.inner.Serving.{IsOpen, TellsAll};
 
@@ -12,12 +12,12 @@ use crate::clerk::HallClerk;
 use crate::close::{CloseFault, Totals};
 use crate::ending::Ended;
 use crate::halls::Hall;
-use crate::setting::Setting;
+use crate::setting::{Setting, Setup};
 use crate::team::Team;
 use crate::workers::{Gate, Report};
 use firm_rounds::Job;
-use firm_table::{ServeFault, serve_lines};
-use firm_text::{Roster, Sink, Source};
+use firm_table::{Opening, ServeFault, serve_lines};
+use firm_text::{PLACES, Roster, Sink, Source};
 use std::alloc::Global;
 use std::sync::Wait;
 use std::thread;
@@ -56,16 +56,52 @@ pub fn serve<S: Source, W: Sink, R: Threads + Wait + Sync, G: Gate + Sync>(
         (device (S.left reader.old) (S.left reader.new) (S.read_failed reader.new))
         (device (W.written writer.old) (W.written writer.new) (W.write_failed writer.new))) }
 {
-    let Ok((hall, desks, passes, empty)) = Hall::open(alloc, roster, workers) else {
+    let setup = Setup {
+        rt,
+        alloc,
+        opening: Opening::Roster(roster),
+        workers,
+        gate,
+    };
+    serve_from(setup, reader, writer, most)
+}
+
+/// The same as `serve`, for a service that opens with a roster or with a saved state.
+pub fn serve_from<S: Source, W: Sink, R: Threads + Wait + Sync, G: Gate + Sync>(
+    setup: Setup<'_, R, G>,
+    reader: &mut S,
+    writer: &mut W,
+    most: u64,
+) -> Result<Totals, ServeFault>
+    requires workers { (1 ≤ setup.workers) × (setup.workers ≤ 8) }
+    requires some { 1 ≤ most }
+    requires most { most ≤ 2 ^ 32 }
+    requires reader { S.read_failed reader.old ≡ false }
+    requires writer { W.write_failed writer.old ≡ false }
+    ensures served { IfOk result (λ totals. ServedWithFrom (places_opened setup.entry.opening) most
+        (device (S.left reader.old) (S.left reader.new) (S.read_failed reader.new))
+        (device (W.written writer.old) (W.written writer.new) (W.write_failed writer.new)) totals.rounds) }
+    ensures stopped { IfErr result (StoppedFrom (places_opened setup.entry.opening) most
+        (device (S.left reader.old) (S.left reader.new) (S.read_failed reader.new))
+        (device (W.written writer.old) (W.written writer.new) (W.write_failed writer.new))) }
+{
+    let Setup {
+        rt,
+        alloc,
+        opening,
+        workers,
+        gate,
+    } = setup;
+    let Ok((hall, places, passes)) = Hall::open_bare(alloc, PLACES, workers) else {
         return Err(ServeFault::Memory);
     };
     let setting = Setting {
         rt,
         alloc,
         hall: &hall,
-        roster,
+        opening,
     };
-    let Ok(clerk) = HallClerk::open(setting, desks, empty) else {
+    let Ok(clerk) = HallClerk::open(setting, places) else {
         return Err(ServeFault::Memory);
     };
     let Ok(team) = Team::open(rt, alloc, &hall, gate, passes) else {
@@ -96,11 +132,12 @@ fn serve_with<S: Source, W: Sink, R: Threads + Wait + Sync, G: Gate + Sync>(
     most: u64,
 ) -> (Result<Ended, ServeFault>, Vec<Report>)
     requires open { IsOpen clerk.setting.hall.now.id clerk.serving }
-    requires told { (written : Option (List ℕ)) → TellsAll clerk.setting.roster.now clerk.serving [] written written }
+    requires told { (written : Option (List ℕ))
+        → TellsAll (places_opened clerk.setting.opening) clerk.serving [] written written }
     requires most { most ≤ 2 ^ 32 }
     requires reader { S.read_failed reader.old ≡ false }
     requires writer { W.write_failed writer.old ≡ false }
-    ensures ran { Ran clerk.entry.setting.roster.now most
+    ensures ran { Ran (places_opened clerk.entry.setting.opening) most
         (device (S.left reader.old) (S.left reader.new) (S.read_failed reader.new))
         (device (W.written writer.old) (W.written writer.new) (W.write_failed writer.new)) result.0 }
     ensures desks { IfOk result.0 (λ ended. AreOf clerk.entry.setting.hall.now.id ended.desks.items ended.empty.items) }
@@ -115,13 +152,13 @@ fn serve_with<S: Source, W: Sink, R: Threads + Wait + Sync, G: Gate + Sync>(
             requires threads { IsSync R.row × IsSync G.row }
             requires open { IsOpen clerk.setting.hall.now.id clerk.serving }
             requires told { (written : Option (List ℕ))
-                → TellsAll clerk.setting.roster.now clerk.serving [] written written }
+                → TellsAll (places_opened clerk.setting.opening) clerk.serving [] written written }
             requires most { most ≤ 2 ^ 32 }
             requires reader { S.read_failed reader.now ≡ false }
             requires writer { W.write_failed writer.now ≡ false }
             ensures reads { result.2.ghost_name ≡ reader.entry.ghost_name }
             ensures writes { result.3.ghost_name ≡ writer.entry.ghost_name }
-            ensures ran { Ran clerk.entry.setting.roster.now most
+            ensures ran { Ran (places_opened clerk.entry.setting.opening) most
                 (device (S.left reader.entry.now) (S.left result.2.now) (S.read_failed result.2.now))
                 (device (W.written writer.entry.now) (W.written result.3.now) (W.write_failed result.3.now)) result.0 }
             ensures desks { IfOk result.0
@@ -153,11 +190,12 @@ fn serve_all<S: Source, W: Sink, R: Wait>(
     most: u64,
 ) -> Result<Ended, ServeFault>
     requires open { IsOpen clerk.setting.hall.now.id clerk.serving }
-    requires told { (written : Option (List ℕ)) → TellsAll clerk.setting.roster.now clerk.serving [] written written }
+    requires told { (written : Option (List ℕ))
+        → TellsAll (places_opened clerk.setting.opening) clerk.serving [] written written }
     requires most { most ≤ 2 ^ 32 }
     requires reader { S.read_failed reader.old ≡ false }
     requires writer { W.write_failed writer.old ≡ false }
-    ensures ran { Ran clerk.entry.setting.roster.now most
+    ensures ran { Ran (places_opened clerk.entry.setting.opening) most
         (device (S.left reader.old) (S.left reader.new) (S.read_failed reader.new))
         (device (W.written writer.old) (W.written writer.new) (W.write_failed writer.new)) result }
     ensures desks { IfOk result (λ ended. AreOf clerk.entry.setting.hall.now.id ended.desks.items ended.empty.items) }

@@ -1,29 +1,30 @@
 //! Lines are answered in order at the desks, while rounds are away.
-ghost use Rattle.std.specs.Prelude.{◌≡◌, ℕ, ◌-◌, ◌<◌, ◌++◌, ◌∷◌, IfErr, IfOk, List, MatchBool, OnErr, OnOk, Option};
-ghost use Rattle.std.specs.Prelude.{Some, [], false, length, map};
+ghost use Rattle.std.specs.Prelude.{◌≡◌, ℕ, ◌<◌, ◌++◌, ◌∷◌, All, IfErr, IfOk, List, MatchBool, OnErr, OnOk, Option};
+ghost use Rattle.std.specs.Prelude.{Some, [], false, length};
 ghost use Rattle.firm_text.specs.Inputs.{input_lines};
 ghost use Rattle.firm_text.specs.Registers.{IsRegister, place_in};
-ghost use Rattle.firm_text.specs.Rosters.{RosterRow, most_places};
+ghost use Rattle.firm_text.specs.Rosters.{most_places};
 ghost use Rattle.firm_text.specs.declared.inputs.Line.TheVariants.{For};
-ghost use Rattle.firm_table.specs.Service.{BeginsAnswers};
+ghost use Rattle.firm_table.specs.Places.{Place};
+ghost use Rattle.firm_table.specs.Openings.{places_opened};
+ghost use Rattle.firm_table.specs.Service.{BeginsAnswersFrom};
 ghost use Rattle.firm_table.specs.inner.Faults.{IsWritingFault};
-ghost use Rattle.firm_hall.specs.Opening.{opening_desks, unused_places};
-ghost use Rattle.firm_hall.specs.declared.desk_states.DeskState.TheVariants.{Empty, Home};
-ghost use Rattle.firm_hall.specs.inner.Held.{FirstIsKnown, FirstWaits, most_answers_held};
+ghost use Rattle.firm_rounds.specs.Passes.{new_puts};
+ghost use Rattle.firm_hall.specs.inner.Held.{FirstIsKnown, FirstWaits};
 ghost use Rattle.firm_hall.specs.inner.Serving.{AllBack, Begins, Follows, IsBackAt, IsFinished, IsOpen, IsWrittenOut};
 ghost use Rattle.firm_hall.specs.inner.Serving.{Keeps, Passes, Takes, TellsAll};
 
 use crate::desk_states::DeskState;
-use crate::desks::Desk;
-use crate::empty::EmptyDesk;
 use crate::halls::Hall;
 use crate::held::{First, Held, HeldAnswer};
+use crate::seating::open_states;
 use crate::setting::Setting;
+use firm_rounds::PutPass;
 use firm_rules::{Command, Name};
 use firm_table::{LineAnswer, ServeFault, answers_add_up};
 use firm_tenant::replies_tell_their_marks;
-use firm_text::{Line, PLACES, Register, Sink};
-use std::alloc::{AllocError, Global};
+use firm_text::{Line, Register, Sink};
+use std::alloc::AllocError;
 use std::marker::Model;
 use std::snapshot::Snapshot;
 use std::sync::Wait;
@@ -52,27 +53,21 @@ impl Serving {
     // The state before the first line, with all tenants at home. Fails only if memory is refused.
     pub(crate) fn open<R: Wait>(
         setting: &Setting<'_, R>,
-        desks: Vec<Desk>,
-        empty: Vec<EmptyDesk>,
+        passes: Vec<PutPass>,
     ) -> Result<Serving, AllocError>
-        requires desks { desks.items ≡ opening_desks setting.now.hall.now.id 0 setting.now.roster.now }
-        requires empty { empty.items ≡ unused_places setting.now.hall.now.id (length setting.now.roster.now)
-            (most_places - length setting.now.roster.now) }
+        requires passes { passes.items ≡ new_puts setting.now.hall.now.id most_places }
+        requires unused { All (λ p. p.put ≡ 0) passes.items }
         ensures open { IfOk result (IsOpen setting.now.hall.now.id) }
         ensures told { IfOk result (λ serving. (written : Option (List ℕ))
-            → TellsAll setting.now.roster.now serving [] written written) }
+            → TellsAll (places_opened setting.now.opening) serving [] written written) }
     {
         // A law: before the first line nothing is told.
         answers_add_up();
-        // A roster has no more rows than there are places.
-        prove!(setting.roster.len() <= PLACES);
-        let mut desk_states = Vec::with_capacity(setting.alloc, PLACES)?;
-        put_desks(&mut desk_states, desks)?;
-        put_empty(&mut desk_states, empty)?;
+        let desk_states = open_states(setting.alloc, setting.opening, passes)?;
         let held = Held::open(setting.alloc)?;
         Ok(Serving {
             hall: Snapshot::of(setting.hall),
-            register: Register::of(setting.roster),
+            register: setting.opening.register(),
             desk_states,
             held,
         })
@@ -87,14 +82,14 @@ impl Serving {
     ) -> Result<(), ServeFault>
         requires writer { W.write_failed writer.old ≡ false }
         requires open { IsOpen setting.now.hall.now.id self.old }
-        ensures told { OnOk result ((roster : List RosterRow) (text after : List ℕ) (written : Option (List ℕ))
+        ensures told { OnOk result ((opening : List Place) (text after : List ℕ) (written : Option (List ℕ))
             → input_lines after ≡ input_lines text ++ line ∷ []
-            → TellsAll roster self.old text written (W.written writer.old)
-            → TellsAll roster self.new after written (W.written writer.new)) }
-        ensures begins { OnErr result ((roster : List RosterRow) (text after : List ℕ) (written : Option (List ℕ))
+            → TellsAll opening self.old text written (W.written writer.old)
+            → TellsAll opening self.new after written (W.written writer.new)) }
+        ensures begins { OnErr result ((opening : List Place) (text after : List ℕ) (written : Option (List ℕ))
             → input_lines after ≡ input_lines text ++ line ∷ []
-            → TellsAll roster self.old text written (W.written writer.old)
-            → BeginsAnswers roster after written (W.written writer.new)) }
+            → TellsAll opening self.old text written (W.written writer.old)
+            → BeginsAnswersFrom opening after written (W.written writer.new)) }
         ensures cause { IfErr result (λ fault. IsWritingFault fault (W.write_failed writer.new)) }
         ensures well { OnOk result (W.write_failed writer.new ≡ false) }
         ensures open { IsOpen setting.now.hall.now.id self.new }
@@ -282,24 +277,4 @@ impl Serving {
         };
         self.held.write(writer)
     }
-}
-
-// Adds each desk, with its tenant at home.
-fn put_desks(desk_states: &mut Vec<DeskState>, desks: Vec<Desk>) -> Result<(), AllocError>
-    ensures { OnOk result (desk_states.new.items ≡ desk_states.old.items ++ map Home desks.items) }
-{
-    for desk in desks {
-        desk_states.push(DeskState::Home(desk))?;
-    }
-    Ok(())
-}
-
-// Adds each empty desk.
-fn put_empty(desk_states: &mut Vec<DeskState>, empty: Vec<EmptyDesk>) -> Result<(), AllocError>
-    ensures { OnOk result (desk_states.new.items ≡ desk_states.old.items ++ map Empty empty.items) }
-{
-    for place in empty {
-        desk_states.push(DeskState::Empty(place))?;
-    }
-    Ok(())
 }

@@ -1,14 +1,25 @@
 //! What serving relies on and no line changes.
 use crate::halls::Hall;
-use firm_text::Roster;
+use firm_table::Opening;
 use std::alloc::Global;
 use std::sync::Wait;
 
-/// The runtime, the memory, the hall and the roster of a service.
+/// What a service runs on: the runtime and the memory, what it opens with, and its 1 to 8 workers, each of which passes
+/// the gate before it solves a round.
+#[derive(Drop)]
+pub struct Setup<'s, R, G> {
+    pub rt: &'s R,
+    pub alloc: Global,
+    pub opening: Opening<'s>,
+    pub workers: usize,
+    pub gate: &'s G,
+}
+
+/// The runtime, the memory and the hall of a service, and what it opens with.
 #[derive(Drop)]
 pub(crate) struct Setting<'h, R: Wait> {
     pub(crate) rt: &'h R,
     pub(crate) alloc: Global,
     pub(crate) hall: &'h Hall,
-    pub(crate) roster: &'h Roster,
+    pub(crate) opening: Opening<'h>,
 }

@@ -15,11 +15,11 @@ use Rattle.std.proofs.lemmas.List.Sums.{sum_by-cons, sum_by_push}
 use Rattle.std.proofs.lemmas.Map.Made.{AllPairs-from_IsDistinct, IsDistinct-from_AllPairs}
 use Rattle.firm_rules.specs.Names.{is_among}
 use Rattle.firm_rules.specs.Book.{TenantRows, machine_names, job_names, task_names, name_at, is_on, evicted, running_on}
-use Rattle.firm_rules.specs.Book.{with_machine, with_job, with_task, without_machine, without_job, without_task}
-use Rattle.firm_rules.specs.Book.{has_tasks, new_task, forgetting, most_waited}
+use Rattle.firm_rules.specs.Book.{with_machine, with_job, with_restored, without_machine, without_job, without_task}
+use Rattle.firm_rules.specs.Book.{has_tasks, forgetting, most_waited}
 use Rattle.firm_rules.specs.Preferences.{without_preference}
 use Rattle.firm_rules.specs.ArenaUse.{FitsLimits, preference_count}
-use Rattle.firm_rules.specs.Sound.{AreSound}
+use Rattle.firm_rules.specs.Sound.{AreSound, HasRoom}
 use Rattle.firm_rules.specs.Placement.{IsLegal, IsPlace, load, goes_to}
 use Rattle.firm_rules.specs.Round.{case_of, rows_after, task_after, zipped}
 use Rattle.firm_rules.specs.declared.book.Machine.{Machine}
@@ -30,7 +30,7 @@ use Rattle.firm_rules.specs.declared.rounds.Choice.TheVariants.{On, Wait}
 use Rattle.firm_rules.proofs.NamedRows.{bytes_eq-own, sum_by-le-each, sum_by-filter-le, length-filter-le, sum_by-map}
 use Rattle.firm_rules.proofs.NamedRows.{among-append, is_other, among-filter}
 
-abbrev IsThere : List (List ℕ) → Option (List ℕ) → Type 0
+abbrev pub IsThere : List (List ℕ) → Option (List ℕ) → Type 0
 IsThere names machine = IfSome machine (λ name. is_among names name ≡ true)
 
 -- a truth value as a number
@@ -38,7 +38,7 @@ pub one_if-from_bool : (b : Bool) → from_bool b ≡ cond b 1 0
 one_if-from_bool true = refl
 one_if-from_bool false = refl
 
-abbrev AreThere : List (List ℕ) → List (List ℕ) → Type 0
+abbrev pub AreThere : List (List ℕ) → List (List ℕ) → Type 0
 AreThere names preferred = All (λ name. is_among names name ≡ true) preferred
 
 abbrev pub one_if : Bool → ℕ
@@ -135,12 +135,30 @@ module _ (rows : TenantRows) (sound : AreSound rows) where
         most_remote = sound.most_remote;
       }
 
-  pub sound-with_task : (job name : List ℕ) (preferred : List (List ℕ))
-      → IsDistinct bytes_eq (task_names (with_task rows job name preferred)) → is_among (job_names rows) job ≡ true
-      → AreThere (machine_names rows) preferred → length preferred ≤ 4 → IsDistinct bytes_eq preferred
-      → FitsLimits (with_task rows job name preferred) → AreSound (with_task rows job name preferred)
-  sound-with_task job name preferred differ there machines few apart fits =
-      let task : Task = new_task job name preferred in
+  -- a task that waits takes no slot
+  room-with_restored : (task : Task) → IfSome task.machine (λ _. HasRoom (with_restored rows task))
+      → HasRoom (with_restored rows task)
+  room-with_restored task = by task.machine refl
+    where
+      by : (machine : Option (List ℕ)) → task.machine ≡ machine
+          → IfSome machine (λ _. HasRoom (with_restored rows task)) → HasRoom (with_restored rows task)
+      by None waits h = λ k d l.
+          let name : List ℕ = (slice_index_or rows.machines k d).name in
+          let on : Task → ℕ = λ t. cond (is_on name t.machine) 1 0 in
+          omega (
+            arith,
+            sound.room k d l,
+            sum_by_push on rows.tasks task,
+            ap (λ (m : Option (List ℕ)). one_if (is_on name m)) waits,
+          )
+      by (Some home) runs h = h
+
+  pub sound-with_restored : (task : Task) → IsDistinct bytes_eq (task_names (with_restored rows task))
+      → is_among (job_names rows) task.job ≡ true → IsThere (machine_names rows) task.machine
+      → AreThere (machine_names rows) task.preferred → length task.preferred ≤ 4 → IsDistinct bytes_eq task.preferred
+      → IfSome task.machine (λ _. HasRoom (with_restored rows task)) → task.waited ≤ most_waited
+      → FitsLimits (with_restored rows task) → AreSound (with_restored rows task)
+  sound-with_restored task differ there home machines few apart room waited fits =
       record {
         machine_names_differ = sound.machine_names_differ;
         job_names_differ = sound.job_names_differ;
@@ -148,17 +166,15 @@ module _ (rows : TenantRows) (sound : AreSound rows) where
         jobs_there =
             All-push (λ (t : Task). is_among (job_names rows) t.job ≡ true) rows.tasks task sound.jobs_there there;
         machines_there =
-            All-push (λ (t : Task). IsThere (machine_names rows) t.machine) rows.tasks task sound.machines_there tt;
+            All-push (λ (t : Task). IsThere (machine_names rows) t.machine) rows.tasks task sound.machines_there home;
         preferred_there =
             All-push (λ (t : Task). AreThere (machine_names rows) t.preferred) rows.tasks task sound.preferred_there
             machines;
         preferred_few = All-push (λ (t : Task). length t.preferred ≤ 4) rows.tasks task sound.preferred_few few;
         preferred_differ =
             All-push (λ (t : Task). IsDistinct bytes_eq t.preferred) rows.tasks task sound.preferred_differ apart;
-        room = λ k d l.
-            let on : Task → ℕ = λ t. cond (is_on (slice_index_or rows.machines k d).name t.machine) 1 0 in
-            omega (arith, sound.room k d l, sum_by_push on rows.tasks task);
-        waited = All-push (λ (t : Task). t.waited ≤ most_waited) rows.tasks task sound.waited (omega arith);
+        room = room-with_restored task room;
+        waited = All-push (λ (t : Task). t.waited ≤ most_waited) rows.tasks task sound.waited waited;
         fits = fits;
         slots = sound.slots;
         weights = sound.weights;
@@ -170,7 +186,7 @@ module _ (rows : TenantRows) (sound : AreSound rows) where
       }
 
 -- a task that is thrown out keeps its name and job, has waited no longer, and runs nowhere else
-evicted-cases : (name : List ℕ) (task : Task) (P : Task → Type 0)
+pub evicted-cases : (name : List ℕ) (task : Task) (P : Task → Type 0)
     → (is_on name task.machine ≡ true → P (record (forgetting name task) { machine = None; waited = 0 }))
     → (is_on name task.machine ≡ false → P (forgetting name task)) → P (evicted name task)
 evicted-cases name task P there apart =
@@ -382,7 +398,7 @@ module _ (rows : TenantRows) (sound : AreSound rows) where
       }
 
 -- what holds of each task and choice holds of each task after them
-All-zipped : {X Y Z : Type 0} (P : Z → Type 0) (Q : X → Type 0) (R : Y → Type 0) (f : X → Y → Z)
+pub All-zipped : {X Y Z : Type 0} (P : Z → Type 0) (Q : X → Type 0) (R : Y → Type 0) (f : X → Y → Z)
     → ((x : X) (y : Y) → Q x → R y → P (f x y))
     → (xs : List X) (ys : List Y) → All Q xs → All R ys → All P (zipped f xs ys)
 All-zipped P Q R f each [] ys xs-hold ys-hold = All-nil P
@@ -437,7 +453,7 @@ among-at (name ∷ names) (suc place) below =
     ]
 
 -- where names differ, two places have one name only where they are one
-same-name : (names : List (List ℕ)) → IsDistinct bytes_eq names → (j k : ℕ) → j < length names → k < length names
+pub same-name : (names : List (List ℕ)) → IsDistinct bytes_eq names → (j k : ℕ) → j < length names → k < length names
     → bytes_eq (name_at names k) (name_at names j) ≡ eqb j k
 same-name names differ j k j-there k-there =
     elim (eqb j k) as (λ b. eqb j k ≡ b → bytes_eq (name_at names k) (name_at names j) ≡ b) [

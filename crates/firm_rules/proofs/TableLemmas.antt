@@ -1,22 +1,24 @@
 -- Rows that stand under their own names.
 use Rattle.std.proofs.Common.{◌≡◌, ◌+◌, ◌<◌, ◌≤◌, ℕ, zero, suc, true, false, cond, List, [], ◌∷◌, ◌++◌, map, remove}
-use Rattle.std.proofs.Common.{All, length, count_by, Option, None, Some, is_some, slice_get, slice_index_or, true≢false}
+use Rattle.std.proofs.Common.{length, count_by, Option, None, Some, IfSome, is_some, slice_get, slice_index_or}
+use Rattle.std.proofs.Common.{true≢false}
 use Rattle.std.proofs.Common.{refl, sym, ap, subst, ◌∙◌, ◌-◌, bytes_eq, arith}
 use Rattle.std.specs.List.{IsDistinct}
 use Rattle.std.specs.Map.{lookup, keys_of, values_of}
 use Rattle.std.proofs.lemmas.Map.Made.{is_some-lookup}
 use Rattle.std.proofs.lemmas.List.{map-append, get_or-map}
-use Rattle.std.proofs.lemmas.List.Sums.{sum_by-cons, sum_by_push, sum_by-remove}
+use Rattle.std.proofs.lemmas.List.Sums.{sum_by-cons, sum_by_push, sum_by-remove, get_or-le-sum_by}
 use Rattle.indexmap.specs.IndexMap.{IndexMap, keys, insert_entry}
 use Rattle.indexmap.proofs.CallerLemmas.{insert_entry-new}
 use Rattle.indexmap.proofs.SetLemmas.{map-remove}
 use Rattle.firm_rules.specs.Limits.{TenantLimits}
-use Rattle.firm_rules.specs.Names.{is_among}
+use Rattle.firm_rules.specs.Names.{is_among, is_name}
 use Rattle.firm_rules.specs.Book.{TenantRows, machine_names, job_names, task_names, name_at, is_on, evicted}
-use Rattle.firm_rules.specs.Book.{running_count, with_machine, with_job, with_task, without_machine, without_job}
-use Rattle.firm_rules.specs.Book.{without_task, has_tasks, new_task, forgetting}
+use Rattle.firm_rules.specs.Book.{running_count, with_machine, with_job, with_restored, placed_at, with_task_placed}
+use Rattle.firm_rules.specs.Book.{without_machine, without_job, without_task, has_tasks, forgetting, most_waited}
 use Rattle.firm_rules.specs.ArenaUse.{FitsLimits, machine_arc_count, preference_count}
-use Rattle.firm_rules.specs.Sound.{AreSound}
+use Rattle.firm_rules.specs.Sound.{AreSound, HasRoom}
+use Rattle.firm_rules.specs.SoundBook.{AreInForm}
 use Rattle.firm_rules.specs.inner.Tables.{StandsByName, AreTables, rows_in}
 use Rattle.firm_rules.specs.Placement.{IsLegal, is_legal}
 use Rattle.firm_rules.specs.Round.{case_of, rows_after, settled, task_after, zipped}
@@ -26,9 +28,12 @@ use Rattle.firm_rules.specs.declared.book.Task.{Task}
 use Rattle.firm_rules.specs.declared.rounds.Choice.{Choice}
 use Rattle.firm_rules.proofs.Legals.{to_legal}
 use Rattle.firm_rules.proofs.NamedRows.{filter-remove}
-use Rattle.firm_rules.proofs.SoundRows.{sound-with_machine, sound-with_job, sound-with_task, sound-without_machine}
+use Rattle.firm_rules.proofs.FormedRows.{form-with_machine, form-with_job, form-with_restored, form-placed}
+use Rattle.firm_rules.proofs.FormedRows.{form-without_machine, form-without_job, form-without_task, form-rows_after}
+use Rattle.firm_rules.proofs.PlacedRows.{names-placed, preferences-placed, counted-placed, sound-placed}
+use Rattle.firm_rules.proofs.SoundRows.{sound-with_machine, sound-with_job, sound-with_restored, sound-without_machine}
 use Rattle.firm_rules.proofs.SoundRows.{sound-without_job, sound-without_task, sound-rows_after, names-evicted}
-use Rattle.firm_rules.proofs.SoundRows.{names-zipped, preferences-zipped, one_each, one_if}
+use Rattle.firm_rules.proofs.SoundRows.{names-zipped, preferences-zipped, one_each, one_if, IsThere, AreThere}
 
 module _ {Row : Type 0} (name_of_row : Row → List ℕ) (entries : List (List ℕ × Row)) where
   -- a look-up finds a name exactly where a row has it
@@ -118,13 +123,16 @@ module _ {limits : TenantLimits} {machines : List (List ℕ × Machine)} {jobs :
   sound : AreSound rows
   sound = subst AreSound view were.sound
 
+  form : AreInForm rows
+  form = subst AreInForm view were.form
+
   pub tables-with_machine : (name : List ℕ) (slots : ℕ) {wide : ℕ} {more : List (List ℕ × Machine)}
       → more ≡ machines ++ (name, record { name = name; slots = slots }) ∷ []
       → IsDistinct bytes_eq (keys_of more) → is_among (machine_names rows) name ≡ false
       → FitsLimits (with_machine rows name slots) → 1 ≤ slots → slots ≤ 64
-      → wide ≡ slots → AreTablesOf (with_machine rows name slots) limits more jobs tasks (arcs + (1 + wide))
-      preferences running
-  tables-with_machine name slots {wide} {more} is unique new fits least most wide-is =
+      → wide ≡ slots → is_name name ≡ true
+      → AreTablesOf (with_machine rows name slots) limits more jobs tasks (arcs + (1 + wide)) preferences running
+  tables-with_machine name slots {wide} {more} is unique new fits least most wide-is formed =
       let machine : Machine = record { name = name; slots = slots } in
       let values : values_of more ≡ values_of machines ++ machine ∷ [] =
       ap values_of is ∙ map-append (λ (e : List ℕ × Machine). e.1) machines ((name, machine) ∷ []) in
@@ -145,6 +153,7 @@ module _ {limits : TenantLimits} {machines : List (List ℕ × Machine)} {jobs :
           jobs_by_name = were.jobs_by_name;
           tasks_by_name = were.tasks_by_name;
           sound = subst AreSound (sym after) kept;
+          form = subst AreInForm (sym after) (form-with_machine rows form name slots formed);
           arcs_kept =
               omega (
                 arith,
@@ -162,8 +171,9 @@ module _ {limits : TenantLimits} {machines : List (List ℕ × Machine)} {jobs :
   pub tables-with_job : (name : List ℕ) (weight : ℕ) {more : List (List ℕ × Job)}
       → more ≡ jobs ++ (name, record { name = name; weight = weight }) ∷ []
       → IsDistinct bytes_eq (keys_of more) → FitsLimits (with_job rows name weight) → 1 ≤ weight → weight ≤ 1000000
+      → is_name name ≡ true
       → AreTablesOf (with_job rows name weight) limits machines more tasks arcs preferences running
-  tables-with_job name weight {more} is unique fits least most =
+  tables-with_job name weight {more} is unique fits least most formed =
       let job : Job = record { name = name; weight = weight } in
       let values : values_of more ≡ values_of jobs ++ job ∷ [] =
       ap values_of is ∙ map-append (λ (e : List ℕ × Job). e.1) jobs ((name, job) ∷ []) in
@@ -184,6 +194,7 @@ module _ {limits : TenantLimits} {machines : List (List ℕ × Machine)} {jobs :
           jobs_by_name = named;
           tasks_by_name = were.tasks_by_name;
           sound = subst AreSound (sym after) kept;
+          form = subst AreInForm (sym after) (form-with_job rows form name weight formed);
           arcs_kept = were.arcs_kept;
           preferences_kept = were.preferences_kept;
           running_kept = were.running_kept;
@@ -191,33 +202,37 @@ module _ {limits : TenantLimits} {machines : List (List ℕ × Machine)} {jobs :
         view = after;
       }
 
-  pub tables-with_task : (job name : List ℕ) (preferred : List (List ℕ)) {more : List (List ℕ × Task)} {many : ℕ}
-      → more ≡ tasks ++ (name, new_task job name preferred) ∷ []
-      → IsDistinct bytes_eq (keys_of more) → is_among (job_names rows) job ≡ true
-      → All (λ machine. is_among (machine_names rows) machine ≡ true) preferred → length preferred ≤ 4
-      → IsDistinct bytes_eq preferred → FitsLimits (with_task rows job name preferred) → many ≡ length preferred
-      → AreTablesOf (with_task rows job name preferred) limits machines jobs more arcs (preferences + many) running
-  tables-with_task job name preferred {more} {many} is unique there prefers few apart fits many-is =
-      let task : Task = new_task job name preferred in
+  pub tables-with_restored : (task : Task) {more : List (List ℕ × Task)} {many one : ℕ}
+      → more ≡ tasks ++ (task.name, task) ∷ []
+      → IsDistinct bytes_eq (keys_of more) → is_among (job_names rows) task.job ≡ true
+      → IsThere (machine_names rows) task.machine
+      → AreThere (machine_names rows) task.preferred → length task.preferred ≤ 4 → IsDistinct bytes_eq task.preferred
+      → IfSome task.machine (λ _. HasRoom (with_restored rows task)) → task.waited ≤ most_waited
+      → IfSome task.machine (λ _. task.waited ≡ 0) → FitsLimits (with_restored rows task)
+      → is_name task.name ≡ true → many ≡ length task.preferred → one ≡ one_if (is_some task.machine)
+      → AreTablesOf (with_restored rows task) limits machines jobs more arcs (preferences + many) (running + one)
+  tables-with_restored task {more} {many} is unique there home prefers few apart room waited fresh fits formed many-is
+      one-is =
       let values : values_of more ≡ values_of tasks ++ task ∷ [] =
-      ap values_of is ∙ map-append (λ (e : List ℕ × Task). e.1) tasks ((name, task) ∷ []) in
+      ap values_of is ∙ map-append (λ (e : List ℕ × Task). e.1) tasks ((task.name, task) ∷ []) in
       let named : StandsByName (λ (t : Task). t.name) more =
       subst (StandsByName (λ (t : Task). t.name)) (sym is)
       (StandsByName-add (λ (t : Task). t.name) tasks were.tasks_by_name task) in
-      let after : rows_in limits machines jobs more ≡ with_task rows job name preferred =
+      let after : rows_in limits machines jobs more ≡ with_restored rows task =
       ap (λ (l : List Task). let r : TenantRows =
       record { limits = limits; machines = values_of machines; jobs = values_of jobs; tasks = l } in r)
       values
-      ∙ ap (λ (r : TenantRows). with_task r job name preferred) view in
-      let kept : AreSound (with_task rows job name preferred) =
-      sound-with_task rows sound job name preferred (subst (IsDistinct bytes_eq) (named ∙ ap task_names after) unique)
-      there prefers few apart fits in
+      ∙ ap (λ (r : TenantRows). with_restored r task) view in
+      let kept : AreSound (with_restored rows task) =
+      sound-with_restored rows sound task (subst (IsDistinct bytes_eq) (named ∙ ap task_names after) unique) there home
+      prefers few apart room waited fits in
       record {
         tables = record {
           machines_by_name = were.machines_by_name;
           jobs_by_name = were.jobs_by_name;
           tasks_by_name = named;
           sound = subst AreSound (sym after) kept;
+          form = subst AreInForm (sym after) (form-with_restored rows form task formed fresh);
           arcs_kept = were.arcs_kept;
           preferences_kept =
               omega (
@@ -230,9 +245,73 @@ module _ {limits : TenantLimits} {machines : List (List ℕ × Machine)} {jobs :
           running_kept =
               omega (
                 arith,
+                one-is,
                 were.running_kept,
                 ap running_count values,
                 sum_by_push (λ (t : Task). cond (is_some t.machine) 1 0) (values_of tasks) task,
+              );
+        };
+        view = after;
+      }
+
+  -- what a task counts for is among those that run
+  pub ran-le : (place : ℕ) {ran : ℕ} → place < length rows.tasks
+      → ((d : Task) → ran ≡ one_if (is_some (slice_index_or (values_of tasks) place d).machine)) → ran ≤ running
+  ran-le place below ran-is =
+      let any : Task = record { name = []; job = []; preferred = []; machine = None; waited = 0 } in
+      let inside : place < length (values_of tasks) =
+      omega (arith, below, ap (λ (r : TenantRows). length r.tasks) view) in
+      omega (
+        arith,
+        ran-is any,
+        were.running_kept,
+        get_or-le-sum_by (λ (t : Task). one_if (is_some t.machine)) (values_of tasks) place any inside,
+      )
+
+  -- the tables with the task at a place on another machine, or waiting; `ran` is what it counted for, `one` what it
+  -- counts for
+  pub tables-placed : (place : ℕ) (machine : Option (List ℕ)) (waited : ℕ) {placed : List (List ℕ × Task)} {ran one : ℕ}
+      → place < length rows.tasks → IsThere (machine_names rows) machine
+      → IfSome machine (λ _. HasRoom (with_task_placed rows place machine waited)) → waited ≤ most_waited
+      → IfSome machine (λ _. waited ≡ 0) → keys_of placed ≡ keys_of tasks
+      → values_of placed ≡ placed_at (values_of tasks) place machine waited
+      → ((d : Task) → ran ≡ one_if (is_some (slice_index_or (values_of tasks) place d).machine))
+      → one ≡ one_if (is_some machine)
+      → AreTablesOf (with_task_placed rows place machine waited) limits machines jobs placed arcs preferences
+      (running - ran + one)
+  tables-placed place machine waited {placed} {ran} {one} below there room few fresh same-keys values ran-is one-is =
+      let any : Task = record { name = []; job = []; preferred = []; machine = None; waited = 0 } in
+      let runs : Option (List ℕ) → ℕ = λ m. one_if (is_some m) in
+      let inside : place < length (values_of tasks) =
+      omega (arith, below, ap (λ (r : TenantRows). length r.tasks) view) in
+      let counted = counted-placed runs (values_of tasks) place machine waited any inside in
+      let after : rows_in limits machines jobs placed ≡ with_task_placed rows place machine waited =
+      ap (λ (l : List Task). let r : TenantRows =
+      record { limits = limits; machines = values_of machines; jobs = values_of jobs; tasks = l } in r)
+      values
+      ∙ ap (λ (r : TenantRows). with_task_placed r place machine waited) view in
+      record {
+        tables = record {
+          machines_by_name = were.machines_by_name;
+          jobs_by_name = were.jobs_by_name;
+          tasks_by_name =
+              same-keys ∙ were.tasks_by_name ∙ sym (names-placed (values_of tasks) place machine waited)
+              ∙ sym (ap (λ (l : List Task). map (λ (t : Task). t.name) l) values);
+          sound = subst AreSound (sym after) (sound-placed rows sound place machine waited below there room few);
+          form = subst AreInForm (sym after) (form-placed rows form place machine waited fresh);
+          arcs_kept = were.arcs_kept;
+          preferences_kept =
+              were.preferences_kept ∙ sym (preferences-placed (values_of tasks) place machine waited)
+              ∙ sym (ap preference_count values);
+          running_kept =
+              omega (
+                arith,
+                ran-is any,
+                one-is,
+                were.running_kept,
+                counted,
+                ap running_count values,
+                ran-le place below ran-is,
               );
         };
         view = after;
@@ -265,6 +344,7 @@ module _ {limits : TenantLimits} {machines : List (List ℕ × Machine)} {jobs :
           jobs_by_name = named;
           tasks_by_name = were.tasks_by_name;
           sound = subst AreSound (sym after) kept;
+          form = subst AreInForm (sym after) (form-without_job rows form gone);
           arcs_kept = were.arcs_kept;
           preferences_kept = were.preferences_kept;
           running_kept = were.running_kept;
@@ -330,6 +410,7 @@ module _ {limits : TenantLimits} {machines : List (List ℕ × Machine)} {jobs :
           jobs_by_name = were.jobs_by_name;
           tasks_by_name = named;
           sound = subst AreSound (sym after) kept;
+          form = subst AreInForm (sym after) (form-without_task rows form gone);
           arcs_kept = were.arcs_kept;
           preferences_kept =
               omega (arith, many-is, preferences-at place name task read below, ap preference_count values);
@@ -411,6 +492,7 @@ module _ {limits : TenantLimits} {machines : List (List ℕ × Machine)} {jobs :
           tasks_by_name = same-keys ∙ were.tasks_by_name ∙ sym (names-evicted machine.name (values_of tasks))
               ∙ sym (ap (λ (l : List Task). map (λ (t : Task). t.name) l) evicts);
           sound = subst AreSound (sym after) kept;
+          form = subst AreInForm (sym after) (form-without_machine rows form gone);
           preferences_kept = left-is;
           arcs_kept = omega (arith, wide-is, arcs-at place name machine read below, ap machine_arc_count values);
           running_kept = omega (arith, running-drained machine.name _ out-is, ap running_count evicts);
@@ -444,6 +526,7 @@ module _ {limits : TenantLimits} {machines : List (List ℕ × Machine)} {jobs :
               ∙ sym (names-zipped rows rows.tasks choices (one_each rows sound choices is_legal_list))
               ∙ sym (ap (λ (l : List Task). map (λ (t : Task). t.name) l) round);
           sound = subst AreSound (sym after) (sound-rows_after rows sound choices is_legal_list);
+          form = subst AreInForm (sym after) (form-rows_after rows form choices);
           arcs_kept = were.arcs_kept;
           preferences_kept =
               were.preferences_kept ∙ ap (λ (r : TenantRows). preference_count r.tasks) view

@@ -9,5 +9,6 @@ pub mod Placement
 pub mod Order
 pub mod Round
 pub mod Recent
+pub mod SoundBook
 pub mod Refusals
 pub mod inner

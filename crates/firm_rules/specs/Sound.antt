@@ -6,6 +6,10 @@ use Rattle.firm_rules.specs.Preferences.{most_preferences}
 use Rattle.firm_rules.specs.Book.{TenantRows, machine_names, job_names, task_names, running_on, most_waited}
 use Rattle.firm_rules.specs.ArenaUse.{FitsLimits}
 
+-- no machine runs more tasks than it has slots
+abbrev pub HasRoom : TenantRows → Type 0
+HasRoom rows = All (λ machine. running_on rows machine.name ≤ machine.slots) rows.machines
+
 -- names differ in each list; each task's job is there, and so is the machine of each that runs; a task prefers at most
 -- 4 machines, which differ and are there; no machine runs more tasks than it has slots; no task has waited for more
 -- than 1,000,000 rounds; the counts fit the limits; slots, weights and the limits of nodes, arcs, spread, churn and

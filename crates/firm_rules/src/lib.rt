@@ -4,6 +4,7 @@
 
 mod amounts;
 mod book;
+mod books;
 mod bounds;
 mod changes;
 mod commands;
@@ -19,10 +20,14 @@ mod tickets;
 
 pub use amounts::{Slots, Weight};
 pub use book::{Job, Machine, Task, Use};
+pub use books::{Book, BookFault};
 pub use bounds::Limits;
 pub use changes::{Changes, changes_of};
 pub use commands::{Command, LineFault};
-pub use laws::{legality_is_judged, the_first_difference_decides, the_round_is_the_first};
+pub use laws::{
+    legality_is_judged, opening_books_are_sound, the_first_difference_decides,
+    the_round_is_the_first,
+};
 pub use names::Name;
 pub use placements::{cost_of, cost_of_load, legal, loads_of, ranks_before, weight_of};
 pub use preferences::{MOST_PREFERENCES, Preferred};

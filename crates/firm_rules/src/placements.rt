@@ -6,6 +6,7 @@ ghost use Rattle.firm_rules.specs.Book.{job_names};
 ghost use Rattle.firm_rules.specs.Placement.{numbers, total, load, is_place, is_legal, leaves, load_cost};
 ghost use Rattle.firm_rules.specs.Placement.{task_cost, tasks_cost, placement_cost, rank, comes_before};
 ghost use Rattle.firm_rules.specs.Placement.{is_remote, runs_at};
+ghost use Rattle.firm_rules.specs.SoundBook.{is_cost};
 ghost use Rattle.firm_rules.specs.Round.{case_of, demand_of, machine_place, place_of, weight_at};
 
 use crate::book::Task;
@@ -33,7 +34,8 @@ pub fn legal<A: Allocator>(rows: &Rows<A>, placement: &[Choice]) -> bool
 /// that has preferences and is neither on one of them nor stays.
 pub fn cost_of<A: Allocator>(rows: &Rows<A>, placement: &[Choice]) -> i64
     requires { is_legal (case_of rows.now) placement.now ≡ true }
-    ensures { result ≡ pos (placement_cost (case_of rows.now) placement.now) }
+    ensures cost { result ≡ pos (placement_cost (case_of rows.now) placement.now) }
+    ensures within { is_cost result ≡ true }
 {
     // The rows fit the limits, so no sum wraps.
     prove!(rows.task_count() as u64 <= rows.limits().nodes() && rows.limits().nodes() <= 4_096);

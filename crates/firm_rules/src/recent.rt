@@ -1,5 +1,5 @@
 //! The costs of a tenant's last rounds.
-ghost use Rattle.std.specs.Prelude.{◌≡◌, []};
+ghost use Rattle.std.specs.Prelude.{◌≡◌, ◌≤◌, [], length};
 ghost use Rattle.firm_rules.specs.Recent.{with_cost};
 
 use std::marker::Model;
@@ -59,7 +59,8 @@ impl RecentCosts {
 
     /// The costs, oldest first.
     pub fn as_slice(&self) -> &[i64]
-        ensures { result.now ≡ self.now }
+        ensures costs { result.now ≡ self.now }
+        ensures few { length self.now ≤ 8 }
     {
         &self.costs[..self.len as usize]
     }

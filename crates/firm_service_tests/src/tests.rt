@@ -2,6 +2,7 @@
 //! expected.
 
 mod answers;
+mod books;
 mod devices;
 mod events;
 mod inputs;
@@ -12,9 +13,11 @@ mod reading;
 mod registers;
 mod rents;
 mod replies;
+mod restarts;
 mod rosters;
 mod rounds;
 mod rows;
+mod states;
 mod tenants;
 
 use firm_rules::{Limits, Name, Preferred, Slots, Weight};

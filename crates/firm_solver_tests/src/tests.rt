@@ -8,5 +8,6 @@ mod net;
 mod paths;
 mod plain;
 mod random;
+mod restored;
 mod start;
 mod worlds;

@@ -1,8 +1,8 @@
 -- What each line makes of the tenants' register and books.
-use Rattle.std.proofs.Common.{◌≡◌, ℕ, zero, suc, ◌+◌, ◌-◌, List, [], ◌∷◌, ◌++◌, refl, sym, ap, subst, ◌∙◌, length}
-use Rattle.std.proofs.Common.{get_or}
+use Rattle.std.proofs.Common.{◌≡◌, ℕ, zero, suc, ◌+◌, ◌-◌, ◌<◌, ◌≤◌, List, [], ◌∷◌, ◌++◌, refl, sym, ap, subst, ◌∙◌}
+use Rattle.std.proofs.Common.{length, get_or}
 use Rattle.std.specs.Prelude.{Bool, true, false, Option, Some, None, Result, Ok, Err, map, option_map, replicate, set}
-use Rattle.std.specs.Prelude.{slice_index_or}
+use Rattle.std.specs.Prelude.{slice_get, slice_index_or}
 use Rattle.std.proofs.Math.ListN.{get_or-map}
 use Rattle.std.proofs.lemmas.List.{map-set}
 use Rattle.firm_rules.specs.Book.{Book, opening_book}
@@ -10,7 +10,7 @@ use Rattle.firm_rules.specs.Limits.{TenantLimits}
 use Rattle.firm_rules.specs.declared.commands.Command.{Command}
 use Rattle.firm_rules.specs.declared.replies.Reply.{Reply}
 use Rattle.firm_tenant.specs.Step.{step, is_memory}
-use Rattle.firm_text.specs.Registers.{IsRegister, occupied, place_for, place_in, vacant, with_tenant}
+use Rattle.firm_text.specs.Registers.{IsRegister, first_places, occupied, place_for, place_in, vacant, with_tenant}
 use Rattle.firm_text.specs.Registers.{without_tenant}
 use Rattle.firm_text.specs.Rosters.{RosterRow, most_places}
 use Rattle.firm_text.specs.declared.operator.OperatorLine.TheVariants.{Admit}
@@ -19,19 +19,22 @@ use Rattle.firm_text.specs.declared.operator.OperatorReply.{OperatorReply}
 use Rattle.firm_text.specs.declared.operator.OperatorReply.TheVariants.{Refused}
 use Rattle.firm_text.specs.declared.registers.Entry.{Entry}
 use Rattle.firm_table.specs.Places.{Given, Stay, Place, new_stay, unused_place, place_of_row, opening_places, stay_of}
-use Rattle.firm_table.specs.Places.{with_command, commanded, left_by, register_of, admission, retirement, obeyed}
+use Rattle.firm_table.specs.Places.{book_of, with_command, commanded, left_by, register_of, admission, retirement}
+use Rattle.firm_table.specs.Places.{obeyed}
 use Rattle.firm_table.specs.Answers.{reply_answer, answer_to_command, is_operator_memory}
 use Rattle.firm_table.specs.declared.answers.LineAnswer.TheVariants.{Replied, ToOperator}
 use Rattle.firm_table.specs.inner.Adding.{TenantsAreAnswered, StrangersAreAnswered, AdmissionsAreAnswered}
 use Rattle.firm_table.specs.inner.Adding.{AdmissionsFindNoMemory, AdmissionsAreRefused, RetirementsAreAnswered}
 use Rattle.firm_table.specs.inner.Adding.{RetirementsAreRefused}
-use Rattle.firm_table.specs.inner.Line.{TenantsState, tenants_are, book_of, books_of, opening_tenants, Shows}
+use Rattle.firm_table.specs.Tenants.{TenantsState, tenants_are}
+use Rattle.firm_table.specs.inner.Line.{books_of, Shows}
 use Rattle.firm_table.proofs.Alones.{book_of-more, last_reply-more}
 use Rattle.firm_table.proofs.Lookups.{not_here}
+use Rattle.firm_table.proofs.Opened.{opened_at, opened_is}
 use Rattle.firm_table.proofs.Registering.{none_there, StaysAt, stays_there, changed_once, register_commanded}
 use Rattle.firm_table.proofs.Registering.{register_left, register_entered}
 
-books_at : (places : List Place) (at : ℕ) → get_or (books_of places) at None
+pub books_at : (places : List Place) (at : ℕ) → get_or (books_of places) at None
     ≡ option_map book_of (get_or places at unused_place).stay
 books_at places at = get_or-map (λ (place : Place). option_map book_of place.stay) places at unused_place
 
@@ -195,21 +198,31 @@ retirements_are_refused tenants name none = record {
       (ap (λ (s : Option Stay). (retirement places name s).1) (nowhere tenants name places none shows))) shows;
 }
 
--- before the first line each tenant of the roster has its place and its opening book
+-- before the first line each tenant of a roster has its place, and no other is given
 register_opening : (roster : List RosterRow) (n : ℕ) → register_of (map place_of_row roster ++ replicate n unused_place)
     ≡ map (λ row. occupied row.0 1) roster ++ replicate n (vacant 0)
 register_opening [] zero = refl
 register_opening [] (suc n) = ap (λ (r : List Entry). vacant 0 ∷ r) (register_opening [] n)
 register_opening (row ∷ rest) n = ap (λ (r : List Entry). occupied row.0 1 ∷ r) (register_opening rest n)
 
-books_opening : (roster : List RosterRow) (n : ℕ) → books_of (map place_of_row roster ++ replicate n unused_place)
-    ≡ map (λ row. Some (opening_book row.1)) roster ++ replicate n None
-books_opening [] zero = refl
-books_opening [] (suc n) = ap (λ (bs : List (Option Book)). None ∷ bs) (books_opening [] n)
-books_opening (row ∷ rest) n = ap (λ (bs : List (Option Book)). Some (opening_book row.1) ∷ bs) (books_opening rest n)
+pub roster_register : (roster : List RosterRow) → register_of (opening_places roster) ≡ first_places roster
+roster_register roster = register_opening roster (most_places - length roster)
 
-pub shows_opening : (roster : List RosterRow) → Shows (opening_tenants roster) (opening_places roster)
-shows_opening roster = record {
-  register = register_opening roster (most_places - length roster);
-  books = books_opening roster (most_places - length roster);
-}
+pub book_opened : (roster : List RosterRow) → length roster ≤ most_places → (place : ℕ) → place < most_places
+    → option_map (λ (row : RosterRow). opening_book row.1) (slice_get roster place)
+    ≡ option_map book_of (get_or (opening_places roster) place unused_place).stay
+book_opened roster few place within =
+    by (slice_get roster place)
+    ∙ sym (ap (λ (p : Place). option_map book_of p.stay) (opened_is place_of_row unused_place roster few place within))
+  where
+    by : (row : Option RosterRow) → option_map (λ (r : RosterRow). opening_book r.1) row
+        ≡ option_map book_of (opened_at place_of_row unused_place row).stay
+    by None = refl
+    by (Some row) = refl
+
+pub row_opened : (roster : List RosterRow) → length roster ≤ most_places → (place : ℕ) → place < most_places
+    → (row : Option RosterRow) → slice_get roster place ≡ row
+    → get_or (opening_places roster) place unused_place ≡ opened_at place_of_row unused_place row
+row_opened roster few place within row is =
+    opened_is place_of_row unused_place roster few place within
+    ∙ ap (opened_at place_of_row unused_place) is

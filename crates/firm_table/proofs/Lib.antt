@@ -2,6 +2,8 @@ pub mod Firsts
 pub mod Lookups
 pub mod Registering
 pub mod Alones
+mod Saving
+mod Limited
 pub mod Stays
 mod Unmarked
 mod Lines
@@ -12,7 +14,11 @@ mod Books
 mod Pieces
 mod Progress
 mod Written
+mod Cuts
+mod Texts
 mod Stops
+mod Ending
+mod Stating
 mod Stations
 mod Kept
 mod Machine
@@ -22,6 +28,6 @@ mod Interleaved
 mod Waiting
 mod Happening
 mod Seating
-mod Openings
+mod Opened
 mod Seated
 mod Moves

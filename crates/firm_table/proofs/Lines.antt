@@ -16,9 +16,10 @@ use Rattle.firm_table.specs.Places.{register_of, admission, retirement, after_li
 use Rattle.firm_table.specs.Answers.{answer_of, tells_memory}
 use Rattle.firm_table.specs.declared.answers.LineAnswer.{LineAnswer}
 use Rattle.firm_table.specs.declared.answers.LineAnswer.TheVariants.{ToOperator}
-use Rattle.firm_table.specs.Output.{answers_from, answers_of, output_of, unmarked}
+use Rattle.firm_table.specs.Output.{answers_from, output_from, unmarked}
 use Rattle.firm_table.specs.Isolation.{is_operators_for, commands_to, with_commands, NoneIsOperatorsFor}
 use Rattle.firm_table.specs.Isolation.{StaysHoldTheirLines, NeedsNoMarks}
+use Rattle.firm_table.specs.SavedIsolation.{PlacesHoldTheirLines, PlacesNeedNoMarks}
 use Rattle.firm_table.proofs.Lookups.{Which, same, other, which, eq_same, stay_of-commanded, stay_of-commanded-other}
 use Rattle.firm_table.proofs.Lookups.{stay_of-left-other, stay_of-entered-other}
 use Rattle.firm_table.proofs.Registering.{given_place}
@@ -112,6 +113,9 @@ module _ (name : List ℕ) where
       (leaves_retire places tenant (stay_of places tenant) parts.0)
   holds_lines places ((Operator (Faulty refusal), mark) ∷ rest) none = holds_lines places rest none
 
+pub places_hold_their_lines : PlacesHoldTheirLines
+places_hold_their_lines places lines name none = holds_lines name places lines none
+
 pub stays_hold_their_lines : StaysHoldTheirLines
 stays_hold_their_lines roster lines name none = holds_lines name (opening_places roster) lines none
 
@@ -127,6 +131,10 @@ unmarked_lines (given ∷ rest) (answer ∷ answers) marks none =
     ap (λ (b : Bool). (given.0, b) ∷ rest) (mark ∙ parts.0)
     ∙ ap (λ (ls : List MarkedLine). unmarked given.0 ∷ ls) (unmarked_lines rest answers more parts.1)
 
+pub places_need_no_marks : PlacesNeedNoMarks
+places_need_no_marks places input lines are none =
+    ap (output_from places)
+    (unmarked_lines lines (answers_from places lines) are.marks none ∙ ap (map unmarked) are.each)
+
 pub needs_no_marks : NeedsNoMarks
-needs_no_marks roster input lines are none =
-    ap (output_of roster) (unmarked_lines lines (answers_of roster lines) are.marks none ∙ ap (map unmarked) are.each)
+needs_no_marks roster = places_need_no_marks (opening_places roster)

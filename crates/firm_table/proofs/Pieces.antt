@@ -13,9 +13,9 @@ use Rattle.std.proofs.lemmas.Bool.Decides.{nat_tests}
 use Rattle.firm_text.specs.Cutters.{CutterIs, StandsFor}
 use Rattle.firm_text.specs.Inputs.{input_lines, line_of}
 use Rattle.firm_text.specs.Lines.{is_filled, is_line_feed, lines, without_empty_last}
-use Rattle.firm_text.specs.Rosters.{RosterRow}
 use Rattle.firm_text.specs.declared.inputs.Line.{Line}
-use Rattle.firm_table.specs.Service.{BeginsAnswers}
+use Rattle.firm_table.specs.Places.{Place}
+use Rattle.firm_table.specs.Service.{BeginsAnswersFrom}
 use Rattle.firm_table.specs.Telling.{Telling}
 use Rattle.firm_table.specs.inner.Reading.{Heard, Halted, HasEnded}
 
@@ -24,7 +24,7 @@ both_false true c e = cc
 both_false false c e = (refl, e)
 
 -- some piece comes first
-first_piece : (xs : List ℕ) → (first : List ℕ) × (others : List (List ℕ))
+pub first_piece : (xs : List ℕ) → (first : List ℕ) × (others : List (List ℕ))
     × (slice_split is_line_feed xs ≡ first ∷ others)
 first_piece [] = ([], [], refl)
 first_piece (x ∷ xs) =
@@ -126,12 +126,12 @@ both_ended heard text rest bytes front both same =
     ∙ ap (λ (l : List ℕ). text ++ l) (sym (append_assoc rest bytes (10 ∷ [])))
 
 -- what halts at a line's end has read what follows it too
-pub halts_at : (roster : List RosterRow) (heard text rest bytes piece behind : List ℕ) (written now : Option (List ℕ))
+pub halts_at : (places : List Place) (heard text rest bytes piece behind : List ℕ) (written now : Option (List ℕ))
     → heard ≡ text ++ rest
     → piece ≡ (bytes ++ 10 ∷ []) ++ behind → IsEmptyOrEndsWith (text ++ ((rest ++ bytes) ++ 10 ∷ [])) 10
-    → BeginsAnswers roster (text ++ ((rest ++ bytes) ++ 10 ∷ [])) written now
-    → Halted roster (heard ++ piece) written now
-halts_at roster heard text rest bytes piece behind written now both cut ends begins = record {
+    → BeginsAnswersFrom places (text ++ ((rest ++ bytes) ++ 10 ∷ [])) written now
+    → Halted places (heard ++ piece) written now
+halts_at places heard text rest bytes piece behind written now both cut ends begins = record {
   answered = text ++ ((rest ++ bytes) ++ 10 ∷ []);
   rest = behind;
   both =
@@ -143,10 +143,10 @@ halts_at roster heard text rest bytes piece behind written now both cut ends beg
 }
 
 -- what halts between two lines
-pub halts_between : (roster : List RosterRow) (heard text rest more : List ℕ) (written now : Option (List ℕ))
+pub halts_between : (places : List Place) (heard text rest more : List ℕ) (written now : Option (List ℕ))
     → heard ≡ text ++ rest
-    → HasEnded text → BeginsAnswers roster text written now → Halted roster (heard ++ more) written now
-halts_between roster heard text rest more written now both ended begins = record {
+    → HasEnded text → BeginsAnswersFrom places text written now → Halted places (heard ++ more) written now
+halts_between places heard text rest more written now both ended begins = record {
   answered = text;
   rest = rest ++ more;
   both = ap (λ (l : List ℕ). l ++ more) both ∙ append_assoc text rest more;

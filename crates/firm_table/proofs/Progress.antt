@@ -12,59 +12,57 @@ use Rattle.firm_tenant.specs.Laws.{UnmarkedStepsAreGranted}
 use Rattle.firm_text.specs.Inputs.{input_lines, line_of}
 use Rattle.firm_text.specs.LineLaws.{RefusesForTheForm}
 use Rattle.firm_text.specs.Lines.{lines}
-use Rattle.firm_text.specs.Rosters.{RosterRow}
 use Rattle.firm_text.specs.declared.inputs.Line.{Line}
-use Rattle.firm_table.specs.Places.{MarkedLine, Place, opening_places, after_lines}
+use Rattle.firm_table.specs.Places.{MarkedLine, Place, after_lines}
 use Rattle.firm_table.specs.Answers.{answer_of, tells_memory, text_of_answer}
 use Rattle.firm_table.specs.declared.answers.LineAnswer.{LineAnswer}
-use Rattle.firm_table.specs.Output.{answers_from, answers_of, output_of, unmarked, AreLinesOf}
-use Rattle.firm_table.specs.Service.{Answers, BeginsAnswers, Device, UpToDate}
+use Rattle.firm_table.specs.Output.{answers_from, output_from, unmarked, AreLinesFrom}
+use Rattle.firm_table.specs.Service.{AnswersFrom, BeginsAnswersFrom, Device, UpToDate}
 use Rattle.firm_table.specs.inner.Adding.{NothingIsTold, OneMoreIsTold, FrontIsWritten, ToldBegins, AllIsWritten}
 use Rattle.firm_table.specs.inner.Adding.{OneMoreBegins}
 use Rattle.firm_table.specs.inner.Line.{State, state_is, Shows}
 use Rattle.firm_table.specs.inner.Progress.{Told}
 use Rattle.firm_table.proofs.Stays.{after_lines-append, answers_from-append}
 use Rattle.firm_table.proofs.Unmarked.{IsOfText, unmarked_answer}
-use Rattle.firm_table.proofs.Books.{shows_opening}
 
 -- the output for these lines and more
-output_of-append : (roster : List RosterRow) (lines more : List MarkedLine)
-    → output_of roster (lines ++ more)
-    ≡ output_of roster lines ++ flat_map text_of_answer
-    (answers_from (after_lines (opening_places roster) lines) more)
-output_of-append roster lines more =
-    ap (flat_map text_of_answer) (answers_from-append (opening_places roster) lines more)
-    ∙ flat_map-append text_of_answer (answers_of roster lines)
-    (answers_from (after_lines (opening_places roster) lines) more)
+output_from-append : (places : List Place) (lines more : List MarkedLine)
+    → output_from places (lines ++ more)
+    ≡ output_from places lines ++ flat_map text_of_answer
+    (answers_from (after_lines places lines) more)
+output_from-append places lines more =
+    ap (flat_map text_of_answer) (answers_from-append places lines more)
+    ∙ flat_map-append text_of_answer (answers_from places lines)
+    (answers_from (after_lines places lines) more)
 
 -- lines that follow these, with marks that are right behind them
-lines_more : (roster : List RosterRow) (text after : List ℕ) (lines more : List MarkedLine)
-    → AreLinesOf roster text lines
+lines_more : (places : List Place) (text after : List ℕ) (lines more : List MarkedLine)
+    → AreLinesFrom places text lines
     → input_lines after ≡ input_lines text ++ map (λ (g : MarkedLine). g.0) more
     → map (λ (g : MarkedLine). g.1) more
-    ≡ map tells_memory (answers_from (after_lines (opening_places roster) lines) more)
-    → AreLinesOf roster after (lines ++ more)
-lines_more roster text after lines more are each marks = record {
+    ≡ map tells_memory (answers_from (after_lines places lines) more)
+    → AreLinesFrom places after (lines ++ more)
+lines_more places text after lines more are each marks = record {
   each =
       map-append (λ (g : MarkedLine). g.0) lines more
       ∙ ap (λ (ls : List Line). ls ++ map (λ (g : MarkedLine). g.0) more) are.each
       ∙ sym each;
   marks =
-      let behind = answers_from (after_lines (opening_places roster) lines) more in
+      let behind = answers_from (after_lines places lines) more in
       map-append (λ (g : MarkedLine). g.1) lines more
       ∙ ap (λ (bs : List Bool). bs ++ map (λ (g : MarkedLine). g.1) more) are.marks
-      ∙ ap (λ (bs : List Bool). map tells_memory (answers_of roster lines) ++ bs) marks
-      ∙ sym (map-append tells_memory (answers_of roster lines) behind)
-      ∙ sym (ap (map tells_memory) (answers_from-append (opening_places roster) lines more));
+      ∙ ap (λ (bs : List Bool). map tells_memory (answers_from places lines) ++ bs) marks
+      ∙ sym (map-append tells_memory (answers_from places lines) behind)
+      ∙ sym (ap (map tells_memory) (answers_from-append places lines more));
 }
 
 -- no line was answered yet
 pub nothing_told : NothingIsTold
-nothing_told roster written = (
+nothing_told places written = (
   record {
     lines = [];
     are_lines = record { each = refl; marks = refl };
-    shows = shows_opening roster;
+    shows = record { register = refl; books = refl };
     sent = [];
     wrote = Appends-nil written;
     whole = refl;
@@ -77,13 +75,13 @@ pub one_more : OneMoreIsTold
 one_more state text after written now tenants pending line p more a =
     let mark : Bool = tells_memory a.answer in
     let given : MarkedLine = (line, mark) in
-    let places : List Place = after_lines (opening_places state.roster) p.lines in
+    let places : List Place = after_lines state.opening p.lines in
     let here : answer_of places given ≡ a.answer = sym (a.right.answers places p.shows) in (
       record {
         lines = p.lines ++ given ∷ [];
-        are_lines = lines_more state.roster text after p.lines (given ∷ []) p.are_lines more
+        are_lines = lines_more state.opening text after p.lines (given ∷ []) p.are_lines more
             (ap (λ (x : LineAnswer). tells_memory x ∷ []) (sym here));
-        shows = subst (Shows tenants) (sym (after_lines-append (opening_places state.roster) p.lines (given ∷ [])))
+        shows = subst (Shows tenants) (sym (after_lines-append state.opening p.lines (given ∷ [])))
             (a.right.leaves places p.shows);
         sent = p.sent;
         wrote = p.wrote;
@@ -91,13 +89,13 @@ one_more state text after written now tenants pending line p more a =
             ap (λ (l : List ℕ). p.sent ++ l) a.text
             ∙ sym (append_assoc p.sent state.pending (text_of_answer a.answer))
             ∙ ap (λ (l : List ℕ). l ++ text_of_answer a.answer) p.whole
-            ∙ ap (λ (l : List ℕ). output_of state.roster p.lines ++ l) (sym (append-nil (text_of_answer a.answer))
+            ∙ ap (λ (l : List ℕ). output_from state.opening p.lines ++ l) (sym (append-nil (text_of_answer a.answer))
             ∙ ap (λ (x : LineAnswer). flat_map text_of_answer (x ∷ [])) (sym here))
-            ∙ sym (output_of-append state.roster p.lines (given ∷ []));
+            ∙ sym (output_from-append state.opening p.lines (given ∷ []));
       },
       refl,
-      answers_from-append (opening_places state.roster) p.lines (given ∷ [])
-          ∙ ap (λ (x : LineAnswer). answers_of state.roster p.lines ++ x ∷ []) here,
+      answers_from-append state.opening p.lines (given ∷ [])
+          ∙ ap (λ (x : LineAnswer). answers_from state.opening p.lines ++ x ∷ []) here,
     )
 
 -- the front of what was to be written was
@@ -112,11 +110,11 @@ front_written state text written now later front held p parts wrote = record {
 }
 
 -- what was sent begins what follows it
-begins_with : (roster : List RosterRow) (text : List ℕ) (written now : Option (List ℕ)) (lines : List MarkedLine)
+begins_with : (places : List Place) (text : List ℕ) (written now : Option (List ℕ)) (lines : List MarkedLine)
     (sent rest : List ℕ)
-    → AreLinesOf roster text lines → Appends written now sent → output_of roster lines ≡ sent ++ rest
-    → BeginsAnswers roster text written now
-begins_with roster text written now lines sent rest are wrote whole = record {
+    → AreLinesFrom places text lines → Appends written now sent → output_from places lines ≡ sent ++ rest
+    → BeginsAnswersFrom places text written now
+begins_with places text written now lines sent rest are wrote whole = record {
   lines = lines;
   are_lines = are;
   count = length sent;
@@ -125,7 +123,7 @@ begins_with roster text written now lines sent rest are wrote whole = record {
 
 pub told_begins : ToldBegins
 told_begins state text written now p =
-    begins_with state.roster text written now p.lines p.sent state.pending p.are_lines p.wrote (sym p.whole)
+    begins_with state.opening text written now p.lines p.sent state.pending p.are_lines p.wrote (sym p.whole)
 
 -- nothing is to be written
 pub all_is_written : AllIsWritten
@@ -149,20 +147,20 @@ last_of_text (text ∷ rest) (first ∷ before) line e = let more : map line_of 
 pub one_more_begins : UnmarkedStepsAreGranted → RefusesForTheForm → OneMoreBegins
 one_more_begins granted formal state text after written now line p more =
     let others : List MarkedLine = unmarked line ∷ [] in
-    let places : List Place = after_lines (opening_places state.roster) p.lines in
+    let places : List Place = after_lines state.opening p.lines in
     let behind = flat_map text_of_answer (answers_from places others) in
-    begins_with state.roster after written now (p.lines ++ others) p.sent (state.pending ++ behind)
-    (lines_more state.roster text after p.lines others p.are_lines more
+    begins_with state.opening after written now (p.lines ++ others) p.sent (state.pending ++ behind)
+    (lines_more state.opening text after p.lines others p.are_lines more
     (ap (λ (b : Bool). b ∷ [])
     (sym (unmarked_answer granted formal places line (last_of_text (lines after) (input_lines text) line more)))))
     p.wrote
-    (output_of-append state.roster p.lines others ∙ ap (λ (l : List ℕ). l ++ behind) (sym p.whole)
+    (output_from-append state.opening p.lines others ∙ ap (λ (l : List ℕ). l ++ behind) (sym p.whole)
     ∙ append_assoc p.sent state.pending behind)
 
 -- all that was to be written was
 pub all_written_now : (state : State) (text held : List ℕ) (written now later : Option (List ℕ))
     → Told state text written now → Appends now later state.pending
-    → held ≡ [] → Told (state_is state.roster state.tenants held) text written later
+    → held ≡ [] → Told (state_is state.opening state.tenants held) text written later
 all_written_now state text held written now later p wrote empty =
     front_written state text written now later state.pending held p (sym (append-nil state.pending)
     ∙ ap (λ (l : List ℕ). state.pending ++ l) (sym empty)) wrote
@@ -171,7 +169,7 @@ all_written_now state text held written now later p wrote empty =
 pub partly_written : (state : State) (text : List ℕ) (written now later : Option (List ℕ)) (count : ℕ)
     → Told state text written now
     → Appends now later (take count state.pending)
-    → Told (state_is state.roster state.tenants (drop count state.pending)) text written later
+    → Told (state_is state.opening state.tenants (drop count state.pending)) text written later
 partly_written state text written now later count p wrote =
     front_written state text written now later (take count state.pending) (drop count state.pending) p
     (sym (take-append-drop count state.pending)) wrote
@@ -186,15 +184,15 @@ so_much_written (Ok x) now later pending all part =
 so_much_written (Err e) now later pending all part = (part.0, part.2)
 
 -- what was told of lines is the output for them, where nothing is to be written
-pub answers_up_to_date : (roster : List RosterRow) (state : State) (reader writer : Device) → state.roster ≡ roster
+pub answers_up_to_date : (places : List Place) (state : State) (reader writer : Device) → state.opening ≡ places
     → state.pending ≡ []
-    → UpToDate (Told state) reader writer → UpToDate (Answers roster) reader writer
-answers_up_to_date roster state reader writer same empty u = record {
+    → UpToDate (Told state) reader writer → UpToDate (AnswersFrom places) reader writer
+answers_up_to_date places state reader writer same empty u = record {
   lines = u.lines;
   rest = u.rest;
   read = u.read;
   whole = u.whole;
   in_line = u.in_line;
-  told = subst (λ (r : List RosterRow). Answers r u.lines writer.before writer.after) same
+  told = subst (λ (ps : List Place). AnswersFrom ps u.lines writer.before writer.after) same
       (all_is_written state u.lines writer.before writer.after u.told empty);
 }

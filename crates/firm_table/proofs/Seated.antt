@@ -1,18 +1,20 @@
 -- Books stand at the places that the register gives to tenants.
-use Rattle.std.proofs.Common.{◌≡◌, ℕ, zero, suc, ◌-◌, ◌<◌, List, [], ◌∷◌, ◌++◌, refl, sym, ap, ◌∙◌, length, get_or}
+use Rattle.std.proofs.Common.{◌≡◌, ℕ, ◌<◌, List, [], ◌∷◌, refl, sym, ap, ◌∙◌, length, get_or}
 use Rattle.std.proofs.Common.{arith}
-use Rattle.std.specs.Prelude.{Bool, true, false, Option, Some, None, map, replicate, set, slice_index_or}
+use Rattle.std.specs.Prelude.{Bool, true, false, Option, Some, None, map, option_map, set, slice_index_or}
 use Rattle.std.specs.Option.{is_some}
 use Rattle.std.proofs.Math.ListN.{get_or-map}
 use Rattle.std.proofs.Math.Seq.{map-set_same}
 use Rattle.std.proofs.lemmas.List.{length-map, map-set}
 use Rattle.std.proofs.lemmas.List.Quantifiers.{position-Some}
 use Rattle.std.proofs.lemmas.Option.{get_or_from_slice_get, slice_get-get_or}
-use Rattle.firm_rules.specs.Book.{Book, opening_book}
-use Rattle.firm_text.specs.Registers.{IsRegister, is_named, occupied, place_in, vacant}
-use Rattle.firm_text.specs.Rosters.{RosterRow, most_places}
+use Rattle.firm_rules.specs.Book.{Book}
+use Rattle.firm_text.specs.Registers.{IsRegister, is_named, place_in, vacant}
+use Rattle.firm_text.specs.Rosters.{most_places}
 use Rattle.firm_text.specs.declared.registers.Entry.{Entry}
-use Rattle.firm_table.specs.inner.Line.{tenants_are, opening_tenants, BooksFit}
+use Rattle.firm_table.specs.Places.{Stay, Place, book_of, register_of}
+use Rattle.firm_table.specs.Tenants.{tenants_are, BooksFit}
+use Rattle.firm_table.specs.inner.Line.{tenants_at}
 
 module _ (register : List Entry) (books : List (Option Book)) (fits : BooksFit (tenants_are register books)) where
   -- as many books as places
@@ -59,13 +61,13 @@ seat_is books at found low is =
     get_or_from_slice_get books at found None (slice_get-get_or books at found low
     ∙ ap (λ (f : Option Book). Some f) (sym is))
 
--- the first tenants
-opens_seated : (roster : List RosterRow) (n : ℕ)
-    → map (λ place. is_some place.tenant) (map (λ row. occupied row.0 1) roster ++ replicate n (vacant 0))
-    ≡ map is_some (map (λ row. Some (opening_book row.1)) roster ++ replicate n None)
-opens_seated [] zero = refl
-opens_seated [] (suc n) = ap (λ (tests : List Bool). false ∷ tests) (opens_seated [] n)
-opens_seated (row ∷ rest) n = ap (λ (tests : List Bool). true ∷ tests) (opens_seated rest n)
+-- the tenants at these places
+stays_seated : (stay : Option Stay) → is_some (option_map (λ s. s.name) stay) ≡ is_some (option_map book_of stay)
+stays_seated None = refl
+stays_seated (Some stay) = refl
 
-pub opening_seated : (roster : List RosterRow) → BooksFit (opening_tenants roster)
-opening_seated roster = opens_seated roster (most_places - length roster)
+pub places_seated : (places : List Place) → BooksFit (tenants_at places)
+places_seated [] = refl
+places_seated (place ∷ rest) =
+    ap (λ (test : Bool). test ∷ map (λ (p : Entry). is_some p.tenant) (register_of rest)) (stays_seated place.stay)
+    ∙ ap (λ (tests : List Bool). is_some (option_map book_of place.stay) ∷ tests) (places_seated rest)

@@ -1,20 +1,23 @@
 -- Each tenant gets the replies of one that is alone.
-use Rattle.std.proofs.Common.{◌≡◌, ℕ, zero, suc, ◌+◌, ◌-◌, List, [], ◌∷◌, ◌++◌, refl, sym, ap, ◌∙◌, length}
+use Rattle.std.proofs.Common.{◌≡◌, ℕ, ◌+◌, List, [], ◌∷◌, ◌++◌, refl, sym, ap, subst, ◌∙◌}
 use Rattle.std.specs.Prelude.{Bool, true, false, Option, Some, None, Result, Ok, Err, map, bytes_eq, option_map}
-use Rattle.std.specs.Prelude.{position, replicate, slice_index_or, if◌then◌else◌}
+use Rattle.std.specs.Prelude.{position, slice_index_or, if◌then◌else◌}
 use Rattle.std.specs.Option.{is_some}
+use Rattle.firm_rules.specs.Book.{Book}
+use Rattle.firm_rules.specs.Limits.{TenantLimits}
 use Rattle.firm_rules.specs.declared.commands.Command.{Command}
 use Rattle.firm_rules.specs.declared.replies.Reply.{Reply}
 use Rattle.firm_tenant.specs.Step.{step}
-use Rattle.firm_tenant.specs.Alone.{replies_from}
-use Rattle.firm_text.specs.Rosters.{RosterRow, most_places}
-use Rattle.firm_rules.specs.Limits.{TenantLimits}
+use Rattle.firm_tenant.specs.Alone.{alone_marked, replies_from}
 use Rattle.firm_text.specs.Registers.{is_free, place_for, place_in}
 use Rattle.firm_text.specs.declared.inputs.Line.TheVariants.{Nothing, Long, Nameless, For, Operator}
 use Rattle.firm_text.specs.declared.operator.OperatorLine.TheVariants.{Admit, Retire, Faulty}
 use Rattle.firm_text.specs.declared.operator.OperatorRefusal.{OperatorRefusal}
-use Rattle.firm_table.specs.Places.{Given, MarkedLine, Stay, Place, new_stay, unused_place, place_of_row}
-use Rattle.firm_table.specs.Places.{opening_places, stay_of, with_command, commanded, left_by, entered_at}
+use Rattle.firm_saved.specs.declared.saved.SavedPlace.{SavedPlace}
+use Rattle.firm_table.specs.SavedIsolation.{of_roster}
+use Rattle.firm_table.specs.Places.{Given, MarkedLine, Stay, Place, opened_stay, new_stay, limits_of, book_of}
+use Rattle.firm_table.specs.Places.{unused_place, opening_places, restored_places, is_stay_of, stay_of, with_command}
+use Rattle.firm_table.specs.Places.{commanded, left_by, entered_at}
 use Rattle.firm_table.specs.Places.{register_of, admission, retirement, after_line, after_lines}
 use Rattle.firm_table.specs.Answers.{reply_answer, answer_to_command, answer_of}
 use Rattle.firm_table.specs.declared.answers.LineAnswer.{LineAnswer}
@@ -22,12 +25,15 @@ use Rattle.firm_table.specs.declared.answers.LineAnswer.TheVariants.{Replied, To
 use Rattle.firm_table.specs.Output.{answers_from, replies_with, replies_behind}
 use Rattle.firm_table.specs.Isolation.{AnswersLineByLine, RepliesAreAlone, StaysAreIsolated, StaysAreServedAlone}
 use Rattle.firm_table.specs.Isolation.{line_to}
+use Rattle.firm_table.specs.SavedIsolation.{AnswersGoOn, SavedRepliesAreAlone, SavedStaysAreIsolated, saved_alone}
+use Rattle.firm_table.specs.SavedIsolation.{SavedStaysAreServedAlone}
+use Rattle.firm_table.proofs.Limited.{stays_open_with_limits}
 use Rattle.firm_table.proofs.Lookups.{Which, same, other, which, eq_same, stay_of-commanded, stay_of-commanded-other}
 use Rattle.firm_table.proofs.Lookups.{stay_of-left, stay_of-left-other}
 use Rattle.firm_table.proofs.Lookups.{stay_of-entered, stay_of-entered-other}
 use Rattle.firm_table.proofs.Registering.{none_there, given_place, is_nowhere}
+use Rattle.firm_table.proofs.Saving.{rosters_are_saved}
 use Rattle.firm_table.proofs.Alones.{replies_in, replies_in-more, book_of-more, last_reply-more}
-use Rattle.firm_table.specs.inner.Line.{book_of}
 
 -- lines behind lines
 pub after_lines-append : (places : List Place) (lines more : List MarkedLine) → after_lines places (lines ++ more)
@@ -42,8 +48,11 @@ answers_from-append places (given ∷ rest) more =
     ap (λ (answers : List LineAnswer). answer_of places given ∷ answers)
     (answers_from-append (after_line places given) rest more)
 
+pub answers_go_on : AnswersGoOn
+answers_go_on places lines given = answers_from-append places lines (given ∷ [])
+
 pub line_by_line : AnswersLineByLine
-line_by_line roster lines given = answers_from-append (opening_places roster) lines (given ∷ [])
+line_by_line roster lines given = answers_go_on (opening_places roster) lines given
 
 -- the tenant, if it stays, has these replies
 abbrev Has : List ℕ → List Reply → List Place → Type 0
@@ -147,28 +156,49 @@ heard_all name replies places (given ∷ rest) has =
     heard_all name (replies_with name replies (answer_of places given)) (after_line places given) rest
     (heard name replies places has given)
 
--- nobody stays at places that nobody had
-pub none_unused : (name : List ℕ) (n : ℕ) → stay_of (replicate n unused_place) name ≡ None
-none_unused name zero = refl
-none_unused name (suc n) = none_unused name n
-
 -- before the first line nobody has replies
-begins_empty : (name : List ℕ) (roster : List RosterRow) (n : ℕ)
-    → Has name [] (map place_of_row roster ++ replicate n unused_place)
-begins_empty name [] n stay is = let none = none_unused name n in cc
-begins_empty name (tenant ∷ rest) n stay is =
+begins_at : (name : List ℕ) (tenant : Option (List ℕ × Book)) (rest : Option Stay) (stay : Stay)
+    → (rest ≡ Some stay → [] ≡ replies_in stay)
+    → (if is_stay_of name (option_map (λ t. opened_stay t.0 t.1) tenant)
+    then option_map (λ t. opened_stay t.0 t.1) tenant else rest) ≡ Some stay
+    → [] ≡ replies_in stay
+begins_at name None rest stay behind is = behind is
+begins_at name (Some tenant) rest stay behind is =
     elim (bytes_eq tenant.0 name) as (λ b. bytes_eq tenant.0 name ≡ b → [] ≡ replies_in stay) [
-      | true ↦ λ e. let first : new_stay tenant.0 tenant.1 ≡ stay = let it = rw e at is in cc in ap replies_in first
-      | false ↦ λ e. begins_empty name rest n stay (rw e at is)
+      | true ↦ λ e. let first : opened_stay tenant.0 tenant.1 ≡ stay = let it = rw e at is in cc in ap replies_in first
+      | false ↦ λ e. behind (rw e at is)
     ] refl
 
+begins_empty : (name : List ℕ) (saved : List SavedPlace) → Has name [] (restored_places saved)
+begins_empty name [] stay is = cc
+begins_empty name (place ∷ rest) stay is =
+    begins_at name place.tenant (stay_of (restored_places rest) name) stay (begins_empty name rest stay) is
+
+pub saved_replies_are_alone : SavedRepliesAreAlone
+saved_replies_are_alone saved lines name stay is =
+    heard_all name [] (restored_places saved) lines (begins_empty name saved) stay is
+
+pub saved_stays_are_isolated : SavedStaysAreIsolated
+saved_stays_are_isolated saved other_saved lines other_lines name stay another is other_is openings commands =
+    saved_replies_are_alone saved lines name stay is
+    ∙ ap (λ (book : Book). replies_from book stay.commands) openings
+    ∙ ap (λ (cs : List Given). replies_from another.opening cs) commands
+    ∙ sym (saved_replies_are_alone other_saved other_lines name another other_is)
+
+-- and so of a roster
 pub replies_are_alone : RepliesAreAlone
 replies_are_alone roster lines name stay is =
-    heard_all name [] (opening_places roster) lines (begins_empty name roster (most_places - length roster)) stay is
+    let nobody : Has name [] (opening_places roster) =
+    subst (Has name []) (rosters_are_saved roster) (begins_empty name (of_roster roster)) in
+    heard_all name [] (opening_places roster) lines nobody stay is
+    ∙ ap (λ (book : Book). replies_from book stay.commands) (stays_open_with_limits roster lines name stay is)
 
 pub stays_are_isolated : StaysAreIsolated
-stays_are_isolated roster other_roster lines other_lines name stay is other_is =
-    replies_are_alone roster lines name stay is ∙ sym (replies_are_alone other_roster other_lines name stay other_is)
+stays_are_isolated roster other_roster lines other_lines name stay another is other_is limits commands =
+    replies_are_alone roster lines name stay is
+    ∙ ap (λ (l : TenantLimits). alone_marked l stay.commands) limits
+    ∙ ap (λ (cs : List Given). alone_marked (limits_of another) cs) commands
+    ∙ sym (replies_are_alone other_roster other_lines name another other_is)
 
 -- a tenant that is given commands alone
 alone_answers : (name : List ℕ) (places : List Place) (stay : Stay) (commands : List Given) → stay_of places name
@@ -187,10 +217,19 @@ alone_answers name places stay (given ∷ rest) is =
     (alone_answers name (map (commanded name given) places) (with_command given stay) rest after)
     ∙ ap (λ book. Replied name reply ∷ map (Replied name) (replies_from book rest)) (book_of-more stay given)
 
+pub saved_stays_are_served_alone : SavedStaysAreServedAlone
+saved_stays_are_served_alone saved lines name stay is =
+    let opening : stay_of (restored_places (saved_alone name stay.opening)) name
+    ≡ Some (opened_stay name stay.opening) =
+    rw (eq_same name) refl in
+    ap (map (Replied name)) (saved_replies_are_alone saved lines name stay is)
+    ∙ sym (alone_answers name (restored_places (saved_alone name stay.opening))
+    (opened_stay name stay.opening) stay.commands opening)
+
 pub stays_are_served_alone : StaysAreServedAlone
 stays_are_served_alone roster lines name stay is =
-    let opening : stay_of (opening_places ((name, stay.limits) ∷ [])) name ≡ Some (new_stay name stay.limits) =
+    let limits = limits_of stay in
+    let opening : stay_of (opening_places ((name, limits) ∷ [])) name ≡ Some (new_stay name limits) =
     rw (eq_same name) refl in
     ap (map (Replied name)) (replies_are_alone roster lines name stay is)
-    ∙ sym (alone_answers name (opening_places ((name, stay.limits) ∷ []))
-    (new_stay name stay.limits) stay.commands opening)
+    ∙ sym (alone_answers name (opening_places ((name, limits) ∷ [])) (new_stay name limits) stay.commands opening)

@@ -3,8 +3,8 @@ use Rattle.std.proofs.Common.{◌≡◌, ℕ, ◌≤◌, List, [], ◌++◌, len
 use Rattle.std.specs.Prelude.{Bool, false, Option, Result, Ok, Err, OnOk, OnErr, IfErr}
 use Rattle.std.specs.Io.KnownBytes.{Consumes, IsAtEnd}
 use Rattle.firm_text.specs.Cutters.{CutterIs}
-use Rattle.firm_text.specs.Rosters.{RosterRow}
-use Rattle.firm_table.specs.Service.{Answers, BeginsAnswers, Served, Stopped, IsCause, device}
+use Rattle.firm_table.specs.Places.{Place}
+use Rattle.firm_table.specs.Service.{AnswersFrom, BeginsAnswersFrom, ServedFrom, StoppedFrom, IsCause, device}
 use Rattle.firm_table.specs.Telling.{Telling}
 use Rattle.firm_table.specs.inner.Faults.{IsWritingFault}
 use Rattle.firm_table.specs.inner.Reading.{Heard, Halted}
@@ -49,12 +49,12 @@ heard_told IsTold Later cut heard written now later h told = record {
   told = told h.text written h.told;
 }
 
-module _ (roster : List RosterRow) (most : ℕ) (left left_after written now : Option (List ℕ))
+module _ (places : List Place) (most : ℕ) (left left_after written now : Option (List ℕ))
     (read_failed write_failed : Bool) (heard : List ℕ) where
   -- between two lines, or at a line that was cut off
-  pub stopped_within : (fault : ServeFault) → Consumes left left_after heard → (h : Halted roster heard written now)
+  pub stopped_within : (fault : ServeFault) → Consumes left left_after heard → (h : Halted places heard written now)
       → IsCause fault heard most read_failed write_failed
-      → Stopped roster most (device left left_after read_failed) (device written now write_failed) fault
+      → StoppedFrom places most (device left left_after read_failed) (device written now write_failed) fault
   stopped_within fault read h cause = record {
     answered = h.answered;
     rest = h.rest;
@@ -66,8 +66,8 @@ module _ (roster : List RosterRow) (most : ℕ) (left left_after written now : O
 
   -- behind the end of the input
   pub stopped_behind : (fault : ServeFault) → Consumes left left_after heard → IsAtEnd left_after → read_failed ≡ false
-      → BeginsAnswers roster heard written now
-      → IsWritingFault fault write_failed → Stopped roster most (device left left_after read_failed)
+      → BeginsAnswersFrom places heard written now
+      → IsWritingFault fault write_failed → StoppedFrom places most (device left left_after read_failed)
       (device written now write_failed) fault
   stopped_behind fault read at_end well begins cause = record {
     answered = heard;
@@ -79,8 +79,9 @@ module _ (roster : List RosterRow) (most : ℕ) (left left_after written now : O
   }
 
   pub served : Consumes left left_after heard → IsAtEnd left_after → length heard ≤ most
-      → Answers roster heard written now → read_failed ≡ false
-      → write_failed ≡ false → Served roster most (device left left_after read_failed) (device written now write_failed)
+      → AnswersFrom places heard written now → read_failed ≡ false
+      → write_failed ≡ false
+      → ServedFrom places most (device left left_after read_failed) (device written now write_failed)
   served read at_end within answers reads writes = record {
     input = heard;
     read = read;

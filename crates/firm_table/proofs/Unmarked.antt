@@ -18,12 +18,11 @@ use Rattle.firm_text.specs.declared.operator.OperatorRefusal.TheVariants.{BadCom
 use Rattle.firm_text.specs.declared.operator.OperatorRefusal.TheVariants.{TenantExists, NoSuchTenant, Full}
 use Rattle.firm_text.specs.declared.operator.OperatorRefusal.TheVariants.{Memory as NoMemory}
 use Rattle.firm_text.specs.declared.operator.OperatorReply.TheVariants.{Refused}
-use Rattle.firm_table.specs.Places.{Place, Stay, stay_of, register_of, admission, retirement, after_line}
+use Rattle.firm_table.specs.Places.{Place, Stay, book_of, stay_of, register_of, admission, retirement, after_line}
 use Rattle.firm_table.specs.Answers.{answer_of, answer_to_command, is_operator_memory, tells_memory}
 use Rattle.firm_table.specs.Output.{answers_from, unmarked}
 use Rattle.firm_table.specs.Isolation.{MayGoUnmarked}
 use Rattle.firm_table.proofs.Alones.{last_reply-more}
-use Rattle.firm_table.specs.inner.Line.{book_of}
 
 -- this is the line of a text
 abbrev pub IsOfText : Line → Type 0

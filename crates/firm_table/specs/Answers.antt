@@ -2,7 +2,7 @@
 use Rattle.std.specs.Prelude.{ℕ, Bool, true, false, List, [], ◌∷◌, ◌++◌, codes, Option, Some, None}
 use Rattle.firm_rules.specs.declared.replies.Reply.{Reply}
 use Rattle.firm_tenant.specs.Step.{is_memory}
-use Rattle.firm_tenant.specs.Alone.{alone_marked}
+use Rattle.firm_tenant.specs.Alone.{replies_from}
 use Rattle.firm_text.specs.OperatorReplies.{text_of_operator_reply}
 use Rattle.firm_text.specs.Replies.{text_of_reply}
 use Rattle.firm_text.specs.declared.inputs.Line.TheVariants.{Nothing, Long, Nameless, For, Operator}
@@ -20,9 +20,9 @@ last_of [] = None
 last_of (x ∷ []) = Some x
 last_of (x ∷ y ∷ rest) = last_of (y ∷ rest)
 
--- the last reply of a tenant that is alone in the service and is given what this stay was given
+-- the last reply of a tenant that is alone in the service, begins with this stay's book and is given what it was given
 abbrev pub last_reply : Stay → Option Reply
-last_reply stay = last_of (alone_marked stay.limits stay.commands)
+last_reply stay = last_of (replies_from stay.opening stay.commands)
 
 -- the reply as an answer
 abbrev pub reply_answer : List ℕ → Option Reply → LineAnswer

@@ -2,6 +2,7 @@
 use Rattle.std.specs.Prelude.{◌≡◌, ℕ, Bool, false, List, [], ◌∷◌, ◌++◌, Option, Some, None, map, option_map, bytes_eq}
 use Rattle.std.specs.Prelude.{if◌then◌else◌}
 use Rattle.std.specs.List.{filter_map, list_any}
+use Rattle.firm_rules.specs.Book.{opening_book}
 use Rattle.firm_rules.specs.Limits.{TenantLimits}
 use Rattle.firm_tenant.specs.Alone.{alone_marked}
 use Rattle.firm_text.specs.Inputs.{command_to, input_lines}
@@ -9,7 +10,8 @@ use Rattle.firm_text.specs.Rosters.{RosterRow}
 use Rattle.firm_text.specs.declared.inputs.Line.TheVariants.{For, Operator}
 use Rattle.firm_text.specs.declared.operator.OperatorLine.TheVariants.{Admit}
 use Rattle.firm_text.specs.declared.operator.OperatorReply.TheVariants.{Admitted, Retired, Refused}
-use Rattle.firm_table.specs.Places.{Given, MarkedLine, Stay, Place, new_stay, opening_places, after_lines, stay_of}
+use Rattle.firm_table.specs.Places.{Given, MarkedLine, Stay, Place, new_stay, limits_of, opening_places, after_lines}
+use Rattle.firm_table.specs.Places.{stay_of}
 use Rattle.firm_table.specs.Answers.{answer_of, tells_memory}
 use Rattle.firm_table.specs.declared.answers.LineAnswer.{LineAnswer}
 use Rattle.firm_table.specs.declared.answers.LineAnswer.TheVariants.{Silent, LineTooLong, UnknownTenant, Replied}
@@ -21,9 +23,13 @@ abbrev pub limits_in : List RosterRow → List ℕ → Option TenantLimits
 limits_in [] name = None
 limits_in (tenant ∷ rest) name = if bytes_eq tenant.0 name then Some tenant.1 else limits_in rest name
 
--- the stay of the tenant of this name, once a service of this roster has answered these lines
+-- the stay of the tenant of this name, once a service that had these places has answered these lines
+abbrev pub stay_after : List Place → List MarkedLine → List ℕ → Option Stay
+stay_after places lines name = stay_of (after_lines places lines) name
+
+-- the same for a service of this roster
 abbrev pub stay_in : List RosterRow → List MarkedLine → List ℕ → Option Stay
-stay_in roster lines name = stay_of (after_lines (opening_places roster) lines) name
+stay_in roster lines name = stay_after (opening_places roster) lines name
 
 -- one more line is answered after the others, whose answers stay the same
 abbrev pub AnswersLineByLine : Type 0
@@ -31,18 +37,24 @@ AnswersLineByLine = (roster : List RosterRow) (lines : List MarkedLine) (given :
     → answers_of roster (lines ++ given ∷ [])
     ≡ answers_of roster lines ++ answer_of (after_lines (opening_places roster) lines) given ∷ []
 
+-- in a roster's service every stay began with the opening book of its limits
+abbrev pub StaysOpenWithLimits : Type 0
+StaysOpenWithLimits = (roster : List RosterRow) (lines : List MarkedLine) (name : List ℕ) (stay : Stay)
+    → stay_in roster lines name ≡ Some stay → stay.opening ≡ opening_book (limits_of stay)
+
 -- a tenant's replies since admission are those of a tenant served alone
 abbrev pub RepliesAreAlone : Type 0
 RepliesAreAlone = (roster : List RosterRow) (lines : List MarkedLine) (name : List ℕ) (stay : Stay)
     → stay_in roster lines name ≡ Some stay
-    → replies_to name (answers_of roster lines) ≡ alone_marked stay.limits stay.commands
+    → replies_to name (answers_of roster lines) ≡ alone_marked (limits_of stay) stay.commands
 
 -- two stays that began with the same limits and were given the same commands have the same replies, regardless of what
 -- else the two services hold and were given, earlier tenants of the place included
 abbrev pub StaysAreIsolated : Type 0
 StaysAreIsolated = (roster other_roster : List RosterRow) (lines other_lines : List MarkedLine) (name : List ℕ)
-    (stay : Stay)
-    → stay_in roster lines name ≡ Some stay → stay_in other_roster other_lines name ≡ Some stay
+    (stay other : Stay)
+    → stay_in roster lines name ≡ Some stay → stay_in other_roster other_lines name ≡ Some other
+    → limits_of stay ≡ limits_of other → stay.commands ≡ other.commands
     → replies_to name (answers_of roster lines) ≡ replies_to name (answers_of other_roster other_lines)
 
 -- a line that gives this tenant a command
@@ -54,7 +66,7 @@ abbrev pub StaysAreServedAlone : Type 0
 StaysAreServedAlone = (roster : List RosterRow) (lines : List MarkedLine) (name : List ℕ) (stay : Stay)
     → stay_in roster lines name ≡ Some stay
     → map (Replied name) (replies_to name (answers_of roster lines))
-    ≡ answers_of ((name, stay.limits) ∷ []) (map (line_to name) stay.commands)
+    ≡ answers_of ((name, limits_of stay) ∷ []) (map (line_to name) stay.commands)
 
 -- the command that a line gives the tenant of this name
 abbrev pub given_to : List ℕ → MarkedLine → Option Given
@@ -91,12 +103,15 @@ StaysHoldTheirLines = (roster : List RosterRow) (lines : List MarkedLine) (name 
 
 -- after these lines, this admission admitted the tenant with these limits, and no later line of the operator's for it
 -- was obeyed
-pub record BeginsStay (roster : List RosterRow) (lines : List MarkedLine) (admission : MarkedLine)
+pub record BeginsStayFrom (places : List Place) (lines : List MarkedLine) (admission : MarkedLine)
     (later : List MarkedLine) (name : List ℕ) (limits : TenantLimits) : Type 0 where
   pub asks : admission.0 ≡ Operator (Admit name limits)
-  pub admits : answer_of (after_lines (opening_places roster) lines) admission ≡ ToOperator (Admitted name)
-  pub stays : NoneIsOperatorsFor name
-      (answers_from (after_lines (opening_places roster) (lines ++ admission ∷ [])) later)
+  pub admits : answer_of (after_lines places lines) admission ≡ ToOperator (Admitted name)
+  pub stays : NoneIsOperatorsFor name (answers_from (after_lines places (lines ++ admission ∷ [])) later)
+
+-- the same for a service of this roster
+abbrev pub BeginsStay : List RosterRow → List MarkedLine → MarkedLine → List MarkedLine → List ℕ → TenantLimits → Type 0
+BeginsStay roster = BeginsStayFrom (opening_places roster)
 
 -- such a tenant has the limits of its admission, and was given the commands of the later lines to it
 abbrev pub StaysBeginAnew : Type 0

@@ -1,8 +1,13 @@
 pub mod Places
 pub mod Answers
 pub mod Output
+pub mod Openings
 pub mod Isolation
+pub mod SavedIsolation
+pub mod Cutting
 pub mod Service
+pub mod Tenants
+pub mod Ends
 pub mod Telling
 pub mod Interleaving
 pub mod Histories

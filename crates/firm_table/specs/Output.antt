@@ -1,4 +1,5 @@
--- What a service writes for what it read: a function of the roster and of the lines, each with its mark.
+-- What a service writes for what it read: a function of the places that it opens with, or of its roster, and of the
+-- lines, each with its mark.
 use Rattle.std.specs.Prelude.{ℕ, false, List, [], ◌∷◌, ◌++◌, ◌≡◌, map, bytes_eq, if◌then◌else◌}
 use Rattle.std.specs.List.{flat_map}
 use Rattle.firm_rules.specs.declared.replies.Reply.{Reply}
@@ -23,21 +24,33 @@ abbrev pub answers_of : List RosterRow → List MarkedLine → List LineAnswer
 answers_of roster lines = answers_from (opening_places roster) lines
 
 -- what a service writes for these lines: the texts of the answers, in order
+abbrev pub output_from : List Place → List MarkedLine → List ℕ
+output_from places lines = flat_map text_of_answer (answers_from places lines)
+
+-- the same for a service of this roster
 abbrev pub output_of : List RosterRow → List MarkedLine → List ℕ
-output_of roster lines = flat_map text_of_answer (answers_of roster lines)
+output_of roster lines = output_from (opening_places roster) lines
 
 -- a line that was not refused memory
 abbrev pub unmarked : Line → MarkedLine
 unmarked line = (line, false)
 
 -- what a service writes for an input if memory is never refused
+abbrev pub granted_output : List Place → List ℕ → List ℕ
+granted_output places input = output_from places (map unmarked (input_lines input))
+
+-- the same for a service of this roster
 abbrev pub output : List RosterRow → List ℕ → List ℕ
-output roster input = output_of roster (map unmarked (input_lines input))
+output roster input = granted_output (opening_places roster) input
 
 -- the lines of this input, with marks on exactly those whose answer says that memory was refused
-pub record AreLinesOf (roster : List RosterRow) (input : List ℕ) (lines : List MarkedLine) : Type 0 where
+pub record AreLinesFrom (places : List Place) (input : List ℕ) (lines : List MarkedLine) : Type 0 where
   pub each : map (λ given. given.0) lines ≡ input_lines input
-  pub marks : map (λ given. given.1) lines ≡ map tells_memory (answers_of roster lines)
+  pub marks : map (λ given. given.1) lines ≡ map tells_memory (answers_from places lines)
+
+-- the same for a service of this roster
+abbrev pub AreLinesOf : List RosterRow → List ℕ → List MarkedLine → Type 0
+AreLinesOf roster = AreLinesFrom (opening_places roster)
 
 -- the replies to the tenant of this name, after these replies and one more answer: a new stay has none yet
 abbrev pub replies_with : List ℕ → List Reply → LineAnswer → List Reply

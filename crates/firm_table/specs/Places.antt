@@ -1,9 +1,11 @@
--- The places of a service: which tenant stays at each, and what it was given since its admission.
+-- The places of a service: which tenant stays at each, and what it was given since its stay began.
 use Rattle.std.specs.Prelude.{ℕ, ◌+◌, ◌-◌, Bool, true, false, List, [], ◌∷◌, ◌++◌, length, map, replicate}
 use Rattle.std.specs.Prelude.{Option, Some, None, option_map, Result, Ok, Err, bytes_eq, slice_index_or, slice_set}
 use Rattle.std.specs.Prelude.{if◌then◌else◌}
+use Rattle.firm_rules.specs.Book.{Book, opening_book}
 use Rattle.firm_rules.specs.Limits.{TenantLimits}
 use Rattle.firm_rules.specs.declared.commands.Command.{Command}
+use Rattle.firm_tenant.specs.Alone.{book_after}
 use Rattle.firm_text.specs.Registers.{place_for}
 use Rattle.firm_text.specs.Rosters.{RosterRow, most_places}
 use Rattle.firm_text.specs.declared.inputs.Line.{Line}
@@ -15,6 +17,7 @@ use Rattle.firm_text.specs.declared.operator.OperatorRefusal.TheVariants.{NoSuch
 use Rattle.firm_text.specs.declared.operator.OperatorReply.{OperatorReply}
 use Rattle.firm_text.specs.declared.operator.OperatorReply.TheVariants.{Admitted, Retired, Refused}
 use Rattle.firm_text.specs.declared.registers.Entry.{Entry}
+use Rattle.firm_saved.specs.declared.saved.SavedPlace.{SavedPlace}
 
 -- a command, and whether memory was refused to it
 abbrev pub Given : Type 0
@@ -24,15 +27,27 @@ Given = Command × Bool
 abbrev pub MarkedLine : Type 0
 MarkedLine = Line × Bool
 
--- a tenant's stay: its name, the limits that it was admitted with, and the commands that it was given since
+-- a tenant's stay: its name, the book that it began with, and the commands that it was given since
 pub record Stay : Type 0 where
   pub name : List ℕ
-  pub limits : TenantLimits
+  pub opening : Book
   pub commands : List Given
 
--- a stay that begins
+-- a stay that begins with this book
+abbrev pub opened_stay : List ℕ → Book → Stay
+opened_stay name book = record { name = name; opening = book; commands = [] }
+
+-- a stay that begins with the tenant's admission
 abbrev pub new_stay : List ℕ → TenantLimits → Stay
-new_stay name limits = record { name = name; limits = limits; commands = [] }
+new_stay name limits = opened_stay name (opening_book limits)
+
+-- the limits of a stay
+abbrev pub limits_of : Stay → TenantLimits
+limits_of stay = stay.opening.rows.limits
+
+-- the book of a stay, after its commands
+abbrev pub book_of : Stay → Book
+book_of stay = book_after stay.opening stay.commands
 
 -- a place: how often it was given, and the stay there, if any
 pub record Place : Type 0 where
@@ -50,6 +65,24 @@ place_of_row row = record { admissions = 1; stay = Some (new_stay row.0 row.1) }
 -- the places before the first line: those of the roster's rows, in their order, followed by those that were never given
 abbrev pub opening_places : List RosterRow → List Place
 opening_places roster = map place_of_row roster ++ replicate (most_places - length roster) unused_place
+
+-- a place as a saved state has it: a tenant's stay begins with the saved book
+abbrev pub restored_place : SavedPlace → Place
+restored_place saved =
+    record { admissions = saved.admissions; stay = option_map (λ tenant. opened_stay tenant.0 tenant.1) saved.tenant }
+
+-- the places of a service that opens with a saved state
+abbrev pub restored_places : List SavedPlace → List Place
+restored_places saved = map restored_place saved
+
+-- a place as it is saved: what a stay has become is its book
+abbrev pub saved_place : Place → SavedPlace
+saved_place place =
+    record { admissions = place.admissions; tenant = option_map (λ stay. (stay.name, book_of stay)) place.stay }
+
+-- the state of a service with these places
+abbrev pub saved_after : List Place → List SavedPlace
+saved_after places = map saved_place places
 
 -- whether this is a stay of the tenant of this name
 abbrev pub is_stay_of : List ℕ → Option Stay → Bool

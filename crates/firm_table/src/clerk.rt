@@ -2,8 +2,8 @@
 
 ghost use Rattle.std.specs.Prelude.{◌≡◌, ℕ, ◌++◌, ◌∷◌, List, Option, [], false, OnOk, OnErr, IfErr};
 ghost use Rattle.firm_text.specs.Inputs.{input_lines};
-ghost use Rattle.firm_text.specs.Rosters.{RosterRow};
-ghost use Rattle.firm_table.specs.Service.{Answers, BeginsAnswers};
+ghost use Rattle.firm_table.specs.Places.{Place};
+ghost use Rattle.firm_table.specs.Service.{AnswersFrom, BeginsAnswersFrom};
 ghost use Rattle.firm_table.specs.inner.Faults.{IsWritingFault};
 
 use crate::faults::ServeFault;
@@ -19,8 +19,8 @@ pub trait Clerk {
     /// Its value for this clerk.
     ghost kept: { Self → Self.Kept };
 
-    /// The rows of the tenants that the clerk answers for.
-    ghost roster: { Self → List RosterRow };
+    /// The places before the first line.
+    ghost opening: { Self → List Place };
 
     /// The clerk can be given a line.
     ghost is_open: { Self → Type 0 };
@@ -46,11 +46,11 @@ pub trait Clerk {
         ensures begins { OnErr result ((text after : List ℕ) (written : Option (List ℕ))
             → input_lines after ≡ input_lines text ++ line ∷ []
             → told self.old text written (W.written writer.old)
-            → BeginsAnswers (roster self.old) after written (W.written writer.new)) }
+            → BeginsAnswersFrom (opening self.old) after written (W.written writer.new)) }
         ensures cause { IfErr result (λ fault. IsWritingFault fault (W.write_failed writer.new)) }
         ensures well { OnOk result (W.write_failed writer.new ≡ false) }
         ensures open { is_open self.new }
-        ensures roster { roster self.new ≡ roster self.old }
+        ensures opening { opening self.new ≡ opening self.old }
         ensures kept { kept self.new ≡ kept self.old };
 
     /// Writes the known answers, up to the first missing one, which it may wait for until the reader is ready.
@@ -67,11 +67,11 @@ pub trait Clerk {
         ensures written_out { OnOk result (is_written_out self.new) }
         ensures begins { (text : List ℕ) (written : Option (List ℕ))
             → told self.old text written (W.written writer.old)
-            → BeginsAnswers (roster self.old) text written (W.written writer.new) }
+            → BeginsAnswersFrom (opening self.old) text written (W.written writer.new) }
         ensures cause { IfErr result (λ fault. IsWritingFault fault (W.write_failed writer.new)) }
         ensures well { OnOk result (W.write_failed writer.new ≡ false) }
         ensures open { is_open self.new }
-        ensures roster { roster self.new ≡ roster self.old }
+        ensures opening { opening self.new ≡ opening self.old }
         ensures kept { kept self.new ≡ kept self.old };
 
     /// Writes all answers, once each is known.
@@ -83,14 +83,14 @@ pub trait Clerk {
             → told self.new text written (W.written writer.new)) }
         ensures answers { OnOk result ((text : List ℕ) (written : Option (List ℕ))
             → told self.old text written (W.written writer.old)
-            → Answers (roster self.old) text written (W.written writer.new)) }
+            → AnswersFrom (opening self.old) text written (W.written writer.new)) }
         ensures finished { OnOk result (is_finished self.new) }
         ensures begins { OnErr result ((text : List ℕ) (written : Option (List ℕ))
             → told self.old text written (W.written writer.old)
-            → BeginsAnswers (roster self.old) text written (W.written writer.new)) }
+            → BeginsAnswersFrom (opening self.old) text written (W.written writer.new)) }
         ensures cause { IfErr result (λ fault. IsWritingFault fault (W.write_failed writer.new)) }
         ensures well { OnOk result (W.write_failed writer.new ≡ false) }
         ensures open { is_open self.new }
-        ensures roster { roster self.new ≡ roster self.old }
+        ensures opening { opening self.new ≡ opening self.old }
         ensures kept { kept self.new ≡ kept self.old };
 }

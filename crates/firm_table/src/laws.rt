@@ -1,9 +1,15 @@
 //! What each tenant of the service may rely on, regardless of the others.
 
 ghost use Rattle.firm_table.specs.Isolation.{AdmissionsAreIsolated, AnswersLineByLine, RepliesAreAlone};
-ghost use Rattle.firm_table.specs.Isolation.{StaysAreIsolated};
+ghost use Rattle.firm_table.specs.Isolation.{StaysAreIsolated, StaysOpenWithLimits};
 ghost use Rattle.firm_table.specs.Isolation.{StaysAreServedAlone, StaysBeginAnew, StaysHoldTheirLines};
 ghost use Rattle.firm_table.specs.Isolation.{TenantsAreIsolated, NeedsNoMarks, MayGoUnmarked};
+ghost use Rattle.firm_table.specs.SavedIsolation.{AnswersGoOn, RostersAreSaved, SavedRepliesAreAlone};
+ghost use Rattle.firm_table.specs.SavedIsolation.{SavedStaysAreIsolated, SavedStaysAreServedAlone};
+ghost use Rattle.firm_table.specs.SavedIsolation.{PlacesBeginAnew, PlacesHoldTheirLines, PlacesNeedNoMarks};
+ghost use Rattle.firm_table.specs.SavedIsolation.{SavedAdmissionsAreIsolated, SavedTenantsAreIsolated};
+ghost use Rattle.firm_table.specs.Cutting.{AnswersGoOnFrom, OutputsGoOnFrom, SavedIsKept, StatesGoOnFrom};
+ghost use Rattle.firm_table.specs.Cutting.{TextsAreCut, TextsAreJoined};
 ghost use Rattle.firm_table.specs.Histories.{EventsKeepAlone, RowsStay, StaysAreCounted};
 ghost use Rattle.firm_table.specs.Histories.{EventsAreIsolated};
 ghost use Rattle.firm_table.specs.inner.Adding.{NothingIsTold, OneMoreIsTold, FrontIsWritten, ToldBegins};
@@ -28,6 +34,7 @@ use firm_text::refuses_for_the_form;
 /// events of others in between and of earlier tenants of the place.
 pub fn isolation()
     ensures line_by_line { AnswersLineByLine }
+    ensures limits { StaysOpenWithLimits }
     ensures alone { RepliesAreAlone }
     ensures isolated { StaysAreIsolated }
     ensures served_alone { StaysAreServedAlone }
@@ -46,6 +53,33 @@ pub fn isolation()
     replies_tell_their_marks();
     refuses_for_the_form();
 }
+
+/// The laws of isolation for lines, for a service that opens with a saved state: the same with the book that a stay
+/// began with in place of its limits. A roster is one of these states, in which each tenant has its opening book; so a
+/// roster's service and one that goes on from a state can be compared too.
+pub fn saved_isolation()
+    ensures rosters { RostersAreSaved }
+    ensures line_by_line { AnswersGoOn }
+    ensures alone { SavedRepliesAreAlone }
+    ensures isolated { SavedStaysAreIsolated }
+    ensures served_alone { SavedStaysAreServedAlone }
+    ensures lines { PlacesHoldTheirLines }
+    ensures anew { PlacesBeginAnew }
+    ensures tenants { SavedTenantsAreIsolated }
+    ensures admissions { SavedAdmissionsAreIsolated }
+    ensures no_marks { PlacesNeedNoMarks }
+{}
+
+/// The laws by which a service can be cut off between any two lines: one that goes on from its saved state gives the
+/// answers that it would have given, with the same numbers and marks, and comes to the same state.
+pub fn cut_anywhere()
+    ensures kept { SavedIsKept }
+    ensures answers { AnswersGoOnFrom }
+    ensures states { StatesGoOnFrom }
+    ensures texts { TextsAreCut }
+    ensures joined { TextsAreJoined }
+    ensures outputs { OutputsGoOnFrom }
+{}
 
 /// The laws by which a clerk's answers add up to the output: if its answers are right so far, they stay right after one
 /// more line is answered as the tenants' books say, and after part of what it holds is written.

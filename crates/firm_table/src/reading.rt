@@ -2,7 +2,7 @@
 
 ghost use Rattle.std.specs.Prelude.{◌≡◌, ℕ, ◌≤◌, ◌<◌, ◌^◌, ◌++◌, List, Option, [], false, length};
 ghost use Rattle.std.specs.Prelude.{OnOk, OnErr, IfOk, IfErr};
-ghost use Rattle.firm_table.specs.Service.{Answers, BeginsAnswers, Served, Stopped, UpToDate, device};
+ghost use Rattle.firm_table.specs.Service.{AnswersFrom, BeginsAnswersFrom, ServedFrom, StoppedFrom, UpToDate, device};
 ghost use Rattle.firm_table.specs.Telling.{ToldToTheEnd, WasTold};
 ghost use Rattle.firm_table.specs.declared.faults.ServeFault.TheVariants.{Read};
 ghost use Rattle.firm_table.specs.inner.Faults.{IsWritingFault};
@@ -37,10 +37,10 @@ pub fn serve_lines<R: Source, W: Sink, C: Clerk>(
     requires writer { W.write_failed writer.old ≡ false }
     requires open { C.is_open clerk.old }
     requires opening { C.told clerk.old [] (W.written writer.old) (W.written writer.old) }
-    ensures served { OnOk result (Served (C.roster clerk.old) most
+    ensures served { OnOk result (ServedFrom (C.opening clerk.old) most
         (device (R.left reader.old) (R.left reader.new) (R.read_failed reader.new))
         (device (W.written writer.old) (W.written writer.new) (W.write_failed writer.new))) }
-    ensures stopped { IfErr result (Stopped (C.roster clerk.old) most
+    ensures stopped { IfErr result (StoppedFrom (C.opening clerk.old) most
         (device (R.left reader.old) (R.left reader.new) (R.read_failed reader.new))
         (device (W.written writer.old) (W.written writer.new) (W.write_failed writer.new))) }
     ensures told { OnOk result (ToldToTheEnd (C.told clerk.new) most
@@ -51,7 +51,7 @@ pub fn serve_lines<R: Source, W: Sink, C: Clerk>(
         (device (R.left reader.old) (R.left reader.new) (R.read_failed reader.new))
         (device (W.written writer.old) (W.written writer.new) (W.write_failed writer.new))) }
     ensures open { C.is_open clerk.new }
-    ensures roster { C.roster clerk.new ≡ C.roster clerk.old }
+    ensures opening { C.opening clerk.new ≡ C.opening clerk.old }
     ensures kept { C.kept clerk.new ≡ C.kept clerk.old }
 {
     let mut piece = [0; PIECE];
@@ -88,12 +88,12 @@ fn answer_piece<W: Sink, C: Clerk>(
         → Heard (C.told clerk.new) cutter.new (heard ++ piece.now) written (W.written writer.new)) }
     ensures halted { OnErr result ((heard : List ℕ) (written : Option (List ℕ))
         → Heard (C.told clerk.old) cutter.old heard written (W.written writer.old)
-        → Halted (C.roster clerk.old) (heard ++ piece.now) written (W.written writer.new)) }
+        → Halted (C.opening clerk.old) (heard ++ piece.now) written (W.written writer.new)) }
     ensures cause { IfErr result (λ fault. IsWritingFault fault (W.write_failed writer.new)) }
     ensures well { OnOk result (W.write_failed writer.new ≡ false) }
     ensures cut { OnOk result (cutter.new.has_ended ≡ false) }
     ensures open { C.is_open clerk.new }
-    ensures roster { C.roster clerk.new ≡ C.roster clerk.old }
+    ensures opening { C.opening clerk.new ≡ C.opening clerk.old }
     ensures kept { C.kept clerk.new ≡ C.kept clerk.old }
 {
     let mut rest = piece;
@@ -122,12 +122,12 @@ fn answer_first<'b, W: Sink, C: Clerk>(
         → Heard (C.told clerk.new) cutter.new (heard ++ front) written (W.written writer.new)) }
     ensures halted { OnErr result ((heard : List ℕ) (written : Option (List ℕ))
         → Heard (C.told clerk.old) cutter.old heard written (W.written writer.old)
-        → Halted (C.roster clerk.old) (heard ++ piece.now) written (W.written writer.new)) }
+        → Halted (C.opening clerk.old) (heard ++ piece.now) written (W.written writer.new)) }
     ensures cause { IfErr result (λ fault. IsWritingFault fault (W.write_failed writer.new)) }
     ensures well { OnOk result (W.write_failed writer.new ≡ false) }
     ensures cut { OnOk result (cutter.new.has_ended ≡ false) }
     ensures open { C.is_open clerk.new }
-    ensures roster { C.roster clerk.new ≡ C.roster clerk.old }
+    ensures opening { C.opening clerk.new ≡ C.opening clerk.old }
     ensures kept { C.kept clerk.new ≡ C.kept clerk.old }
 {
     let fed = cutter.feed(piece);
@@ -154,15 +154,15 @@ fn answer_end<W: Sink, C: Clerk>(
         → WasTold (C.told clerk.new) heard written (W.written writer.new)) }
     ensures answers { OnOk result ((heard : List ℕ) (written : Option (List ℕ))
         → Heard (C.told clerk.old) cutter.old heard written (W.written writer.old)
-        → Answers (C.roster clerk.old) heard written (W.written writer.new)) }
+        → AnswersFrom (C.opening clerk.old) heard written (W.written writer.new)) }
     ensures finished { OnOk result (C.is_finished clerk.new) }
     ensures begins { OnErr result ((heard : List ℕ) (written : Option (List ℕ))
         → Heard (C.told clerk.old) cutter.old heard written (W.written writer.old)
-        → BeginsAnswers (C.roster clerk.old) heard written (W.written writer.new)) }
+        → BeginsAnswersFrom (C.opening clerk.old) heard written (W.written writer.new)) }
     ensures cause { IfErr result (λ fault. IsWritingFault fault (W.write_failed writer.new)) }
     ensures well { OnOk result (W.write_failed writer.new ≡ false) }
     ensures open { C.is_open clerk.new }
-    ensures roster { C.roster clerk.new ≡ C.roster clerk.old }
+    ensures opening { C.opening clerk.new ≡ C.opening clerk.old }
     ensures kept { C.kept clerk.new ≡ C.kept clerk.old }
 {
     answer_rest(clerk, cutter, writer)?;
@@ -187,11 +187,11 @@ fn answer_rest<W: Sink, C: Clerk>(
         → C.told clerk.new heard written (W.written writer.new)) }
     ensures begins { OnErr result ((heard : List ℕ) (written : Option (List ℕ))
         → Heard (C.told clerk.old) cutter.old heard written (W.written writer.old)
-        → BeginsAnswers (C.roster clerk.old) heard written (W.written writer.new)) }
+        → BeginsAnswersFrom (C.opening clerk.old) heard written (W.written writer.new)) }
     ensures cause { IfErr result (λ fault. IsWritingFault fault (W.write_failed writer.new)) }
     ensures well { OnOk result (W.write_failed writer.new ≡ false) }
     ensures open { C.is_open clerk.new }
-    ensures roster { C.roster clerk.new ≡ C.roster clerk.old }
+    ensures opening { C.opening clerk.new ≡ C.opening clerk.old }
     ensures kept { C.kept clerk.new ≡ C.kept clerk.old }
 {
     if !cutter.rest() {

@@ -1,13 +1,17 @@
 //! The service on one thread: the lines of an input are answered in turn.
 
 ghost use Rattle.std.specs.Prelude.{◌≡◌, ◌≤◌, ◌^◌, [], false, option_map, OnOk, IfOk, IfErr};
+ghost use Rattle.firm_table.specs.Ends.{ServedTo};
+ghost use Rattle.firm_table.specs.Openings.{places_opened};
 ghost use Rattle.firm_table.specs.Service.{Answers, Served, Stopped, UpToDate, device};
+ghost use Rattle.firm_table.specs.Service.{AnswersFrom, ServedFrom, StoppedFrom};
 ghost use Rattle.firm_table.specs.declared.faults.ServeFault.TheVariants.{Read};
-ghost use Rattle.firm_table.specs.inner.Line.{book_named, opening_tenants, state_is};
+ghost use Rattle.firm_table.specs.inner.Line.{book_named, state_is, tenants_at};
 ghost use Rattle.firm_table.specs.inner.Progress.{Told, state_of};
 
 use crate::clerk::Clerk;
 use crate::faults::ServeFault;
+use crate::openings::Opening;
 use crate::reading::serve_lines;
 use crate::tenants::Tenants;
 use crate::writing::write_held;
@@ -47,31 +51,97 @@ pub fn serve_one<R: Source, W: Sink>(
         (device (R.left reader.old) (R.left reader.new) (R.read_failed reader.new))
         (device (W.written writer.old) (W.written writer.new) (W.write_failed writer.new))) }
 {
-    let Ok(mut service) = Service::open(alloc, roster) else {
+    serve_one_from(alloc, reader, writer, Opening::Roster(roster), most)
+}
+
+/// The same as `serve_one`, for a service that opens with a roster or with a saved state.
+pub fn serve_one_from<R: Source, W: Sink>(
+    alloc: Global,
+    reader: &mut R,
+    writer: &mut W,
+    opening: Opening<'_>,
+    most: u64,
+) -> Result<(), ServeFault>
+    requires some { 1 ≤ most }
+    requires most { most ≤ 2 ^ 32 }
+    requires reader { R.read_failed reader.old ≡ false }
+    requires writer { W.write_failed writer.old ≡ false }
+    ensures served { OnOk result (ServedFrom (places_opened opening.entry) most
+        (device (R.left reader.old) (R.left reader.new) (R.read_failed reader.new))
+        (device (W.written writer.old) (W.written writer.new) (W.write_failed writer.new))) }
+    ensures stopped { IfErr result (StoppedFrom (places_opened opening.entry) most
+        (device (R.left reader.old) (R.left reader.new) (R.read_failed reader.new))
+        (device (W.written writer.old) (W.written writer.new) (W.write_failed writer.new))) }
+    ensures in_full { IfErr result (λ fault. fault ≡ Read → UpToDate (AnswersFrom (places_opened opening.entry))
+        (device (R.left reader.old) (R.left reader.new) (R.read_failed reader.new))
+        (device (W.written writer.old) (W.written writer.new) (W.write_failed writer.new))) }
+{
+    let Ok(mut service) = Service::open(alloc, opening) else {
         return Err(ServeFault::Memory);
     };
     serve_lines(reader, writer, &mut service, most)
+}
+
+/// The same as `serve_one_from`, but at the end of the input it returns the tenants, in the state after all lines.
+pub fn serve_to_state<R: Source, W: Sink>(
+    alloc: Global,
+    reader: &mut R,
+    writer: &mut W,
+    opening: Opening<'_>,
+    most: u64,
+) -> Result<Tenants, ServeFault>
+    requires some { 1 ≤ most }
+    requires most { most ≤ 2 ^ 32 }
+    requires reader { R.read_failed reader.old ≡ false }
+    requires writer { W.write_failed writer.old ≡ false }
+    ensures served { IfOk result (ServedTo (places_opened opening.entry) most
+        (device (R.left reader.old) (R.left reader.new) (R.read_failed reader.new))
+        (device (W.written writer.old) (W.written writer.new) (W.write_failed writer.new))) }
+    ensures stopped { IfErr result (StoppedFrom (places_opened opening.entry) most
+        (device (R.left reader.old) (R.left reader.new) (R.read_failed reader.new))
+        (device (W.written writer.old) (W.written writer.new) (W.write_failed writer.new))) }
+    ensures in_full { IfErr result (λ fault. fault ≡ Read → UpToDate (AnswersFrom (places_opened opening.entry))
+        (device (R.left reader.old) (R.left reader.new) (R.read_failed reader.new))
+        (device (W.written writer.old) (W.written writer.new) (W.write_failed writer.new))) }
+{
+    let Ok(mut service) = Service::open(alloc, opening) else {
+        return Err(ServeFault::Memory);
+    };
+    match serve_lines(reader, writer, &mut service, most) {
+        Ok(()) => Ok(service.into_tenants()),
+        Err(fault) => Err(fault),
+    }
 }
 
 // The tenants at their places, and the answers that are still to be written.
 #[derive(Drop)]
 pub(crate) struct Service<'a> {
     alloc: Global,
-    roster: &'a Roster,
+    // Only clauses read it.
+    opening: Opening<'a>,
     tenants: Tenants,
     output: Vec<u8>,
 }
 
 impl<'a> Service<'a> {
-    pub(crate) fn open(alloc: Global, roster: &'a Roster) -> Result<Service<'a>, AllocError>
-        ensures { IfOk result (λ service. state_of service ≡ state_is roster.now (opening_tenants roster.now) []) }
+    pub(crate) fn open(alloc: Global, opening: Opening<'a>) -> Result<Service<'a>, AllocError>
+        ensures { IfOk result (λ service. let places = places_opened opening.entry in
+            state_of service ≡ state_is places (tenants_at places) []) }
     {
         Ok(Service {
             alloc,
-            roster,
-            tenants: Tenants::open(alloc, roster)?,
+            opening,
+            tenants: Tenants::open(alloc, opening)?,
             output: Vec::new(alloc),
         })
+    }
+
+    // The tenants, once all is written.
+    fn into_tenants(self) -> Tenants
+        ensures { result ≡ self.entry.tenants }
+    {
+        let Service { tenants, .. } = self;
+        tenants
     }
 
     // Whether the last line was answered by a solved round.
@@ -92,7 +162,7 @@ impl<'a> Service<'a> {
 impl Clerk for Service<'_> {
     ghost kept = { λ _. tt };
 
-    ghost roster = { λ service. service.roster.now };
+    ghost opening = { λ service. places_opened service.opening };
 
     ghost is_open = { λ _. Unit {0} };
 

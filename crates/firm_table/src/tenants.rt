@@ -1,17 +1,24 @@
 //! The tenants of a service at their places, and the answer to one line for them.
 
-ghost use Rattle.std.specs.Prelude.{◌≡◌, Some, IfOk, OnOk, option_map, slice_get};
+ghost use Rattle.std.specs.Prelude.{◌≡◌, ◌≤◌, ◌++◌, All, IfOk, OnOk, length, option_map, take};
 ghost use Rattle.std.specs.Io.{StartsWith};
-ghost use Rattle.firm_rules.specs.Book.{opening_book};
+ghost use Rattle.std.specs.List.{flat_map};
+ghost use Rattle.firm_text.specs.Rosters.{most_places};
 ghost use Rattle.firm_text.specs.declared.inputs.Line.TheVariants.{For, Operator};
 ghost use Rattle.firm_text.specs.declared.operator.OperatorLine.TheVariants.{Admit, Retire};
+ghost use Rattle.firm_saved.specs.Saved.{IsSoundPlace, IsSoundSaved};
+ghost use Rattle.firm_saved.specs.StateText.{place_rows, row_text, state_text};
 ghost use Rattle.firm_table.specs.declared.answers.LineAnswer.TheVariants.{ToOperator};
-ghost use Rattle.firm_table.specs.inner.Line.{IsAnswer, IsRight, book_named, opening_books, opening_tenants};
+ghost use Rattle.firm_table.specs.Ends.{place_with, tenants_state};
+ghost use Rattle.firm_table.specs.Openings.{places_opened};
+ghost use Rattle.firm_table.specs.inner.Line.{IsAnswer, IsRight, book_named, books_of, tenants_at};
 
 use crate::answers::LineAnswer;
+use crate::openings::Opening;
 use firm_rules::{Command, Limits, Name, Reply, Rows};
+use firm_saved::{Row, given_count, put_book, put_heading, put_row};
 use firm_tenant::Tenant;
-use firm_text::{Line, OperatorLine, OperatorRefusal, OperatorReply, PLACES, Register, Roster};
+use firm_text::{Entry, Line, OperatorLine, OperatorRefusal, OperatorReply, Register};
 use std::alloc::{AllocError, Global};
 use std::marker::Model;
 
@@ -25,11 +32,11 @@ pub struct Tenants {
 }
 
 impl Model for Tenants {
-    ghost use Rattle.firm_table.specs.inner.Line.{TenantsState};
+    ghost use Rattle.firm_table.specs.Tenants.{TenantsState};
 
     ghost Value = { TenantsState };
 
-    ghost use Rattle.firm_table.specs.inner.Line.{BooksFit, tenants_are};
+    ghost use Rattle.firm_table.specs.Tenants.{BooksFit, tenants_are};
 
     ghost view = { λ t. tenants_are t.register t.places.items };
 
@@ -37,19 +44,19 @@ impl Model for Tenants {
 }
 
 impl Tenants {
-    /// The tenants of the roster, admitted in its order, followed by empty places.
-    pub fn open(alloc: Global, roster: &Roster) -> Result<Tenants, AllocError>
-        ensures { IfOk result (λ tenants. tenants ≡ opening_tenants roster.now) }
+    // The tenants before the first line, at their places. Fails only if memory is refused.
+    pub(crate) fn open(alloc: Global, opening: Opening<'_>) -> Result<Tenants, AllocError>
+        ensures { IfOk result (λ tenants. tenants ≡ tenants_at (places_opened opening.entry)) }
     {
         Ok(Tenants {
-            register: Register::of(roster),
-            places: admit_all(alloc, roster)?,
+            register: opening.register(),
+            places: open_places(alloc, opening)?,
             has_solved: false,
         })
     }
 
-    /// Adds the answer to a line. Fails if memory for its text is refused; part of the text may then have been added.
-    pub fn put_answer(
+    // Adds the answer to a line. Fails if memory for its text is refused; part of the text may then have been added.
+    pub(crate) fn put_answer(
         &mut self,
         alloc: Global,
         output: &mut Vec<u8>,
@@ -63,13 +70,13 @@ impl Tenants {
         answer.put(output)
     }
 
-    /// Whether the last answer is the reply to a solved round.
-    pub fn has_solved(&self) -> bool {
+    // Whether the last answer is the reply to a solved round.
+    pub(crate) fn has_solved(&self) -> bool {
         self.has_solved
     }
 
-    /// The machines, jobs and tasks of the tenant of this name, if it is there.
-    pub fn rows_of(&self, name: Name) -> Option<&Rows>
+    // The machines, jobs and tasks of the tenant of this name, if it is there.
+    pub(crate) fn rows_of(&self, name: Name) -> Option<&Rows>
         ensures { option_map (λ rows. rows.now) result ≡ option_map (λ book. book.rows) (book_named self.now name) }
     {
         let place = self.register.place_of(name)?;
@@ -77,6 +84,38 @@ impl Tenants {
             unreachable!()
         };
         Some(tenant.rows())
+    }
+
+    /// Adds the text of their state. Fails if memory for it is refused; part of the text may then have been added.
+    #[tactic(auto, using(crate::proofs::Stating::kept_trans))]
+    pub fn put_state(&self, output: &mut Vec<u8>) -> Result<(), AllocError>
+        ensures kept { StartsWith output.new.items output.old.items }
+        ensures text { OnOk result (output.new.items ≡ output.old.items ++ state_text (tenants_state self.now)) }
+        ensures sound { OnOk result (IsSoundSaved (tenants_state self.now)) }
+    {
+        put_heading(output)?;
+        let given = given_count(self.register.entries());
+        let count = self.put_places(output, given)?;
+        put_row(output, &Row::Rows(count))
+    }
+
+    // Adds the rows of the first places, and says how many they are.
+    #[tactic(auto, using(crate::proofs::Stating::kept_trans))]
+    fn put_places(&self, output: &mut Vec<u8>, given: usize) -> Result<u64, AllocError>
+        requires { given ≤ most_places }
+        ensures kept { StartsWith output.new.items output.old.items }
+        ensures added { OnOk result (output.new.items ≡ output.old.items
+            ++ flat_map row_text (flat_map place_rows (take given (tenants_state self.now)))) }
+        ensures count { IfOk result (λ count. count
+            ≡ length (flat_map place_rows (take given (tenants_state self.now)))) }
+        ensures sound { OnOk result (All IsSoundPlace (take given (tenants_state self.now))) }
+    {
+        let entries = self.register.entries();
+        let mut count = 0;
+        for place in 0..given {
+            count += put_place(output, &entries[place], &self.places[place])?;
+        }
+        Ok(count)
     }
 
     // Answers a line.
@@ -147,26 +186,40 @@ impl Tenants {
     }
 }
 
-// The roster's tenants, admitted in its order, followed by empty places.
-fn admit_all(alloc: Global, roster: &Roster) -> Result<Vec<Option<Tenant>>, AllocError>
-    ensures { IfOk result (λ places. places.items ≡ opening_books roster.now) }
+// Adds the rows of a place, and says how many they are.
+#[tactic(auto, using(crate::proofs::Stating::kept_trans))]
+fn put_place(
+    output: &mut Vec<u8>,
+    entry: &Entry,
+    tenant: &Option<Tenant>,
+) -> Result<u64, AllocError>
+    ensures kept { StartsWith output.new.items output.old.items }
+    ensures added { OnOk result (output.new.items ≡ output.old.items
+        ++ flat_map row_text (place_rows (place_with entry.now tenant.now))) }
+    ensures count { IfOk result (λ count. count ≡ length (place_rows (place_with entry.now tenant.now))) }
+    ensures few { IfOk result (λ count. count ≤ 4097) }
+    ensures sound { OnOk result (IsSoundPlace (place_with entry.now tenant.now)) }
 {
-    // A roster has no more tenants than a service has places.
-    prove!(roster.len() <= PLACES);
-    let mut places = Vec::with_capacity(alloc, PLACES)?;
-    for place in 0..PLACES {
-        places.push(first_tenant(alloc, roster, place)?)?;
+    put_row(output, &Row::Place(u64::from(entry.admissions)))?;
+    match (&entry.tenant, tenant) {
+        (Some(name), Some(tenant)) => {
+            // That the name has the form.
+            name.as_bytes();
+            let count = put_book(output, *name, tenant.rows(), tenant.costs(), tenant.given())?;
+            Ok(1 + count)
+        }
+        _ => Ok(1),
     }
-    Ok(places)
 }
 
-// The roster's tenant at a place, if it has one.
-fn first_tenant(alloc: Global, roster: &Roster, place: usize) -> Result<Option<Tenant>, AllocError>
-    ensures { IfOk result (λ tenant. tenant
-        ≡ option_map (λ row. opening_book row.1) (slice_get roster.now place)) }
+// What stands at each place before the first line.
+fn open_places(alloc: Global, opening: Opening<'_>) -> Result<Vec<Option<Tenant>>, AllocError>
+    ensures { IfOk result (λ places. places.items ≡ books_of (places_opened opening.entry)) }
 {
-    match roster.get(place) {
-        Some((_, limits)) => Ok(Some(Tenant::admit(alloc, limits)?)),
-        None => Ok(None),
+    let count = opening.places();
+    let mut places = Vec::with_capacity(alloc, count)?;
+    for place in 0..count {
+        places.push(opening.tenant_at(alloc, place)?)?;
     }
+    Ok(places)
 }

@@ -1,13 +1,16 @@
 //! The service on one thread, with a watcher that is shown its rounds.
 
-ghost use Rattle.std.specs.Prelude.{◌≡◌, ◌≤◌, ◌^◌, ℕ, List, Option, [], false, OnOk, OnErr, IfErr};
-ghost use Rattle.firm_table.specs.Service.{Answers, BeginsAnswers, Served, Stopped, UpToDate, device};
+ghost use Rattle.std.specs.Prelude.{◌≡◌, ◌^◌, ℕ, List, Option, [], false, OnOk, OnErr, IfErr};
+ghost use Rattle.firm_table.specs.Openings.{places_opened};
+ghost use Rattle.firm_table.specs.Service.{Answers, Served, Stopped, UpToDate, device};
+ghost use Rattle.firm_table.specs.Service.{AnswersFrom, BeginsAnswersFrom, ServedFrom, StoppedFrom};
 ghost use Rattle.firm_table.specs.declared.faults.ServeFault.TheVariants.{Read};
 ghost use Rattle.firm_table.specs.inner.Faults.{IsWritingFault};
 ghost use Rattle.firm_table.specs.inner.Progress.{Told, state_of};
 
 use crate::clerk::Clerk;
 use crate::faults::ServeFault;
+use crate::openings::Opening;
 use crate::reading::{MOST_INPUT, serve_lines};
 use crate::serving::Service;
 use firm_rules::{Command, Name, Rows};
@@ -49,7 +52,30 @@ pub fn serve_watched<R: Source, W: Sink, V: Watcher>(
         (device (R.left reader.old) (R.left reader.new) (R.read_failed reader.new))
         (device (W.written writer.old) (W.written writer.new) (W.write_failed writer.new))) }
 {
-    let Ok(service) = Service::open(alloc, roster) else {
+    serve_watched_from(alloc, reader, writer, watcher, Opening::Roster(roster))
+}
+
+/// The same as `serve_watched`, for a service that opens with a roster or with a saved state.
+pub fn serve_watched_from<R: Source, W: Sink, V: Watcher>(
+    alloc: Global,
+    reader: &mut R,
+    writer: &mut W,
+    watcher: &mut V,
+    opening: Opening<'_>,
+) -> Result<(), ServeFault>
+    requires reader { R.read_failed reader.old ≡ false }
+    requires writer { W.write_failed writer.old ≡ false }
+    ensures served { OnOk result (ServedFrom (places_opened opening.entry) (2 ^ 32)
+        (device (R.left reader.old) (R.left reader.new) (R.read_failed reader.new))
+        (device (W.written writer.old) (W.written writer.new) (W.write_failed writer.new))) }
+    ensures stopped { IfErr result (StoppedFrom (places_opened opening.entry) (2 ^ 32)
+        (device (R.left reader.old) (R.left reader.new) (R.read_failed reader.new))
+        (device (W.written writer.old) (W.written writer.new) (W.write_failed writer.new))) }
+    ensures in_full { IfErr result (λ fault. fault ≡ Read → UpToDate (AnswersFrom (places_opened opening.entry))
+        (device (R.left reader.old) (R.left reader.new) (R.read_failed reader.new))
+        (device (W.written writer.old) (W.written writer.new) (W.write_failed writer.new))) }
+{
+    let Ok(service) = Service::open(alloc, opening) else {
         return Err(ServeFault::Memory);
     };
     let mut watched = Watched { service, watcher };
@@ -81,10 +107,10 @@ impl<V: Watcher> Watched<'_, '_, V> {
             → Told (state_of self.new.service) text written (W.written writer.new)) }
         ensures begins { OnErr result ((text : List ℕ) (written : Option (List ℕ))
             → Told (state_of self.old.service) text written (W.written writer.old)
-            → BeginsAnswers self.old.service.roster.now text written (W.written writer.new)) }
+            → BeginsAnswersFrom (places_opened self.old.service.opening) text written (W.written writer.new)) }
         ensures cause { IfErr result (λ fault. IsWritingFault fault (W.write_failed writer.new)) }
         ensures well { OnOk result (W.write_failed writer.new ≡ false) }
-        ensures roster { self.new.service.roster.now ≡ self.old.service.roster.now }
+        ensures opening { places_opened self.new.service.opening ≡ places_opened self.old.service.opening }
     {
         self.service.finish(writer)?;
         let Some(rows) = self.service.rows_of(name) else {
@@ -101,7 +127,7 @@ impl<V: Watcher> Watched<'_, '_, V> {
 impl<V: Watcher> Clerk for Watched<'_, '_, V> {
     ghost kept = { λ _. tt };
 
-    ghost roster = { λ watched. watched.service.roster.now };
+    ghost opening = { λ watched. places_opened watched.service.opening };
 
     ghost is_open = { λ _. Unit {0} };
 

@@ -1,4 +1,5 @@
 pub mod Counted
 pub mod Steps
+pub mod Entries
 mod Examples
 mod RoundExamples

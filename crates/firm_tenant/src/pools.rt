@@ -5,7 +5,8 @@ ghost use Rattle.firm_rules.specs.Placement.{is_legal};
 ghost use Rattle.firm_rules.specs.Round.{case_of, round_placement};
 ghost use Rattle.firm_tenant.specs.Step.{effect, counts_of, is_memory_outcome};
 ghost use Rattle.firm_tenant.specs.inner.Outcomes.{outcome_of, plain_or};
-ghost use Rattle.firm_tenant.specs.inner.Pools.{book_of, IsOpeningPool, placed_in, HasBegunOnce, HasCountedFor};
+ghost use Rattle.firm_tenant.specs.inner.Pools.{book_of, IsOpeningPool, IsPoolOf, IsSoundPool, placed_in};
+ghost use Rattle.firm_tenant.specs.inner.Pools.{HasBegunOnce, HasCountedFor};
 
 use circular_buffer::HeapCircularBuffer;
 use firm_canon::first_best;
@@ -13,8 +14,8 @@ use firm_graph::{Graph, GraphRefusal};
 use firm_net::Net;
 use firm_paths::{Prices, Scratch};
 use firm_rules::{
-    Choice, Command, Limits, MOST_COSTS, Name, Outcome, Preferred, RecentCosts, Refusal, Rows,
-    Slots, Weight, changes_of, cost_of, legality_is_judged, the_round_is_the_first, use_of,
+    Book, Choice, Command, Limits, MOST_COSTS, Name, Outcome, Preferred, RecentCosts, Refusal,
+    Rows, Slots, Weight, changes_of, cost_of, legality_is_judged, the_round_is_the_first, use_of,
 };
 use std::alloc::{AllocError, Global};
 use std::marker::Model;
@@ -29,7 +30,8 @@ pub(crate) struct Pool {
 }
 
 impl Model for Pool {
-    ghost use Rattle.std.specs.Prelude.{◌≡◌};
+    ghost use Rattle.std.specs.Prelude.{◌≡◌, true, All};
+    ghost use Rattle.firm_rules.specs.SoundBook.{is_cost};
     ghost use Rattle.firm_tenant.specs.inner.Pools.{Pool as PoolRows, IsMadeFor};
 
     ghost Value = { PoolRows };
@@ -42,7 +44,7 @@ impl Model for Pool {
     } };
 
     ghost invariant = { λ p. (p.costs.capacity ≡ 8) × IsMadeFor p.prices.limits p.graph.rows.limits
-        × IsMadeFor p.scratch.limits p.graph.rows.limits };
+        × IsMadeFor p.scratch.limits p.graph.rows.limits × All (λ cost. is_cost cost ≡ true) p.costs.items };
 }
 
 impl Pool {
@@ -59,6 +61,30 @@ impl Pool {
             scratch,
             costs,
         })
+    }
+
+    /// The pool of a book, with all the memory of its net. Fails only if memory is refused.
+    pub(crate) fn restore(alloc: Global, book: &Book) -> Result<Pool, AllocError>
+        ensures { IfOk result (IsPoolOf book.now) }
+    {
+        let costs = ring_of(alloc, book.costs())?;
+        let graph = Graph::of_rows(alloc, book.rows())?;
+        let (prices, scratch) = workspace(alloc, graph.net())?;
+        Ok(Pool {
+            graph,
+            prices,
+            scratch,
+            costs,
+        })
+    }
+
+    /// How many costs are kept, 8 at most.
+    pub(crate) fn cost_count(&self) -> usize
+        ensures value { result ≡ length self.now.costs }
+        ensures sound { IsSoundPool self.now }
+    {
+        self.graph.rows().limits();
+        self.costs.len()
     }
 
     /// The machines, jobs and tasks.
@@ -254,7 +280,8 @@ impl Pool {
         Ok(Outcome::Round { cost, changes })
     }
 
-    fn recent_costs(&self) -> RecentCosts
+    /// The costs of the last rounds.
+    pub(crate) fn recent_costs(&self) -> RecentCosts
         ensures { result ≡ self.now.costs }
     {
         // The ring holds no more than the table, so no cost is dropped.
@@ -283,6 +310,16 @@ impl Pool {
             arcs_limit: limits.arcs(),
         }
     }
+}
+
+// A ring that holds these costs.
+fn ring_of(alloc: Global, costs: RecentCosts) -> Result<HeapCircularBuffer<i64>, AllocError>
+    ensures items { IfOk result (λ ring. ring.items ≡ costs) }
+    ensures capacity { IfOk result (λ ring. ring.capacity ≡ 8) }
+{
+    let mut ring = HeapCircularBuffer::with_capacity(alloc, MOST_COSTS)?;
+    ring.extend_from_slice(costs.as_slice());
+    Ok(ring)
 }
 
 // The workspace of the rounds of a net.

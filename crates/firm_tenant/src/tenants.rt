@@ -1,11 +1,12 @@
 //! A tenant and its step.
 ghost use Rattle.std.specs.Prelude.{◌≡◌, ◌+◌, ◌<◌, true, IfOk};
 ghost use Rattle.firm_rules.specs.Book.{opening_book};
+ghost use Rattle.firm_rules.specs.SoundBook.{IsSoundBook};
 ghost use Rattle.firm_tenant.specs.Step.{step, is_memory};
 
 use crate::pools::Pool;
 use firm_paths::Scratch;
-use firm_rules::{Command, Limits, Outcome, Refusal, Reply, Rows};
+use firm_rules::{Book, Command, Limits, Outcome, RecentCosts, Refusal, Reply, Rows};
 use std::alloc::{AllocError, Global};
 use std::marker::Model;
 
@@ -19,14 +20,15 @@ pub struct Tenant {
 
 impl Model for Tenant {
     ghost use Rattle.std.specs.Prelude.{◌≤◌};
-    ghost use Rattle.firm_rules.specs.Book.{Book};
+    ghost use Rattle.firm_rules.specs.Book.{Book as BookRow};
+    ghost use Rattle.firm_rules.specs.SoundBook.{IsSoundBook};
     ghost use Rattle.firm_tenant.specs.inner.Pools.{book_of};
 
-    ghost Value = { Book };
+    ghost Value = { BookRow };
 
     ghost view = { λ t. book_of t.pool.value t.given };
 
-    ghost invariant = { λ t. (t.given ≤ t.pool.value.rows.limits.life) × (t.pool.value.asked ≤ t.given) };
+    ghost invariant = { λ t. IsSoundBook (book_of t.pool.value t.given) × (t.pool.value.asked ≤ t.given) };
 }
 
 impl Tenant {
@@ -34,9 +36,24 @@ impl Tenant {
     pub fn admit(alloc: Global, limits: Limits) -> Result<Tenant, AllocError>
         ensures { IfOk result (λ tenant. tenant ≡ opening_book limits) }
     {
+        let pool = Pool::open(alloc, limits)?;
+        pool.cost_count();
         Ok(Tenant {
-            pool: Box::new(alloc, Pool::open(alloc, limits)?)?,
+            pool: Box::new(alloc, pool)?,
             given: 0,
+        })
+    }
+
+    /// The tenant of a book, with the memory that it takes at its admission and for its rows. Fails only if memory is
+    /// refused.
+    pub fn restore(alloc: Global, book: &Book) -> Result<Tenant, AllocError>
+        ensures { IfOk result (λ tenant. tenant ≡ book.now) }
+    {
+        let given = book.given();
+        let pool = Pool::restore(alloc, book)?;
+        Ok(Tenant {
+            pool: Box::new(alloc, pool)?,
+            given,
         })
     }
 
@@ -53,6 +70,7 @@ impl Tenant {
             };
         }
         let outcome = self.pool.answer(alloc, command);
+        self.pool.cost_count();
         self.given += 1;
         Reply {
             number: self.given,
@@ -73,6 +91,21 @@ impl Tenant {
             number,
             outcome: Outcome::Refused(Refusal::Memory),
         }
+    }
+
+    /// The costs of the tenant's last rounds.
+    pub fn costs(&self) -> RecentCosts
+        ensures { result ≡ self.now.costs }
+    {
+        self.pool.recent_costs()
+    }
+
+    /// How many commands the tenant was given, no more than its life.
+    pub fn given(&self) -> u64
+        ensures value { result ≡ self.now.given }
+        ensures sound { IsSoundBook self.now }
+    {
+        self.given
     }
 
     /// How many further commands the tenant answers.

@@ -21,8 +21,8 @@ pub const MOST_ADMISSIONS: u32 = 32_768;
 /// The entry of a place: the tenant that has it, and how often it was given.
 #[derive(Clone, Copy, Debug, PartialEq, Eq)]
 pub struct Entry {
-    tenant: Option<Name>,
-    admissions: u32,
+    pub tenant: Option<Name>,
+    pub admissions: u32,
 }
 
 /// The 64 places of a service: which tenant has which, and how often each was given. None of its calls takes memory.
@@ -58,6 +58,22 @@ impl Register {
             };
         }
         Register { places }
+    }
+
+    /// The register of these entries, as a service left them. It asks that they are those of a register.
+    pub fn restored(entries: [Entry; PLACES]) -> Register
+        requires { IsRegister entries }
+        ensures { result ≡ entries }
+    {
+        Register { places: entries }
+    }
+
+    /// The entries of the 64 places, in their order.
+    pub fn entries(&self) -> &[Entry]
+        ensures entries { result.now ≡ self.now }
+        ensures sound { IsRegister self.now }
+    {
+        &self.places
     }
 
     /// The place of the tenant of this name, below 64. No two places have one tenant.
@@ -123,7 +139,8 @@ impl Register {
 }
 
 impl Entry {
-    const EMPTY: Entry = Entry {
+    /// A place that was never given.
+    pub const EMPTY: Entry = Entry {
         tenant: None,
         admissions: 0,
     };

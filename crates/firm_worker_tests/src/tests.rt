@@ -1,5 +1,5 @@
 //! Desks on threads of their callers, gates that hold workers, halls that are shut first, a desk without life left;
-//! under them the queue of rounds and the trays; the source that reads ahead.
+//! under them the queue of rounds and the trays; the source that reads ahead; services that go on from a state.
 
 ghost use Rattle.std.specs.Prelude.{◌≡◌, ◌≤◌, All};
 
@@ -10,6 +10,7 @@ mod held;
 mod inputs;
 mod lives;
 mod queues;
+mod restarts;
 mod services;
 mod solving;
 mod stays;

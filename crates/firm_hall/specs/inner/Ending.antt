@@ -1,11 +1,11 @@
 -- How a service ends, and the desks of a hall that no longer serves.
 use Rattle.std.specs.Prelude.{◌≡◌, ℕ, All, List, Result, Ok, Err}
-use Rattle.firm_text.specs.Rosters.{RosterRow}
-use Rattle.firm_table.specs.Service.{Device, Stopped}
+use Rattle.firm_table.specs.Places.{Place}
+use Rattle.firm_table.specs.Service.{Device, StoppedFrom}
 use Rattle.firm_table.specs.declared.faults.ServeFault.{ServeFault}
 use Rattle.firm_rounds.specs.Passes.{QueueId}
 use Rattle.firm_hall.specs.Desks.{DeskIs, PlaceIs}
-use Rattle.firm_hall.specs.Counts.{ServedWith}
+use Rattle.firm_hall.specs.Counts.{ServedWithFrom}
 use Rattle.firm_hall.specs.declared.ending.Ended.{Ended}
 use Rattle.firm_hall.specs.declared.desk_states.DeskState.{DeskState}
 use Rattle.firm_hall.specs.declared.desk_states.DeskState.TheVariants.{Home, Away, Empty, Gone}
@@ -23,6 +23,6 @@ pub record AreOf (id : QueueId) (desks : List DeskIs) (empty : List PlaceIs) : T
   pub places : All (λ place. place.queue ≡ id) empty
 
 -- the service reached the end of the input, or stopped with a fault
-abbrev pub Ran : List RosterRow → ℕ → Device → Device → Result Ended ServeFault → Type 0
-Ran roster most reader writer (Ok ended) = ServedWith roster most reader writer ended.rounds
-Ran roster most reader writer (Err fault) = Stopped roster most reader writer fault
+abbrev pub Ran : List Place → ℕ → Device → Device → Result Ended ServeFault → Type 0
+Ran opening most reader writer (Ok ended) = ServedWithFrom opening most reader writer ended.rounds
+Ran opening most reader writer (Err fault) = StoppedFrom opening most reader writer fault

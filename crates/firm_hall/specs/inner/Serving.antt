@@ -1,24 +1,27 @@
 -- How far a serving hall has come.
 use Rattle.std.specs.Prelude.{◌≡◌, ℕ, ◌<◌, ◌≤◌, Bool, true, false, List, [], ◌∷◌, ◌++◌, Option, Some, None}
-use Rattle.std.specs.Prelude.{map, length, slice_index_or}
+use Rattle.std.specs.Prelude.{suc, map, length, option_map, slice_index_or}
 use Rattle.std.specs.Option.{is_some}
 use Rattle.firm_rules.specs.Book.{Book}
 use Rattle.firm_rules.specs.declared.commands.Command.TheVariants.{Round}
 use Rattle.firm_tenant.specs.Step.{step}
 use Rattle.firm_text.specs.Inputs.{input_lines}
-use Rattle.firm_text.specs.Rosters.{RosterRow, most_places}
+use Rattle.firm_text.specs.Rosters.{most_places}
 use Rattle.firm_text.specs.declared.inputs.Line.{Line}
 use Rattle.firm_text.specs.declared.inputs.Line.TheVariants.{Operator}
 use Rattle.firm_text.specs.declared.operator.OperatorLine.{OperatorLine}
 use Rattle.firm_text.specs.declared.operator.OperatorReply.{OperatorReply}
 use Rattle.firm_text.specs.declared.registers.Entry.{Entry}
-use Rattle.firm_table.specs.Output.{answers_of}
-use Rattle.firm_table.specs.Service.{BeginsAnswers}
-use Rattle.firm_table.specs.inner.Line.{State, state_is, tenants_are}
+use Rattle.firm_table.specs.Places.{Place, book_of}
+use Rattle.firm_table.specs.Output.{answers_from}
+use Rattle.firm_table.specs.Service.{BeginsAnswersFrom}
+use Rattle.firm_table.specs.Tenants.{tenants_are}
+use Rattle.firm_table.specs.inner.Line.{State, state_is}
 use Rattle.firm_table.specs.inner.Progress.{Told}
 use Rattle.firm_rounds.specs.Rounds.{weigh}
 use Rattle.firm_rounds.specs.Passes.{QueueId}
 use Rattle.firm_hall.specs.Counts.{Counted}
+use Rattle.firm_hall.specs.Desks.{desk_is, place_is}
 use Rattle.firm_hall.specs.inner.Held.{HeldIs, most_answers_held, held_text, NoneWaits, OneWaits, FirstWaits}
 use Rattle.firm_hall.specs.inner.DeskStates.{IsBack}
 use Rattle.firm_hall.specs.declared.desk_states.DeskState.{DeskState}
@@ -54,9 +57,9 @@ book_at marks (Empty place) = None
 book_at marks Gone = None
 
 -- the state of the tenants, once those rounds are answered
-abbrev pub state_with : (ℕ → Bool) → List RosterRow → List Entry → List DeskState → List HeldAnswer → List ℕ → State
-state_with marks roster register desk_states answers output =
-    state_is roster (tenants_are register (map (book_at marks) desk_states)) (output ++ held_text marks answers)
+abbrev pub state_with : (ℕ → Bool) → List Place → List Entry → List DeskState → List HeldAnswer → List ℕ → State
+state_with marks opening register desk_states answers output =
+    state_is opening (tenants_are register (map (book_at marks) desk_states)) (output ++ held_text marks answers)
 
 -- how many rounds were asked at a place, by all its tenants
 abbrev pub asked_at : DeskState → ℕ
@@ -64,6 +67,20 @@ asked_at (Home desk) = desk.put
 asked_at (Away asked) = asked.put
 asked_at (Empty place) = place.put
 asked_at Gone = 0
+
+-- what stands at a place that has a tenant with this book, or none, and was given so often; no round was asked there
+abbrev pub opened_at : QueueId → ℕ → ℕ → Option Book → DeskState
+opened_at queue place admissions None = Empty (place_is queue place 0 admissions)
+opened_at queue place admissions (Some book) = Home (desk_is queue place 0 admissions book)
+
+-- what stands at this place before the first line
+abbrev pub opening_state : QueueId → ℕ → Place → DeskState
+opening_state queue at place = opened_at queue at place.admissions (option_map book_of place.stay)
+
+-- and at these places, from this one on
+abbrev pub opening_states : QueueId → ℕ → List Place → List DeskState
+opening_states queue at [] = []
+opening_states queue at (place ∷ rest) = opening_state queue at place ∷ opening_states queue (suc at) rest
 
 -- whether a tenant has the place, and how often it was given
 abbrev pub desk_state_counts : DeskState → Bool × ℕ
@@ -123,19 +140,19 @@ IsReserved items capacity = (items ≡ []) × (most_places ≤ capacity)
 -- what is held are then the output for these lines; and as many rounds were asked as the lines ask for.
 pub record Tells (state : State) (asked : ℕ) (text : List ℕ) (written now : Option (List ℕ)) : Type 0 where
   pub told : Told state text written now
-  pub counted : Counted asked told.lines (answers_of state.roster told.lines)
+  pub counted : Counted asked told.lines (answers_from state.opening told.lines)
 
-abbrev pub TellsParts : List RosterRow → List Entry → List DeskState → List HeldAnswer → List ℕ → List ℕ
+abbrev pub TellsParts : List Place → List Entry → List DeskState → List HeldAnswer → List ℕ → List ℕ
     → Option (List ℕ)
     → Option (List ℕ) → Type 0
-TellsParts roster register desk_states answers output text written now =
+TellsParts opening register desk_states answers output text written now =
     (marks : ℕ → Bool)
-    → Tells (state_with marks roster register desk_states answers output) (weigh asked_at desk_states) text written now
+    → Tells (state_with marks opening register desk_states answers output) (weigh asked_at desk_states) text written now
 
 -- the same for a whole service
-abbrev pub TellsAll : List RosterRow → ServingIs → List ℕ → Option (List ℕ) → Option (List ℕ) → Type 0
-TellsAll roster serving text written now =
-    TellsParts roster serving.register serving.desk_states serving.answers serving.output text written now
+abbrev pub TellsAll : List Place → ServingIs → List ℕ → Option (List ℕ) → Option (List ℕ) → Type 0
+TellsAll opening serving text written now =
+    TellsParts opening serving.register serving.desk_states serving.answers serving.output text written now
 
 -- the same hall, with no more answers held
 pub record Follows (old new : ServingIs) : Type 0 where
@@ -144,32 +161,32 @@ pub record Follows (old new : ServingIs) : Type 0 where
 
 -- a step that answers no further line
 abbrev pub Keeps : ServingIs → ServingIs → Type 0
-Keeps old new = (roster : List RosterRow) (text : List ℕ) (written now : Option (List ℕ))
-    → TellsAll roster old text written now → TellsAll roster new text written now
+Keeps old new = (opening : List Place) (text : List ℕ) (written now : Option (List ℕ))
+    → TellsAll opening old text written now → TellsAll opening new text written now
 
 -- the same for a step in which the output grew from one text to another
 abbrev pub Passes : ServingIs → ServingIs → Option (List ℕ) → Option (List ℕ) → Type 0
-Passes old new now later = (roster : List RosterRow) (text : List ℕ) (written : Option (List ℕ))
-    → TellsAll roster old text written now → TellsAll roster new text written later
+Passes old new now later = (opening : List Place) (text : List ℕ) (written : Option (List ℕ))
+    → TellsAll opening old text written now → TellsAll opening new text written later
 
 -- the answer to one more line
 abbrev pub Takes : ServingIs → ServingIs → Line → Type 0
-Takes old new line = (roster : List RosterRow) (text after : List ℕ) (written now : Option (List ℕ))
+Takes old new line = (opening : List Place) (text after : List ℕ) (written now : Option (List ℕ))
     → input_lines after ≡ input_lines text ++ line ∷ []
-    → TellsAll roster old text written now → TellsAll roster new after written now
+    → TellsAll opening old text written now → TellsAll opening new after written now
 
 -- an operator's line is done, and its answer is this reply, still to be held
 abbrev pub Obeys : ServingIs → ServingIs → OperatorLine → OperatorReply → Type 0
-Obeys old new request reply = (roster : List RosterRow) (text after : List ℕ) (written now : Option (List ℕ))
+Obeys old new request reply = (opening : List Place) (text after : List ℕ) (written now : Option (List ℕ))
     → input_lines after ≡ input_lines text ++ Operator request ∷ []
-    → TellsAll roster old text written now
-    → TellsParts roster new.register new.desk_states
+    → TellsAll opening old text written now
+    → TellsParts opening new.register new.desk_states
     (new.answers ++ Known (ToOperator reply) ∷ []) new.output after written now
 
 -- the written text begins the output for the answered lines
 abbrev pub Begins : ServingIs → Option (List ℕ) → Option (List ℕ) → Type 0
-Begins old now later = (roster : List RosterRow) (text : List ℕ) (written : Option (List ℕ))
-    → TellsAll roster old text written now → BeginsAnswers roster text written later
+Begins old now later = (opening : List Place) (text : List ℕ) (written : Option (List ℕ))
+    → TellsAll opening old text written now → BeginsAnswersFrom opening text written later
 
 -- no round is away from the place
 abbrev pub IsBackAt : ℕ → List DeskState → Type 0

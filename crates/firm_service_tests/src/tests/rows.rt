@@ -56,6 +56,26 @@ pub fn with_task<A: Allocator>(
     rows.add_task(job, name, preferred)
 }
 
+/// Adds a task that has waited as this one.
+pub fn with_restored<A: Allocator>(
+    rt: &impl Abort,
+    rows: &mut Rows<A>,
+    task: Task,
+) -> Result<(), AllocError> {
+    assert!(rt; rows.has_job(task.job));
+    assert!(rt; !rows.has_task(task.name));
+    assert!(rt; rows.has_machines(task.preferred.as_slice()));
+    assert!(rt; task.waited <= 1_000_000);
+    has_room(rt, rows, 1, 3 + task.preferred.as_slice().len() as u64);
+    rows.restore_task(Task {
+        name: task.name,
+        job: task.job,
+        preferred: task.preferred,
+        machine: None,
+        waited: task.waited,
+    })
+}
+
 // Two machines of two slots, a job, and a task of the job.
 #[derive(Clone, Copy)]
 struct Added {
@@ -214,7 +234,18 @@ fn a_drained_machine_is_preferred_no_longer(rt: HostRuntime) {
     expect_preferences(&rt, &rows, &[]);
 }
 
-// The first row of each table.
+// The task, which prefers no machine, once it has waited for five rounds.
+fn waiting(task: Task) -> Task {
+    Task {
+        name: task.name,
+        job: task.job,
+        preferred: Preferred::new(),
+        machine: None,
+        waited: 5,
+    }
+}
+
+// The first row of each table; a last one of the tasks is restored.
 fn grow<A: Allocator>(
     rt: &impl Abort,
     rows: &mut Rows<A>,
@@ -224,7 +255,8 @@ fn grow<A: Allocator>(
     match table {
         0 => with_machine(rt, rows, added.first.name, added.first.slots),
         1 => with_job(rt, rows, added.job.name, added.job.weight),
-        _ => with_task(rt, rows, added.job.name, added.task.name, Preferred::new()),
+        2 => with_task(rt, rows, added.job.name, added.task.name, Preferred::new()),
+        _ => with_restored(rt, rows, waiting(added.task)),
     }
 }
 
@@ -250,9 +282,9 @@ fn grow_at_last<'a>(
     grow(rt, rows, added, table).expect(rt, "memory");
 }
 
-fn grow_after_refusals(rt: &impl Abort, heap: &LocalHeap, added: &Added) {
+fn grow_after_refusals(rt: &impl Abort, heap: &LocalHeap, added: &Added, last: usize) {
     let mut rows = Rows::new(heap, some_limits(rt));
-    for table in 0..3 {
+    for table in [0, 1, last] {
         grow_at_last(rt, heap, &mut rows, added, table);
     }
     expect_use(rt, &rows, 5, 7);
@@ -261,5 +293,6 @@ fn grow_after_refusals(rt: &impl Abort, heap: &LocalHeap, added: &Added) {
 #[test]
 fn a_row_that_found_no_memory_is_added_once_there_is(rt: HostRuntime) {
     let heap = LocalHeap::new(rt.alloc(), 8_192).expect(&rt, "memory");
-    grow_after_refusals(&rt, &heap, &made(&rt));
+    grow_after_refusals(&rt, &heap, &made(&rt), 2);
+    grow_after_refusals(&rt, &heap, &made(&rt), 3);
 }

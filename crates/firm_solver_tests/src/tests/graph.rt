@@ -1,4 +1,5 @@
 //! Worked tenants, their networks arc by arc, and the refusals in their order.
+use super::restored::{expect_alike, of_rows};
 use Choice::{On, Wait};
 use Seen::{
     Apart, Asked, Exit, Flow, Nothing, OneJob, Prefers, Room, Runs, TwoSlots, TwoSources, Waits,
@@ -196,7 +197,7 @@ fn row(rt: &impl Abort, tail: NodeId, head: NodeId, cap: u32, cost: u32) -> ArcR
     ArcRow::new(tail, head, 0, cap, cost, 0).expect(rt, "the numbers are in range")
 }
 
-fn through(rt: &impl Abort, graph: &Graph, place: usize) -> ArcId {
+pub fn through(rt: &impl Abort, graph: &Graph, place: usize) -> ArcId {
     assert!(rt; place < graph.rows().machine_count());
     graph.hub_arc(place)
 }
@@ -206,7 +207,7 @@ fn expect_through(rt: &impl Abort, graph: &Graph, place: usize, arc: ArcId) {
     assert!(rt; through(rt, graph, place) == arc);
 }
 
-fn head_of(rt: &impl Abort, net: &Net, arc: ArcId) -> NodeId {
+pub fn head_of(rt: &impl Abort, net: &Net, arc: ArcId) -> NodeId {
     net.arc(arc).expect(rt, "the arc is there").head()
 }
 
@@ -233,7 +234,7 @@ fn source(rt: &impl Abort, graph: &Graph, place: usize) -> NodeId {
     *graph.sources().get(place).expect(rt, "the task is there")
 }
 
-fn arcs_of(rt: &impl Abort, graph: &Graph, place: usize) -> TaskArcs {
+pub fn arcs_of(rt: &impl Abort, graph: &Graph, place: usize) -> TaskArcs {
     assert!(rt; place < graph.rows().task_count());
     graph.task_arcs(place)
 }
@@ -683,4 +684,98 @@ static PREPARED_ANEW: [Step; 10] = [
 #[test]
 fn nothing_flows_once_prepared(rt: HostRuntime) {
     play_worked(&rt, rt.alloc(), &PREPARED_ANEW);
+}
+
+// Takes the steps with the graph of another one's rows, which shows the same.
+fn play_again(rt: &impl Abort, alloc: Global, graph: &Graph, steps: &[Step]) {
+    let mut again = of_rows(rt, alloc, graph);
+    expect_alike(rt, alloc, &again, graph);
+    take_all(rt, alloc, &mut again, steps);
+}
+
+// Takes some steps with that tenant's graph, and the others with the graph of its rows.
+fn play_in_two(rt: &impl Abort, alloc: Global, steps: &[Step], others: &[Step]) {
+    let mut graph = opened(rt, alloc, 9, 24);
+    take_all(rt, alloc, &mut graph, &WORKED);
+    take_all(rt, alloc, &mut graph, steps);
+    play_again(rt, alloc, &graph, others);
+}
+
+static TWO_RUN_ON: [Step; 2] = [Settle(&[On(0), On(1)]), Task(b"j", b"c", &[])];
+
+static THEY_RUN: [Step; 7] = [
+    See(Asked(6)),
+    See(TwoSlots(1)),
+    See(Runs(0, 0, 2, 12)),
+    See(Runs(1, 1, 2, 12)),
+    See(Waits(2, 0, 10)),
+    See(OneJob(&[0, 1, 2])),
+    See(Exit(0, 9)),
+];
+
+static ONE_WAITS_ON: [Step; 2] = [Settle(&[Wait, Wait]), Settle(&[Wait, On(0)])];
+
+static IT_WAITS: [Step; 3] = [See(Asked(5)), See(Waits(0, 0, 12)), See(Runs(1, 0, 2, 12))];
+
+// A machine has left, and another came under its name.
+static ONE_CAME_BACK: [Step; 6] = [
+    Task(b"j", b"c", &[b"m2", b"m1"]),
+    Settle(&[Wait, Wait, On(1)]),
+    Drain(b"m2", 1),
+    Machine(b"m2", 2),
+    Done(b"a"),
+    See(Asked(7)),
+];
+
+static IT_IS_NOT_PREFERRED: [Step; 3] = [
+    See(Asked(5)),
+    See(Prefers(1, &[0], 0)),
+    See(Waits(1, 7, 10)),
+];
+
+static ONE_FLOWS: [Step; 3] = [Settle(&[Wait, On(0)]), Least(0), See(Flow(1, 1))];
+
+// What flowed does so no longer, and a least flow costs what it did.
+static IT_FLOWS_ANEW: [Step; 5] = [
+    See(Flow(1, 0)),
+    Hold(1, 1, false),
+    Least(0),
+    Hold(1, 1, true),
+    Push(1, Way::Backward, false),
+];
+
+static ONE_RUNS: [Step; 1] = [Settle(&[On(0), Wait])];
+
+static ROWS_COME_AND_GO: [Step; 6] = [
+    Task(b"j", b"c", &[b"m2"]),
+    See(Prefers(2, &[1], 0)),
+    Drain(b"m1", 1),
+    Done(b"a"),
+    See(Asked(6)),
+    See(Room(3, 13)),
+];
+
+static ALL_LEAVE: [Step; 5] = [
+    Done(b"a"),
+    Done(b"b"),
+    Close(b"j"),
+    Drain(b"m1", 0),
+    Drain(b"m2", 0),
+];
+
+static NOTHING_IS_LEFT: [Step; 3] = [See(Nothing), See(Asked(0)), Job(b"j")];
+
+#[test]
+fn the_graph_of_rows_is_that_of_their_commands(rt: HostRuntime) {
+    let tables = [
+        (TWO_RUN_ON.as_slice(), THEY_RUN.as_slice()),
+        (ONE_WAITS_ON.as_slice(), IT_WAITS.as_slice()),
+        (ONE_CAME_BACK.as_slice(), IT_IS_NOT_PREFERRED.as_slice()),
+        (ONE_FLOWS.as_slice(), IT_FLOWS_ANEW.as_slice()),
+        (ONE_RUNS.as_slice(), ROWS_COME_AND_GO.as_slice()),
+        (ALL_LEAVE.as_slice(), NOTHING_IS_LEFT.as_slice()),
+    ];
+    for (steps, others) in tables {
+        play_in_two(&rt, rt.alloc(), steps, others);
+    }
 }

@@ -8,7 +8,6 @@ use Rattle.firm_rules.specs.declared.replies.Reply.{Reply}
 use Rattle.firm_tenant.specs.Step.{step, is_memory}
 use Rattle.firm_text.specs.Inputs.{input_lines}
 use Rattle.firm_text.specs.Registers.{IsRegister, place_for, place_in, with_tenant, without_tenant}
-use Rattle.firm_text.specs.Rosters.{RosterRow}
 use Rattle.firm_text.specs.declared.inputs.Line.{Line}
 use Rattle.firm_text.specs.declared.inputs.Line.TheVariants.{For, Operator}
 use Rattle.firm_text.specs.declared.operator.OperatorLine.TheVariants.{Admit, Retire}
@@ -17,16 +16,18 @@ use Rattle.firm_text.specs.declared.operator.OperatorRefusal.TheVariants.{NoSuch
 use Rattle.firm_text.specs.declared.operator.OperatorReply.TheVariants.{Admitted, Retired, Refused}
 use Rattle.firm_table.specs.Answers.{tells_memory}
 use Rattle.firm_table.specs.declared.answers.LineAnswer.TheVariants.{UnknownTenant, Replied, ToOperator}
-use Rattle.firm_table.specs.Output.{answers_of}
-use Rattle.firm_table.specs.Service.{Answers, BeginsAnswers}
-use Rattle.firm_table.specs.inner.Line.{TenantsState, tenants_are, opening_tenants, IsRight, IsAnswer, State, state_is}
+use Rattle.firm_table.specs.Output.{answers_from}
+use Rattle.firm_table.specs.Places.{Place}
+use Rattle.firm_table.specs.Service.{AnswersFrom, BeginsAnswersFrom}
+use Rattle.firm_table.specs.Tenants.{TenantsState, tenants_are}
+use Rattle.firm_table.specs.inner.Line.{tenants_at, IsRight, IsAnswer, State, state_is}
 use Rattle.firm_table.specs.inner.Progress.{Told}
 
 -- before the first line nothing is to be written
 abbrev pub NothingIsTold : Type 0
 NothingIsTold =
-    (roster : List RosterRow) (written : Option (List ℕ))
-    → (told : Told (state_is roster (opening_tenants roster) []) [] written written) × (told.lines ≡ [])
+    (places : List Place) (written : Option (List ℕ))
+    → (told : Told (state_is places (tenants_at places) []) [] written written) × (told.lines ≡ [])
 
 -- one more line was answered: the line and its answer come after the earlier ones
 abbrev pub OneMoreIsTold : Type 0
@@ -34,34 +35,34 @@ OneMoreIsTold =
     (state : State) (text after : List ℕ) (written now : Option (List ℕ)) (tenants : TenantsState) (pending : List ℕ)
     (line : Line) → (before : Told state text written now) → input_lines after ≡ input_lines text ++ line ∷ []
     → (answered : IsAnswer state.tenants tenants line state.pending pending)
-    → (told : Told (state_is state.roster tenants pending) after written now)
+    → (told : Told (state_is state.opening tenants pending) after written now)
     × (told.lines ≡ before.lines ++ (line, tells_memory answered.answer) ∷ [])
-    × (answers_of state.roster told.lines ≡ answers_of state.roster before.lines ++ answered.answer ∷ [])
+    × (answers_from state.opening told.lines ≡ answers_from state.opening before.lines ++ answered.answer ∷ [])
 
 -- the front of what was to be written was written
 abbrev pub FrontIsWritten : Type 0
 FrontIsWritten =
     (state : State) (text : List ℕ) (written now later : Option (List ℕ)) (front held : List ℕ)
     → Told state text written now → state.pending ≡ front ++ held → Appends now later front
-    → Told (state_is state.roster state.tenants held) text written later
+    → Told (state_is state.opening state.tenants held) text written later
 
 -- what was written begins the output
 abbrev pub ToldBegins : Type 0
 ToldBegins =
     (state : State) (text : List ℕ) (written now : Option (List ℕ)) → Told state text written now
-    → BeginsAnswers state.roster text written now
+    → BeginsAnswersFrom state.opening text written now
 
 -- and is the output, if nothing is left to be written
 abbrev pub AllIsWritten : Type 0
 AllIsWritten =
     (state : State) (text : List ℕ) (written now : Option (List ℕ)) → Told state text written now → state.pending ≡ []
-    → Answers state.roster text written now
+    → AnswersFrom state.opening text written now
 
 -- what was written begins the output for one more line, which was not answered
 abbrev pub OneMoreBegins : Type 0
 OneMoreBegins =
     (state : State) (text after : List ℕ) (written now : Option (List ℕ)) (line : Line) → Told state text written now
-    → input_lines after ≡ input_lines text ++ line ∷ [] → BeginsAnswers state.roster after written now
+    → input_lines after ≡ input_lines text ++ line ∷ [] → BeginsAnswersFrom state.opening after written now
 
 -- a command of the tenant at this place is answered by its step
 abbrev pub TenantsAreAnswered : Type 0

@@ -1,25 +1,12 @@
--- What a service keeps of its tenants, and what one line makes of that.
-use Rattle.std.specs.Prelude.{◌≡◌, ℕ, ◌-◌, List, ◌++◌, Option, Some, None, length, map, option_map, replicate}
-use Rattle.std.specs.Prelude.{slice_index_or}
-use Rattle.std.specs.Option.{is_some}
-use Rattle.firm_rules.specs.Book.{Book, opening_book}
-use Rattle.firm_tenant.specs.Alone.{book_after}
-use Rattle.firm_text.specs.Registers.{first_places, place_in}
-use Rattle.firm_text.specs.Rosters.{RosterRow, most_places}
+-- What one line makes of the tenants of a service.
+use Rattle.std.specs.Prelude.{◌≡◌, ℕ, List, ◌++◌, Option, Some, None, map, option_map, slice_index_or}
+use Rattle.firm_rules.specs.Book.{Book}
+use Rattle.firm_text.specs.Registers.{place_in}
 use Rattle.firm_text.specs.declared.inputs.Line.{Line}
-use Rattle.firm_text.specs.declared.registers.Entry.{Entry}
 use Rattle.firm_table.specs.Answers.{answer_of, tells_memory, text_of_answer}
 use Rattle.firm_table.specs.declared.answers.LineAnswer.{LineAnswer}
-use Rattle.firm_table.specs.Places.{Stay, Place, register_of, after_line}
-
--- what a service keeps of its tenants: which tenant has which place, and for each place the book of its tenant, if any
-pub record TenantsState : Type 0 where
-  pub register : List Entry
-  pub books : List (Option Book)
-
--- the tenants of these parts
-abbrev pub tenants_are : List Entry → List (Option Book) → TenantsState
-tenants_are register books = record { register = register; books = books }
+use Rattle.firm_table.specs.Places.{Place, book_of, register_of, after_line}
+use Rattle.firm_table.specs.Tenants.{TenantsState, tenants_are}
 
 -- the book at a place, if there is one
 abbrev pub book_at : List (Option Book) → Option ℕ → Option Book
@@ -30,22 +17,13 @@ book_at books (Some place) = slice_index_or books place None
 abbrev pub book_named : TenantsState → List ℕ → Option Book
 book_named tenants name = book_at tenants.books (place_in tenants.register name)
 
--- the books before the first line: the opening books of the roster's tenants
-abbrev pub opening_books : List RosterRow → List (Option Book)
-opening_books roster =
-    map (λ tenant. Some (opening_book tenant.1)) roster ++ replicate (most_places - length roster) None
-
--- the tenants before the first line
-abbrev pub opening_tenants : List RosterRow → TenantsState
-opening_tenants roster = tenants_are (first_places roster) (opening_books roster)
-
--- the book of a stay
-abbrev pub book_of : Stay → Book
-book_of stay = book_after (opening_book stay.limits) stay.commands
-
 -- the books of the tenants that stay at these places
 abbrev pub books_of : List Place → List (Option Book)
 books_of places = map (λ place. option_map book_of place.stay) places
+
+-- the tenants that stay at these places
+abbrev pub tenants_at : List Place → TenantsState
+tenants_at places = tenants_are (register_of places) (books_of places)
 
 -- these are the tenants that stay at these places
 pub record Shows (tenants : TenantsState) (places : List Place) : Type 0 where
@@ -65,16 +43,12 @@ pub record IsAnswer (tenants after : TenantsState) (line : Line) (pending pendin
   pub right : IsRight tenants after line answer
   pub text : pending_after ≡ pending ++ text_of_answer answer
 
--- a place has a book exactly if the register has a tenant for it
-abbrev pub BooksFit : TenantsState → Type 0
-BooksFit tenants = map (λ place. is_some place.tenant) tenants.register ≡ map is_some tenants.books
-
--- a service between two lines: the roster, its tenants, and what is still to be written
+-- a service between two lines: the places that it opened with, its tenants, and what is still to be written
 pub record State : Type 0 where
-  pub roster : List RosterRow
+  pub opening : List Place
   pub tenants : TenantsState
   pub pending : List ℕ
 
 -- the state of these parts
-abbrev pub state_is : List RosterRow → TenantsState → List ℕ → State
-state_is roster tenants pending = record { roster = roster; tenants = tenants; pending = pending }
+abbrev pub state_is : List Place → TenantsState → List ℕ → State
+state_is opening tenants pending = record { opening = opening; tenants = tenants; pending = pending }

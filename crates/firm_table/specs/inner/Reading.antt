@@ -3,8 +3,8 @@ use Rattle.std.specs.Prelude.{◌≡◌, ℕ, List, ◌++◌, Option}
 use Rattle.std.specs.Io.{IsEmptyOrEndsWith}
 use Rattle.firm_text.specs.Cutters.{CutterIs, StandsFor}
 use Rattle.firm_text.specs.Inputs.{input_lines}
-use Rattle.firm_text.specs.Rosters.{RosterRow}
-use Rattle.firm_table.specs.Service.{BeginsAnswers}
+use Rattle.firm_table.specs.Places.{Place}
+use Rattle.firm_table.specs.Service.{BeginsAnswersFrom}
 use Rattle.firm_table.specs.Telling.{Telling}
 
 -- lines that have all ended: what follows them begins a line
@@ -22,9 +22,9 @@ pub record Heard (IsTold : Telling) (cut : CutterIs) (heard : List ℕ) (written
   pub told : IsTold text written now
 
 -- this was read: lines that have ended, and a rest; what was written is a prefix of the output for the lines
-pub record Halted (roster : List RosterRow) (heard : List ℕ) (written now : Option (List ℕ)) : Type 0 where
+pub record Halted (places : List Place) (heard : List ℕ) (written now : Option (List ℕ)) : Type 0 where
   pub answered : List ℕ
   pub rest : List ℕ
   pub both : heard ≡ answered ++ rest
   pub ends : IsEmptyOrEndsWith answered 10
-  pub begins : BeginsAnswers roster answered written now
+  pub begins : BeginsAnswersFrom places answered written now

@@ -1,6 +1,6 @@
 -- A tenant's book without its count of commands, how many rows were asked for and added, and the workspace of its
 -- rounds.
-use Rattle.std.specs.Prelude.{◌≡◌, ℕ, ℤ, ◌+◌, ◌*◌, ◌≤◌, List, [], length, pos}
+use Rattle.std.specs.Prelude.{◌≡◌, ℕ, ℤ, ◌+◌, ◌*◌, ◌≤◌, true, List, [], All, length, pos}
 use Rattle.firm_paths.specs.Workspace.{Workspace, HasCounted}
 use Rattle.firm_rules.specs.ArenaUse.{arena_arcs}
 use Rattle.firm_rules.specs.Limits.{TenantLimits}
@@ -8,6 +8,8 @@ use Rattle.firm_rules.specs.Book.{TenantRows, Book, opening_rows}
 use Rattle.firm_rules.specs.Placement.{placement_cost}
 use Rattle.firm_rules.specs.Round.{case_of, changes_made, rows_after}
 use Rattle.firm_rules.specs.Recent.{with_cost}
+use Rattle.firm_rules.specs.Sound.{AreSound}
+use Rattle.firm_rules.specs.SoundBook.{AreInForm, is_cost}
 use Rattle.firm_rules.specs.declared.commands.Command.{Command}
 use Rattle.firm_rules.specs.declared.commands.Command.TheVariants.{Round as RoundCommand}
 use Rattle.firm_rules.specs.declared.rounds.Choice.{Choice}
@@ -27,6 +29,19 @@ pub record IsOpeningPool (limits : TenantLimits) (pool : Pool) : Type 0 where
   pub costs : pool.costs ≡ []
   pub asked : pool.asked ≡ 0
   pub counts : (pool.workspace.begins ≡ 0) × (pool.workspace.searches ≡ 0) × (pool.workspace.looks ≡ 0)
+
+-- the pool of a book, to which each of its rows was added once
+pub record IsPoolOf (book : Book) (pool : Pool) : Type 0 where
+  pub rows : pool.rows ≡ book.rows
+  pub costs : pool.costs ≡ book.costs
+  pub asked : pool.asked ≡ length book.rows.machines + length book.rows.jobs + length book.rows.tasks
+
+-- what holds of every pool: its rows are sound and in form, and it has at most 8 costs, each one that a round may have
+pub record IsSoundPool (pool : Pool) : Type 0 where
+  pub rows : AreSound pool.rows
+  pub form : AreInForm pool.rows
+  pub few_costs : length pool.costs ≤ 8
+  pub costs : All (λ cost. is_cost cost ≡ true) pool.costs
 
 -- the book of a tenant with this pool, after `given` commands
 abbrev pub book_of : Pool → ℕ → Book

@@ -1,4 +1,4 @@
-use Rattle.std.proofs.Common.{◌≡◌, subst}
+use Rattle.std.proofs.Common.{subst}
 use Rattle.firm_rules.specs.declared.commands.Command.TheVariants.{Round}
 use Rattle.firm_hall.specs.Desks.{DeskIs, IsStep}
 use Rattle.firm_hall.proofs.desk_states.wait.Goals as goal

@@ -1,4 +1,5 @@
 use Rattle.std.proofs.Common.{refl}
+use Rattle.firm_table.specs.Openings.{places_opened}
 use Rattle.firm_hall.proofs.Serves.{served_by}
 use Rattle.firm_hall.proofs.service.serve_all.Goals as goal
 
@@ -7,9 +8,9 @@ serve_lines-requires-clause-opening g c = c.requires.told (g.W.Sink.written c.ar
 
 pub returns-clause-ran : goal.returns-clause-ran
 returns-clause-ran g c =
-    let own = c.args.clerk.setting.roster.now in
+    let own = places_opened c.args.clerk.setting.opening in
     let s = c.serve_lines.new.clerk.serving in
     let e = c.in_ok-serve_lines.ensures in
-    served_by own own c.serve_lines.new.clerk.setting.roster.now s.register s.desk_states s.answers s.output
-    c.args.most _ _ _
-    refl c.serve_lines.ensures.roster c.end.ensures.rounds e.finished.answered e.finished.none e.told e.served
+    served_by own own (places_opened c.serve_lines.new.clerk.setting.opening) s.register s.desk_states s.answers
+    s.output c.args.most _ _ _
+    refl c.serve_lines.ensures.opening c.end.ensures.rounds e.finished.answered e.finished.none e.told e.served

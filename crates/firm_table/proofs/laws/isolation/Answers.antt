@@ -1,4 +1,5 @@
 use Rattle.firm_table.proofs.Stays.{line_by_line, replies_are_alone, stays_are_isolated, stays_are_served_alone}
+use Rattle.firm_table.proofs.Limited.{stays_open_with_limits}
 use Rattle.firm_table.proofs.Lines.{stays_hold_their_lines, needs_no_marks}
 use Rattle.firm_table.proofs.Beginnings.{admissions_are_isolated, stays_begin_anew}
 use Rattle.firm_table.proofs.SameRow.{tenants_are_isolated}
@@ -10,6 +11,9 @@ use Rattle.firm_table.proofs.laws.isolation.Goals as goal
 
 pub returns-clause-line_by_line : goal.returns-clause-line_by_line
 returns-clause-line_by_line c = line_by_line
+
+pub returns-clause-limits : goal.returns-clause-limits
+returns-clause-limits c = stays_open_with_limits
 
 pub returns-clause-alone : goal.returns-clause-alone
 returns-clause-alone c = replies_are_alone

@@ -19,7 +19,7 @@ returns-in_err-answer-clause-halted g c =
     ∙ ap (λ (l : List ℕ). (bytes ++ 10 ∷ []) ++ l) behind in
     rw p.1 (λ heard written h.
     let stands = c.feed-fed.ensures.stands h.rest h.stands in
-    halts_at (g.C.Clerk.roster c.args.clerk.now) heard h.text h.rest bytes c.args.piece.now c.split_at.result.1.now
+    halts_at (g.C.Clerk.opening c.args.clerk.now) heard h.text h.rest bytes c.args.piece.now c.split_at.result.1.now
     written _ h.both whole
     (ended_more h.text (h.rest ++ bytes) h.ended stands.in_line).ends
     (c.in_err-answer.ensures.begins h.text (h.text ++ ((h.rest ++ bytes) ++ 10 ∷ [])) written

@@ -11,7 +11,7 @@ loop-rest-init g c = record {
   well = c.requires.writer;
   cut = c.requires.cut;
   open-now = c.requires.open;
-  roster = refl;
+  opening = refl;
   kept = refl;
   part = ([], refl);
   heard = λ heard front written cut h. heard_none _ _ heard front c.args.piece.now written _ cut h;
@@ -23,12 +23,12 @@ returns-in_err-rest-clause-halted g c =
     rw p.1 (λ heard written h.
     let part = c.loop-rest.invariant.part in
     let halted =
-    subst (λ (l : List ℕ). Halted (g.C.Clerk.roster c.loop-rest.clerk) l written
+    subst (λ (l : List ℕ). Halted (g.C.Clerk.opening c.loop-rest.clerk) l written
     (g.W.Sink.written c.answer_first.new.writer))
     (halted_on heard part.0 c.loop-rest.rest.now c.args.piece.now part.1)
     (c.in_err-rest.ensures.halted (heard ++ part.0) written
     (c.loop-rest.invariant.heard heard part.0 written part.1 h)) in
-    rw c.loop-rest.invariant.roster at halted)
+    rw c.loop-rest.invariant.opening at halted)
 
 pub loop-rest-preserved : goal.loop-rest-preserved
 loop-rest-preserved g c =
@@ -40,7 +40,7 @@ loop-rest-preserved g c =
       well = c.in_ok-rest.ensures.well;
       cut = c.in_ok-rest.ensures.cut;
       open-now = c.in_ok-rest.ensures.open;
-      roster = c.in_ok-rest.ensures.roster ∙ c.loop-rest.invariant.roster;
+      opening = c.in_ok-rest.ensures.opening ∙ c.loop-rest.invariant.opening;
       kept = c.in_ok-rest.ensures.kept ∙ c.loop-rest.invariant.kept;
       part = (old.0 ++ new.0, whole);
       heard = λ heard front written cut h.

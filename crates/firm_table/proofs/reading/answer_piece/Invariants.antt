@@ -8,7 +8,7 @@ invariant-loop-rest g l = record {
   well : g.W.Sink.write_failed l.writer ≡ false;
   cut : l.cutter.has_ended ≡ false;
   open-now : g.C.Clerk.is_open l.clerk;
-  roster : g.C.Clerk.roster l.clerk ≡ g.C.Clerk.roster l.initial.clerk;
+  opening : g.C.Clerk.opening l.clerk ≡ g.C.Clerk.opening l.initial.clerk;
   kept : g.C.Clerk.kept l.clerk ≡ g.C.Clerk.kept l.initial.clerk;
   part : (front : List ℕ) × (l.piece ≡ front ++ l.rest);
   heard : (heard front : List ℕ) (written : Option (List ℕ)) → l.piece ≡ front ++ l.rest

@@ -2,7 +2,7 @@ use Rattle.std.proofs.Common.{◌≡◌, ◌∙◌, rules, sym, ap, subst, List,
 use Rattle.std.proofs.lemmas.Result.{on_ok_weaker, on_err_weaker}
 use Rattle.firm_text.specs.Inputs.{input_lines}
 use Rattle.firm_text.specs.declared.inputs.Line.{Line}
-use Rattle.firm_table.specs.Service.{BeginsAnswers}
+use Rattle.firm_table.specs.Service.{BeginsAnswersFrom}
 use Rattle.firm_table.proofs.Pieces.{input_last, rest_none}
 use Rattle.firm_table.proofs.reading.answer_rest.Goals as goal
 
@@ -28,7 +28,7 @@ pub returns-clause-begins : goal.returns-clause-begins
 returns-clause-begins g c =
     let some : c.rest.result ≡ true = search rules in
     on_err_weaker c.answer.result (λ begins. λ heard written h.
-    subst (λ (l : List ℕ). BeginsAnswers (g.C.Clerk.roster c.args.clerk.now) l written
+    subst (λ (l : List ℕ). BeginsAnswersFrom (g.C.Clerk.opening c.args.clerk.now) l written
     (g.W.Sink.written c.answer.new.writer)) (sym h.both)
     (begins h.text (h.text ++ h.rest) written
     (input_last h.text h.rest h.ended h.stands.in_line (sym (c.rest.ensures h.rest h.stands) ∙ some)

@@ -17,7 +17,7 @@ loop-reader-init g c = record {
   writes = c.requires.writer;
   cut = c.new-cutter.ensures.open;
   open-now = c.requires.open;
-  roster = refl;
+  opening = refl;
   kept = refl;
   progress = (
     [],
@@ -38,7 +38,7 @@ pub returns-in_err-write_out-clause-stopped : goal.returns-in_err-write_out-clau
 returns-in_err-write_out-clause-stopped g c =
     let p = err_from_is_err_and c.from_residual.result c.from_residual.ensures.1 in
     let i = c.loop-reader.invariant.progress in
-    let here : Halted (g.C.Clerk.roster c.loop-reader.clerk) i.0 (g.W.Sink.written c.args.writer.now)
+    let here : Halted (g.C.Clerk.opening c.loop-reader.clerk) i.0 (g.W.Sink.written c.args.writer.now)
     (g.W.Sink.written c.write_out.new.writer) =
     record {
       answered = i.3.text;
@@ -47,15 +47,15 @@ returns-in_err-write_out-clause-stopped g c =
       ends = i.3.ended.ends;
       begins = c.in_err-write_out.ensures.begins i.3.text _ i.3.told;
     } in
-    let halted = rw c.loop-reader.invariant.roster at here in
+    let halted = rw c.loop-reader.invariant.opening at here in
     rw (p.1, p.2)
-    (stopped_within (g.C.Clerk.roster c.args.clerk.now) c.args.most _ _ _ _ _ _ i.0 _ i.2 halted
+    (stopped_within (g.C.Clerk.opening c.args.clerk.now) c.args.most _ _ _ _ _ _ i.0 _ i.2 halted
     (cause_writing _ i.0 c.args.most _ _ c.loop-reader.invariant.reads c.in_err-write_out.ensures.cause))
 
 pub returns-in_default-clause-stopped : goal.returns-in_default-clause-stopped
 returns-in_default-clause-stopped g c =
     let i = c.loop-reader.invariant.progress in
-    let here : Halted (g.C.Clerk.roster c.loop-reader.clerk) i.0 (g.W.Sink.written c.args.writer.now)
+    let here : Halted (g.C.Clerk.opening c.loop-reader.clerk) i.0 (g.W.Sink.written c.args.writer.now)
     (g.W.Sink.written c.write_out.new.writer) =
     record {
       answered = i.3.text;
@@ -64,8 +64,8 @@ returns-in_default-clause-stopped g c =
       ends = i.3.ended.ends;
       begins = c.in_ok-write_out.ensures.begins i.3.text _ i.3.told;
     } in
-    let halted = rw c.loop-reader.invariant.roster at here in
-    stopped_within (g.C.Clerk.roster c.args.clerk.now) c.args.most _ _ _ _ _ _ i.0 _
+    let halted = rw c.loop-reader.invariant.opening at here in
+    stopped_within (g.C.Clerk.opening c.args.clerk.now) c.args.most _ _ _ _ _ _ i.0 _
     (Consumes-kept _ _ _ i.0 i.2 c.in_default.ensures.bytes) halted
     (search rules, c.in_ok-write_out.ensures.well)
 
@@ -94,10 +94,10 @@ returns-then-count-eq0-clause-served g c =
     let some : 0 < length c.read.new.buffer = search rules in
     let h = heard_told _ _ _ i.0 _ _ _ i.3 c.in_ok-write_out.ensures.told in
     on_ok_weaker c.answer_end.result
-    (λ both. served (g.C.Clerk.roster c.args.clerk.now) c.args.most _ _ _ _ _ _ i.0 read
+    (λ both. served (g.C.Clerk.opening c.args.clerk.now) c.args.most _ _ _ _ _ _ i.0 read
     (c.in-Ok.ensures.bytes.1 c.if-count-eq0.true some)
     (let l = c.loop-reader.invariant.few in grind (arith, common_steps))
-    (rw (c.in_ok-write_out.ensures.roster ∙ c.loop-reader.invariant.roster) at (both.0 i.0 _ h)) reads both.1)
+    (rw (c.in_ok-write_out.ensures.opening ∙ c.loop-reader.invariant.opening) at (both.0 i.0 _ h)) reads both.1)
     (both_ok c.answer_end.result _ _ c.answer_end.ensures.answers c.answer_end.ensures.well)
 
 pub returns-then-count-eq0-clause-told : goal.returns-then-count-eq0-clause-told
@@ -127,21 +127,21 @@ returns-then-count-eq0-clause-stopped g c =
     let some : 0 < length c.read.new.buffer = search rules in
     let h = heard_told _ _ _ i.0 _ _ _ i.3 c.in_ok-write_out.ensures.told in
     both_err c.answer_end.result _ _ _ c.answer_end.ensures.begins c.answer_end.ensures.cause
-    (λ begins fault cause. stopped_behind (g.C.Clerk.roster c.args.clerk.now) c.args.most _ _ _ _ _ _ i.0 fault read
+    (λ begins fault cause. stopped_behind (g.C.Clerk.opening c.args.clerk.now) c.args.most _ _ _ _ _ _ i.0 fault read
     (c.in-Ok.ensures.bytes.1 c.if-count-eq0.true some)
-    reads (rw (c.in_ok-write_out.ensures.roster ∙ c.loop-reader.invariant.roster) at (begins i.0 _ h)) cause)
+    reads (rw (c.in_ok-write_out.ensures.opening ∙ c.loop-reader.invariant.opening) at (begins i.0 _ h)) cause)
 
 pub returns-then-most-heard-clause-stopped : goal.returns-then-most-heard-clause-stopped
 returns-then-most-heard-clause-stopped g c =
     let i = c.loop-reader.invariant.progress in
     let longer : c.args.most < length (i.0 ++ take c.in-Ok.count c.read.new.buffer) =
     (let e = i.1 in let b = c.in-Ok.ensures.bound in let m = c.if-most-heard.true in grind (arith, common_steps)) in
-    let halted : Halted (g.C.Clerk.roster c.args.clerk.now) (i.0 ++ take c.in-Ok.count c.read.new.buffer)
+    let halted : Halted (g.C.Clerk.opening c.args.clerk.now) (i.0 ++ take c.in-Ok.count c.read.new.buffer)
     (g.W.Sink.written c.args.writer.now) (g.W.Sink.written c.write_out.new.writer) =
-    rw c.loop-reader.invariant.roster at
+    rw c.loop-reader.invariant.opening at
     (halts_between _ i.0 i.3.text i.3.rest (take c.in-Ok.count c.read.new.buffer) _ _ i.3.both i.3.ended
     (c.in_ok-write_out.ensures.begins i.3.text _ i.3.told)) in
-    stopped_within (g.C.Clerk.roster c.args.clerk.now) c.args.most _ _ _ _ _ _
+    stopped_within (g.C.Clerk.opening c.args.clerk.now) c.args.most _ _ _ _ _ _
     (i.0 ++ take c.in-Ok.count c.read.new.buffer) _
     (Consumes-trans _ _ _ _ _ i.2 c.in-Ok.ensures.bytes.0) halted
     (longer, search rules, c.in_ok-write_out.ensures.well)
@@ -156,7 +156,8 @@ loop-reader-preserved g c =
       writes = c.in_ok-answer_piece.ensures.well;
       cut = c.in_ok-answer_piece.ensures.cut;
       open-now = c.in_ok-answer_piece.ensures.open;
-      roster = c.in_ok-answer_piece.ensures.roster ∙ c.in_ok-write_out.ensures.roster ∙ c.loop-reader.invariant.roster;
+      opening = c.in_ok-answer_piece.ensures.opening ∙ c.in_ok-write_out.ensures.opening
+          ∙ c.loop-reader.invariant.opening;
       kept = c.in_ok-answer_piece.ensures.kept ∙ c.in_ok-write_out.ensures.kept ∙ c.loop-reader.invariant.kept;
       progress = (
         i.0 ++ take c.in-Ok.count c.read.new.buffer,
@@ -174,10 +175,10 @@ returns-in_err-answer_piece-clause-stopped g c =
     let reads : g.R.Source.read_failed c.read.new.self ≡ false = search rules in
     let h = heard_told _ _ _ i.0 _ _ _ i.3 c.in_ok-write_out.ensures.told in
     let halted =
-    rw (c.in_ok-write_out.ensures.roster ∙ c.loop-reader.invariant.roster) at
+    rw (c.in_ok-write_out.ensures.opening ∙ c.loop-reader.invariant.opening) at
     (c.in_err-answer_piece.ensures.halted i.0 _ h) in
     rw (p.1, p.2)
-    (stopped_within (g.C.Clerk.roster c.args.clerk.now) c.args.most _ _ _ _ _ _
+    (stopped_within (g.C.Clerk.opening c.args.clerk.now) c.args.most _ _ _ _ _ _
     (i.0 ++ take c.in-Ok.count c.read.new.buffer) _
     (Consumes-trans _ _ _ _ _ i.2 c.in-Ok.ensures.bytes.0) halted
     (cause_writing _ _ c.args.most _ _ reads c.in_err-answer_piece.ensures.cause))

@@ -11,7 +11,7 @@ invariant-loop-reader g l = record {
   writes : g.W.Sink.write_failed l.writer ≡ false;
   cut : l.cutter.has_ended ≡ false;
   open-now : g.C.Clerk.is_open l.clerk;
-  roster : g.C.Clerk.roster l.clerk ≡ g.C.Clerk.roster l.initial.clerk;
+  opening : g.C.Clerk.opening l.clerk ≡ g.C.Clerk.opening l.initial.clerk;
   kept : g.C.Clerk.kept l.clerk ≡ g.C.Clerk.kept l.initial.clerk;
   progress : (text : List ℕ) × (length text ≡ l.heard)
       × Consumes (g.R.Source.left l.initial.reader) (g.R.Source.left l.reader) text

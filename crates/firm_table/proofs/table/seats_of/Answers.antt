@@ -3,7 +3,7 @@ use Rattle.std.specs.Prelude.{Option, Some, None, slice_get}
 use Rattle.firm_text.specs.Rosters.{RosterRow, most_places}
 use Rattle.firm_table.specs.Interleaving.{Seat, opening_seat, unused_seat, opening_seats}
 use Rattle.firm_table.specs.inner.Tables.{first_seat}
-use Rattle.firm_table.proofs.Openings.{opened_at, opened_length, opened_next, opened_all}
+use Rattle.firm_table.proofs.Opened.{opened_at, opened_length, opened_next, opened_all}
 use Rattle.firm_table.proofs.table.seats_of.Goals as goal
 
 first_is : (row : Option RosterRow) → opened_at opening_seat unused_seat row ≡ first_seat row

@@ -1,19 +1,20 @@
 use Rattle.std.proofs.lemmas.Result.{on_ok_weaker}
+use Rattle.firm_table.specs.Openings.{places_opened}
 use Rattle.firm_hall.proofs.Coming.{stays_open}
 use Rattle.firm_hall.proofs.Giving.{both_ok, answers_all}
 use Rattle.firm_hall.proofs.clerk.HallClerkClerk.finish.Goals as goal
 
 pub returns-clause-told : goal.returns-clause-told
 returns-clause-told g c =
-    on_ok_weaker c.finish.result (λ told. told c.args.self.now.setting.roster.now) c.finish.ensures.told
+    on_ok_weaker c.finish.result (λ told. told (places_opened c.args.self.now.setting.opening)) c.finish.ensures.told
 
 pub returns-clause-answers : goal.returns-clause-answers
 returns-clause-answers g c =
     let s = c.finish.new.self in
-    let roster = c.args.self.now.setting.roster.now in
+    let opening = (places_opened c.args.self.now.setting.opening) in
     on_ok_weaker c.finish.result
-    (λ both text written told. answers_all roster s.register s.desk_states s.answers s.output text written _
-    both.1.answered both.1.none (both.0 roster text written told))
+    (λ both text written told. answers_all opening s.register s.desk_states s.answers s.output text written _
+    both.1.answered both.1.none (both.0 opening text written told))
     (both_ok c.finish.result _ _ c.finish.ensures.told c.finish.ensures.finished)
 
 pub returns-clause-open : goal.returns-clause-open

@@ -8,7 +8,7 @@ pub returns-in-Err-clause-obeys : goal.returns-in-Err-clause-obeys
 returns-in-Err-clause-obeys c =
     let s = c.self.inside in
     rw (← c.self.view_is, c.in-Err.ensures.unchanged)
-    (λ roster. admission_refused c.answers_add_up.ensures.one_more c.answers_add_up.ensures.not_admitted roster
+    (λ opening. admission_refused c.answers_add_up.ensures.one_more c.answers_add_up.ensures.not_admitted opening
     s.register s.desk_states.items s.held.answers s.held.output c.args.name c.args.limits c.in-Err.refusal
     (sym c.in-Err.ensures.place))
 
@@ -30,7 +30,7 @@ returns-then-admit-clause-obeys c =
     c.self.invariant.fits c.in-Ok.place before _ c.in-Ok.ensures.within c.index_mut.ensures.value c.args.name
     c.args.limits last admitted in
     rw (← c.self.view_is, c.in-Ok.ensures.admitted)
-    (λ roster. admission_told c.answers_add_up.ensures.one_more c.answers_add_up.ensures.admitted roster s.register
+    (λ opening. admission_told c.answers_add_up.ensures.one_more c.answers_add_up.ensures.admitted opening s.register
     s.desk_states.items _ s.held.answers s.held.output c.args.name c.args.limits c.in-Ok.place
     (sym c.in-Ok.ensures.place)
     change.asked change.books)
@@ -59,6 +59,6 @@ returns-clause-obeys c =
     let back = c.undo.ensures s.register c.args.name
     (record { given = sym c.in-Ok.ensures.place; led = c.in-Ok.ensures.admitted }) in
     rw (← c.self.view_is, whole, back)
-    (λ roster. admission_found_no_memory c.answers_add_up.ensures.one_more c.answers_add_up.ensures.no_memory roster
+    (λ opening. admission_found_no_memory c.answers_add_up.ensures.one_more c.answers_add_up.ensures.no_memory opening
     s.register s.desk_states.items s.held.answers s.held.output c.args.name c.args.limits c.in-Ok.place
     (sym c.in-Ok.ensures.place))

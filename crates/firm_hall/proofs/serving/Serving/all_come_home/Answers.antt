@@ -10,7 +10,7 @@ loop-place-preserved g c =
     let e = c.come_home.ensures in
     record {
       follows = follows_then i.follows e.follows;
-      keeps = λ roster text written now told. e.keeps roster text written now (i.keeps roster text written now told);
+      keeps = λ opening text written now told. e.keeps opening text written now (i.keeps opening text written now told);
       back = λ place low. ⊎_elim
           (λ (less : place < c.loop-place.place). e.others place (i.back place less))
           (λ (more : c.loop-place.place ≤ place).

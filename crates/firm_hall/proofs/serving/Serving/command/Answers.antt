@@ -22,7 +22,7 @@ returns-clause-takes g c =
     let sound : IsRegister s.register = rw (← c.self.view_is) at c.requires.sound in
     let found : place_in s.register c.args.name ≡ Some c.args.place = rw (← c.self.view_is) at c.requires.found in
     rw (← c.self.view_is, c.push.ensures)
-    (λ roster. (taken_by roster s.register s.hall.value.id c.args.place c.args.name c.args.command s.held.answers _
+    (λ opening. (taken_by opening s.register s.hall.value.id c.args.place c.args.name c.args.command s.held.answers _
     s.desk_states.items s.held.output _ c.index_mut.result.now c.take-answer.new.self c.take-answer.result
     c.self.invariant.desk_states c.self.invariant.placed c.index_mut.ensures.value sound found refl
     c.answers_add_up.ensures.one_more c.answers_add_up.ensures.known c.replies_tell_their_marks.ensures

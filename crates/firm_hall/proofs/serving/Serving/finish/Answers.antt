@@ -22,22 +22,22 @@ returns-clause-told g c =
     let s = c.self.inside in
     let e = c.write.ensures in
     on_ok_weaker c.write.result
-    (λ passes. λ roster text written told. passes roster text written
+    (λ passes. λ opening text written told. passes opening text written
     (rw (← c.self.view_is) at
-    (c.in-Ok.ensures.keeps roster text written _ (c.all_come_home.ensures.keeps roster text written _ told))))
+    (c.in-Ok.ensures.keeps opening text written _ (c.all_come_home.ensures.keeps opening text written _ told))))
     (wrote c.write.result s.hall.value.id s.register s.desk_states.items s.held c.write.new.self _ _ e.ok e.empty
     e.answers
     e.err).passes
 
 pub returns-clause-begins : goal.returns-clause-begins
-returns-clause-begins g c roster text written told =
+returns-clause-begins g c opening text written told =
     let s = c.self.inside in
     let e = c.write.ensures in
     (wrote c.write.result s.hall.value.id s.register s.desk_states.items s.held c.write.new.self _ _ e.ok e.empty
     e.answers
-    e.err).begins roster text written
+    e.err).begins opening text written
     (rw (← c.self.view_is) at
-    (c.in-Ok.ensures.keeps roster text written _ (c.all_come_home.ensures.keeps roster text written _ told)))
+    (c.in-Ok.ensures.keeps opening text written _ (c.all_come_home.ensures.keeps opening text written _ told)))
 
 pub returns-clause-follows : goal.returns-clause-follows
 returns-clause-follows g c =

@@ -40,7 +40,7 @@ returns-clause-obeys c =
     let same : c.in-Ok.field-0 ≡ c.args.place =
     some_once (sym found ∙ left_place (place_in s.register c.args.name) c.in-Ok.field-0 c.in-Ok.ensures.place) in
     rw (← c.self.view_is, c.in-Ok.ensures.retired, same)
-    (λ roster. retirement_told c.answers_add_up.ensures.one_more c.answers_add_up.ensures.retired roster s.register
+    (λ opening. retirement_told c.answers_add_up.ensures.one_more c.answers_add_up.ensures.retired opening s.register
     s.desk_states.items _ s.held.answers s.held.output c.args.name c.args.place c.retire.ensures.sound found
     change.asked
     change.books)

@@ -13,7 +13,7 @@ returns-in_default-clause-keeps c =
       stayed_away s.desk_states.items c.args.place c.index_mut.result.now c.look.new.self _ c.index_mut.ensures.value
           same,
     )
-    (λ roster text written now told. told)
+    (λ opening text written now told. told)
 
 pub invariant_of-self-2 : goal.invariant_of-self-2
 invariant_of-self-2 c =

@@ -1,29 +1,33 @@
-use Rattle.std.proofs.Common.{[], arith, refl}
-use Rattle.firm_hall.proofs.Starting.{desk_states_are, desk_states_open, fits_open, tells_open}
+use Rattle.std.proofs.Common.{◌∙◌, [], List, ap, length, refl}
+use Rattle.firm_rounds.specs.Passes.{PutIs}
+use Rattle.firm_table.specs.Openings.{places_opened}
+use Rattle.firm_text.specs.Rosters.{most_places}
+use Rattle.firm_hall.proofs.Opening.{puts_wide}
+use Rattle.firm_hall.proofs.Starting.{desk_states_open, fits_open, tells_open}
 use Rattle.firm_hall.proofs.serving.Serving.open.Goals as goal
+
+pub open_states-requires-clause-count : goal.open_states-requires-clause-count
+open_states-requires-clause-count g c =
+    ap (λ (ps : List PutIs). length ps) c.requires.passes ∙ puts_wide c.args.setting.now.hall.now.id most_places
 
 pub invariant_of-result : goal.invariant_of-result
 invariant_of-result g c =
     let id = c.args.setting.now.hall.now.id in
-    let roster = c.args.setting.now.roster.now in
-    let desk_states = desk_states_are id roster _ _ _ c.args.desks.items c.args.empty.items
-    c.in_ok-desk_states.ensures.items
-    c.in_ok-put_desks.ensures c.in_ok-put_empty.ensures c.requires.desks c.requires.empty in
-    rw (c.of.ensures, c.of-2.ensures, c.in_ok-held.ensures)
+    let opening = places_opened c.args.setting.now.opening in
+    let desk_states = c.in_ok-desk_states.ensures.opened id c.requires.passes in
+    rw (c.of.ensures, c.register.ensures, c.in_ok-held.ensures)
     (record {
-      desk_states = desk_states_open id roster c.put_empty.new.desk_states.items []
-          (omega (arith, c.len.ensures.few, c.len.ensures.length)) desk_states refl;
-      fits = rw desk_states (fits_open id roster);
+      desk_states = desk_states_open id opening c.in_ok-desk_states.desk_states.items []
+          c.in_ok-desk_states.ensures.all desk_states refl;
+      fits = rw desk_states (fits_open id opening);
       placed = tt;
     })
 
 pub returns-clause-told : goal.returns-clause-told
 returns-clause-told g c written =
     let id = c.args.setting.now.hall.now.id in
-    let roster = c.args.setting.now.roster.now in
-    let desk_states = desk_states_are id roster _ _ _ c.args.desks.items c.args.empty.items
-    c.in_ok-desk_states.ensures.items
-    c.in_ok-put_desks.ensures c.in_ok-put_empty.ensures c.requires.desks c.requires.empty in
-    rw (c.of-2.ensures, c.in_ok-held.ensures)
-    (tells_open c.answers_add_up.ensures.opening id roster c.put_empty.new.desk_states.items [] [] desk_states refl
+    let opening = places_opened c.args.setting.now.opening in
+    let desk_states = c.in_ok-desk_states.ensures.opened id c.requires.passes in
+    rw (c.register.ensures, c.in_ok-held.ensures)
+    (tells_open c.answers_add_up.ensures.opening id opening c.in_ok-desk_states.desk_states.items [] [] desk_states refl
     refl written)

@@ -10,8 +10,8 @@ loop-self-preserved c =
     let put = c.in_ok-put_first.ensures in
     record {
       follows = follows_then i.follows (record { same_hall = put.hall; fewer = omega (arith, put.fewer) });
-      keeps = λ roster text written now told. put.keeps roster text written now
-          (i.keeps roster text written now told);
+      keeps = λ opening text written now told. put.keeps opening text written now
+          (i.keeps opening text written now told);
       back = rw put.desk_states i.back;
     }
 

@@ -16,8 +16,8 @@ pub returns-clause-follows : goal.returns-clause-follows
 returns-clause-follows c = follows_then c.loop-self.invariant.follows c.first_is_known.ensures.follows
 
 pub returns-clause-keeps : goal.returns-clause-keeps
-returns-clause-keeps c roster text written now told =
-    c.first_is_known.ensures.keeps roster text written now (c.loop-self.invariant.keeps roster text written now told)
+returns-clause-keeps c opening text written now told =
+    c.first_is_known.ensures.keeps opening text written now (c.loop-self.invariant.keeps opening text written now told)
 
 pub returns-in_err-put_first-clause-follows : goal.returns-in_err-put_first-clause-follows
 returns-in_err-put_first-clause-follows c =
@@ -34,6 +34,6 @@ loop-self-preserved c =
     record {
       follows = follows_then i.follows
           (follows_then looked.follows (record { same_hall = put.hall; fewer = omega (arith, put.fewer) }));
-      keeps = λ roster text written now told. put.keeps roster text written now
-          (looked.keeps roster text written now (i.keeps roster text written now told));
+      keeps = λ opening text written now told. put.keeps opening text written now
+          (looked.keeps opening text written now (i.keeps opening text written now told));
     }

@@ -1,16 +1,15 @@
-use Rattle.std.proofs.Common.{◌∙◌, ap, sym, refl, List, ◌++◌, ◌∷◌, []}
+use Rattle.std.proofs.Common.{◌∙◌, ap, sym, refl, ◌++◌, ◌∷◌, []}
 use Rattle.firm_text.specs.Inputs.{input_lines}
 use Rattle.firm_text.specs.declared.inputs.Line.{Line}
-use Rattle.firm_hall.specs.declared.held.HeldAnswer.{HeldAnswer}
 use Rattle.firm_table.specs.declared.answers.LineAnswer.TheVariants.{LineTooLong, ToOperator, UnknownTenant}
 use Rattle.firm_hall.specs.declared.held.HeldAnswer.TheVariants.{Known}
 use Rattle.firm_hall.proofs.Taking.{known_stands, long_follows, nameless_follows, nothing_follows, stranger_follows}
 use Rattle.firm_hall.proofs.serving.Serving.take_line.Goals as goal
 
 pub returns-in-Nothing-clause-takes : goal.returns-in-Nothing-clause-takes
-returns-in-Nothing-clause-takes g c roster =
+returns-in-Nothing-clause-takes g c opening =
     let s = c.args.self.now in
-    nothing_follows c.answers_add_up.ensures.one_more roster s.register s.desk_states s.answers s.answers s.output
+    nothing_follows c.answers_add_up.ensures.one_more opening s.register s.desk_states s.answers s.answers s.output
     c.args.line
     c.in-Nothing.is refl
 
@@ -18,7 +17,7 @@ pub returns-in-Long-clause-takes : goal.returns-in-Long-clause-takes
 returns-in-Long-clause-takes g c =
     let s = c.self.inside in
     rw (← c.self.view_is, c.push.ensures)
-    (λ roster. long_follows c.answers_add_up.ensures.one_more roster s.register s.desk_states.items s.held.answers _
+    (λ opening. long_follows c.answers_add_up.ensures.one_more opening s.register s.desk_states.items s.held.answers _
     s.held.output c.args.line c.in-Long.is refl)
 
 pub invariant_of-self : goal.invariant_of-self
@@ -32,8 +31,8 @@ pub returns-in-Nameless-clause-takes : goal.returns-in-Nameless-clause-takes
 returns-in-Nameless-clause-takes g c =
     let s = c.self-in-Nameless.inside in
     rw (← c.self-in-Nameless.view_is, c.push-in-Nameless.ensures)
-    (λ roster. nameless_follows c.answers_add_up.ensures.one_more roster s.register s.desk_states.items s.held.answers _
-    s.held.output c.args.line c.in-Nameless.is refl)
+    (λ opening. nameless_follows c.answers_add_up.ensures.one_more opening s.register s.desk_states.items
+    s.held.answers _ s.held.output c.args.line c.in-Nameless.is refl)
 
 pub invariant_of-self-in-Nameless : goal.invariant_of-self-in-Nameless
 invariant_of-self-in-Nameless g c =
@@ -46,9 +45,9 @@ pub returns-in-None-clause-takes : goal.returns-in-None-clause-takes
 returns-in-None-clause-takes g c =
     let s = c.self-in-For.inside in
     rw (← c.self-in-For.view_is, c.push-in-None.ensures)
-    (λ roster. stranger_follows c.answers_add_up.ensures.one_more roster s.register s.desk_states.items s.held.answers _
-    s.held.output c.args.line c.answers_add_up.ensures.unknown c.in-For.name c.in-For.command c.in-For.is
-    (sym c.place_of.ensures.place ∙ c.in-None.is) refl)
+    (λ opening. stranger_follows c.answers_add_up.ensures.one_more opening s.register s.desk_states.items
+    s.held.answers _ s.held.output c.args.line c.answers_add_up.ensures.unknown c.in-For.name c.in-For.command
+    c.in-For.is (sym c.place_of.ensures.place ∙ c.in-None.is) refl)
 
 pub invariant_of-self-in-None : goal.invariant_of-self-in-None
 invariant_of-self-in-None g c =
@@ -58,14 +57,14 @@ invariant_of-self-in-None g c =
     c.self-in-For.invariant)
 
 pub returns-in-Some-clause-takes : goal.returns-in-Some-clause-takes
-returns-in-Some-clause-takes g c roster text after written now more told =
-    c.command.ensures.takes roster text after written now
+returns-in-Some-clause-takes g c opening text after written now more told =
+    c.command.ensures.takes opening text after written now
     (more ∙ ap (λ (l : Line). input_lines text ++ l ∷ []) c.in-For.is)
-    (c.come_home.ensures.keeps roster text written now told)
+    (c.come_home.ensures.keeps opening text written now told)
 
 pub returns-in-Operator-clause-takes : goal.returns-in-Operator-clause-takes
-returns-in-Operator-clause-takes g c roster text after written now more told =
-    let obeyed = c.obey-reply.ensures.obeys roster text after written now
+returns-in-Operator-clause-takes g c opening text after written now more told =
+    let obeyed = c.obey-reply.ensures.obeys opening text after written now
     (more ∙ ap (λ (l : Line). input_lines text ++ l ∷ []) c.in-Operator.is) told in
     rw c.push-in-Operator.ensures (rw (← c.self-in-Operator.view_is) at obeyed)
 

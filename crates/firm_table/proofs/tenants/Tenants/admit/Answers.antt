@@ -1,6 +1,6 @@
 use Rattle.std.proofs.Common.{◌≡◌, ◌+◌, Some, Ok, refl, sym, arith}
 use Rattle.firm_text.specs.Registers.{admissions_at, occupied, place_for}
-use Rattle.firm_table.specs.inner.Line.{tenants_are}
+use Rattle.firm_table.specs.Tenants.{tenants_are}
 use Rattle.firm_table.proofs.Books.{admissions_are_answered}
 use Rattle.firm_table.proofs.Seated.{seated_within, seated_set}
 use Rattle.firm_table.proofs.tenants.Tenants.admit.Goals as goal

@@ -3,7 +3,7 @@ use Rattle.std.specs.Option.{ok_or}
 use Rattle.firm_text.specs.Registers.{admissions_at, place_in, vacant}
 use Rattle.firm_text.specs.declared.operator.OperatorRefusal.{OperatorRefusal}
 use Rattle.firm_text.specs.declared.operator.OperatorRefusal.TheVariants.{NoSuchTenant}
-use Rattle.firm_table.specs.inner.Line.{tenants_are}
+use Rattle.firm_table.specs.Tenants.{tenants_are}
 use Rattle.firm_table.proofs.Books.{retirements_are_answered, retirements_are_refused}
 use Rattle.firm_table.proofs.Seated.{seated_within, seated_set}
 use Rattle.firm_table.proofs.tenants.Tenants.retire.Goals as goal

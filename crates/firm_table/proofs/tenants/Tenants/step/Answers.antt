@@ -3,7 +3,7 @@ use Rattle.std.specs.Prelude.{Option, true, false, slice_index_or}
 use Rattle.std.specs.Option.{is_some}
 use Rattle.firm_rules.specs.Book.{Book}
 use Rattle.firm_text.specs.Registers.{place_in}
-use Rattle.firm_table.specs.inner.Line.{tenants_are}
+use Rattle.firm_table.specs.Tenants.{tenants_are}
 use Rattle.firm_table.proofs.Books.{strangers_are_answered, tenants_are_answered}
 use Rattle.firm_table.proofs.Seated.{seated_within, seated_here, seated_still, seat_is}
 use Rattle.firm_table.proofs.tenants.Tenants.step.Goals as goal

@@ -1,4 +1,5 @@
-use Rattle.std.proofs.Common.{◌≡◌, ◌++◌, ◌∷◌, [], ℕ, ℤ, pos, List, refl, rules, to_z, of_z, w64, ap, ◌∙◌}
+use Rattle.std.proofs.Common.{◌≡◌, ◌++◌, ◌∷◌, [], ℕ, ℤ, pos, true, List, All, refl, rules, to_z, of_z, w64, ap, sym}
+use Rattle.std.proofs.Common.{◌∙◌, subst}
 use Rattle.circular_buffer.specs.Buffer.{Buffer, keep_last}
 use Rattle.firm_paths.specs.Workspace.{Workspace}
 use Rattle.firm_rules.specs.Placement.{placement_cost}
@@ -9,7 +10,9 @@ use Rattle.firm_rules.specs.declared.rounds.Change.{Change}
 use Rattle.firm_rules.specs.declared.rounds.Choice.{Choice}
 use Rattle.firm_rules.specs.declared.replies.Outcome.{Outcome}
 use Rattle.firm_rules.specs.declared.replies.Outcome.TheVariants.{Round}
+use Rattle.firm_rules.specs.SoundBook.{is_cost}
 use Rattle.firm_tenant.specs.inner.Pools.{Pool, placed_in}
+use Rattle.firm_tenant.proofs.Entries.{costs-kept}
 use Rattle.firm_tenant.proofs.pools.Pool.place.Goals as goal
 
 -- what a placement comes to, from its parts
@@ -31,7 +34,7 @@ returns c =
     let kept : ℤ = to_z w64 (of_z w64 c.cost_of-cost.result) in
     let same : kept ≡ c.cost_of-cost.result = search rules in
     let cost : kept ≡ pos (placement_cost (case_of pool.rows) placement) =
-    same ∙ c.cost_of-cost.ensures
+    same ∙ c.cost_of-cost.ensures.cost
     ∙ ap (λ (r : TenantRows). pos (placement_cost (case_of r) placement)) (c.rows.ensures.value ∙ rows) in
     placed-by pool placement kept c.in_ok-changes.changes c.settle.new.self.rows
     c.push_back.new.self.items c.settle.new.self.asked c.self.inside.scratch cost
@@ -42,3 +45,16 @@ returns c =
     ∙ ap (λ (p : Pool). keep_last 8 (p.costs ++ kept ∷ [])) c.self.view_is)
     (c.settle.ensures.asked ∙ ap (λ (p : Pool). p.asked) c.self.view_is)
     (ap (λ (p : Pool). p.workspace) c.self.view_is)
+
+pub invariant_of-self : goal.invariant_of-self
+invariant_of-self c =
+    let kept : ℤ = to_z w64 (of_z w64 c.cost_of-cost.result) in
+    let same : kept ≡ c.cost_of-cost.result = search rules in
+    let cost : is_cost kept ≡ true = ap is_cost same ∙ c.cost_of-cost.ensures.within in (
+      search rules,
+      search rules,
+      search rules,
+      subst (λ (costs : List ℤ). All (λ (x : ℤ). is_cost x ≡ true) costs)
+          (sym (ap (λ (b : Buffer ℤ). b.items) c.push_back.ensures.items))
+          (costs-kept c.self.inside.costs.capacity c.self.inside.costs.items kept c.self.invariant.3 cost),
+    )

@@ -1,31 +1,44 @@
-use Rattle.std.proofs.Common.{◌+◌, Bool, ap, ◌∙◌, arith}
+use Rattle.std.proofs.Common.{◌≡◌, ◌+◌, ◌<◌, ◌≤◌, Bool, ap, subst, ◌∙◌, arith}
 use Rattle.firm_rules.specs.Book.{Book}
+use Rattle.firm_rules.specs.Limits.{TenantLimits}
+use Rattle.firm_rules.specs.SoundBook.{entry_count}
 use Rattle.firm_rules.specs.declared.replies.Outcome.{Outcome}
-use Rattle.firm_tenant.specs.inner.Pools.{book_of, Pool}
+use Rattle.firm_tenant.specs.inner.Pools.{book_of, Pool, IsSoundPool}
 use Rattle.firm_tenant.specs.Step.{step, effect, is_memory_outcome}
+use Rattle.firm_tenant.proofs.Entries.{effect-grows, sound-book_of}
 use Rattle.firm_tenant.proofs.Steps.{effect-keeps, step-alive}
 use Rattle.firm_tenant.proofs.tenants.Tenant.step.Goals as goal
 
 pub invariant_of-self : goal.invariant_of-self
 invariant_of-self c =
+    let old : Pool = c.self.inside.pool.value in
+    let new : Pool = c.answer-outcome.new.self in
+    let given = c.self.inside.given in
     let mark : Bool = is_memory_outcome c.answer-outcome.result in
-    let kept = ap (λ (a : Outcome × Book). a.1.rows.limits.life) (c.answer-outcome.ensures.effect 0)
-    ∙ ap (λ l. l.life) (effect-keeps (book_of c.deref_mut.result.now 0) c.args.command mark).0
-    ∙ ap (λ (p : Pool). p.rows.limits.life) c.deref_mut.ensures.value in (
-      omega (
-        arith,
-        kept,
-        c.if-life-self.false,
-        c.life-life.ensures.value,
-        ap (λ l. l.life) c.limits.ensures,
-        ap (λ (b : Book). b.rows.limits.life) c.self.view_is,
-      ),
-      omega (
-        arith,
-        c.answer-outcome.ensures.asked,
-        ap (λ (p : Pool). p.asked) c.deref_mut.ensures.value,
-        c.self.invariant.1,
-      ),
+    let was : c.deref_mut.result.now ≡ old = c.deref_mut.ensures.value in
+    let limits : new.rows.limits ≡ old.rows.limits =
+    ap (λ (a : Outcome × Book). a.1.rows.limits) (c.answer-outcome.ensures.effect 0)
+    ∙ (effect-keeps (book_of c.deref_mut.result.now 0) c.args.command mark).0
+    ∙ ap (λ (p : Pool). p.rows.limits) was in
+    let grown : entry_count (book_of new 0) ≤ entry_count (book_of old 0) + 1 =
+    omega (
+      arith,
+      ap (λ (a : Outcome × Book). entry_count a.1) (c.answer-outcome.ensures.effect 0),
+      (effect-grows (book_of c.deref_mut.result.now 0) c.args.command mark).few,
+      ap (λ (p : Pool). entry_count (book_of p 0)) was,
+    ) in
+    let alive : given < old.rows.limits.life =
+    omega (
+      arith,
+      c.if-life-self.false,
+      c.life-life.ensures.value,
+      ap (λ (l : TenantLimits). l.life) c.limits.ensures,
+      ap (λ (b : Book). b.rows.limits.life) c.self.view_is,
+    ) in (
+      sound-book_of new (given + 1) (subst IsSoundPool c.deref.ensures c.cost_count.ensures.sound)
+          (omega (arith, alive, ap (λ (l : TenantLimits). l.life) limits))
+          (omega (arith, grown, c.self.invariant.0.count)),
+      omega (arith, c.answer-outcome.ensures.asked, ap (λ (p : Pool). p.asked) was, c.self.invariant.1),
     )
 
 pub returns : goal.returns

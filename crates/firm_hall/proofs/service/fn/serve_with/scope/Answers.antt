@@ -1,4 +1,5 @@
 use Rattle.std.proofs.Common.{refl}
+use Rattle.firm_table.specs.Openings.{places_opened}
 use Rattle.firm_hall.proofs.Serves.{unread}
 use Rattle.firm_hall.proofs.service.fn.serve_with.scope.Goals as goal
 
@@ -6,7 +7,7 @@ pub returns : goal.returns
 returns g c = record {
   reads = refl;
   writes = refl;
-  ran = unread c.captures.clerk.setting.roster.now c.captures.most (g.S.Source.left c.captures.reader.now)
+  ran = unread (places_opened c.captures.clerk.setting.opening) c.captures.most (g.S.Source.left c.captures.reader.now)
       (g.W.Sink.written c.captures.writer.now) _ _ c.requires.reader c.requires.writer;
   desks = tt;
   places = tt;

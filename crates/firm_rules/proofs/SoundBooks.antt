@@ -1,0 +1,113 @@
+-- Which books are sound.
+use Rattle.std.proofs.Common.{◌≡◌, ℕ, pos, ◌≤◌, ◌&&◌, Bool, true, false, List, [], ◌∷◌, length, All, bytes_eq}
+use Rattle.std.proofs.Common.{true≢false, refl, sym, ◌∙◌, arith}
+use Rattle.std.specs.Prelude.{nat_le}
+use Rattle.std.specs.List.{IsDistinct, list_all}
+use Rattle.std.proofs.lemmas.Bool.{and_from, and_parts, le-leb, leb-true}
+use Rattle.std.proofs.lemmas.List.Elements.{All-nil, All-cons, All-head, All-tail}
+use Rattle.firm_rules.specs.Limits.{TenantLimits, are_limits, is_within}
+use Rattle.firm_rules.specs.Book.{Book, opening_rows}
+use Rattle.firm_rules.specs.Sound.{AreSound}
+use Rattle.firm_rules.specs.SoundBook.{AreInForm, IsSoundBook, OpeningBooksAreSound, is_cost, most_cost, entry_count}
+
+-- what passes a test throughout
+pub all-pass : {X : Type 0} (p : X → Bool) (xs : List X) → list_all p xs ≡ true → All (λ x. p x ≡ true) xs
+all-pass p [] h = All-nil (λ x. p x ≡ true)
+all-pass p (x ∷ xs) h =
+    let both = and_parts (p x) (list_all p xs) h in
+    All-cons (λ y. p y ≡ true) x xs both.0 (all-pass p xs both.1)
+
+pub pass-all : {X : Type 0} (p : X → Bool) (xs : List X) → All (λ x. p x ≡ true) xs → list_all p xs ≡ true
+pass-all p [] h = refl
+pass-all p (x ∷ xs) h =
+    and_from (p x) (list_all p xs) (All-head (λ y. p y ≡ true) x xs h)
+    (pass-all p xs (All-tail (λ y. p y ≡ true) x xs h))
+
+-- a number up to the most is a cost
+pub cost-up_to : (n : ℕ) → n ≤ most_cost → is_cost (pos n) ≡ true
+cost-up_to n h = le-leb n most_cost h
+
+nil-differ : IsDistinct bytes_eq []
+unfolding IsDistinct
+nil-differ = tt
+
+-- what a number within a range is
+range : (low high number : ℕ) → is_within low high number ≡ true → (low ≤ number) × (number ≤ high)
+range low high number h =
+    let both = and_parts (nat_le low number) (nat_le number high) h in
+    (leb-true low number both.0, leb-true number high both.1)
+
+-- the rows of a tenant that has nothing yet
+pub opening-sound : (limits : TenantLimits) → are_limits limits ≡ true → AreSound (opening_rows limits)
+opening-sound limits within =
+    let nodes : Bool = is_within 2 4096 limits.nodes in
+    let arcs : Bool = is_within 0 65536 limits.arcs in
+    let life : Bool = is_within 1 1099511627776 limits.life in
+    let spread : Bool = is_within 0 1000 limits.spread in
+    let churn : Bool = is_within 0 1000000 limits.churn in
+    let remote : Bool = is_within 0 1000000 limits.remote in
+    let last = and_parts (nodes && arcs && life && spread && churn) remote within in
+    let fifth = and_parts (nodes && arcs && life && spread) churn last.0 in
+    let fourth = and_parts (nodes && arcs && life) spread fifth.0 in
+    let third = and_parts (nodes && arcs) life fourth.0 in
+    let first = and_parts nodes arcs third.0 in
+    let most_nodes = range 2 4096 limits.nodes first.0 in
+    record {
+      machine_names_differ = nil-differ;
+      job_names_differ = nil-differ;
+      task_names_differ = nil-differ;
+      jobs_there = λ k d l. absurd (omega arith);
+      machines_there = λ k d l. absurd (omega arith);
+      preferred_there = λ k d l. absurd (omega arith);
+      preferred_few = λ k d l. absurd (omega arith);
+      preferred_differ = λ k d l. absurd (omega arith);
+      room = λ k d l. absurd (omega arith);
+      waited = λ k d l. absurd (omega arith);
+      fits = record { nodes = omega (arith, most_nodes.0); arcs = omega arith };
+      slots = λ k d l. absurd (omega arith);
+      weights = λ k d l. absurd (omega arith);
+      most_nodes = most_nodes.1;
+      most_arcs = (range 0 65536 limits.arcs first.1).1;
+      most_spread = (range 0 1000 limits.spread fourth.1).1;
+      most_churn = (range 0 1000000 limits.churn fifth.1).1;
+      most_remote = (range 0 1000000 limits.remote last.1).1;
+    }
+
+pub opening-form : (limits : TenantLimits) → are_limits limits ≡ true → AreInForm (opening_rows limits)
+opening-form limits within =
+    record {
+      limits = within;
+      machines = λ k d l. absurd (omega arith);
+      jobs = λ k d l. absurd (omega arith);
+      tasks = λ k d l. absurd (omega arith);
+      running = λ k d l. absurd (omega arith);
+    }
+
+pub openings : OpeningBooksAreSound
+openings limits within =
+    record {
+      rows = opening-sound limits within;
+      form = opening-form limits within;
+      few_costs = omega arith;
+      costs = λ k d l. absurd (omega arith);
+      life = omega arith;
+      count = omega arith;
+    }
+
+-- a book of sound rows in form whose costs are few and pass the test, and whose count of commands is in its range
+pub sound-book : (book : Book) → AreSound book.rows → AreInForm book.rows → length book.costs ≤ 8
+    → list_all is_cost book.costs ≡ true → book.given ≤ book.rows.limits.life → entry_count book ≤ book.given
+    → IsSoundBook book
+sound-book book sound form few costs life count =
+    record {
+      rows = sound;
+      form = form;
+      few_costs = few;
+      costs = all-pass is_cost book.costs costs;
+      life = life;
+      count = count;
+    }
+
+-- one whose costs do not pass the test is not sound
+pub other-costs : (book : Book) → list_all is_cost book.costs ≡ false → IsSoundBook book → ⊥
+other-costs book failed sound = true≢false (sym (pass-all is_cost book.costs sound.costs) ∙ failed)

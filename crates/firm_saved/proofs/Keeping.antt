@@ -1,0 +1,140 @@
+-- A draft stays sound while rows are read.
+use Rattle.std.proofs.Common.{◌≡◌, ◌<◌, ◌≤◌, ◌-◌, ◌∙◌, ℕ, suc, true, false, List, [], ◌∷◌, ◌++◌, length}
+use Rattle.std.proofs.Common.{Option, Some, None, Result, Ok, Err, refl, sym, ap, subst, arith, get_or, append_assoc}
+use Rattle.std.specs.Prelude.{ℤ, IfSome, IsSome, OnOk, nat_lt, option_map, replicate}
+use Rattle.std.proofs.lemmas.List.{length_push}
+use Rattle.firm_rules.specs.Book.{Book}
+use Rattle.firm_rules.specs.Names.{is_name}
+use Rattle.firm_text.specs.Rosters.{most_places}
+use Rattle.firm_saved.specs.Saved.{IsSoundPlace, filled, tenant_name, untouched}
+use Rattle.firm_saved.specs.declared.drafts.Draft.{Draft as Kept}
+use Rattle.firm_saved.specs.declared.faults.FaultKind.{FaultKind}
+use Rattle.firm_saved.specs.declared.rows.Row.{Row}
+use Rattle.firm_saved.specs.declared.rows.Row.TheVariants as row
+use Rattle.firm_saved.specs.declared.saved.SavedPlace.{SavedPlace}
+use Rattle.firm_saved.specs.declared.tenant_drafts.TenantDraft.{TenantDraft as KeptTenant}
+use Rattle.firm_saved.specs.Drafts.{TenantDraft, booked, costs_fault, ends_given, grown, has_tenant}
+use Rattle.firm_saved.specs.Drafts.{job_fault, machine_fault, place_of, task_fault}
+use Rattle.firm_saved.specs.inner.Kept.{AreSoundPlaces, IsSoundDraft, IsSoundTenant}
+use Rattle.firm_saved.specs.inner.Loads.{AreLoads, view as tenant_view}
+use Rattle.firm_saved.specs.inner.Returned.{Gives}
+use Rattle.firm_saved.proofs.Places.{sound_push}
+use Rattle.firm_saved.proofs.Steps.{bind_ok, ok_is, unless_ok}
+
+-- the last of some places
+pub ends_last : (places : List SavedPlace) (d : SavedPlace) → 1 ≤ length places
+    → ends_given places ≡ nat_lt 0 (get_or places (length places - 1) d).admissions
+ends_last [] d some = absurd (omega arith)
+ends_last (last ∷ []) d some =
+    let first : length (last ∷ []) - 1 ≡ 0 = omega arith in
+    ap (λ k. nat_lt 0 (get_or (last ∷ []) k d).admissions) (sym first)
+ends_last (place ∷ next ∷ rest) d some =
+    let more : suc (length (next ∷ rest) - 1) ≡ length (place ∷ next ∷ rest) - 1 = omega arith in
+    ends_last (next ∷ rest) d (omega arith) ∙ ap (λ k. nat_lt 0 (get_or (place ∷ next ∷ rest) k d).admissions) more
+
+-- filling up may begin with one
+pub fill_more : (places : List SavedPlace) → length places < most_places
+    → filled (places ++ untouched ∷ []) ≡ filled places
+fill_more places few =
+    let long = length_push places untouched in
+    let one : suc (most_places - length (places ++ untouched ∷ [])) ≡ most_places - length places = omega arith in
+    append_assoc places (untouched ∷ []) (replicate (most_places - length (places ++ untouched ∷ [])) untouched)
+    ∙ ap (λ n. places ++ replicate n untouched) one
+
+pub none_if : {A : Type 0} (o : Option A) → ((x : A) → o ≡ Some x → ⊥) → o ≡ None
+none_if None none = refl
+none_if (Some x) none = absurd (none x refl)
+
+-- where there is no place, no tenant stays
+pub no_tenant : (kept : Kept) → IsSoundDraft kept → kept.present ≡ None → kept.tenant ≡ None
+no_tenant kept sound none = none_if kept.tenant (λ t is. (sound.tenant t is).placed none)
+
+vacant : {A : Type 0} (o : Option A) → o ≡ None → IsSome o → ⊥
+vacant None e some = absurd (cc)
+vacant (Some x) e some = absurd (cc)
+
+-- a tenant's name is that of its rows
+booked_name : (t : TenantDraft) (costs : Option (List ℤ)) (tenant : List ℕ × Book) → booked t costs ≡ Ok tenant
+    → t.name ≡ tenant.0
+booked_name t None tenant e = absurd cc
+booked_name t (Some costs) tenant e =
+    ap (λ (x : List ℕ × Book). x.0)
+    (unless_ok _ (t.name, record { rows = t.rows; costs = costs; given = t.given }) tenant e).1
+
+-- the present place among those before it
+pub placed : (kept : Kept) (admissions : ℕ) (place : SavedPlace) → IsSoundDraft kept → kept.present ≡ Some admissions
+    → place_of admissions (option_map tenant_view kept.tenant) ≡ Ok place
+    → (IfSome kept.tenant (λ t. is_name t.name ≡ true) → IsSoundPlace place)
+    → AreSoundPlaces (kept.before.items ++ place ∷ [])
+placed kept admissions place sound is made whole = by kept.tenant refl made whole
+  where
+    by : (tenant : Option KeptTenant) → kept.tenant ≡ tenant
+        → place_of admissions (option_map tenant_view tenant) ≡ Ok place
+        → (IfSome tenant (λ t. is_name t.name ≡ true) → IsSoundPlace place)
+        → AreSoundPlaces (kept.before.items ++ place ∷ [])
+    by None t-is made whole =
+        let here : record { admissions = admissions; tenant = None } ≡ place = ok_is {E = FaultKind} _ _ made in
+        let given : admissions ≡ place.admissions = ap (λ (p : SavedPlace). p.admissions) here in
+        let none : None ≡ place.tenant = ap (λ (p : SavedPlace). p.tenant) here in
+        let few = sound.counted admissions is in
+        sound_push kept.before.items place sound.before (sound.room admissions is) (
+          omega arith,
+          λ some. absurd (vacant (tenant_name place)
+              (sym (ap (option_map (λ (x : List ℕ × Book). x.0)) none)) some),
+        ) (whole tt)
+        (λ name named. absurd (let h : None ≡ Some name = ap (option_map (λ (x : List ℕ × Book). x.0)) none
+        ∙ named in cc))
+    by (Some t) t-is made whole =
+        let good = sound.tenant t t-is in
+        let tenant = bind_ok (booked (tenant_view t) t.costs)
+        (λ tenant. let r : Result SavedPlace FaultKind = Ok
+        (record { admissions = admissions; tenant = Some tenant }) in r)
+        place made in
+        let here : record { admissions = admissions; tenant = Some tenant.0 }
+        ≡ place = ok_is {E = FaultKind} _ _ tenant.2 in
+        let given : admissions ≡ place.admissions = ap (λ (p : SavedPlace). p.admissions) here in
+        let named : t.name ≡ tenant.0.0 = booked_name (tenant_view t) t.costs tenant.0 tenant.1 in
+        let few = sound.counted admissions is in
+        let some = good.given admissions is in
+        sound_push kept.before.items place sound.before (sound.room admissions is) (omega arith, λ _. omega arith)
+        (whole good.named)
+        (λ name is-name.
+        let own : Some tenant.0.0 ≡ Some name =
+        ap (option_map (λ (x : List ℕ × Book). x.0)) (ap (λ (p : SavedPlace). p.tenant) here) ∙ is-name in
+        let same : t.name ≡ name = named ∙ (cc) in
+        subst (λ n. has_tenant kept.before.items n ≡ false) same good.new)
+
+-- a tenant keeps its name
+grown_name : (t : TenantDraft) (r : Row) (t2 : TenantDraft) → grown t r ≡ Ok t2 → t.name ≡ t2.name
+grown_name t (row.Costs costs) t2 e =
+    ap (λ (x : TenantDraft). x.name)
+    (unless_ok (costs_fault t costs) (record t { costs = Some costs }) t2 e).1
+grown_name t (row.Machine m) t2 e = ap (λ (x : TenantDraft). x.name) (unless_ok (machine_fault t m) _ t2 e).1
+grown_name t (row.Job j) t2 e = ap (λ (x : TenantDraft). x.name) (unless_ok (job_fault t j) _ t2 e).1
+grown_name t (row.Task task) t2 e = ap (λ (x : TenantDraft). x.name) (unless_ok (task_fault t task) _ t2 e).1
+grown_name t (row.Place n) t2 e = absurd cc
+grown_name t (row.Tenant name limits given) t2 e = absurd cc
+grown_name t (row.Rows n) t2 e = absurd cc
+
+-- a draft whose tenant has grown
+pub kept_grown : {A : Type 0} (kept : Kept) (t t2 : KeptTenant) (r : Row) (result : Result A FaultKind)
+    → IsSoundDraft kept
+    → kept.tenant ≡ Some t
+    → Gives (λ _. tenant_view t2) result (grown (tenant_view t) r) → OnOk result (AreLoads t2)
+    → OnOk result (IsSoundDraft (record { before = kept.before; present = kept.present; tenant = Some t2 }))
+kept_grown kept t t2 r (Err kind) sound is gives loads = tt
+kept_grown kept t t2 r (Ok done) sound is gives loads =
+    let good = sound.tenant t is in
+    let name : t.name ≡ t2.name = grown_name (tenant_view t) r (tenant_view t2) gives in
+    record {
+      before = sound.before;
+      room = sound.room;
+      counted = sound.counted;
+      tenant = λ x x-is. let same : t2 ≡ x = cc in subst (IsSoundTenant kept.before.items kept.present) same (record {
+        loads = loads;
+        named = subst (λ n. is_name n ≡ true) name good.named;
+        new = subst (λ n. has_tenant kept.before.items n ≡ false) name good.new;
+        given = good.given;
+        placed = good.placed;
+      });
+    }

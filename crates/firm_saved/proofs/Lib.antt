@@ -1,0 +1,19 @@
+pub mod Cuts
+pub mod Digits
+pub mod Clean
+pub mod Steps
+pub mod LineRows
+pub mod Complete
+pub mod Runs
+pub mod Places
+pub mod RowFacts
+pub mod States
+pub mod Puts
+pub mod LoadRows
+pub mod Allowed
+pub mod Running
+pub mod Keeping
+pub mod SameFault
+pub mod Answered
+pub mod Counted
+mod Examples

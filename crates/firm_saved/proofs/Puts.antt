@@ -1,0 +1,44 @@
+-- Words that are added to a text one group after the other.
+use Rattle.std.proofs.Common.{◌≡◌, ◌∙◌, ℕ, List, [], ◌++◌, ap, sym, append_assoc, Result, Ok, Err}
+use Rattle.std.specs.Prelude.{OnOk, codes}
+use Rattle.std.specs.Fmt.{decimal}
+use Rattle.std.specs.Io.{StartsWith}
+use Rattle.std.proofs.Transfers.{starts_with_trans}
+use Rattle.std.proofs.lemmas.List.{append-nil}
+use Rattle.firm_saved.specs.StateText.{row_words, words_text}
+use Rattle.firm_saved.specs.declared.rows.Row.TheVariants as row
+
+-- what is kept of a text that was kept
+pub kept_trans : (xs ys zs : List ℕ) → StartsWith xs ys → StartsWith ys zs → StartsWith xs zs
+kept_trans = starts_with_trans
+
+six_labels : (text a i b j c k d l e m f n : List ℕ)
+    → text ++ a ++ i ++ b ++ j ++ c ++ k ++ d ++ l ++ e ++ m ++ f ++ n
+    ≡ text ++ (a ++ (i ++ (b ++ (j ++ (c ++ (k ++ (d ++ (l ++ (e ++ (m ++ (f ++ (n ++ []))))))))))))
+six_labels text a i b j c k d l e m f n = simp (append_assoc, append-nil)
+
+-- six labels, each with its digits, of which the last was added with success, are the text of these words
+pub labels_added : {A E : Type 0} (result : Result A E)
+    (text t1 t2 t3 t4 t5 new a i b j c k d l e m f n all : List ℕ)
+    → t1 ≡ text ++ a ++ i → t2 ≡ t1 ++ b ++ j → t3 ≡ t2 ++ c ++ k → t4 ≡ t3 ++ d ++ l → t5 ≡ t4 ++ e ++ m
+    → OnOk result (new ≡ t5 ++ f ++ n)
+    → a ++ (i ++ (b ++ (j ++ (c ++ (k ++ (d ++ (l ++ (e ++ (m ++ (f ++ (n ++ []))))))))))) ≡ all
+    → OnOk result (new ≡ text ++ all)
+labels_added (Ok done) text t1 t2 t3 t4 t5 new a i b j c k d l e m f n all p q r s t u same =
+    u ∙ rw (t, s, r, q, p, ← same) (six_labels text a i b j c k d l e m f n)
+labels_added (Err refused) text t1 t2 t3 t4 t5 new a i b j c k d l e m f n all p q r s t u same = tt
+
+-- two parts that were added one after the other
+pub two_added : (new first text a b all : List ℕ) → first ≡ text ++ a → new ≡ first ++ b → a ++ b ≡ all
+    → new ≡ text ++ all
+two_added new first text a b all e f same =
+    f ∙ ap (λ (l : List ℕ). l ++ b) e ∙ append_assoc text a b ∙ ap (λ (l : List ℕ). text ++ l) same
+
+-- the words of a place's row, of which the last was added with success
+pub place_added : {A E : Type 0} (result : Result A E) (text new : List ℕ) (n : ℕ)
+    → OnOk result (new ≡ text ++ codes "place admissions " ++ decimal n)
+    → OnOk result (new ≡ text ++ words_text (row_words (row.Place n)))
+place_added (Ok done) text new n e =
+    e ∙ append_assoc text (codes "place admissions ") (decimal n)
+    ∙ ap (λ (l : List ℕ). text ++ (codes "place admissions " ++ l)) (sym (append-nil (decimal n)))
+place_added (Err refused) text new n e = tt

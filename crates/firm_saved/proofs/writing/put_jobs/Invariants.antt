@@ -1,0 +1,14 @@
+use Rattle.std.proofs.Common.{◌≡◌, ◌++◌, map}
+use Rattle.std.specs.Io.{StartsWith}
+use Rattle.std.specs.List.{flat_map}
+use Rattle.firm_saved.specs.StateText.{row_text}
+use Rattle.firm_saved.specs.declared.rows.Row.TheVariants as row
+use Rattle.firm_saved.proofs.writing.put_jobs.Given as goal
+
+-- what was added and what the jobs still to come add are the text of all jobs
+abbrev pub invariant-loop-job : goal.invariant-loop-job
+invariant-loop-job l = record {
+  kept : StartsWith l.output.items l.initial.output.items;
+  added : l.output.items ++ flat_map row_text (map row.Job l.job-iterator)
+      ≡ l.initial.output.items ++ flat_map row_text (map row.Job l.rows.jobs);
+}

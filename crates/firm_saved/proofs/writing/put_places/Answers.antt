@@ -1,0 +1,36 @@
+use Rattle.std.proofs.Common.{◌≡◌, ◌∙◌, ◌+◌, ◌++◌, ◌∷◌, List, ℕ, ap, sym, arith, append_assoc, drop, length}
+use Rattle.std.specs.List.{flat_map}
+use Rattle.std.proofs.lemmas.List.{drop_more, length-append}
+use Rattle.std.proofs.lemmas.List.Concat.{flat_map-append}
+use Rattle.firm_saved.specs.StateText.{place_rows, row_text}
+use Rattle.firm_saved.specs.declared.rows.Row.{Row}
+use Rattle.firm_saved.specs.declared.saved.SavedPlace.{SavedPlace}
+use Rattle.firm_saved.proofs.Puts.{kept_trans}
+use Rattle.firm_saved.proofs.writing.put_places.Goals as goal
+
+pub loop-place-preserved : goal.loop-place-preserved
+loop-place-preserved c =
+    let i : ℕ = c.loop-place.place-index in
+    let places : List SavedPlace = c.args.places.now in
+    let here : SavedPlace = c.place-item.result in
+    let known = c.loop-place.invariant in
+    let text : List ℕ = c.loop-place.output.items in
+    let others : List Row = flat_map place_rows (drop (i + 1) places) in
+    let next : drop i places ≡ here ∷ drop (i + 1) places =
+    drop_more places i here (let test = c.loop-place-test.true in omega arith)
+    ∙ ap (λ (p : SavedPlace). p ∷ drop (i + 1) places) (sym c.place-item.is) in
+    let rows : flat_map place_rows (drop i places) ≡ place_rows here ++ others = ap (flat_map place_rows) next in
+    let long : length (flat_map place_rows (drop i places)) ≡ length (place_rows here) + length others =
+    ap (λ (l : List Row). length l) rows ∙ length-append (place_rows here) others in
+    let count = c.in_ok-count.ensures.count in
+    let few = c.in_ok-count.ensures.few in
+    record {
+      kept = kept_trans _ _ _ c.put_place.ensures.kept known.kept;
+      added = ap (λ (l : List ℕ). l ++ flat_map row_text others) c.in_ok-count.ensures.added
+          ∙ append_assoc text (flat_map row_text (place_rows here)) (flat_map row_text others)
+          ∙ ap (λ (l : List ℕ). text ++ l)
+          (sym (flat_map-append row_text (place_rows here) others) ∙ ap (flat_map row_text) (sym rows))
+          ∙ known.added;
+      counted = let all = known.counted in omega arith;
+      few = let all = known.few in omega arith;
+    }

@@ -1,0 +1,11 @@
+//! A law of states and their texts, the contract of a function that does nothing.
+ghost use Rattle.std.specs.Prelude.{◌≡◌, List};
+ghost use Rattle.firm_saved.specs.Saved.{IsSoundSaved};
+ghost use Rattle.firm_saved.specs.StateText.{state_text};
+ghost use Rattle.firm_saved.specs.declared.saved.SavedPlace.{SavedPlace};
+
+/// A text tells its state: two sound states with one text are one.
+pub fn a_text_has_one_state()
+    ensures { (first second : List SavedPlace) → IsSoundSaved first → IsSoundSaved second
+        → state_text first ≡ state_text second → first ≡ second }
+{}

@@ -1,0 +1,25 @@
+//! The rows of a state's text.
+
+use firm_rules::{Job, Limits, Machine, Name, RecentCosts, Task};
+
+/// A task counts at most this many rounds that left it waiting.
+pub const MOST_WAITED: u32 = 1_000_000;
+
+/// A row of a state's text.
+#[derive(Clone, Copy)]
+pub enum Row {
+    /// How often a place was given. The rows of its tenant, if there is one, follow.
+    Place(u64),
+    /// A tenant's name, its limits, and how many commands it was given.
+    Tenant(Name, Limits, u64),
+    /// The costs of the tenant's last rounds.
+    Costs(RecentCosts),
+    /// A machine of the tenant, after those added before it.
+    Machine(Machine),
+    /// A job, likewise.
+    Job(Job),
+    /// A task as it stands, after those submitted before it.
+    Task(Task),
+    /// The last row: how many rows stand before it.
+    Rows(u64),
+}

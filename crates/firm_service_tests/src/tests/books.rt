@@ -1,0 +1,236 @@
+//! Books, rows, tenants and registers that are restored as they stood.
+use super::rows::{with_job, with_machine, with_restored, with_task};
+use super::{admitted, limits, name, preferring, slots, weight};
+use BookFault::{Cost, Count, Life};
+use firm_rules::{
+    Book, BookFault, Choice, Command, Name, Outcome, Preferred, RecentCosts, Reply, Rows, Task,
+    legal,
+};
+use firm_saved::{SavedPlace, given_count, put_book};
+use firm_tenant::Tenant;
+use firm_text::{Entry, PLACES, Register};
+use std::alloc::Global;
+use std::process::Abort;
+
+/// A task of the job `j`, where it runs, what it has waited, and the machines that it prefers.
+fn task(
+    rt: &impl Abort,
+    bytes: &[u8],
+    machine: Option<Name>,
+    waited: u32,
+    machines: &[&[u8]],
+) -> Task {
+    Task {
+        name: name(rt, bytes),
+        job: name(rt, b"j"),
+        preferred: preferring(rt, machines),
+        machine,
+        waited,
+    }
+}
+
+/// A task that runs on the machine `m1`.
+fn runs(rt: &impl Abort) -> Task {
+    task(rt, b"x", Some(name(rt, b"m1")), 0, &[])
+}
+
+/// A task that has waited for three rounds.
+fn waits(rt: &impl Abort) -> Task {
+    task(rt, b"y", None, 3, &[b"m2"])
+}
+
+fn settle(rt: &impl Abort, rows: &mut Rows, placement: &[Choice]) {
+    assert!(rt; legal(rows, placement));
+    rows.settle(placement);
+}
+
+/// Two machines, a job and these two tasks.
+fn fill(rt: &impl Abort, rows: &mut Rows) {
+    with_machine(rt, rows, name(rt, b"m1"), slots(rt, 1)).expect(rt, "memory");
+    with_machine(rt, rows, name(rt, b"m2"), slots(rt, 2)).expect(rt, "memory");
+    with_job(rt, rows, name(rt, b"j"), weight(rt, 10)).expect(rt, "memory");
+    with_task(rt, rows, name(rt, b"j"), name(rt, b"x"), Preferred::new()).expect(rt, "memory");
+    settle(rt, rows, &[Choice::On(0)]);
+    with_restored(rt, rows, waits(rt)).expect(rt, "memory");
+}
+
+fn rows(rt: &impl Abort, alloc: Global) -> Rows {
+    let mut rows = Rows::new(alloc, limits(rt, &[8, 20, 100, 1, 2, 7]));
+    fill(rt, &mut rows);
+    rows
+}
+
+fn let_wait(rt: &impl Abort, rows: &mut Rows) {
+    assert!(rt; 0 < rows.task_count());
+    rows.place_task(0, None, 5);
+}
+
+#[test]
+fn tasks_are_restored_and_placed(rt: HostRuntime) {
+    let mut rows = rows(&rt, rt.alloc());
+    assert!(rt; rows.task_at(0) == Some(runs(&rt)) && rows.task_at(1) == Some(waits(&rt)));
+    assert_eq!(rt; rows.running(), 1);
+    let_wait(&rt, &mut rows);
+    assert!(rt; rows.task_at(0) == Some(task(&rt, b"x", None, 5, &[])));
+    assert_eq!(rt; rows.running(), 0);
+}
+
+fn costs(cost: i64) -> RecentCosts {
+    let mut costs = RecentCosts::new();
+    costs.push(12);
+    costs.push(cost);
+    costs
+}
+
+/// A cost beside another, how many commands were given, and what is wrong with the book. The tenant's life is 100.
+static BOOKS: [(i64, u64, Option<BookFault>); 8] = [
+    (0, 7, None),
+    (12_288_000_000, 100, None),
+    (0, 6, Some(Count)),
+    (0, 101, Some(Life)),
+    (-1, 7, Some(Cost)),
+    (12_288_000_001, 7, Some(Cost)),
+    (-1, 101, Some(Cost)),
+    (i64::MIN, 0, Some(Cost)),
+];
+
+fn expect_parts(rt: &impl Abort, book: &Book, cost: i64, given: u64) {
+    assert!(rt; book.costs() == costs(cost));
+    assert_eq!(rt; book.given(), given);
+    assert_eq!(rt; book.rows().task_count(), 2);
+}
+
+fn expect_book(rt: &impl Abort, alloc: Global, cost: i64, given: u64, wanted: Option<BookFault>) {
+    let made = Book::new(rows(rt, alloc), costs(cost), given);
+    if let Ok(book) = &made {
+        expect_parts(rt, book, cost, given);
+    }
+    assert_eq!(rt; made.err(), wanted, "{cost} {given}");
+}
+
+#[test]
+fn a_book_is_one_that_commands_may_lead_to(rt: HostRuntime) {
+    for (cost, given, wanted) in &BOOKS {
+        expect_book(&rt, rt.alloc(), *cost, *given, *wanted);
+    }
+}
+
+static TEXT: &[u8] = b"\
+tenant a nodes 8 arcs 20 life 100 spread 1 churn 2 remote 7 commands 9
+costs 12 5
+machine m1 1
+machine m2 2
+job j 10
+task j x at m1
+task j y waits 3 prefers m2
+";
+
+fn book(rt: &impl Abort, alloc: Global) -> Book {
+    Book::new(rows(rt, alloc), costs(5), 9)
+        .ok()
+        .expect(rt, "a book")
+}
+
+fn expect_written(rt: &impl Abort, alloc: Global, tenant: &Tenant) {
+    let mut text = Vec::new(alloc);
+    let tenant_name = name(rt, b"a");
+    let put = put_book(
+        &mut text,
+        tenant_name,
+        tenant.rows(),
+        tenant.costs(),
+        tenant.given(),
+    );
+    assert_eq!(rt; put.expect(rt, "memory"), 7);
+    assert!(rt; text.as_slice() == TEXT);
+}
+
+fn expect(rt: &impl Abort, alloc: Global, tenant: &mut Tenant, command: Command, wanted: Reply) {
+    let reply = tenant.step(alloc, command);
+    assert!(rt; reply == wanted, "{reply:?} and not {wanted:?}");
+}
+
+fn expect_going_on(rt: &impl Abort, alloc: Global, tenant: &mut Tenant) {
+    expect_written(rt, alloc, tenant);
+    let at = Reply {
+        number: 10,
+        outcome: Outcome::At(name(rt, b"m1")),
+    };
+    expect(rt, alloc, tenant, Command::Find(name(rt, b"x")), at);
+    let waits = Reply {
+        number: 11,
+        outcome: Outcome::Waits(3),
+    };
+    expect(rt, alloc, tenant, Command::Find(name(rt, b"y")), waits);
+    let recent = Reply {
+        number: 12,
+        outcome: Outcome::Costs(costs(5)),
+    };
+    expect(rt, alloc, tenant, Command::Costs, recent);
+    assert_eq!(rt; tenant.life_left(), 88);
+}
+
+#[test]
+fn a_restored_tenant_goes_on(rt: HostRuntime) {
+    let book = book(&rt, rt.alloc());
+    let mut tenant = Tenant::restore(rt.alloc(), &book).expect(&rt, "memory");
+    expect_going_on(&rt, rt.alloc(), &mut tenant);
+}
+
+#[test]
+fn a_place_is_of_its_tenant(rt: HostRuntime) {
+    let tenant = Some((name(&rt, b"a"), book(&rt, rt.alloc())));
+    let place = SavedPlace {
+        admissions: 1,
+        tenant,
+    };
+    assert!(rt; place.is_of(name(&rt, b"a")) && !place.is_of(name(&rt, b"b")));
+    let empty = SavedPlace {
+        admissions: 1,
+        tenant: None,
+    };
+    assert!(rt; !empty.is_of(name(&rt, b"a")));
+}
+
+static TWO_TENANTS: &[u8] =
+    b"tenant,nodes,arcs,life,spread,churn\nalpha,2,0,1,0,0\nbeta,2,0,1,0,0\n";
+
+/// The register of the same places.
+fn again(rt: &impl Abort, register: &Register) -> Register {
+    let mut entries = [Entry::EMPTY; PLACES];
+    assert!(rt; register.entries().len() == PLACES);
+    entries.copy_from_slice(register.entries());
+    Register::restored(entries)
+}
+
+/// Expects these entries of the first two places, and that no other place was given.
+fn expect_entries(rt: &impl Abort, register: &Register, first: &Entry, second: &Entry) {
+    let entries = register.entries();
+    assert_eq!(rt; given_count(entries), 2);
+    assert!(rt; entries.get(0) == Some(first));
+    assert!(rt; entries.get(1) == Some(second));
+    assert!(rt; entries.get(2) == Some(&Entry::EMPTY));
+}
+
+#[test]
+fn a_register_is_restored(rt: HostRuntime) {
+    let mut register = Register::of(&admitted(&rt, rt.alloc(), TWO_TENANTS));
+    assert_eq!(rt; register.retire(name(&rt, b"beta")), Ok(1));
+    let mut register = again(&rt, &register);
+    let alpha = Entry {
+        tenant: Some(name(&rt, b"alpha")),
+        admissions: 1,
+    };
+    let left = Entry {
+        tenant: None,
+        admissions: 1,
+    };
+    expect_entries(&rt, &register, &alpha, &left);
+    assert_eq!(rt; register.place_of(name(&rt, b"alpha")), Some(0));
+    assert_eq!(rt; register.admit(name(&rt, b"gamma")), Ok(1));
+    let gamma = Entry {
+        tenant: Some(name(&rt, b"gamma")),
+        admissions: 2,
+    };
+    expect_entries(&rt, &register, &alpha, &gamma);
+}

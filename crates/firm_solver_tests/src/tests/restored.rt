@@ -1,0 +1,71 @@
+//! The graph of a tenant's rows beside the one that their commands built.
+use super::graph::{arcs_of, head_of, through};
+use firm_graph::Graph;
+use firm_net::{ArcId, ArcRow};
+use std::alloc::Global;
+use std::process::Abort;
+
+/// The graph of another one's rows.
+pub fn of_rows(rt: &impl Abort, alloc: Global, graph: &Graph) -> Graph {
+    Graph::of_rows(alloc, graph.rows()).expect(rt, "memory")
+}
+
+// An arc by the place of the machine to which it leads, its capacity and its cost.
+type Shown = (Option<usize>, u32, u32);
+
+fn show(rt: &impl Abort, graph: &Graph, row: ArcRow, shown: &mut Vec<Shown>) {
+    let arc = (graph.machine_of(row.head()), row.cap(), row.cost());
+    shown.push(arc).expect(rt, "memory");
+}
+
+fn show_arc(rt: &impl Abort, graph: &Graph, arc: ArcId, shown: &mut Vec<Shown>) {
+    let row = graph.net().arc(arc).expect(rt, "the arc is there");
+    show(rt, graph, row, shown);
+}
+
+// The arcs that leave the head of an arc.
+fn show_behind(rt: &impl Abort, graph: &Graph, arc: ArcId, shown: &mut Vec<Shown>) {
+    let head = head_of(rt, graph.net(), arc);
+    for (_, row) in graph.net().out_arcs(head) {
+        show(rt, graph, row, shown);
+    }
+}
+
+fn show_machine(rt: &impl Abort, graph: &Graph, place: usize, shown: &mut Vec<Shown>) {
+    let arc = through(rt, graph, place);
+    show_arc(rt, graph, arc, shown);
+    show_behind(rt, graph, arc, shown);
+}
+
+// The arcs of a task, and the exit of its job.
+fn show_task(rt: &impl Abort, graph: &Graph, place: usize, shown: &mut Vec<Shown>) {
+    let arcs = arcs_of(rt, graph, place);
+    show_arc(rt, graph, arcs.wide, shown);
+    show_arc(rt, graph, arcs.stay, shown);
+    show_arc(rt, graph, arcs.wait, shown);
+    show_behind(rt, graph, arcs.wait, shown);
+    for preference in 0..arcs.preferred.len() {
+        show_arc(rt, graph, arcs.preferred.at(preference), shown);
+    }
+}
+
+// The arcs of all machines and tasks.
+fn shown(rt: &impl Abort, alloc: Global, graph: &Graph) -> Vec<Shown> {
+    let mut shown = Vec::new(alloc);
+    for place in 0..graph.rows().machine_count() {
+        show_machine(rt, graph, place, &mut shown);
+    }
+    for place in 0..graph.rows().task_count() {
+        show_task(rt, graph, place, &mut shown);
+    }
+    shown
+}
+
+/// One graph shows what another shows, whose rows are the same.
+pub fn expect_alike(rt: &impl Abort, alloc: Global, one: &Graph, other: &Graph) {
+    assert!(rt; one.rows().machines().eq(other.rows().machines()));
+    assert!(rt; one.rows().jobs().eq(other.rows().jobs()));
+    assert!(rt; one.rows().tasks().eq(other.rows().tasks()));
+    assert_eq!(rt; one.net().room(), other.net().room());
+    assert!(rt; shown(rt, alloc, one).as_slice() == shown(rt, alloc, other).as_slice());
+}

@@ -1,0 +1,31 @@
+use Rattle.std.proofs.Common.{◌≡◌, ◌∙◌, ap, arith, length, ℕ, List}
+use Rattle.std.specs.Prelude.{set}
+use Rattle.firm_text.specs.declared.registers.Entry.{Entry}
+use Rattle.firm_saved.specs.Saved.{register_of, entry_of}
+use Rattle.firm_saved.specs.declared.saved.SavedPlace.{SavedPlace}
+use Rattle.firm_table.proofs.Saving.{all_entered, entries_to, next_entry, saved_entry, saved_wide}
+use Rattle.firm_table.proofs.openings.restored_register.Goals as goal
+
+pub bounds-places-at : goal.bounds-places-at
+bounds-places-at c =
+    let wide = saved_wide c.args.saved.now c.places-places.ensures.sound.register in
+    let same = ap (λ (places : List SavedPlace). length places) c.places-places.ensures.places in
+    omega (arith, wide, same)
+
+pub loop-at-preserved : goal.loop-at-preserved
+loop-at-preserved c =
+    let saved = c.args.saved.now in
+    let sound = c.places-places.ensures.sound.register in
+    let at = c.loop-at.at in
+    let is = saved_entry saved _ at _ c.places-places.ensures.places sound (omega arith) c.index-places-at.is in
+    ap (λ (entries : List Entry). set entries at c.entry_of.result) c.loop-at.invariant
+    ∙ ap (λ (entry : Entry). set (entries_to at (register_of saved)) at entry) (c.entry_of.ensures ∙ is)
+    ∙ next_entry (register_of saved) at sound.all (omega arith)
+
+pub returns : goal.returns
+returns c =
+    let saved = c.args.saved.now in
+    let end : c.loop-at.at ≡ 64 = omega arith in
+    c.restored.ensures
+    ∙ c.loop-at.invariant ∙ ap (λ (n : ℕ). entries_to n (register_of saved)) end
+    ∙ all_entered (register_of saved) c.places-places.ensures.sound.register.all

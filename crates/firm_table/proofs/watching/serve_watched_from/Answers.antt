@@ -1,0 +1,36 @@
+use Rattle.std.proofs.Common.{◌∙◌, ◌^◌, [], refl, sym, ap, subst}
+use Rattle.std.proofs.KnownBytes.{Consumes-nil}
+use Rattle.firm_table.specs.declared.faults.ServeFault.TheVariants.{Memory}
+use Rattle.firm_table.specs.Openings.{places_opened}
+use Rattle.firm_table.specs.inner.Line.{State}
+use Rattle.firm_table.specs.inner.Progress.{Told, state_of}
+use Rattle.firm_table.proofs.Pieces.{ended_none}
+use Rattle.firm_table.proofs.Progress.{nothing_told, answers_up_to_date}
+use Rattle.firm_table.proofs.Stops.{stopped_within, err_weaker}
+use Rattle.firm_table.proofs.Written.{nothing_written}
+use Rattle.firm_table.proofs.watching.serve_watched_from.Goals as goal
+
+pub returns-in_default-clause-stopped : goal.returns-in_default-clause-stopped
+returns-in_default-clause-stopped g c =
+    stopped_within (places_opened c.args.opening) (2 ^ 32) _ _ _ _ _ _ [] Memory (Consumes-nil _)
+    (record {
+      answered = [];
+      rest = [];
+      both = refl;
+      ends = ended_none.ends;
+      begins = nothing_written (places_opened c.args.opening) _;
+    })
+    (c.requires.reader, c.requires.writer)
+
+pub serve_lines-requires-clause-opening : goal.serve_lines-requires-clause-opening
+serve_lines-requires-clause-opening g c =
+    subst (λ (state : State). Told state [] (g.W.Sink.written c.args.writer.now) (g.W.Sink.written c.args.writer.now))
+    (sym c.in-Ok.ensures) (nothing_told (places_opened c.args.opening) _).0
+
+pub returns-clause-in_full : goal.returns-clause-in_full
+returns-clause-in_full g c =
+    let same = c.serve_lines.ensures.opening ∙ ap (λ (state : State). state.opening) c.in-Ok.ensures in
+    err_weaker c.serve_lines.result _ _ (λ fault waiting reading.
+    let told = waiting reading in
+    answers_up_to_date (places_opened c.args.opening) (state_of c.serve_lines.new.clerk.service) _ _ same told.0 told.1)
+    c.serve_lines.ensures.waiting

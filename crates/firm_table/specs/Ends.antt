@@ -1,0 +1,34 @@
+-- The state in which a service ends.
+use Rattle.std.specs.Prelude.{◌≡◌, ℕ, List, [], ◌∷◌, Option, Some, None}
+use Rattle.firm_rules.specs.Book.{Book}
+use Rattle.firm_text.specs.declared.registers.Entry.{Entry}
+use Rattle.firm_saved.specs.declared.saved.SavedPlace.{SavedPlace}
+use Rattle.firm_table.specs.Places.{Place, saved_after, after_lines}
+use Rattle.firm_table.specs.Service.{Device, ServedFrom}
+use Rattle.firm_table.specs.Tenants.{TenantsState}
+
+-- the tenant of this name with this book, if there is one
+abbrev pub named_book : Option (List ℕ) → Option Book → Option (List ℕ × Book)
+named_book None book = None
+named_book (Some name) None = None
+named_book (Some name) (Some book) = Some (name, book)
+
+-- the place of this entry of a register, with this book
+abbrev pub place_with : Entry → Option Book → SavedPlace
+place_with entry book = record { admissions = entry.admissions; tenant = named_book entry.tenant book }
+
+-- the state of the places that this register and these books tell of
+abbrev pub state_with : List Entry → List (Option Book) → List SavedPlace
+state_with [] books = []
+state_with (entry ∷ rest) [] = []
+state_with (entry ∷ rest) (book ∷ books) = place_with entry book ∷ state_with rest books
+
+-- the state of these tenants
+abbrev pub tenants_state : TenantsState → List SavedPlace
+tenants_state tenants = state_with tenants.register tenants.books
+
+-- everything left to read was read, what was written is the output for it, and the tenants that are left have the state
+-- after its lines
+pub record ServedTo (places : List Place) (most : ℕ) (reader writer : Device) (after : TenantsState) : Type 0 where
+  pub served : ServedFrom places most reader writer
+  pub state : tenants_state after ≡ saved_after (after_lines places served.answers.lines)
