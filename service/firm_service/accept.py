@@ -10,12 +10,11 @@ from .faults import Fault, Faults, Reader
 from .relief import SHORTAGES, Relief
 
 AT_ONCE = 16  # connections of a socket in a turn of the loop
-BACKLOG = 1_024  # connections that wait to be accepted
 RETRY_SECONDS = 0.01  # until one that was closed has given its descriptor back
 
 
 class Acceptor:
-    """A socket that is listened on."""
+    """A socket that listens."""
 
     def __init__(
         self,
@@ -31,7 +30,6 @@ class Acceptor:
         self._tasks: set[asyncio.Task[None]] = set()
         self._is_closed = False
         self._reader = Reader("client", self._accept, faults, self._give_up)
-        listening.listen(BACKLOG)
         listening.setblocking(False)
         self._listen()
 

@@ -20,17 +20,18 @@ from pathlib import Path
 from typing import Any
 
 from . import timeline
-from .agent_state import Event, Key, Run, State, StateError, Tally
+from .agent_state import EVENTS, Event, Key, Run, State, StateError, Tally
 from .agent_table import Machine, Table, TableError, Work
 from .books import Book, Books, Task
+from .logs import ERROR, INFO, WARNING, add_form, begin, tell
 from .roster import Limits
+from .supervisor import RUN_FIRST_LINE, group_trouble
 
 SUPERVISOR = Path(__file__).with_name("supervisor.py")
 PYTHON = ["-I", "-S", "-c"]
 # Here the supervisor is imported, so that it is compiled once; elsewhere it is the first line of standard input.
 # A run's name stands behind, for readers of a list of processes.
 IMPORT = "import sys; sys.path.insert(0, sys.argv[1]); import supervisor; supervisor.main()"
-RUN_FIRST_LINE = "import ast; exec(ast.literal_eval(open(0, 'rb', 0, closefd=False).readline().decode()))"
 SSH = ["ssh", "-o", "BatchMode=yes", "-o", "ConnectTimeout=15", "-o", "ServerAliveInterval=15"]
 BEGUN_AT_A_TIME = 8  # supervisors on each machine: sshd takes 10 connections that are not authenticated yet
 LONGEST_PAUSE = 60.0  # seconds between two tries
@@ -68,9 +69,9 @@ class Stop(Exception):
     """The agent is to end; what it has started goes on."""
 
 
-def tell(text: str) -> None:
-    with contextlib.suppress(OSError):  # nobody reads it
-        print(f"firm-agent: {text}", file=sys.stderr, flush=True)
+def tell_of(run: Run, text: str, level: int = INFO) -> None:
+    """Tells the operator of a run."""
+    tell(level, f"{run}{text}", run=run.number, task=run.key.task, job=run.job, machine=run.machine)
 
 
 def stamp(path: Path) -> tuple[int, int, int] | None:
@@ -136,6 +137,7 @@ class Agent:
         self.due: dict[Key, float] = {}  # when a task may run again
         self.held: dict[Key, str] = {}  # why a task is not run, as last told
         self.changed, self.stop = asyncio.Event(), asyncio.Event()
+        self.told_unkept: set[str] = set()  # hosts
         self.failed = 0
 
     @property
@@ -153,9 +155,11 @@ class Agent:
         try:
             async with asyncio.TaskGroup() as self.group:
                 for run in self.history.runs.values():
-                    tell(f"{run} was open when the agent ended")
+                    is_lacking = run in self.state.regained
+                    lacking = f", and {EVENTS} lacks it" if is_lacking else ""
+                    tell_of(run, f" was open when the agent ended{lacking}", WARNING if is_lacking else INFO)
                     self.group.create_task(self.drive(run, None))
-                for work in (self.watch(), self.reread(), self.reconcile_for_ever()):
+                for work in (self.look_for_groups(), self.watch(), self.reread(), self.reconcile_for_ever()):
                     self.group.create_task(work)
                 await self.stop.wait()
                 raise Stop
@@ -183,7 +187,7 @@ class Agent:
             self.is_watching.clear()
             if why != told:
                 told = why
-                tell(f"{self.options.view}: {why}; what runs goes on")
+                tell(WARNING, f"{self.options.view}: {why}; what runs goes on")
             await asyncio.sleep(pause)
             pause = min(2 * pause, LONGEST_FIRMD_PAUSE)
 
@@ -213,10 +217,10 @@ class Agent:
                 if table.tenant != self.table.tenant:
                     raise TableError(f"tenant is {table.tenant} now; this agent runs the tasks of {self.table.tenant}")
                 self.table = table
-                tell(f"{self.options.table}: read again")
+                tell(INFO, f"{self.options.table}: read again")
                 self.changed.set()
             except (OSError, TableError) as error:
-                tell(f"{self.options.table}: {error}; the table as it was stands")
+                tell(WARNING, f"{self.options.table}: {error}; the table as it was stands")
 
     # What is done about it
 
@@ -269,7 +273,7 @@ class Agent:
 
     def end(self, run: Run, why: str) -> None:
         self.state.record("end", run=run.number, why=why)
-        tell(f"{run} is ended: {why}")
+        tell_of(run, f" is ended: {why}")
         if run.number in self.controls:
             self.controls[run.number].write(b"end\n")
 
@@ -288,7 +292,8 @@ class Agent:
             return True
         if self.held.get(key) != why:
             self.held[key] = why
-            tell(f"{key.task} is not started on {task.machine}: {why}")
+            told = f"{key.task} is not started on {task.machine}: {why}"
+            tell(WARNING, told, task=key.task, job=task.job, machine=task.machine)
         return False
 
     def start(self, key: Key, task: Task, work: Work) -> None:
@@ -331,7 +336,7 @@ class Agent:
                 why = f"{self.options.socket}: {error}; done {key.task} waits"
             if why != told:
                 told = why
-                tell(why)
+                tell(WARNING, why)
             await asyncio.sleep(pause)
             pause = min(2 * pause, LONGEST_FIRMD_PAUSE)
 
@@ -348,7 +353,8 @@ class Agent:
             if outcome is not None:
                 return self.ended(run, outcome)
             work = None  # whether it was begun is found out first
-            tell(f"{run}: nothing is known of it until {run.machine} answers; tried again in {pause:g} s")
+            known = f": nothing is known of it until {run.machine} answers; tried again in {pause:g} s"
+            tell_of(run, known, WARNING)
             await asyncio.sleep(pause)
             pause = min(2 * pause, LONGEST_PAUSE)
 
@@ -366,7 +372,7 @@ class Agent:
                     *words, stdin=pipe, stdout=pipe, start_new_session=True
                 )
             except OSError as error:
-                tell(f"{run}: {words[0]}: {error}")
+                tell_of(run, f": {words[0]}: {error}", WARNING)
                 return None
             if supervisor.stdin is None or supervisor.stdout is None:
                 raise RuntimeError("a process without the pipes that it was given")
@@ -392,14 +398,30 @@ class Agent:
         match event:
             case {"event": "running", "pid": int(pid)}:
                 self.state.record("running", run=run.number, pid=pid)
-                tell(f"{run} {'still runs' if is_old else 'runs'}, process {pid}")
+                tell_of(run, f" {'still runs' if is_old else 'runs'}, process {pid}")
+                if event.get("unkept") is not None:
+                    machine = self.table.machine(run.machine)
+                    self.tell_unkept(machine.ssh if machine is not None else None, event["unkept"])
             case {"event": "foreign", "run": str(other), "pid": int(pid)}:
-                tell(f"{run}: {other}, process {pid}, runs too and is unknown here: it is ended first")
+                tell_of(run, f": {other}, process {pid}, runs too and is unknown here: it is ended first", WARNING)
             case {"event": "ended", "status": int(), "asked": bool()} | {"event": "lost" | "void"}:
                 return {**event}
             case _:
-                tell(f"{run}: {run.machine} said {line!r}")
+                tell_of(run, f": {run.machine} said {line!r}", WARNING)
         return None
+
+    async def look_for_groups(self) -> None:
+        """Finds out whether runs on this host will have cgroups."""
+        if self.table.has_here and (why := await asyncio.to_thread(group_trouble)) is not None:
+            self.tell_unkept(None, why)
+
+    def tell_unkept(self, ssh: str | None, why: str) -> None:
+        """Tells once of a host where runs have no cgroups."""
+        host = ssh or "this host"
+        if host not in self.told_unkept:
+            self.told_unkept.add(host)
+            told = f"{host}: tasks have no cgroups ({why}), so a process that clears its environment can outlive"
+            tell(WARNING, f"{told} a killed supervisor", host=host)
 
     def request(self, run: Run, machine: Machine, work: Work | None) -> Event:
         """What the supervisor is asked: to follow the run, and to begin it where there is work."""
@@ -421,9 +443,9 @@ class Agent:
         tally, work = self.tally(run.key), self.table.work(run.job, run.key.task)
         self.changed.set()
         if outcome["event"] == "void":
-            return tell(f"{run} was never begun")
+            return tell_of(run, " was never begun", WARNING)
         if outcome["event"] == "ended" and (outcome["asked"] or outcome["status"] == 0):
-            return tell(f"{run} {'was ended' if outcome['asked'] else 'is done'}, status {outcome['status']}")
+            return tell_of(run, f" {'was ended' if outcome['asked'] else 'is done'}, status {outcome['status']}")
         why = (
             outcome.get("fault") or f"status {outcome['status']}"
             if outcome["event"] == "ended"
@@ -432,19 +454,20 @@ class Agent:
         if tally.failures > work.retries:
             self.failed += 1
             self.state.record("failed", **asdict(run.key))
-            return tell(f"{run} failed, {why}; given up after {tally.failures} failures")
+            return tell_of(run, f" failed, {why}; given up after {tally.failures} failures", WARNING)
         pause = min(work.pause * 2 ** min(tally.failures + tally.lost - 1, 10), LONGEST_PAUSE)
         loop = asyncio.get_running_loop()
         self.due[run.key] = loop.time() + pause
         loop.call_later(pause, self.changed.set)
-        tell(f"{run} failed, {why}; failures {tally.failures} of {work.retries + 1}, tried again in {pause:g} s")
+        again = f"failures {tally.failures} of {work.retries + 1}, tried again in {pause:g} s"
+        tell_of(run, f" failed, {why}; {again}", WARNING)
 
 
 def run(options: Options) -> int:
     try:
         table = Table.read(options.table)
     except (OSError, TableError) as error:
-        tell(f"{options.table}: {error}")
+        tell(ERROR, f"{options.table}: {error}")
         return Exit.TABLE
     try:
         return asyncio.run(Agent(options, table, State(options.state, table.tenant)).serve())
@@ -455,7 +478,7 @@ def run(options: Options) -> int:
         if others is not None or faults is None:
             raise
         fault = faults.exceptions[0]
-    tell(f"{options.state}: {fault}; what runs goes on")
+    tell(ERROR, f"{options.state}: {fault}; what runs goes on")
     return Exit.STATE
 
 
@@ -479,7 +502,10 @@ def main(words: list[str]) -> int:
     one.add_argument("--until-empty", action="store_true", help="end once the tenant has no tasks")
     two = commands.add_parser("timeline", help="write what ran where and when, as SVG, to standard output")
     two.add_argument("state", type=Path, metavar="DIR", help="an agent's state folder")
+    for command in (one, two):
+        add_form(command)
     given = parser.parse_args(words)
+    begin("firm-agent", given.log_format)
     if given.verb == "timeline":
         return timeline.main(given.state)
     return run(Options(given.table, given.view, given.socket, given.state, given.until_empty))

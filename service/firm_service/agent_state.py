@@ -13,6 +13,8 @@ from pathlib import Path
 from typing import Any
 
 EVENTS = "events.jsonl"
+OPEN = "open"  # a folder with the start of each run that is open, for where the events are put back or moved away
+ENDS = frozenset({"ended", "lost", "void"})  # events that end a run
 
 Event = dict[str, Any]
 
@@ -79,7 +81,7 @@ class History:
             self.runs[self.last_run] = Run(self.last_run, key, event["job"], event["machine"], *more)
         elif kind == "end":
             self.runs[event["run"]].ends = event["why"]
-        elif kind in ("ended", "lost", "void"):
+        elif kind in ENDS:
             tally = self.tallies.setdefault(self.runs.pop(event["run"]).key, Tally())
             tally.lost += kind == "lost"
             tally.failures += kind == "ended" and event["status"] != 0 and not event["asked"]
@@ -110,16 +112,44 @@ class State:
             raise StateError(f"{folder}: another agent has it") from None
         self.folder, self.history = folder.absolute(), History()
         self.file = os.open(folder / EVENTS, os.O_RDWR | os.O_CREAT | os.O_APPEND, 0o644)
+        (folder / OPEN).mkdir(exist_ok=True)
         text = (folder / EVENTS).read_bytes()
         whole = text.rfind(b"\n") + 1
         os.ftruncate(self.file, whole)  # of a torn last line nothing was done
+        unknown = {path.name for path in (folder / OPEN).iterdir()}
         for number, event in enumerate(events_of(text[:whole]), 1):
             try:
                 self.history.take(event)
+                if event["event"] == "start":
+                    unknown.discard(str(event.get("token")))
             except (KeyError, TypeError) as error:
                 raise StateError(f"{EVENTS}: line {number} doesn't follow from those before: {error!r}") from None
         if not self.history.name:
             self.record("state", name=f"{tenant}-{secrets.token_hex(4)}")
+        self.regained = self._regain(unknown)
+        tokens = {run.token for run in self.history.runs.values()}
+        for path in (folder / OPEN).iterdir():
+            if path.name not in tokens:
+                path.unlink()
+
+    def _regain(self, tokens: set[str]) -> list[Run]:
+        """Takes in runs that are open and are not among the events."""
+        starts = [start for token in tokens if (start := self._start_of(token)) is not None]
+        found = []
+        for start in sorted(starts, key=lambda start: int(start["run"])):
+            again: Event = {**start, "run": self.history.last_run + 1}
+            self.record(**again)
+            found.append(self.history.runs[self.history.last_run])
+        return found
+
+    def _start_of(self, token: str) -> Event | None:
+        """The start of an open run, None where its note is torn."""
+        try:
+            start: Event = {**json.loads((self.folder / OPEN / token).read_text())}
+            History().take(start)
+        except (ValueError, TypeError, KeyError):
+            return None
+        return start if (start["event"], start.get("token")) == ("start", token) else None
 
     def record(self, event: str, **more: Any) -> None:
         """Writes an event, and returns once it is on the disk; raises OSError where it can't be."""
@@ -128,4 +158,9 @@ class State:
         while line:
             line = line[os.write(self.file, line) :]
         os.fdatasync(self.file)
+        run = self.history.runs.get(more.get("run", 0))
         self.history.take(told)
+        if event == "start":
+            (self.folder / OPEN / more["token"]).write_text(json.dumps(told))
+        elif event in ENDS and run is not None and run.token is not None:
+            (self.folder / OPEN / run.token).unlink(missing_ok=True)

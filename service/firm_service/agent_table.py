@@ -93,6 +93,11 @@ class Table:
         jobs, tasks = (sections(table, name, WORK_KEYS) for name in ("jobs", "tasks"))
         return cls(table["tenant"], path.absolute().parent, machines, common, jobs, tasks)
 
+    @property
+    def has_here(self) -> bool:
+        """Whether tasks may run on this host."""
+        return not self.machines or any(machine.ssh is None for machine in self.machines.values())
+
     def machine(self, name: str) -> Machine | None:
         """Where a machine is. A table that names no machines has them all here, any other only those that it names."""
         return self.machines.get(name) if self.machines else Machine()

@@ -7,9 +7,7 @@ with `?`, as none of firm's does.
 from __future__ import annotations
 
 import asyncio
-import os
 import socket
-import stat
 import struct
 from collections import deque
 from contextlib import suppress
@@ -20,7 +18,7 @@ from typing import NamedTuple, Protocol
 from . import lines
 from .bounds import LINES_IN_ALL, LINES_OF_SOCKET, NOTE_BYTES, SHARE_BYTES, UNREAD_PIECE
 from .bounds import Account, Backlog, Bounds, Unread
-from .faults import Exit, Fault, Faults, reason, say
+from .faults import Faults, say
 from .observers import Status
 from .relief import Held
 
@@ -30,7 +28,6 @@ LINES_AHEAD = 8_192  # of a client without replies: it is not read further until
 HIGH_WATER = 262_144  # bytes of replies that a client has not read: no further line of its is read until fewer are
 LINGER_SECONDS = 60.0  # for which a client that is closed may still read
 STOP_SECONDS = 5.0  # for which all may, at the end of the service
-PROBE_SECONDS = 1.0  # for an answer of a socket that is there already
 CREDENTIALS = struct.Struct("iII")  # of a connection's other end: process, user, group
 
 # A text in which no line but the first can begin with one of these has no comments, no empty lines and no operator's.
@@ -404,40 +401,3 @@ class Listener:
 
     path: Path
     rights: Rights
-
-    def bind(self, mode: int) -> socket.socket:
-        """The socket, which the mode of its file guards. One that a dead daemon left is replaced."""
-        self._remove_stale()
-        bound = socket.socket(socket.AF_UNIX, socket.SOCK_STREAM)
-        mask = os.umask(0o777 & ~mode)
-        try:
-            bound.bind(str(self.path))
-        except OSError as error:
-            bound.close()
-            raise Fault(Exit.SOCKET, f"cannot make the socket {self.path}: {reason(error)}") from error
-        finally:
-            os.umask(mask)
-        return bound
-
-    def _remove_stale(self) -> None:
-        try:
-            if not stat.S_ISSOCK(self.path.lstat().st_mode):
-                raise Fault(Exit.SOCKET, f"cannot make the socket {self.path}: something else stands there")
-            if self._is_served():
-                raise Fault(Exit.SOCKET, f"cannot make the socket {self.path}: somebody serves it")
-            self.path.unlink()
-        except FileNotFoundError:
-            return
-        except OSError as error:
-            raise Fault(Exit.SOCKET, f"cannot replace the socket {self.path}: {reason(error)}") from error
-
-    def _is_served(self) -> bool:
-        with socket.socket(socket.AF_UNIX, socket.SOCK_STREAM) as probe:
-            probe.settimeout(PROBE_SECONDS)
-            try:
-                probe.connect(str(self.path))
-            except ConnectionRefusedError:
-                return False
-            except TimeoutError:  # it has as many connections waiting as it may
-                return True
-            return True

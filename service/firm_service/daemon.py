@@ -18,6 +18,7 @@ from contextlib import suppress
 from functools import partial
 from pathlib import Path
 
+from . import logs
 from .accept import Acceptor
 from .books import Books
 from .bounds import MEBIBYTE, Bounds
@@ -29,6 +30,7 @@ from .observers import Status
 from .relief import SHORTAGES, Relief
 from .roster import RosterError
 from .rounds import Rounds, Times
+from .sockets import Names
 from .state import State
 from .stream import Firm, Stream
 from .view import serve_view
@@ -60,7 +62,7 @@ class Daemon:
         self._state = State(options.state)
         self._program = [options.firm, *(["--workers", str(options.workers)] if options.workers is not None else [])]
         self._roster = self._state.roster(options.roster, self._program)
-        self._sockets: dict[Path, os.stat_result] = {}  # as they were made
+        self._names = Names()
         self._faults = Faults()
         self._has_warned = False
 
@@ -111,7 +113,7 @@ class Daemon:
             servers = await self._listen(clients)
             rounds.start()
             seconds = time.time() - self._status.started
-            say(f"ready: {self._status.replayed_lines:,} lines replayed in {seconds:.1f} s")
+            say(f"ready: {self._status.replayed_lines:,} lines replayed in {seconds:.1f} s", logs.INFO)
             notify(b"READY=1")
             ticking = asyncio.create_task(self._tick(clients))
             await asyncio.wait([self._stream.ended])
@@ -119,21 +121,20 @@ class Daemon:
         except Fault as fault:
             self._stream.fail(fault)
         finally:
+            self._names.remove()
             for server in servers:
                 server.close()
             await clients.close()
-            self._remove_sockets()
 
     async def _listen(self, clients: Clients) -> list[asyncio.Server | Acceptor]:
         servers: list[asyncio.Server | Acceptor] = [await self._serve_view()]
         if self._options.http is not None:
             await self._serve_http(self._options.http)
         for listener in self._options.listeners:
-            bound = listener.bind(self._options.socket_mode)
-            self._sockets[listener.path] = listener.path.lstat()
+            listening = self._names.listen(listener.path, self._options.socket_mode)
             client = partial(Client, clients, listener.rights)
             name = listener.rights.socket.decode()
-            servers.append(Acceptor(bound, name, client, self._relief, self._faults))
+            servers.append(Acceptor(listening, name, client, self._relief, self._faults))
         return servers
 
     async def _serve_http(self, address: str) -> None:
@@ -155,7 +156,7 @@ class Daemon:
         mask, path = os.umask(0o777 & ~self._options.socket_mode), self._state.view_path
         try:
             server = await serve_view(path, self._books, self._status, self._faults, self._relief)
-            self._sockets[path] = path.lstat()
+            self._names.add(path)
             return server
         except OSError as error:
             raise Fault(Exit.SOCKET, f"cannot make the socket {path}: {reason(error)}") from error
@@ -163,20 +164,13 @@ class Daemon:
             os.umask(mask)
 
     def _stop(self) -> None:
-        say("stopping: what was taken is answered")
+        say("stopping: what was taken is answered", logs.INFO)
         notify(b"STOPPING=1")
         self._stream.stop()
 
     def _stop_taking(self, clients: Clients, rounds: Rounds) -> None:
         rounds.stop()
         clients.stop_reading()
-
-    def _remove_sockets(self) -> None:
-        """Removes its own: another firmd may have taken the name by now."""
-        for path, made in self._sockets.items():
-            with suppress(OSError):
-                if os.path.samestat(path.lstat(), made):
-                    path.unlink()
 
     async def _tick(self, clients: Clients) -> None:
         """Keeps what the status counts of clients, and warns of a journal that grows too long."""
@@ -318,6 +312,7 @@ def parser() -> argparse.ArgumentParser:
     add("--http", metavar="ADDRESS:PORT", help="serve /metrics and a page")
     add("--firm", default=default_firm(), metavar="PROGRAM", help="the built program (default: %(default)s)")
     add("--workers", type=partial(number, 1, 8), metavar="N", help="threads of firm that solve rounds")
+    logs.add_form(found)
     limits = found.add_argument_group("limits")
     most_clients = partial(number, 1, 10**5)
     told = "at a time (default: %(default)s)"
@@ -352,11 +347,12 @@ def read_options(arguments: list[str]) -> argparse.Namespace:
 
 def main() -> int:
     options = read_options(sys.argv[1:])
+    logs.begin("firmd", options.log_format)
     allow_files(options.most_clients)
     try:
         asyncio.run(Daemon(options).run())
     except Fault as fault:
-        say(str(fault))
+        say(str(fault), logs.ERROR)
         return fault.status
     except KeyboardInterrupt:  # before the signals are handled
         return 128 + signal.SIGINT

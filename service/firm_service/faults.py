@@ -2,12 +2,12 @@
 
 from __future__ import annotations
 
-import sys
 import traceback
 from collections import Counter
 from collections.abc import Callable
-from contextlib import suppress
 from enum import IntEnum
+
+from . import logs
 
 MOST_KINDS = 100  # of faults, that are told
 RESTORE = "restore the state from a copy"  # where a part of it is missing or changed
@@ -52,13 +52,13 @@ class Faults:
         self.counts[part] += 1
         frames = traceback.extract_tb(error.__traceback__)
         kind = (part, type(error).__name__, *[f"{frame.filename}:{frame.lineno}" for frame in frames])
-        told = "".join(traceback.format_exception(error)).rstrip()
-        self._tell(kind, f"a fault of {part}, which ends a connection at most; others like it are only counted\n{told}")
+        text = f"a fault of {part}, which ends a connection at most; others like it are only counted"
+        self._tell(kind, text, error)
 
-    def _tell(self, kind: tuple[str, ...], text: str) -> None:
+    def _tell(self, kind: tuple[str, ...], text: str, error: BaseException | None = None) -> None:
         if kind not in self._told and len(self._told) < MOST_KINDS:
             self._told.add(kind)
-            say(text)
+            logs.tell(logs.WARNING, text, error, part=kind[0])
 
 
 class Reader:
@@ -85,7 +85,6 @@ def reason(error: OSError) -> str:
     return error.strerror or str(error)
 
 
-def say(text: str) -> None:
+def say(text: str, level: int = logs.WARNING) -> None:
     """Tells the operator; where nobody can hear it, the service goes on."""
-    with suppress(OSError):
-        print(f"firmd: {text}", file=sys.stderr, flush=True)
+    logs.tell(level, text)

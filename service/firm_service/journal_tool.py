@@ -11,11 +11,12 @@ from pathlib import Path
 from zlib import crc32
 
 from .daemon import SEGMENT_BYTES
-from .faults import Exit, Fault
+from .faults import Exit, Fault, say
 from .files import sync_folder
 from .journal import Journal
 from .kept import Kept, found_now, kept_lines
 from .lines import first_word
+from .logs import ERROR, add_form, begin
 from .records import Batch
 from .recovery import Found
 from .state import NEW_JOURNAL, OLD_JOURNAL, State, read
@@ -124,6 +125,7 @@ def parser() -> argparse.ArgumentParser:
         command = commands.add_parser(name, help=explained, description=explained)
         command.add_argument("state", type=Path, metavar="STATE", help="firmd's state folder")
         command.set_defaults(run=run)
+        add_form(command)
         if name == "print":
             told = "each line behind its number, time and sender: a socket and a user, or firmd for its own rounds"
             command.add_argument("--senders", action="store_true", help=told)
@@ -138,12 +140,13 @@ def parser() -> argparse.ArgumentParser:
 def main() -> int:
     signal.signal(signal.SIGPIPE, signal.SIG_DFL)  # as other programs of a pipe
     options = parser().parse_args()
+    begin("firm-journal", options.log_format)
     try:
         options.run(options)
     except Fault as fault:
-        print(f"firm-journal: {fault}", file=sys.stderr)
+        say(str(fault), ERROR)
         return fault.status
     except OSError as error:
-        print(f"firm-journal: {error}", file=sys.stderr)
+        say(str(error), ERROR)
         return Exit.STATE
     return 0

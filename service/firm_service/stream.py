@@ -12,7 +12,6 @@ import fcntl
 import os
 import subprocess
 import time
-import traceback
 from collections import deque
 from collections.abc import Callable, Iterator, Sequence
 from contextlib import suppress
@@ -27,6 +26,7 @@ from typing import Protocol
 from .faults import Exit, Fault, Faults, Reader, reason
 from .journal import Journal, Piece, Place, Shortage
 from .lines import NO_MEMORY, OPERATOR_NO_MEMORY, first_word, is_memory_refused
+from .logs import ERROR, tell
 from .observers import Observer, Status
 from .records import UNKNOWN, Batch, Block
 
@@ -331,7 +331,7 @@ class Stream:
         except Fault as fault:
             self._give_up(fault)
         except Exception as error:  # who is owed what is not known any more
-            traceback.print_exc()
+            tell(ERROR, "an error of firmd itself", error)
             self._give_up(Fault(Exit.INTERNAL, f"an error of firmd itself: {error!r}"))
 
     def _wait_for_memory(self, error: MemoryError, again: Callable[[], None]) -> None:

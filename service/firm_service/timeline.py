@@ -2,7 +2,6 @@
 
 from __future__ import annotations
 
-import sys
 from collections import Counter
 from collections.abc import Iterable, Iterator
 from dataclasses import dataclass, field
@@ -10,6 +9,7 @@ from html import escape
 from pathlib import Path
 
 from .agent_state import EVENTS, Event, StateError, events_of
+from .logs import ERROR, tell
 
 WIDTH, LEFT, RIGHT, TOP = 1180.0, 96.0, 24.0, 76.0
 ROW, GAP, AXIS = 22.0, 14.0, 34.0
@@ -246,7 +246,7 @@ def main(folder: Path) -> int:
         text = (folder / EVENTS).read_bytes()
         chart = Chart.of(events_of(text[: text.rfind(b"\n") + 1]))
     except (OSError, StateError, KeyError) as error:
-        print(f"firm-agent: {folder}: {error}", file=sys.stderr)
+        tell(ERROR, f"{folder}: {error}")
         return 4
     print(Picture(chart).svg())
     return 0
