@@ -18,7 +18,7 @@ from pathlib import Path
 from typing import Any, TypeVar
 
 from harness.checks import Missed, require
-from harness.deployed import ID, SERVICE, Books, Faults, Status, serve_view, supervisor
+from harness.deployed import ID, SERVICE, Books, Shown, Status, bound, serve_view, supervisor
 
 AGENT = [sys.executable, str(SERVICE / "firm-agent")]
 Result = TypeVar("Result")
@@ -61,6 +61,7 @@ class StandIn:
         (self.folder / ID).write_text(name)
         self.number, self.books = 0, Books()
         self.books.start(ROSTER)
+        self.shown = Shown(self.books, Status(time.time(), 0, 0, 0, 0, 1, 0, 0), name)
 
     def open(self) -> None:
         self.servers = self.within(self._serve())
@@ -70,8 +71,7 @@ class StandIn:
         return asyncio.run_coroutine_threadsafe(work, self.loop).result(LIMIT_SECONDS)
 
     async def _serve(self) -> list[asyncio.AbstractServer]:
-        status = Status(time.time(), 0, 0, 0, 0, 1, 0, 0)
-        view = await serve_view(self.folder / "view", self.books, status, Faults())
+        view = await serve_view(bound(self.folder / "view"), self.shown)
         return [view, await asyncio.start_unix_server(self._client, self.folder / "socket")]
 
     async def _client(self, reader: asyncio.StreamReader, writer: asyncio.StreamWriter) -> None:
@@ -85,7 +85,7 @@ class StandIn:
     def _reply(self, line: str, outcome: str) -> str:
         self.number += 1
         reply = f"alpha {self.number} {outcome}"
-        self.books.replied(line.encode(), reply.encode(), None)
+        self.shown.replied_all([line.encode()], [reply.encode()], None)
         return reply
 
     def say(self, words: str, outcome: str = "ok") -> None:
@@ -113,7 +113,7 @@ class StandIn:
             await asyncio.gather(*others, return_exceptions=True)
 
         self.within(close())
-        self.books.watchers.clear()
+        self.shown.watchers.clear()
         self.writers.clear()
 
 

@@ -36,8 +36,8 @@ from typing import Any, TypeVar
 import firmd
 from harness import program, service
 from harness.checks import Check, Missed, Skipped, count_ends, passes, print_skipped, require, run_script
-from harness.deployed import LONGEST_WAIT, MOST_CLIENTS, MOST_UNREAD, SERVICE, Book, Books, Faults, Status
-from harness.deployed import gets_reply, roster, serve_view
+from harness.deployed import LONGEST_WAIT, MOST_OF_USER, MOST_UNREAD, SERVICE, Book, Books, Shown, Status
+from harness.deployed import bound, gets_reply, roster, serve_view
 from harness.program import ROOT
 from harness.small_streams import random_bad_roster, random_stream, with_noise
 
@@ -70,13 +70,12 @@ class Front:
 
     def __init__(self, folder: str, roster_text: bytes = ROSTER, has_http: bool = False) -> None:
         self.state, self.has_http = Path(folder), has_http
-        (self.state / "id").write_text("stand-in")
         self.port = 0
         self.model = service.Service(service.read_roster(roster_text))
         self.books = Books()
         self.books.start(roster_text)
         self.status = Status(time.time() - 3700, os.getpid(), 3, 17, 2_500, 10_000, 2, 0)
-        self.faults = Faults()
+        self.shown = Shown(self.books, self.status, "stand-in")
         self.is_up = threading.Event()
         self.thread = threading.Thread(target=lambda: asyncio.run(self.serve()), daemon=True)
 
@@ -99,13 +98,13 @@ class Front:
     async def serve(self) -> None:
         """Serves until it is stopped; all connections are closed then."""
         self.loop, self.ended = asyncio.get_running_loop(), asyncio.Event()
-        view = await serve_view(self.state / "view", self.books, self.status, self.faults)
+        view = await serve_view(bound(self.state / "view"), self.shown)
         if self.has_http:
-            from firm_service.metrics import Metrics
-            from firm_service.web import Site, serve_http
+            from firm_service.address import Address
+            from firm_service.web import serve_http
 
-            metrics = Metrics(self.books, self.status, self.faults)
-            http_server = await serve_http("0", lambda place: Site(place, self.books, metrics, self.status))
+            address = Address.read("0")
+            (http_server,) = await serve_http(address.listen(), address, self.shown)
             self.address = http_server.sockets[0].getsockname()
             self.port = self.address[1]
         self.is_up.set()
@@ -120,8 +119,7 @@ class Front:
             for line in lines:
                 reply = service.answer_line(self.model, line)
                 if reply is not None:
-                    self.status.lines += 1
-                    self.books.replied(line, reply, seconds)
+                    self.shown.replied_all([line], [reply], seconds)
                     replies.append(reply)
             return replies
 
@@ -717,9 +715,9 @@ def watchers_follow() -> None:
         require([event["line"] for event in told] == wanted, told)
         require([event["number"] for event in told] == [16, 18, 20, 23, 25], told)
         require([gamma.next()["line"] for _ in range(2)] == ["+ admit gamma,9,24,100,1,2", "gamma job j 1"], "gamma")
-        require(len(started.books.watchers) == 3, started.books.watchers)
+        require(len(started.shown.watchers) == 3, started.shown.watchers)
         gamma.__exit__()
-        require(wait_until(lambda: len(started.books.watchers) == 2), "a watcher stays behind")
+        require(wait_until(lambda: len(started.shown.watchers) == 2), "a watcher stays behind")
 
 
 def wait_until(holds: Callable[[], bool], seconds: float = 10) -> bool:
@@ -735,7 +733,7 @@ def watch_prints() -> None:
         words = [sys.executable, str(FIRMCTL), "watch", "alpha", "--state", str(started.state)]
         watching = subprocess.Popen(words, stdout=subprocess.PIPE, stderr=subprocess.PIPE)
         try:
-            require(wait_until(lambda: bool(started.books.watchers)), "no watcher")
+            require(wait_until(lambda: bool(started.shown.watchers)), "no watcher")
             started.say(b"alpha \x1b[2J", seconds=0.001)
             printed = program.opened(watching.stdout)
             require(select.select([printed], [], [], 20)[0], "nothing is printed")
@@ -777,7 +775,7 @@ def views_refuse() -> None:
         viewer.send(b"x" * 100_000)
         require(viewer.next() is None, "an endless line is held")
     with front() as started, contextlib.ExitStack() as stack:
-        viewers = [stack.enter_context(Viewer(started.state)) for _ in range(MOST_CLIENTS)]
+        viewers = [stack.enter_context(Viewer(started.state)) for _ in range(MOST_OF_USER)]
         require(all("status" in viewer.ask({"ask": "status"}) for viewer in viewers), "a view is refused")
         with Viewer(started.state) as last:
             require(last.next()["error"] == "too-many-clients", "one view more is taken")
@@ -792,21 +790,18 @@ def is_answered(state: Path) -> bool:
 
 
 def slow_watchers_are_closed() -> None:
-    """A watcher that does not read is closed with its reason, and holds nobody up."""
+    """A watcher that does not read is dropped, and holds nobody up."""
     with front() as started, Viewer(started.state) as slow, Viewer(started.state) as other:
         slow.ask({"ask": "watch", "tenant": None})
-        require(wait_until(lambda: len(started.books.watchers) == 1), "it does not watch")
+        require(wait_until(lambda: len(started.shown.watchers) == 1), "it does not watch")
         line = b"alpha " + b"x" * 240
         count = 0
-        while started.books.watchers and count < 4 * MOST_UNREAD // len(line):
+        while started.shown.watchers and count < 4 * MOST_UNREAD // len(line):
             started.say(*[line] * 1000, seconds=0.001)
             count += 1000
-        require(not started.books.watchers, f"it still watches after {count} lines")
+        require(not started.shown.watchers, f"it still watches after {count} lines")
         require("status" in other.ask({"ask": "status"}), "another view")
-        last = None
-        while (event := slow.next()) is not None:
-            last = event
-        require(last is not None and last.get("error") == "too-slow", last)
+        require(slow.answers.read().count(b"\n") < count, "what it had not read is dropped")
 
 
 def http_ask(port: int, path: str, method: str = "GET", **headers: str) -> tuple[int, dict[str, str], bytes]:
@@ -870,14 +865,14 @@ def metrics_are_those_of_the_books() -> None:
         names = {
             re.sub("_(bucket|count|sum)$", "", name)
             for name, _ in samples
-            if not name.startswith(("process_", "firm_process_"))
+            if not name.startswith(("process_", "firm_process_", "firm_viewer_process_"))
         }
         told = (ROOT / "docs" / "SERVICE.md").read_text()
         require(not [name for name in names if f"`{name}" not in told], f"{names} and docs/SERVICE.md")
 
 
 def http_only_reads() -> None:
-    from firm_service.web import Address
+    from firm_service.address import Address
 
     with front(has_http=True) as started:
         port = started.port
@@ -944,11 +939,12 @@ def connections_are_bounded() -> None:
     from firm_service.web import MOST_CONNECTIONS
 
     with front(has_http=True) as started, contextlib.ExitStack() as stack:
-        for _ in range(MOST_CONNECTIONS):
-            stack.enter_context(socket.create_connection(("127.0.0.1", started.port)))
-        require(wait_until(lambda: http_ask(started.port, "/")[0] == 503), "one connection more is held")
-        stack.close()
-        require(wait_until(lambda: http_ask(started.port, "/")[0] == 200), "a place that is free again is not given")
+        held = [
+            stack.enter_context(socket.create_connection(("127.0.0.1", started.port), timeout=10))
+            for _ in range(MOST_CONNECTIONS)
+        ]
+        require(http_ask(started.port, "/")[0] == 200, "one connection more gets no answer")
+        require(held[0].recv(1) == b"", "that which has waited longest for a request is not closed")
 
 
 def page_has_no_external_part() -> None:

@@ -189,35 +189,51 @@ PATCHED = """\
 import sys
 sys.path.insert(0, {service!r})
 {patch}
-from firm_service.daemon import main
+from firm_service.{program} import main
 sys.exit(main())
 """
 FAULTY = """\
-from firm_service import clients, view
+from firm_service import clients
+def answered(self, replies, count, original=clients.Client.answered):
+    if b"beta" in replies:
+        raise KeyError("unforeseen")
+    original(self, replies, count)
+clients.Client.answered = answered
+"""
+FAULTY_VIEWER = """\
+from firm_service import view
 def fail(*_):
     raise KeyError("unforeseen")
-def answered(self, replies, count, original=clients.Client.answered):
-    fail() if b"beta" in replies else original(self, replies, count)
-clients.Client.answered = answered
 view.status_of = view.Connection.tell = fail
-if "--http" in sys.argv:
+if {has_http}:
     from firm_service import web
     web.page_of = fail
 """
 
 
+def patched(daemon: Daemon, name: str, program: str, text: str) -> str:
+    """A script that runs a program with parts in the place of its own."""
+    script = daemon.folder / name
+    script.write_text(PATCHED.format(service=str(SERVICE), program=program, patch=text))
+    return str(script)
+
+
 def patch(daemon: Daemon, text: str) -> None:
     """Has firmd run with parts in the place of its own."""
-    script = daemon.folder / "patched.py"
-    script.write_text(PATCHED.format(service=str(SERVICE), patch=text))
-    daemon.words = [daemon.words[0], str(script)]
+    daemon.words = [daemon.words[0], patched(daemon, "patched.py", "daemon", text)]
+
+
+def patch_viewer(daemon: Daemon, text: str, of_firmd: str = "") -> None:
+    """The same of its process for readers, and of firmd."""
+    viewer = patched(daemon, "firm-viewer", "viewer", text)
+    patch(daemon, f"from firm_service import feeder\nfeeder.PROGRAM = {viewer!r}\n{of_firmd}")
 
 
 def unforeseen_faults(setup: Setup) -> None:
     """A fault of a view, a watcher, a page or a client closes its connection; it is told once, and all else goes on."""
     with setup.daemon() as daemon:
         port = with_http(daemon) if python_with_http() is not None else 0
-        patch(daemon, FAULTY)
+        patch_viewer(daemon, FAULTY_VIEWER.format(has_http=bool(port)), FAULTY)
         daemon.start()
         with view_of(daemon) as watcher, daemon.client() as client:
             require(b'"book"' in watcher.ask(b'{"ask": "watch", "tenant": "alpha"}'), "the rows")
@@ -237,7 +253,7 @@ def unforeseen_faults(setup: Setup) -> None:
         if port:
             for _ in range(2):
                 exchange(port, b"GET /tenants/alpha.json HTTP/1.1\r\nHost: localhost\r\nConnection: close\r\n\r\n")
-            require(faults_of(port) == {"client": 3, "http": 2, "view": 4}, faults_of(port))
+            wait_for(lambda: faults_of(port) == {"client": 3, "http": 2, "view": 4}, "each fault is counted")
         told = daemon.said().count(b"Traceback")
         require(told == (4 if port else 3), f"{told} told: {daemon.said().decode()}")
         ends_well(daemon)

@@ -7,7 +7,6 @@ from bisect import bisect_left
 from collections import Counter, deque
 from collections.abc import Iterator, Sequence
 from dataclasses import dataclass, field
-from typing import Protocol
 
 from .roster import Limits, read_roster
 
@@ -16,16 +15,6 @@ REFUSAL, EVICTED, ROUND = b"ner"
 LONGEST_WAIT = 1_000_000  # rounds; firm counts a wait no further
 COSTS_KEPT = 120  # of a tenant's last rounds, for the page; firm itself tells 8
 ROUND_SECONDS = (0.0001, 0.0002, 0.0005, 0.001, 0.002, 0.005, 0.01, 0.02, 0.05, 0.1, 0.2, 0.5, 1.0, 2.0, 5.0, 10.0)
-
-
-class Watcher(Protocol):
-    """Hears of lines once the books have them."""
-
-    def tell(self, tenant: str | None, line: bytes, reply: bytes) -> None:
-        """A line with its reply, and the tenant that it concerns, None where it concerns none."""
-
-    def drop(self, error: Exception) -> None:
-        """Ends it: it could not be told."""
 
 
 @dataclass(slots=True)
@@ -153,6 +142,16 @@ class Book:
         self.rounds += 1
 
 
+class Pending(Book):
+    """A book whose rows are not known yet: what changes them is passed over until they come."""
+
+    def obeyed(self, number: int, words: list[str], now: float | None) -> None:
+        pass
+
+    def settled(self, outcome: list[str], now: float | None) -> None:
+        pass
+
+
 @dataclass
 class RoundTimes:
     """How long rounds took, from firm's input to its reply; those of a replay are not known."""
@@ -174,34 +173,20 @@ class Books:
         self.lines = 0  # that had a reply, from the journal's beginning
         self.refusals: Counter[str] = Counter()  # of lines that belong to no tenant, by their names
         self.round_times = RoundTimes()
-        self.watchers: list[Watcher] = []
         self._books: dict[bytes, Book] = {}  # the same as `tenants`
 
     def start(self, roster: bytes) -> None:
         """The roster's tenants, before any line; raises `RosterError`."""
         for limits in read_roster(roster):
-            self._admit(limits)
+            self.put(Book(limits))
 
-    def replied_all(self, lines: Sequence[bytes], replies: Sequence[bytes], seconds: float | None) -> None:
-        """Takes in lines and their replies, in the order of the lines; the seconds are None in a replay."""
-        if self.watchers:
-            for line, reply in zip(lines, replies):
-                self.replied(line, reply, seconds)
-        else:
-            self._take_in(lines, replies, seconds)
+    def put(self, book: Book) -> None:
+        """Gives a tenant this book; one that was there keeps its place among the others."""
+        self._books[book.limits.tenant.encode()] = self.tenants[book.limits.tenant] = book
 
     def replied(self, line: bytes, reply: bytes, seconds: float | None) -> None:
-        """The same for one line; the watchers hear of it once the books have it."""
-        self._take_in((line,), (reply,), seconds)
-        if self.watchers:
-            tenant = tenant_of(reply)
-            for watcher in tuple(self.watchers):  # one may leave
-                try:
-                    watcher.tell(tenant, line, reply)
-                except Exception as error:
-                    if watcher in self.watchers:
-                        self.watchers.remove(watcher)
-                    watcher.drop(error)
+        """Takes in a line and its reply; the seconds are None in a replay."""
+        self.replied_all((line,), (reply,), seconds)
 
     def may_have_moved(self, line: bytes) -> bool:
         """Whether the reply to a round that is not taken in yet may have ended with `move no 14 memory`."""
@@ -210,8 +195,11 @@ class Books:
         task = book.tasks.get("no") if book is not None else None
         return book is not None and task is not None and task.machine == "14" and "memory" in book.machines
 
-    def _take_in(self, lines: Sequence[bytes], replies: Sequence[bytes], seconds: float | None) -> None:
-        """Most of a replay's time goes here, so a reply that changes no rows is looked at as little as can be."""
+    def replied_all(self, lines: Sequence[bytes], replies: Sequence[bytes], seconds: float | None) -> None:
+        """Takes in lines and their replies, in the order of the lines.
+
+        Most of a replay's time goes here, so a reply that changes no rows is looked at as little as can be.
+        """
         books, now = self._books, None if seconds is None else time.time()
         for place, reply in enumerate(replies):
             try:
@@ -232,14 +220,11 @@ class Books:
                     self.round_times.add(seconds)
         self.lines += len(replies)
 
-    def _admit(self, limits: Limits) -> None:
-        self._books[limits.tenant.encode()] = self.tenants[limits.tenant] = Book(limits)
-
     def _operated(self, line: bytes, reply: bytes) -> None:
         """Takes in a line of the operator or of nobody."""
         match reply.decode("ascii").split():
             case "+", "ok", "admitted", tenant:
-                self._admit(Limits.of_fields(line.decode("ascii").split()[2].split(",")))
+                self.put(Book(Limits.of_fields(line.decode("ascii").split()[2].split(","))))
             case "+", "ok", "retired", tenant:
                 del self.tenants[tenant], self._books[tenant.encode()]
             case ("+", "no", _, name) | ("!", name):
@@ -250,11 +235,8 @@ class Books:
 
 def tenant_of(reply: bytes) -> str | None:
     """The tenant that a reply concerns, one that is admitted or retired too."""
-    match reply.decode("ascii").split():
-        case "+", "ok", _, tenant:
-            return tenant
-        case ("+" | "!"), *_:
-            return None
-        case tenant, *_:
-            return tenant
-    return None
+    name, _, rest = reply.partition(b" ")
+    if name == b"+":
+        words = rest.split()
+        return words[2].decode("ascii") if words[0] == b"ok" else None
+    return None if name == b"!" else name.decode("ascii")

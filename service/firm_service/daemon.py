@@ -16,28 +16,32 @@ import sys
 import time
 from contextlib import suppress
 from functools import partial
+from importlib.util import find_spec
 from pathlib import Path
 
 from . import logs
 from .accept import Acceptor
+from .address import Address
 from .books import Books
 from .bounds import MEBIBYTE, Bounds
 from .clients import Client, Clients, Limits, Listener, Rights
 from .faults import Exit, Fault, Faults, reason, say
+from .feeder import Feeder, Told
 from .journal import Journal
 from .lines import is_name
 from .observers import Status
 from .relief import SHORTAGES, Relief
 from .roster import RosterError
 from .rounds import Rounds, Times
+from .serving import Serving
+from .sight import Door
 from .sockets import Names
 from .state import State
 from .stream import Firm, Stream
-from .view import serve_view
 
 MOST_INPUT = 2**32  # bytes that firm reads
 SEGMENT_BYTES = 16 * 2**20
-TICK_SECONDS = 0.5  # between looks at what the status counts
+TICK_SECONDS = 0.1  # between looks at what the status counts
 # Eight clients at their own limit, and four such sockets: while fewer are at it, each of the others has all of its own.
 UNREAD_OF_SOCKET, UNREAD_IN_ALL = 64 * MEBIBYTE, 256 * MEBIBYTE
 SPARE_FILES = 256  # open files beside the clients'
@@ -80,6 +84,7 @@ class Daemon:
             journal_limit=self._options.journal_limit,
             replayed_lines=0,
             lines=0,
+            process=os.getpid(),
         )
         self._stream = Stream(firm, journal, self._status, self._faults)
         self._relief = Relief(self._faults)
@@ -108,14 +113,18 @@ class Daemon:
         if self._options.after is not None:
             self._stream.observe(rounds)
         self._stream.on_stop = partial(self._stop_taking, clients, rounds)
-        servers: list[asyncio.Server | Acceptor] = []
+        servers: list[Acceptor] = []
+        feeder: Feeder | None = None
         try:
-            servers = await self._listen(clients)
+            feeder = Feeder(Told(self._books, self._status, self._faults, self._state.id or ""), self._served())
+            servers = self._listen(clients)
+            self._stream.observe(feeder)
+            feeder.start()
             rounds.start()
             seconds = time.time() - self._status.started
             say(f"ready: {self._status.replayed_lines:,} lines replayed in {seconds:.1f} s", logs.INFO)
             notify(b"READY=1")
-            ticking = asyncio.create_task(self._tick(clients))
+            ticking = asyncio.create_task(self._tick(clients, feeder))
             await asyncio.wait([self._stream.ended])
             ticking.cancel()
         except Fault as fault:
@@ -125,11 +134,11 @@ class Daemon:
             for server in servers:
                 server.close()
             await clients.close()
+            if feeder is not None:
+                await feeder.close()
 
-    async def _listen(self, clients: Clients) -> list[asyncio.Server | Acceptor]:
-        servers: list[asyncio.Server | Acceptor] = [await self._serve_view()]
-        if self._options.http is not None:
-            await self._serve_http(self._options.http)
+    def _listen(self, clients: Clients) -> list[Acceptor]:
+        servers: list[Acceptor] = []
         for listener in self._options.listeners:
             listening = self._names.listen(listener.path, self._options.socket_mode)
             client = partial(Client, clients, listener.rights)
@@ -137,31 +146,42 @@ class Daemon:
             servers.append(Acceptor(listening, name, client, self._relief, self._faults))
         return servers
 
-    async def _serve_http(self, address: str) -> None:
-        try:
-            from .metrics import Metrics
-            from .web import Site, serve_http
-        except ImportError as error:
+    def _served(self) -> Serving:
+        """What readers are served: the view, and HTTP where it is asked for."""
+        doors = [
+            Door(listener.rights.tenant.decode() if listener.rights.tenant else None, listener.path)
+            for listener in self._options.listeners
+        ]
+        address = self._address()
+        http = self._listen_http(address) if address is not None else []
+        return Serving(self._listen_view(), http, address, doors, os.getpid())
+
+    def _address(self) -> Address | None:
+        """That of HTTP, once it is known that it can be served."""
+        if self._options.http is None:
+            return None
+        missing = [name for name in ("aiohttp", "prometheus_client") if find_spec(name) is None]
+        if missing:
             install = "apt-get install python3-aiohttp python3-prometheus-client, and Debian's /usr/bin/python3"
-            raise Fault(Exit.WORDS, f"--http needs a package that is not there, {error.name}: {install}") from error
-        metrics = Metrics(self._books, self._status, self._faults)
+            raise Fault(Exit.WORDS, f"--http needs a package that is not there, {missing[0]}: {install}")
         try:
-            await serve_http(address, lambda place: Site(place, self._books, metrics, self._status), self._relief)
+            return Address.read(self._options.http)
         except ValueError as error:
             raise Fault(Exit.WORDS, f"--http: {error}") from error
-        except OSError as error:
-            raise Fault(Exit.SOCKET, f"cannot serve {address}: {reason(error)}") from error
 
-    async def _serve_view(self) -> asyncio.Server:
-        mask, path = os.umask(0o777 & ~self._options.socket_mode), self._state.view_path
+    def _listen_http(self, address: Address) -> list[socket.socket]:
         try:
-            server = await serve_view(path, self._books, self._status, self._faults, self._relief)
-            self._names.add(path)
-            return server
+            return address.listen()
         except OSError as error:
-            raise Fault(Exit.SOCKET, f"cannot make the socket {path}: {reason(error)}") from error
-        finally:
-            os.umask(mask)
+            raise Fault(Exit.SOCKET, f"cannot serve {self._options.http}: {reason(error)}") from error
+
+    def _listen_view(self) -> socket.socket:
+        """Replaces the socket of a dead firmd: the state is this one's alone."""
+        path = self._state.view_path
+        with suppress(OSError):
+            if path.is_socket():
+                path.unlink()
+        return self._names.listen(path, self._options.socket_mode)
 
     def _stop(self) -> None:
         say("stopping: what was taken is answered", logs.INFO)
@@ -172,11 +192,12 @@ class Daemon:
         rounds.stop()
         clients.stop_reading()
 
-    async def _tick(self, clients: Clients) -> None:
+    async def _tick(self, clients: Clients, feeder: Feeder) -> None:
         """Keeps what the status counts of clients, and warns of a journal that grows too long."""
         while True:
             try:
                 self._count(clients)
+                feeder.tell_status()
             except Exception as error:
                 self._faults.note("status", error)
             await asyncio.sleep(TICK_SECONDS)
@@ -209,11 +230,7 @@ class Daemon:
 def part_of(context: dict[str, object]) -> str:
     """The part of firmd that an error is of, as the metrics name it."""
     source = context.get("protocol") or context.get("task") or context.get("future") or context.get("handle")
-    if isinstance(source, Client):
-        return "client"
-    if isinstance(source, asyncio.StreamReaderProtocol) or "View.serve" in repr(source):
-        return "view"
-    return "http" if "aiohttp" in f"{type(source).__module__} {source!r}" else "loop"
+    return "client" if isinstance(source, Client) else "loop"
 
 
 def start_books(roster: bytes) -> Books:

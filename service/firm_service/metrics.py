@@ -10,9 +10,8 @@ from prometheus_client.core import CounterMetricFamily, GaugeMetricFamily, Histo
 from prometheus_client.exposition import CONTENT_TYPE_LATEST
 from prometheus_client.registry import Collector
 
-from .books import ROUND_SECONDS, Book, Books
-from .faults import Faults
-from .observers import Status
+from .books import ROUND_SECONDS, Book
+from .shown import Shown
 
 
 def longest_wait(book: Book) -> int:
@@ -20,10 +19,10 @@ def longest_wait(book: Book) -> int:
 
 
 class BooksCollector(Collector):
-    """The metrics of the books and of the daemon's status."""
+    """The metrics of the books and of firmd's status."""
 
-    def __init__(self, books: Books, status: Status, faults: Faults) -> None:
-        self.books, self.status, self.faults = books, status, faults
+    def __init__(self, shown: Shown) -> None:
+        self._shown = shown
 
     def collect(self) -> Iterator[Metric]:
         yield from self._of_service()
@@ -33,10 +32,12 @@ class BooksCollector(Collector):
         yield self._round_seconds()
 
     def _of_service(self) -> Iterator[Metric]:
-        status = self.status
-        yield CounterMetricFamily(
-            "firm_lines", "Lines that had a reply, since the journal's beginning.", self.books.lines
-        )
+        status, lines = self._shown.status, self._shown.books.lines
+        yield CounterMetricFamily("firm_lines", "Lines that had a reply, since the journal's beginning.", lines)
+        told = "How often the process that answers readers was started again, since the start."
+        yield CounterMetricFamily("firm_viewer_restarts", told, status.viewer_restarts)
+        told = "How often that process fell behind, so that watchers lacked lines, since the start."
+        yield CounterMetricFamily("firm_viewer_gaps", told, status.viewer_gaps)
         for name, explained, value in (
             ("firm_replayed_lines", "Lines replayed at the start.", status.replayed_lines),
             ("firm_clients", "Clients that are connected.", status.clients),
@@ -45,7 +46,8 @@ class BooksCollector(Collector):
             ("firm_journal_bytes", "The journal's size.", status.journal_bytes),
             ("firm_journal_limit_bytes", "The size at which firm reads no further.", status.journal_limit),
             ("firm_start_time_seconds", "When the service started, in seconds since 1970.", status.started),
-            ("firm_tenants", "Tenants that are there.", len(self.books.tenants)),
+            ("firm_tenants", "Tenants that are there.", len(self._shown.books.tenants)),
+            ("firm_status_age_seconds", "Time since firmd told what it knows of itself.", self._shown.age),
         ):
             yield GaugeMetricFamily(name, explained, value)
 
@@ -60,7 +62,7 @@ class BooksCollector(Collector):
         waits = GaugeMetricFamily("firm_longest_wait_rounds", "Rounds that the longest wait has.", labels=["tenant"])
         costs = GaugeMetricFamily("firm_round_cost", "Cost of the last round, if there was one.", labels=["tenant"])
         tasks = GaugeMetricFamily("firm_tasks", "Tasks by their state.", labels=["tenant", "state"])
-        for name, book in self.books.tenants.items():
+        for name, book in self._shown.books.tenants.items():
             rounds.add_metric([name], book.rounds)
             commands.add_metric([name], book.commands)
             life.add_metric([name], book.limits.life)
@@ -78,9 +80,9 @@ class BooksCollector(Collector):
     def _refusals(self) -> Metric:
         told = "Refused lines by tenant (none: those that belong to no tenant) and reason."
         refusals = CounterMetricFamily("firm_refusals", told, labels=["tenant", "reason"])
-        for reason, count in self.books.refusals.items():
+        for reason, count in self._shown.books.refusals.items():
             refusals.add_metric(["", reason], count)
-        for name, book in self.books.tenants.items():
+        for name, book in self._shown.books.tenants.items():
             for reason, count in book.refusals.items():
                 refusals.add_metric([name, reason], count)
         return refusals
@@ -88,12 +90,12 @@ class BooksCollector(Collector):
     def _faults(self) -> Metric:
         told = "Faults that ended a connection at most, by the part that had them, since the start."
         found = CounterMetricFamily("firm_faults", told, labels=["part"])
-        for part, count in self.faults.counts.items():
+        for part, count in self._shown.all_faults().items():
             found.add_metric([part], count)
         return found
 
     def _round_seconds(self) -> Metric:
-        times = self.books.round_times
+        times = self._shown.books.round_times
         bounds = [*map(str, ROUND_SECONDS), "+Inf"]
         counts = list(zip(bounds, accumulate(times.counts)))
         told = "Seconds from a round's line to its reply, since the start; without those of the replay."
@@ -101,16 +103,16 @@ class BooksCollector(Collector):
 
 
 class Metrics:
-    """The text of /metrics, with the processes of firmd and, under firm_process, of firm."""
+    """The text of /metrics, with the processes of firmd, of firm and of the viewer, which this one is."""
 
     content_type = CONTENT_TYPE_LATEST
 
-    def __init__(self, books: Books, status: Status, faults: Faults) -> None:
-        self.faults = faults
-        self.registry = CollectorRegistry()
-        self.registry.register(BooksCollector(books, status, faults))
-        ProcessCollector(registry=self.registry)
-        ProcessCollector(namespace="firm", pid=lambda: status.firm_process, registry=self.registry)
+    def __init__(self, shown: Shown) -> None:
+        self._registry = CollectorRegistry()
+        self._registry.register(BooksCollector(shown))
+        ProcessCollector(pid=lambda: shown.status.process, registry=self._registry)
+        ProcessCollector(namespace="firm", pid=lambda: shown.status.firm_process, registry=self._registry)
+        ProcessCollector(namespace="firm_viewer", registry=self._registry)
 
     def text(self) -> bytes:
-        return generate_latest(self.registry)
+        return generate_latest(self._registry)

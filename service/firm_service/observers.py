@@ -33,3 +33,6 @@ class Status:
     replayed_lines: int  # at the start
     lines: int  # answered, those of the replay among them
     owed_bytes: int = 0  # of lines that are not answered yet, with what they take beside their text; as the unread
+    process: int = 0  # the process id of firmd
+    viewer_restarts: int = 0  # of the process that answers readers
+    viewer_gaps: int = 0  # how often it fell behind, and was told all rows anew

@@ -9,30 +9,34 @@ A request is one object on a line, and so is its answer:
   {"line": .., "reply": .., "number": ..} for each line of that tenant, and of the operator that admits or retires it.
   Where no tenant is named, first {"tenants": [..]}, a row for each, then all lines.
 
+A client is shown the tenants that its user may see (`sight.py`), as if there were no others.
+
 `number` counts the lines with a reply since the journal's beginning. A task's `line` is the number of its submission,
 which no other task of this state has. A request without an answer gives {"error": NAME, "text": ..}; one of more than
-65,536 bytes closes its connection.
+65,536 bytes closes its connection. So does {"error": "behind", ..}, which tells a watcher that lines are missing.
 """
 
 from __future__ import annotations
 
 import asyncio
 import json
+import socket
 import time
 from collections import Counter
-from collections.abc import Callable, Iterator
+from collections.abc import AsyncIterator, Callable, Iterator, Sequence
 from dataclasses import asdict
-from pathlib import Path
 
 from .books import Book, Books
-from .faults import Faults
-from .observers import Status
-from .relief import Relief
-from .state import id_of
+from .bounds import MEBIBYTE
+from .shown import MOST_UNREAD_IN_ALL, Shown
+from .sight import Door, Peer, Sight
 
-MOST_CLIENTS = 64  # at a time
-MOST_UNREAD = 4 << 20  # bytes, beside the rows at first, that a watcher may leave unread before it is closed
-LINGER_SECONDS = 60.0  # for which one that is closed may still read
+MOST_CLIENTS, MOST_OF_USER = 512, 128  # at a time
+MOST_UNREAD = 4 * MEBIBYTE  # beside the rows at first, that a watcher may leave unread before it is dropped
+IDLE_SECONDS = 60.0  # without a request, after which one that does not watch is closed
+PATIENCE_SECONDS = 30.0  # for a client to read
+MOST_REFUSED, REFUSAL_SECONDS = 64, 1.0  # clients that are told why they are refused, and for how long
+BACKLOG = 256  # connections that wait to be accepted
 
 Json = dict[str, object]
 Lists = dict[str, Callable[[Book], Iterator[Json]]]
@@ -111,151 +115,252 @@ def rows_of(book: Book) -> Json:
     }
 
 
-def status_of(books: Books, status: Status) -> Json:
+def status_of(shown: Shown, sight: Sight) -> Json:
     """The service and each tenant in numbers."""
-    return {"status": asdict(status), "tenants": [summary_of(book) for book in books.tenants.values()]}
+    tenants = [summary_of(book) for book in books_of(shown.books, sight)]
+    return {"status": asdict(shown.status), "tenants": tenants}
+
+
+def books_of(books: Books, sight: Sight) -> list[Book]:
+    return [book for name, book in books.tenants.items() if sight.has(name)]
 
 
 LISTS: Lists = {"tasks": tasks_of, "machines": machines_of, "jobs": jobs_of}  # what may be asked of all tenants too
 
 
 class View:
-    """Answers what may be asked once; see `Connection` for a watch."""
+    """Takes connections."""
 
-    def __init__(self, books: Books, status: Status, faults: Faults, state: str) -> None:
-        self.books, self.status, self.faults, self.state = books, status, faults, state
-        self.connections: list[Connection] = []  # the newest last
-
-    async def answer(self, request: Json) -> str:
-        """The answer to a request other than to watch; raises `Refused`."""
-        ask = request.get("ask")
-        if isinstance(ask, str) and ask in LISTS:
-            return await self.rows(ask, self.chosen(request))
-        if ask == "status":
-            return json.dumps(status_of(self.books, self.status))
-        if ask == "book":
-            return json.dumps({"book": rows_of(self.book(request))})
-        if ask == "lines":
-            book = self.book(request)
-            return json.dumps({"row": book.limits.row(), "lines": list(book.lines())})
-        raise Refused("bad-request", f"nothing to be asked: {ask!r}")
-
-    async def rows(self, ask: str, books: list[Book]) -> str:
-        """A list of rows, one tenant at a time: lines are served between two of them."""
-        rows: list[str] = []
-        for book in books:
-            rows += map(json.dumps, LISTS[ask](book))
-            await asyncio.sleep(0)
-        return f'{{"{ask}":[{",".join(rows)}]}}'
-
-    def book(self, request: Json) -> Book:
-        tenant = request.get("tenant")
-        book = self.books.tenants.get(tenant) if isinstance(tenant, str) else None
-        if book is None:
-            raise Refused("no-such-tenant", f"no tenant {tenant!r} is there")
-        return book
-
-    def chosen(self, request: Json) -> list[Book]:
-        """The tenant that the request names, or all of them."""
-        return list(self.books.tenants.values()) if request.get("tenant") is None else [self.book(request)]
+    def __init__(self, shown: Shown, doors: Sequence[Door]) -> None:
+        self.shown, self.doors = shown, doors
+        self.connections: set[Connection] = set()
+        self.users: Counter[int] = Counter()  # how many each has
+        self._refused = 0  # clients that are told why
+        shown.on_told = self.bound_unread
 
     async def serve(self, reader: asyncio.StreamReader, writer: asyncio.StreamWriter) -> None:
         """One client, until it leaves."""
-        if len(self.connections) == MOST_CLIENTS:
-            send(writer, {"error": "too-many-clients", "text": f"{MOST_CLIENTS} views are open; close one"})
-            writer.close()
-            return
-        connection = Connection(self, writer)
-        self.connections.append(connection)
         try:
-            while line := await reader.readline():
-                await connection.obey(line)
-                await writer.drain()
-        except (ConnectionError, ValueError):  # it is gone, or its line is endless
+            peer = Peer.of(writer.get_extra_info("socket"))
+            refusal = self._refusal(peer)
+            if refusal is not None:
+                await self._refuse(refusal, reader, writer)
+            else:
+                await self._serve(peer, reader, writer)
+            writer.close()
+            async with asyncio.timeout(PATIENCE_SECONDS):
+                await writer.wait_closed()
+        except (OSError, ValueError):  # it is gone or slow, or its line is endless
             pass
         except asyncio.CancelledError:  # the service ends; asyncio would report a cancelled connection as an error
             pass
         except Exception as error:
-            self.faults.note("view", error)
+            self.shown.faults.note("view", error)
         finally:
-            self.connections.remove(connection)
-            connection.unwatch()
-            writer.close()
+            writer.transport.abort()
+
+    def bound_unread(self) -> None:
+        """Drops those that have left most unread, where all together have left too much."""
+        unread = {connection: connection.unread for connection in self.connections}
+        while sum(unread.values()) > MOST_UNREAD_IN_ALL:
+            most = max(unread, key=unread.__getitem__)
+            del unread[most]
+            most.end()
+
+    def _refusal(self, peer: Peer) -> Refused | None:
+        if len(self.connections) >= MOST_CLIENTS:
+            return Refused("too-many-clients", f"{MOST_CLIENTS} views are open; close one")
+        if self.users[peer.user] >= MOST_OF_USER:
+            return Refused("too-many-clients", f"{MOST_OF_USER} views of this user are open; close one")
+        if Sight.of(peer, self.doors).tenants == frozenset():
+            return Refused("no-tenant", "this user may send no tenant's lines, and so sees none")
+        return None
+
+    async def _refuse(self, refusal: Refused, reader: asyncio.StreamReader, writer: asyncio.StreamWriter) -> None:
+        """Tells a client why, and has it send its request first: it could not read the refusal otherwise."""
+        if self._refused < MOST_REFUSED:
+            self._refused += 1
+            try:
+                writer.write(refused(refusal))
+                async with asyncio.timeout(REFUSAL_SECONDS):
+                    await reader.readline()
+            finally:
+                self._refused -= 1
+
+    async def _serve(self, peer: Peer, reader: asyncio.StreamReader, writer: asyncio.StreamWriter) -> None:
+        connection = Connection(self, Sight.of(peer, self.doors), writer)
+        self.connections.add(connection)
+        self.users[peer.user] += 1
+        try:
+            await connection.serve(reader)
+        finally:
+            self.connections.discard(connection)
+            self.users[peer.user] -= 1
+            self.shown.unwatch(connection)
 
 
 class Connection:
     """A client of the view socket."""
 
-    def __init__(self, view: View, writer: asyncio.StreamWriter) -> None:
-        self.view, self.writer = view, writer
-        self.wanted: object = None  # the tenant that is watched, or None for all
-        self.most_unread = MOST_UNREAD
+    def __init__(self, view: View, sight: Sight, writer: asyncio.StreamWriter) -> None:
+        self._view, self._shown, self._sight, self._writer = view, view.shown, sight, writer
+        self._wanted: object = None  # the tenant that is watched, or None for all
+        self._is_watching = False
+        self._most_unread = MOST_UNREAD
+        self._held: bytearray | None = None  # lines that wait for the end of an answer
 
-    async def obey(self, line: bytes) -> None:
+    @property
+    def unread(self) -> int:
+        """Bytes that were sent to it, and that it has not read."""
+        return self._writer.transport.get_write_buffer_size() + len(self._held or b"")
+
+    async def serve(self, reader: asyncio.StreamReader) -> None:
+        while line := await self._next(reader):
+            await self._obey(line)
+            await asyncio.sleep(0)  # however many requests are there: lines are taken in between two of them
+
+    def wants(self, tenant: str | None) -> bool:
+        return self._wanted in (None, tenant) and self._sight.has(tenant)
+
+    def tell(self, text: bytes) -> None:
+        if self.unread > self._most_unread:
+            self.end()
+        elif self._held is not None:
+            self._held += text
+        else:
+            self._writer.write(text)
+
+    def lose(self) -> None:
+        self._writer.write(refused(Refused("behind", "lines are missing: the viewer was too slow; watch anew")))
+        self.finish()
+
+    def finish(self) -> None:
+        """Closes it once it has read all, or after some seconds."""
+        self._writer.close()
+        asyncio.get_running_loop().call_later(PATIENCE_SECONDS, self._writer.transport.abort)
+
+    def drop(self, error: Exception) -> None:
+        self._shown.faults.note("view", error)
+        self.end()
+
+    def end(self) -> None:
+        """Closes it at once, whatever it has not read."""
+        self._shown.unwatch(self)
+        self._writer.transport.abort()
+
+    async def _next(self, reader: asyncio.StreamReader) -> bytes:
+        """The next request, nothing at the end."""
+        async with asyncio.timeout(None if self._is_watching else IDLE_SECONDS):
+            return await reader.readline()
+
+    async def _obey(self, line: bytes) -> None:
         """Answers a request."""
         try:
             request = json.loads(line)
             if not isinstance(request, dict):
                 raise Refused("bad-request", "a request is an object")
             if request.get("ask") == "watch":
-                self.watch(request.get("tenant"))
+                self._watch(request.get("tenant"))
+                await self._drain()
             else:
-                self.writer.write((await self.view.answer(request)).encode() + b"\n")
+                await self._answer(request)
         except Refused as refusal:
-            send(self.writer, {"error": refusal.name, "text": str(refusal)})
+            await self._write(refused(refusal))
         except (ValueError, RecursionError) as error:
-            send(self.writer, {"error": "bad-request", "text": f"no JSON: {error}"})
+            await self._write(refused(Refused("bad-request", f"no JSON: {error}")))
 
-    def watch(self, wanted: object) -> None:
+    async def _answer(self, request: Json) -> None:
+        """Writes an answer in parts, each once the one before it is read; lines that it watches come behind it."""
+        self._held = bytearray()
+        try:
+            async for part in self._parts(request):
+                await self._write(part)
+        finally:
+            held, self._held = self._held, None
+            if held:
+                self._writer.write(held)
+
+    async def _parts(self, request: Json) -> AsyncIterator[bytes]:
+        """The parts of the answer to a request other than to watch; raises `Refused` before the first."""
+        ask = request.get("ask")
+        if isinstance(ask, str) and ask in LISTS:
+            async for part in self._rows(ask, self._chosen(request)):
+                yield part
+            return
+        async with self._shown.turn:
+            text = json.dumps(self._told(request)).encode() + b"\n"
+            await asyncio.sleep(0)
+        yield text  # the turn is not held while it is read
+
+    def _told(self, request: Json) -> Json:
+        ask = request.get("ask")
+        if ask == "status":
+            return status_of(self._shown, self._sight)
+        if ask == "book":
+            return {"book": rows_of(self._book(request))}
+        if ask == "lines":
+            book = self._book(request)
+            return {"row": book.limits.row(), "lines": list(book.lines())}
+        raise Refused("bad-request", f"nothing to be asked: {ask!r}")
+
+    async def _rows(self, ask: str, books: list[Book]) -> AsyncIterator[bytes]:
+        """A list of rows, one tenant at a time."""
+        yield b'{"%b":[' % ask.encode()
+        is_first = True
+        for book in books:
+            async with self._shown.turn:
+                rows = json.dumps(list(LISTS[ask](book)))[1:-1].encode()
+                await asyncio.sleep(0)
+            if rows:
+                yield rows if is_first else b"," + rows
+                is_first = False
+        yield b"]}\n"
+
+    def _book(self, request: Json) -> Book:
+        tenant = request.get("tenant")
+        book = self._shown.books.tenants.get(tenant) if isinstance(tenant, str) and self._sight.has(tenant) else None
+        if book is None:
+            raise Refused("no-such-tenant", f"no tenant {tenant!r} is there")
+        return book
+
+    def _chosen(self, request: Json) -> list[Book]:
+        """The tenant that the request names, or all of them."""
+        if request.get("tenant") is None:
+            return books_of(self._shown.books, self._sight)
+        return [self._book(request)]
+
+    def _watch(self, wanted: object) -> None:
         """Sends the tenant's rows as they are, or a row for each tenant, and then each line until the client leaves."""
-        self.unwatch()
-        self.wanted = wanted
-        tenants = self.view.books.tenants
+        self._shown.unwatch(self)
+        self._wanted, self._is_watching = wanted, True
         if wanted is None:
-            answer: Json = {"tenants": [summary_of(book) for book in tenants.values()]}
+            books = books_of(self._shown.books, self._sight)
+            answer: Json = {"tenants": [summary_of(book) for book in books]}
         else:
-            book = rows_of(tenants[wanted]) if isinstance(wanted, str) and wanted in tenants else None
-            answer = {"state": self.view.state, "book": book}
-        self.most_unread = MOST_UNREAD + send(self.writer, answer)
-        self.view.books.watchers.append(self)
+            is_there = isinstance(wanted, str) and self._sight.has(wanted) and wanted in self._shown.books.tenants
+            book = rows_of(self._shown.books.tenants[str(wanted)]) if is_there else None
+            answer = {"state": self._shown.state, "book": book}
+        text = json.dumps(answer).encode() + b"\n"
+        self._most_unread = MOST_UNREAD + len(text)
+        self._writer.write(text)
+        self._shown.watchers.append(self)
+        self._view.bound_unread()
 
-    def unwatch(self) -> None:
-        if self in self.view.books.watchers:
-            self.view.books.watchers.remove(self)
+    async def _write(self, text: bytes) -> None:
+        self._writer.write(text)
+        self._view.bound_unread()
+        await self._drain()
 
-    def drop(self, error: Exception) -> None:
-        self.view.faults.note("view", error)
-        self.writer.transport.abort()
-
-    def tell(self, tenant: str | None, line: bytes, reply: bytes) -> None:
-        """Sends a line and its reply, where they concern what is watched."""
-        if self.wanted not in (None, tenant):
-            return
-        if self.writer.transport.get_write_buffer_size() > self.most_unread:
-            send(self.writer, {"error": "too-slow", "text": f"more than {self.most_unread:,} bytes were left unread"})
-            self.unwatch()
-            self.writer.close()
-            asyncio.get_running_loop().call_later(LINGER_SECONDS, self.writer.transport.abort)
-            return
-        text = line.decode("utf-8", "backslashreplace")
-        send(self.writer, {"line": text, "reply": reply.decode("ascii"), "number": self.view.books.lines})
+    async def _drain(self) -> None:
+        async with asyncio.timeout(PATIENCE_SECONDS):
+            await self._writer.drain()
 
 
-def send(writer: asyncio.StreamWriter, answer: Json) -> int:
-    """Sends an answer; gives its length in bytes."""
-    text = json.dumps(answer).encode() + b"\n"
-    writer.write(text)
-    return len(text)
+def refused(refusal: Refused) -> bytes:
+    return json.dumps({"error": refusal.name, "text": str(refusal)}).encode() + b"\n"
 
 
-async def serve_view(
-    path: Path, books: Books, status: Status, faults: Faults, relief: Relief | None = None
-) -> asyncio.Server:
-    """Begins to answer on a Unix socket in the state's folder, with the mode that the umask leaves.
-
-    Replaces the socket of a dead service; raises OSError where it can't be made, or the state's id can't be read.
-    """
-    view = View(books, status, faults, id_of(path.parent))
-    if relief is not None:
-        relief.look_at(lambda: {"(view)": [connection.writer.transport for connection in view.connections]})
-    return await asyncio.start_unix_server(view.serve, path)
+async def serve_view(listening: socket.socket, shown: Shown, doors: Sequence[Door] = ()) -> asyncio.Server:
+    """Begins to answer on a Unix socket."""
+    view = View(shown, doors)
+    return await asyncio.start_unix_server(view.serve, sock=listening, backlog=BACKLOG)

@@ -5,10 +5,10 @@ from __future__ import annotations
 import asyncio
 import logging
 import re
+import socket
 import time
 from base64 import b64encode
-from collections.abc import Callable
-from dataclasses import dataclass
+from collections.abc import Callable, Sequence
 from hashlib import sha256
 from heapq import nsmallest
 from itertools import islice
@@ -16,42 +16,23 @@ from pathlib import Path
 
 from aiohttp import web
 from aiohttp.typedefs import Handler
+from aiohttp.web_protocol import RequestHandler
 
-from .books import Book, Books
+from .address import Address
+from .books import Book
 from .faults import Faults
 from .metrics import Metrics
-from .observers import Status
-from .relief import Relief
+from .shown import Shown
+from .sight import EVERYTHING
 from .view import Json, jobs_of, status_of, summary_of, task_of
 
 MOST_CONNECTIONS = 100  # at a time
-MOST_MACHINES, MOST_JOBS, MOST_WAITS = (
-    400,
-    200,
-    100,
-)  # on the page, so that an answer takes the daemon a few milliseconds
-LOOPBACK = "127.0.0.1"
-LOOPBACK_NAMES = frozenset({LOOPBACK, "localhost"})
+MOST_REQUESTS = 8  # of a connection that are not answered yet
+PATIENCE_SECONDS = 30.0  # from one request of a connection to the next, in which the answer must be read too
+LOOK_SECONDS = 1.0
+PIECE_BYTES = 1_024  # that are parsed at a time
+MOST_MACHINES, MOST_JOBS, MOST_WAITS = 400, 200, 100  # on the page, so that an answer takes a few milliseconds
 PAGE = Path(__file__).with_name("page.html")
-
-
-@dataclass(frozen=True, slots=True)
-class Address:
-    host: str
-    port: int
-
-    @classmethod
-    def read(cls, text: str) -> Address:
-        """HOST:PORT, [HOST]:PORT or PORT alone, on the loopback then; raises `ValueError`."""
-        found = re.fullmatch(r"(?:(?P<host>[^:\[\]]*):|\[(?P<six>[0-9a-fA-F:.]+)\]:)?(?P<port>[0-9]{1,5})", text)
-        if found is None or int(found["port"]) > 65535:
-            raise ValueError(f"{text!r} is no address: write HOST:PORT, or PORT for the loopback")
-        return cls(found["six"] or found["host"] or LOOPBACK, int(found["port"]))
-
-    def is_named(self, host: str) -> bool:
-        """Whether a Host header names this address: anything else may be a page that rebinds its name to this host."""
-        found = re.fullmatch(r"\[([0-9a-fA-F:.]+)\](?::[0-9]+)?|([^:\[\]]+)(?::[0-9]+)?", host)
-        return found is not None and (found[1] or found[2]).lower() in LOOPBACK_NAMES | {self.host.lower()}
 
 
 def policy_of(page: str) -> str:
@@ -91,9 +72,10 @@ def page_of(book: Book) -> Json:
 class Site:
     """The handlers of the page and of what it fetches."""
 
-    def __init__(self, address: Address, books: Books, metrics: Metrics, status: Status) -> None:
-        self.address, self.books, self.metrics, self.status = address, books, metrics, status
-        self.faults = metrics.faults
+    def __init__(self, address: Address, shown: Shown) -> None:
+        self.address, self.shown, self.faults = address, shown, shown.faults
+        self.metrics = Metrics(shown)
+        self.begin: Callable[[RequestHandler], None] = lambda handler: None  # a request of this connection begins
         self.text = PAGE.read_text("utf-8")
         self.headers = {
             "Content-Security-Policy": policy_of(self.text),
@@ -115,6 +97,7 @@ class Site:
     @web.middleware
     async def guard(self, request: web.Request, handler: Handler) -> web.StreamResponse:
         """Refuses other names and other methods before any handler sees the request."""
+        self.begin(request.protocol)
         response: web.StreamResponse
         hosts: list[str] = request.headers.getall("Host", [])
         if len(hosts) != 1 or not self.address.is_named(hosts[0]):
@@ -123,7 +106,9 @@ class Site:
             response = web.Response(status=405, headers={"Allow": "GET, HEAD"}, text="GET and HEAD alone\n")
         else:
             try:
-                response = await handler(request)
+                async with self.shown.turn:
+                    response = await handler(request)
+                    await asyncio.sleep(0)
             except web.HTTPException as error:
                 response = web.Response(status=error.status, text=f"{error.reason}\n")
             except Exception as error:
@@ -139,22 +124,83 @@ class Site:
         return web.Response(body=self.metrics.text(), headers={"Content-Type": self.metrics.content_type})
 
     async def tenants(self, _: web.Request) -> web.Response:
-        return web.json_response(status_of(self.books, self.status))
+        return web.json_response(status_of(self.shown, EVERYTHING))
 
     async def tenant(self, request: web.Request) -> web.Response:
-        book = self.books.tenants.get(request.match_info["tenant"])
+        book = self.shown.books.tenants.get(request.match_info["tenant"])
         if book is None:
             raise web.HTTPNotFound
         return web.json_response(page_of(book))
 
 
-class Busy(asyncio.Protocol):
-    """A connection past the most that are held."""
+class Gate(asyncio.Protocol):
+    """Stands before a connection of aiohttp's, which takes any number of requests at a time, and bounds them."""
+
+    def __init__(self, gates: Gates, handler: RequestHandler) -> None:
+        self._gates, self._handler = gates, handler
+        self.transport: asyncio.Transport | None = None
+        self.since = 0.0  # when its last request began, or the connection
 
     def connection_made(self, transport: asyncio.BaseTransport) -> None:
-        if isinstance(transport, asyncio.Transport):
-            transport.write(b"HTTP/1.1 503 Service Unavailable\r\nConnection: close\r\nContent-Length: 0\r\n\r\n")
-            transport.close()
+        if not isinstance(transport, asyncio.Transport):
+            raise TypeError(f"{transport!r} is no stream")
+        self.transport = transport
+        self._gates.begin(self._handler, self)
+        self._handler.connection_made(transport)
+
+    def data_received(self, data: bytes) -> None:
+        for place in range(0, len(data), PIECE_BYTES):
+            self._handler.data_received(data[place : place + PIECE_BYTES])
+            if len(self._handler._messages) > MOST_REQUESTS:  # parsed, and not yet answered
+                self._gates.faults.count("http", "a connection sent many requests without reading: it is closed")
+                return self.abort()
+
+    def eof_received(self) -> None:
+        self._handler.eof_received()
+
+    def pause_writing(self) -> None:
+        self._handler.pause_writing()
+
+    def resume_writing(self) -> None:
+        self._handler.resume_writing()
+
+    def connection_lost(self, error: BaseException | None) -> None:
+        self._gates.open.pop(self._handler, None)
+        self._handler.connection_lost(error)
+
+    def abort(self) -> None:
+        if self.transport is not None:
+            self.transport.abort()
+
+
+class Gates:
+    """All connections. One without a request for some seconds is closed; so is the first such one, for a new one."""
+
+    def __init__(self, server: web.Server, faults: Faults) -> None:
+        self._server, self.faults = server, faults
+        self.open: dict[RequestHandler, Gate] = {}  # that which has begun no request for the longest time first
+        self._loop = asyncio.get_running_loop()
+        self._look()
+
+    def connect(self) -> Gate:
+        if len(self.open) >= MOST_CONNECTIONS:
+            self._close_first()
+        return Gate(self, self._server())
+
+    def begin(self, handler: RequestHandler, gate: Gate | None = None) -> None:
+        """A connection or a request begins."""
+        gate = self.open.pop(handler, gate)
+        if gate is not None:
+            gate.since, self.open[handler] = self._loop.time(), gate
+
+    def _close_first(self) -> None:
+        self.open.pop(next(iter(self.open))).abort()
+
+    def _look(self) -> None:
+        self._loop.call_later(LOOK_SECONDS, self._look)
+        oldest = self._loop.time() - PATIENCE_SECONDS
+        while self.open and next(iter(self.open.values())).since < oldest:
+            self._close_first()
 
 
 class Noted(logging.Handler):
@@ -169,23 +215,16 @@ class Noted(logging.Handler):
         self.faults.note("http", error or RuntimeError(record.getMessage()))
 
 
-async def serve_http(address: str, site: Callable[[Address], Site], relief: Relief | None = None) -> asyncio.Server:
-    """Begins to serve; raises `ValueError` for a faulty address and `OSError` where it can't be had."""
-    place = Address.read(address)
-    served = site(place)
+async def serve_http(listening: Sequence[socket.socket], address: Address, shown: Shown) -> list[asyncio.Server]:
+    """Begins to serve on each of the sockets."""
+    site = Site(address, shown)
     logger = logging.Logger("firmd")
-    logger.addHandler(Noted(served.faults))
-    runner = web.AppRunner(served.application(), access_log=None, logger=logger)
+    logger.addHandler(Noted(shown.faults))
+    runner = web.AppRunner(site.application(), access_log=None, logger=logger)
     await runner.setup()
     if runner.server is None:
         raise RuntimeError("the runner has no server")
-    server = runner.server
-
-    def connection() -> asyncio.Protocol:
-        return server() if len(server.connections) < MOST_CONNECTIONS else Busy()
-
-    if relief is not None:
-        relief.look_at(
-            lambda: {"(http)": [held.transport for held in server.connections if held.transport is not None]}
-        )
-    return await asyncio.get_running_loop().create_server(connection, place.host, place.port)
+    gates = Gates(runner.server, shown.faults)
+    site.begin = gates.begin
+    loop = asyncio.get_running_loop()
+    return [await loop.create_server(gates.connect, sock=found) for found in listening]

@@ -1,0 +1,103 @@
+"""The feed: what firmd tells the viewer. It has the rows of each tenant as they are, then each line with its reply.
+
+A message is its kind and the length of its text, and the text. Rows begin with BEGIN, which names the tenants; then
+each of these has a TENANT, or was retired meanwhile; END follows the last. LINES come from BEGIN on: those of a tenant
+whose rows are still to come are in them already. STATUS comes at any time.
+
+Most texts are written by `marshal`, in a fifth of JSON's time: firmd serves nobody else meanwhile, and the viewer is of
+the same Python.
+"""
+
+from __future__ import annotations
+
+import json
+import marshal
+import struct
+from collections import Counter, deque
+from collections.abc import Iterator, Sequence
+from dataclasses import asdict, astuple
+from typing import Any
+
+from .books import COSTS_KEPT, Book, Books, Pending, RoundTimes, Task
+from .observers import Status
+from .roster import Limits
+
+BEGIN, TENANT, END, LINES, STATUS = b"BTELS"
+HEAD = struct.Struct("<BI")
+
+
+def message(kind: int, text: bytes) -> bytes:
+    return HEAD.pack(kind, len(text)) + text
+
+
+class Messages:
+    """Cuts what comes into messages."""
+
+    def __init__(self) -> None:
+        self._data = bytearray()
+
+    def add(self, piece: bytes) -> Iterator[tuple[int, bytes]]:
+        """The messages that are whole now."""
+        self._data += piece
+        at = 0
+        while len(self._data) - at >= HEAD.size:
+            kind, length = HEAD.unpack_from(self._data, at)
+            start = at + HEAD.size
+            if len(self._data) - start < length:
+                break
+            at = start + length
+            yield kind, bytes(self._data[start:at])
+        del self._data[:at]
+
+
+def begin_text(books: Books, state: str) -> bytes:
+    """All that the books have beside the rows of tenants."""
+    times = books.round_times
+    return marshal.dumps(
+        (state, books.lines, list(books.tenants), dict(books.refusals), (list(times.counts), times.seconds))
+    )
+
+
+def begun(text: bytes) -> tuple[str, Books]:
+    """The state's id, and the books, to which the rows will come."""
+    state, lines, tenants, refusals, (counts, seconds) = marshal.loads(text)
+    books = Books()
+    books.lines, books.refusals, books.round_times = lines, Counter(refusals), RoundTimes(counts, seconds)
+    for tenant in tenants:
+        books.put(Pending(Limits(tenant, 0, 0, 0, 0, 0)))
+    return state, books
+
+
+def tenant_text(book: Book) -> bytes:
+    tasks = [
+        (name, task.job, task.line, task.prefers, task.waits_from, task.since, task.machine)
+        for name, task in book.tasks.items()
+    ]
+    rows = (list(book.machines.items()), list(book.jobs.items()), tasks)
+    counts = (book.waiting, book.rounds, list(book.costs), dict(book.refused), book.number)
+    return marshal.dumps((astuple(book.limits), rows, counts))
+
+
+def book_of(text: bytes) -> Book:
+    limits, (machines, jobs, tasks), (waiting, rounds, costs, refused, number) = marshal.loads(text)
+    rows = {name: Task(*row) for name, *row in tasks}
+    kept: deque[int] = deque(costs, maxlen=COSTS_KEPT)
+    return Book(Limits(*limits), dict(machines), dict(jobs), rows, waiting, rounds, kept, Counter(refused), number)
+
+
+def lines_text(lines: Sequence[bytes], replies: Sequence[bytes], seconds: float | None) -> bytes:
+    return marshal.dumps((b"\n".join(lines), b"\n".join(replies), seconds))
+
+
+def lines_of(text: bytes) -> tuple[list[bytes], list[bytes], float | None]:
+    lines, replies, seconds = marshal.loads(text)
+    return lines.split(b"\n"), replies.split(b"\n"), seconds
+
+
+def status_text(status: Status, faults: Counter[str]) -> bytes:
+    return json.dumps([asdict(status), faults]).encode()
+
+
+def status_of(text: bytes) -> tuple[Status, dict[str, int]]:
+    fields, faults = json.loads(text)
+    return Status(**fields), faults
