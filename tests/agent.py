@@ -572,8 +572,8 @@ def retired_tenant() -> None:
         case.until_runs("a")
 
         async def operate() -> None:
-            case.firmd.books.replied(b"+ retire alpha", b"+ ok retired alpha", None)
-            case.firmd.books.replied(b"+ admit alpha,40,400,1000,0,0", b"+ ok admitted alpha", None)
+            case.firmd.shown.replied_all([b"+ retire alpha"], [b"+ ok retired alpha"], None)
+            case.firmd.shown.replied_all([b"+ admit alpha,40,400,1000,0,0"], [b"+ ok admitted alpha"], None)
 
         case.firmd.within(operate())
         case.until_runs()

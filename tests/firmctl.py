@@ -583,7 +583,7 @@ def firmctl_over_firmd(built: str) -> None:
             done = firmctl(*words, "--state", str(daemon.state))
             require(done == (0, wanted.encode(), b""), f"{words}: {done.output.decode()}{done.faults.decode()}")
         require(
-            b"lines 15, 15 of them replayed at the start" in firmctl("status", "--state", str(daemon.state)).output,
+            b"lines 14, 14 of them replayed at the start" in firmctl("status", "--state", str(daemon.state)).output,
             "status",
         )
         with Viewer(daemon.state) as watcher:
@@ -633,7 +633,7 @@ def http_over_firmd(built: str) -> None:
             for line in DAY:
                 client.ask(line)
         samples = samples_of(port)
-        wanted = {("firm_lines_total", ""): 15, ("firm_rounds_total", "tenant=alpha"): 2}
+        wanted = {("firm_lines_total", ""): 14, ("firm_rounds_total", "tenant=alpha"): 2}
         wrong = {key: samples.get(key) for key, value in wanted.items() if samples.get(key) != value}
         require(not wrong and samples["firm_round_seconds_count", ""] == 2, wrong)
         require(samples["firm_process_resident_memory_bytes", ""] > 0, "the process of firm")

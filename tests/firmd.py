@@ -371,7 +371,8 @@ def many_clients(setup: Setup) -> None:
         require(len(daemon.segments()) > 1, "segments")
         daemon.stop()
         daemon.start().stop()
-        told = sorted(answered.reply for tenant in tenants for answered in tenant.answered)
+        replies = [answered.reply for tenant in tenants for answered in tenant.answered]
+        told = sorted(reply for reply in replies if not reply.startswith(b"!"))  # which is kept nowhere
         require(sorted(setup.alone(roster_of(tenants), daemon.journal())) == told, "the journal gives what was told")
 
 

@@ -21,7 +21,7 @@ import sys
 import time
 import urllib.request
 from collections.abc import Iterator
-from concurrent.futures import Future, ThreadPoolExecutor
+from concurrent.futures import ThreadPoolExecutor
 from contextlib import ExitStack, contextmanager, suppress
 from functools import cache, partial
 from pathlib import Path
@@ -30,7 +30,7 @@ import firmd
 from firmd import FIRMD, ROWS, Client, Daemon, Gone, Setup, wait_for
 from harness import program
 from harness.checks import Check, Skipped, count_ends, passes, print_skipped, require, run_script
-from harness.deployed import HIGH_WATER, LINES_OF_SOCKET, SERVICE
+from harness.deployed import HIGH_WATER, SERVICE, TICK_SECONDS
 from journal_kit import MOVED, QUESTIONS
 
 CHECKS_AT_A_TIME = 4
@@ -436,36 +436,32 @@ def bounded_replies(setup: Setup) -> None:
 
 
 def bounded_lines(setup: Setup) -> None:
-    """Clients of a socket are not read while they are owed too many replies; others are, and all are answered."""
-    text = (b"alpha show" + b" " * 240 + b"\n") * 8_000  # so many may be owed to one client
-    with setup.daemon() as daemon, ThreadPoolExecutor(14) as pool:
-        daemon.options += ["--client", f"alpha={daemon.folder / 'alpha'}"]
-        daemon.start()
-        firm = daemon.firm_process()
-        os.kill(firm, signal.SIGSTOP)
+    """Clients are not read while their tenant or socket is owed too many replies; others are, and all are answered."""
+    text = (b"alpha show" + b" " * 240 + b"\n") * 1_000
+    for bound in ("--most-waiting-of-tenant", "--most-unanswered-of-socket"):
+        with setup.daemon(bound, "200000") as daemon, ThreadPoolExecutor(30) as pool:
+            daemon.options += ["--client", f"alpha={daemon.folder / 'alpha'}"]
+            daemon.start()
+            firm = daemon.firm_process()
+            os.kill(firm, signal.SIGSTOP)
 
-        def ask(client: Client) -> int:
-            client.socket.settimeout(ALL_SECONDS)
-            client.send(text)
-            return client.end().count(b"\n")
+            def ask(client: Client) -> int:
+                client.socket.settimeout(ALL_SECONDS)
+                client.send(text)
+                return client.end().count(b"\n")
 
-        def crowd(count: int) -> list[Future[int]]:
-            return [pool.submit(ask, Client(daemon.folder / "alpha")) for _ in range(count)]
-
-        answers = crowd(10)
-        wait_for(lambda: status_of(daemon)["journal_bytes"] > 0.9 * LINES_OF_SOCKET, "lines are taken")
-        time.sleep(SOON_SECONDS)
-        taken = status_of(daemon)["journal_bytes"]
-        require(taken < LINES_OF_SOCKET < 10 * len(text), f"{taken} bytes of lines are taken")
-        answers += crowd(4)  # of which nothing is read
-        time.sleep(SOON_SECONDS)
-        with daemon.client() as other:
-            other.send(b"beta show\n")
-            wait_for(lambda: status_of(daemon)["journal_bytes"] == taken + 10, "a line of another socket is taken")
-            os.kill(firm, signal.SIGCONT)
-            require(other.reply().startswith(b"beta 1 ok"), "and answered")
-        require([answer.result() for answer in answers] == [8_000] * 14, "each line is answered")
-        ends_well(daemon)
+            answers = [pool.submit(ask, Client(daemon.folder / "alpha")) for _ in range(30)]
+            wait_for(lambda: status_of(daemon)["owed_bytes"] > 150_000, "lines are taken")
+            time.sleep(SOON_SECONDS + TICK_SECONDS)
+            taken = status_of(daemon)["owed_bytes"]
+            require(taken < 1_500_000, f"{taken} bytes of lines are taken, of {30 * len(text)}")
+            with daemon.client() as other:
+                other.send(b"beta show\n")
+                wait_for(lambda: b"beta show\n" in daemon.journal(), "a line of another socket is taken")
+                os.kill(firm, signal.SIGCONT)
+                require(other.reply().startswith(b"beta 1 ok"), "and answered")
+            require([answer.result() for answer in answers] == [1_000] * 30, "each line is answered")
+            ends_well(daemon)
 
 
 def read_again(setup: Setup) -> None:

@@ -79,7 +79,7 @@ def senders(setup: Setup) -> None:
             require(operator.ask(b"+ retire beta") == b"+ ok retired beta", "the operator")
             firmd.wait_for(lambda: alpha.ask(b"alpha where a").endswith(b"at m1"), "a round")
         with daemon.client() as client:
-            client.ask(b"gamma show")
+            client.ask(b"alpha show")
         ended = time.time()
         daemon.stop()
         records = [record for path in daemon.segments() for record in records_of(path.read_bytes())]
@@ -87,7 +87,7 @@ def senders(setup: Setup) -> None:
         require(all(begun - 0.01 <= record.time <= ended for record in records), "the times")
         user = os.geteuid()
         told = {(record.sender, record.text.split()[0]) for record in records}
-        wanted = {(f"alpha:{user}", b"alpha"), (f"+:{user}", b"+"), (f"*:{user}", b"gamma"), ("firmd", b"alpha")}
+        wanted = {(f"alpha:{user}", b"alpha"), (f"+:{user}", b"+"), (f"*:{user}", b"alpha"), ("firmd", b"alpha")}
         require(told == wanted, told)
         printed = tool("print", daemon.state)
         require(printed.encode() == daemon.journal(), printed)

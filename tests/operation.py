@@ -26,7 +26,7 @@ from firmd import JOURNAL_TOOL, START_SECONDS, Client, Daemon, Setup, stand_in, 
 from harness import program
 from harness.checks import Check, Skipped, count_ends, passes, require, run_script
 from harness.deployed import LOCK_SECONDS, SERVICE
-from hostile import patch
+from hostile import patch, patch_viewer
 
 AGENT = [sys.executable, str(SERVICE / "firm-agent")]
 CHECKS_AT_A_TIME = 4
@@ -168,7 +168,7 @@ def tracebacks(setup: Setup) -> None:
     """A traceback belongs to its message: by indentation, behind the priority too, or in one object."""
     for options, begins in (((), "  "), ((), "<4>  "), (("--log-format", "json"), "")):
         with setup.daemon(*options) as daemon:
-            patch(daemon, FAULTY)
+            patch_viewer(daemon, FAULTY)
             if begins.startswith("<"):
                 as_journal(daemon)
             daemon.spawn()
@@ -182,8 +182,9 @@ def tracebacks(setup: Setup) -> None:
             if options:
                 (told,) = [row for row in map(json.loads, lines) if row["level"] == "warning"]
                 require(told["traceback"].startswith("Traceback") and told["part"] == "view", told)
+                require(told["program"] == "firm-viewer", told)
             else:
-                require(" a fault of view" in lines[1], lines)
+                require("firm-viewer: a fault of view" in lines[1], lines)
                 require(lines[2] == f"{begins}Traceback (most recent call last):", lines)
                 require(all(line.startswith(begins) for line in lines[2:-1]) and len(lines) > 6, lines)
 

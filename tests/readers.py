@@ -46,13 +46,14 @@ TASKS = 2_500
 FAST = Path("/dev/shm")  # where syncs take no time, so that what is measured is firmd
 RATIO = 1.5
 LONG_SECONDS = 120.0  # for what readers have asked, on a busy host
-TRIES = 4  # of a measurement: others use the host too
+TRIES = 6  # of a measurement: others use the host too
 MOST_GROWN_FIRMD = 20_000  # kilobytes, by readers that read nothing
 MOST_GROWN = {  # of the viewer, by kind; those of the view have 64 MiB in all
     "requests without reading": 10_000,
     "watchers that do not read": 150_000,
     "views that do not read": 150_000,
 }
+SAID = 'firm_own_replies_total{reply="unknown-tenant",socket="*",tenant=""}'
 VIEW, ALPHA, BETA, OPERATORS = 61001, 61002, 61003, 61004  # groups, and users of these names
 
 
@@ -300,15 +301,16 @@ def dropped_watchers(setup: Setup, bound: str) -> None:
 
 
 def another_viewer(setup: Setup) -> None:
-    """Where the process for readers dies or hangs, firmd starts another, which shows the same; it says and counts it."""
+    """Where the process for readers dies or hangs, firmd says so, counts it, and starts another that shows the same."""
     with setup.daemon() as daemon:
         port = with_http(daemon)
         patch_viewer(daemon, "", "feeder.SILENT_SECONDS = 6")
         daemon.start()
         with daemon.client() as client:
-            give(client, [*ROWS, b"alpha round", b"beta done none"])
+            give(client, [*ROWS, b"alpha round", b"beta done none", b"nobody show"])
             shown = rows_shown(daemon, ["alpha", "beta"])
             require(metric(port, "firm_viewer_restarts_total") == 0, "none was started again")
+            wait_for(lambda: f"\n{SAID} 1.0\n" in text_of(port), "what firmd says itself is counted")
             for number, end in enumerate([signal.SIGKILL, signal.SIGSTOP], 1):
                 first = viewer_of(daemon)
                 os.kill(first, end)
@@ -320,6 +322,7 @@ def another_viewer(setup: Setup) -> None:
                 require(metric(port, "firm_viewer_restarts_total") == number, "it is counted")
                 require(metric(port, 'firm_refusals_total{reason="no-such-task",tenant="beta"}') == 1, "a refusal")
                 require(metric(port, "firm_status_age_seconds") < 5, "the age of what firmd told")
+                require(metric(port, SAID) == 1, "what firmd said itself")
             last = viewer_of(daemon)
         daemon.kill()
         wait_for(lambda: not Path(f"/proc/{last}").exists(), "it ends with firmd")
@@ -371,7 +374,8 @@ def shown_after_gaps(setup: Setup) -> None:
         roster, text = random_stream(draw, 5)
         model = service.Service(service.read_roster(roster))
         told = [(line, service.answer_line(model, line)) for line in service.lines_of(text)]
-        lines = [line for line, reply in told if reply is not None]
+        # firm takes one CR from the end of a line, as was done here before.
+        lines = [line + b"\r" if line.endswith(b"\r") else line for line, reply in told if reply is not None]
         replies = [reply for _, reply in told if reply is not None]
         with setup.daemon(roster=roster) as daemon:
             patch_viewer(daemon, "", SMALL)

@@ -25,7 +25,7 @@ from pathlib import Path
 
 from agent_kit import SOON_SECONDS, SSH, WAITS_FOR_GO, Case, command, is_there
 from harness.checks import Check, Skipped, count_ends, passes, print_skipped, require, run_script
-from harness.deployed import SERVICE, supervisor
+from harness.deployed import SERVICE
 
 AT_A_TIME = 6  # checks, which mostly wait
 LOOK_SECONDS = 1.0  # in which a hidden process has changed its number, on a busy host too
@@ -41,6 +41,18 @@ while True:
         file.write(str(os.getpid()))
     os.rename("hidden.new", "hidden")
     time.sleep(0.01)
+"""
+OLD_KERNEL = """\
+import subprocess, sys
+sys.path.insert(0, sys.argv[1])
+import supervisor
+supervisor.KILL = "cgroup.no-such-file"
+group = supervisor.Group.make("firm-test")
+with group.joined():
+    subprocess.run([sys.executable, "-S", "hidden.py"])
+print(group.path)
+input()
+group.end()
 """
 LEAVES_HIDDEN = "env -i {python} -S hidden.py & "
 # systemd as far as it is asked: a scope is a cgroup that is handed over, in which systemd-run becomes the command.
@@ -294,16 +306,13 @@ def old_kernel() -> None:
     """A kernel that can't kill a cgroup in one go: its processes are frozen, and killed one by one."""
     own_cgroup()
     with Case("") as case:
-        hidden = Hidden(case.folder)
-        words = [sys.executable, "-S", "hidden.py"]
-        group = supervisor.Group.make("firm-test")
-        with group.joined(), subprocess.Popen(words, cwd=case.folder) as started:
-            started.wait()
-        case.until(hidden.pid, "the hidden process")
-        require(hidden.is_there(), "the hidden process")
-        supervisor.KILL = "cgroup.no-such-file"
-        group.end()
-        require(not hidden.is_there() and not group.path.exists(), "it is left")
+        hidden, pipe = Hidden(case.folder), subprocess.PIPE
+        words = [sys.executable, "-c", OLD_KERNEL, str(SERVICE / "firm_service")]
+        with subprocess.Popen(words, cwd=case.folder, stdin=pipe, stdout=pipe, text=True) as asked:
+            case.until(hidden.is_there, "the hidden process")
+            path, _ = asked.communicate("end\n", timeout=60)
+        require(asked.returncode == 0 and path.startswith("/"), path)
+        require(not hidden.is_there() and not Path(path.rstrip()).exists(), "it is left")
 
 
 def threads_alone() -> None:

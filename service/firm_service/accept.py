@@ -9,7 +9,7 @@ from collections.abc import Callable
 from .faults import Fault, Faults, Reader
 from .relief import SHORTAGES, Relief
 
-AT_ONCE = 16  # connections of a socket in a turn of the loop
+AT_ONCE = 4  # connections of a socket in a turn of the loop
 RETRY_SECONDS = 0.01  # until one that was closed has given its descriptor back
 
 

@@ -6,9 +6,6 @@ from collections import Counter, deque
 from dataclasses import dataclass
 
 MEBIBYTE = 2**20
-# Of lines that are not answered yet. firmd takes some 10 MiB of lines a second, so these are seconds of its work; more
-# would only wait here instead of in the clients.
-LINES_OF_SOCKET, LINES_IN_ALL = 16 * MEBIBYTE, 64 * MEBIBYTE
 # Beside their text, as tracemalloc counts in CPython 3.11, rounded up: of lines that came together, with the stream's
 # share and the client's own record, 475; of a note that waits behind replies, with its text, 180.
 SHARE_BYTES, NOTE_BYTES = 512, 192
@@ -17,7 +14,7 @@ UNREAD_PIECE = 65_536  # bytes: small enough for the allocator to use again, a t
 
 @dataclass(frozen=True, slots=True)
 class Bounds:
-    """Bytes that clients may have, together with those of their socket, and with all others."""
+    """Bytes that clients may have, together with those of their socket (or tenant), and with all others."""
 
     of_socket: int
     in_all: int
@@ -32,8 +29,12 @@ class Account:
         self.total = 0
 
     def add(self, socket: bytes, size: int) -> None:
-        self.bytes[socket] += size
         self.total += size
+        left = self.bytes[socket] + size
+        if left:
+            self.bytes[socket] = left
+        else:  # names of lanes may be any
+            del self.bytes[socket]
 
     def is_over(self, socket: bytes) -> bool:
         """Whether the socket, or all together, have more than they may."""

@@ -1,7 +1,7 @@
-"""Clients: their sockets, who may say what, and the limits of each.
+"""Clients: their sockets, and the limits of each.
 
 A client speaks firm's lines and gets firm's replies to them, in its order. What firmd says itself is a line that begins
-with `?`, as none of firm's does.
+with `?`, as none of firm's does, or what firm would say to a line that changes nothing.
 """
 
 from __future__ import annotations
@@ -9,6 +9,7 @@ from __future__ import annotations
 import asyncio
 import socket
 import struct
+import time
 from collections import deque
 from contextlib import suppress
 from dataclasses import dataclass
@@ -16,27 +17,23 @@ from pathlib import Path
 from typing import NamedTuple, Protocol
 
 from . import lines
-from .bounds import LINES_IN_ALL, LINES_OF_SOCKET, NOTE_BYTES, SHARE_BYTES, UNREAD_PIECE
+from .bounds import NOTE_BYTES, SHARE_BYTES, UNREAD_PIECE
 from .bounds import Account, Backlog, Bounds, Unread
+from .budgets import Accounts
 from .faults import Faults, say
-from .observers import Status
+from .lanes import Lanes, Share
 from .relief import Held
+from .rights import Part, Rights, Said
+from .turns import LEAST_BYTES, MOST_BYTES, Turns
 
-PIECE_BYTES = 65_536  # read at a time of one client
-KEPT_BYTES = lines.MOST_BYTES + 2  # of a line: one as long is too long for firm, with a CR at its end or without
+KEPT_BYTES = lines.MOST_BYTES + 2  # of a line: one as long is too long, with a CR at its end or without
 LINES_AHEAD = 8_192  # of a client without replies: it is not read further until fewer are
+BYTES_AHEAD = 32_768  # of a client's lines that wait for their lanes' turns: the same
 HIGH_WATER = 262_144  # bytes of replies that a client has not read: no further line of its is read until fewer are
 LINGER_SECONDS = 60.0  # for which a client that is closed may still read
 STOP_SECONDS = 5.0  # for which all may, at the end of the service
 CREDENTIALS = struct.Struct("iII")  # of a connection's other end: process, user, group
 
-# A text in which no line but the first can begin with one of these has no comments, no empty lines and no operator's.
-MARKS = (b"\n\n", b"\n#", b"\n+", b"\n ", b"\n\t", b"\n\r")
-FIRST_MARKS = b"\n#+ \t\r"
-
-NOT_OPERATOR = b"? operator-only: lines that begin with + go to the operator's socket\n"
-OTHER_TENANT = b"? other-tenant: this socket takes the lines of %s alone\n"
-JOURNAL_FULL = b"? journal-full: firm can't read further lines; the operator must begin a new state\n"
 TOO_MANY = b"? too-many-clients: %d are connected\n"
 UNREAD = b"? unread-replies: more than %d bytes were not read; further replies are dropped\n"
 STOPPING = b"? stopping: no further lines are taken\n"
@@ -48,51 +45,24 @@ MOST_UNREAD = (
 class Taker(Protocol):
     """Takes lines for firm."""
 
-    status: Status
+    lanes: Lanes
 
-    def take(self, owner: Client, text: bytes, count: int) -> bool:
-        """Takes whole lines, each of which gets a reply; False where firm can't read as many any more."""
-
-
-@dataclass(frozen=True, slots=True)
-class Rights:
-    """What the clients of a socket may say."""
-
-    tenant: bytes | None = None  # lines of this tenant alone
-    is_operator: bool = False
-
-    @property
-    def socket(self) -> bytes:
-        """The socket as the journal names it: by its tenant, else * or, for the operator's, +."""
-        return self.tenant or (b"+" if self.is_operator else b"*")
-
-    def allow_all(self, text: bytes, count: int) -> bool:
-        """Whether each line of a text gets a reply and is allowed, seen at a glance; False says nothing."""
-        if self.tenant is not None:
-            start = self.tenant + b" "
-            return text.startswith(start) and text.count(b"\n" + start) == count - 1
-        return text[0] not in FIRST_MARKS and not any(mark in text for mark in MARKS)
-
-    def refusal(self, line: bytes) -> bytes | None:
-        """Why a line is not for firm. One that is too long is nobody's: firm refuses it."""
-        if len(line.removesuffix(b"\r")) > lines.MOST_BYTES:
-            return None
-        if self.tenant is not None:
-            return None if lines.first_word(line) == self.tenant else OTHER_TENANT % self.tenant
-        return NOT_OPERATOR if lines.is_operators(line) and not self.is_operator else None
+    def take(self, share: Share) -> None:
+        """Takes lines of one tenant, each of which gets a reply."""
 
 
 @dataclass(frozen=True, slots=True)
 class Limits:
-    clients: int
+    clients: int  # of a socket
     unread_bytes: int  # of replies, for each client
     unread_together: Bounds  # of replies too
+    unanswered: Bounds  # of lines
 
 
 class Owed(NamedTuple):
-    """Lines that came together."""
+    """Lines that came together, and have left their lane."""
 
-    asked: int  # the client's lines up to them
+    asked: int  # the client's lines up to them that firm was given
     size: int  # what they take in memory
 
 
@@ -107,13 +77,16 @@ class Note:
 class Clients:
     """All that are connected."""
 
-    def __init__(self, taker: Taker, limits: Limits, faults: Faults) -> None:
+    def __init__(self, taker: Taker, limits: Limits, accounts: Accounts, faults: Faults) -> None:
         self.taker, self.limits, self.faults = taker, limits, faults
         self.connected: dict[Client, None] = {}  # the newest last
-        self.buffer = bytearray(PIECE_BYTES)  # of all clients: nothing stays in it
+        self.buffer = memoryview(bytearray(MOST_BYTES))  # of all clients: nothing stays in it
         self.is_held = False  # none is read
+        self.turns, self.tally = Turns(accounts), accounts.tally
         self.unread = Account(limits.unread_together)
-        self.backlog = Backlog(Bounds(LINES_OF_SOCKET, LINES_IN_ALL))
+        self.backlog = Backlog(limits.unanswered)
+        self._full_lanes = taker.lanes.full
+        taker.lanes.on_room = self._choose_readings
 
     def left(self, socket: bytes, size: int) -> None:
         """Takes in that a socket's clients have so much more unread, or less; closes some where that is too much."""
@@ -133,6 +106,10 @@ class Clients:
         """Takes in that a socket's clients are owed the replies to so much more, or less; holds them where needed."""
         if self.backlog.add(socket, size):
             self._choose_readings()
+
+    def holds(self, socket: bytes, lane: bytes) -> bool:
+        """Whether clients of a socket are not to be read that have lines in this lane."""
+        return self.is_held or lane in self._full_lanes or self.backlog.is_full(socket)
 
     def of_sockets(self) -> Held:
         """The connections of each socket."""
@@ -179,15 +156,21 @@ class Client(asyncio.BufferedProtocol):
     def __init__(self, clients: Clients, rights: Rights) -> None:
         self._clients = clients
         self.rights = rights
-        self.sender = rights.socket  # and its user, once it is connected
+        self.socket = rights.socket
+        self.sender = self.socket  # and its user, once it is connected
+        self._of_socket = clients.turns.socket(self.socket)
+        self.expected = 0
         self._half = b""  # of a line
+        self._lane = b""  # that has the lines that were taken last
+        self._waiting = self._waiting_bytes = 0  # lines in that lane, and the bytes of all that wait
+        self._later: deque[Share | Said] = deque()  # lines behind those, of other lanes or none
         self._asked = self._answered = 0  # lines given to firm, and their replies
         self._notes: deque[Note] = deque()
         self._owed: deque[Owed] = deque()  # in order
         self._unread = Unread()  # replies that the transport does not have yet: it has no more than one piece
         self._left = 0  # bytes of replies that are known to be unread, those of the transport too
         self._has_ended = False  # it sends no more, or is sent no more
-        self._is_stopped = self._is_full = self._is_reading = False
+        self._is_stopped = self._is_full = self._is_reading = self._waits_turn = False
 
     def connection_made(self, transport: asyncio.BaseTransport) -> None:
         if not isinstance(transport, asyncio.Transport):
@@ -201,47 +184,69 @@ class Client(asyncio.BufferedProtocol):
 
     def _begin(self) -> None:
         self.transport.set_write_buffer_limits(high=0)  # what it can't write at once is kept here, and counted
-        self.sender = b"%b:%d" % (self.rights.socket, user_of(self.transport))
+        self.sender = b"%b:%d" % (self.socket, user_of(self.transport))
         self._is_reading = True
         most = self._clients.limits.clients
-        if len(self._clients.connected) >= most:
+        if self._of_socket.count >= most:
+            self._clients.tally.reply(self.socket, b"", TOO_MANY, 1)
             self.close_with(TOO_MANY % most)
+        self._of_socket.count += 1
         self._clients.connected[self] = None
         # Not at once: asyncio is about to begin to read, and an early 3.11 would not heed that it was paused before.
         asyncio.get_running_loop().call_soon(self.choose_reading)
 
     def connection_lost(self, error: Exception | None) -> None:
         self._has_ended = True
-        self._clients.connected.pop(self, None)
+        if self in self._clients.connected:
+            del self._clients.connected[self]
+            self._of_socket.count -= 1
         self._unread.clear()
         self.count_unread()
 
-    def get_buffer(self, sizehint: int) -> bytearray:
-        return self._clients.buffer
+    # Lines
+
+    def get_buffer(self, sizehint: int) -> memoryview:
+        return self._clients.buffer[: self._of_socket.may_read]
 
     def buffer_updated(self, nbytes: int) -> None:
+        began = time.monotonic()
         data = self._half + self._clients.buffer[:nbytes]
         end = data.rfind(b"\n") + 1
-        # However long a line is, its first bytes are enough for firm to refuse it.
-        self._half = bytes(data[end : end + KEPT_BYTES])
+        # However long a line is, its first bytes are enough to see that it is too long.
+        self._half = data[end : end + KEPT_BYTES]
+        self._clients.turns.read(self, self._of_socket, nbytes)
         if end:
-            self._take(bytes(data[:end]))
+            self._take(data[:end])
             self.choose_reading()
+        if nbytes >= LEAST_BYTES:
+            self._of_socket.fit(nbytes, time.monotonic() - began)
+
+    def take_turn(self, waits: bool) -> None:
+        self._waits_turn = waits
+        self.choose_reading()
 
     def eof_received(self) -> bool:
         """What it sent of a line that has no end is dropped; what it asked is answered."""
         self._has_ended = True
+        self.choose_reading()
         self._close_at_end()
         return True
 
-    def pause_writing(self) -> None:
-        self._is_full = True
-
-    def resume_writing(self) -> None:
-        self._is_full = False
-        self._flush()
-        self.count_unread()
-        self.choose_reading()
+    def given(self, share: Share, reply: bytes | None) -> None:
+        self._waiting -= share.count
+        self._waiting_bytes -= len(share.text)
+        if reply is None:
+            self._asked += share.count
+        else:
+            self._note(reply * share.count)
+        self._owed.append(Owed(self._asked, share.cost))
+        if reply is not None:
+            self._settle()
+        while self._later and not (self._waiting and self._is_other(self._later[0])):
+            self._enter(self._later.popleft())
+        if not self._is_reading:
+            self.choose_reading()
+            self._close_at_end()
 
     def answered(self, replies: bytes, count: int) -> None:
         self._answered += count
@@ -249,81 +254,49 @@ class Client(asyncio.BufferedProtocol):
         if self._notes and self._notes[0].behind <= self._answered:
             replies = self._with_notes(replies, count)
         self._write(replies)
-        self.choose_reading()
-        self._close_at_end()
-
-    def is_behind(self, socket: bytes) -> bool:
-        """Whether it is of the socket and has left replies unread."""
-        return self._left > 0 and self.rights.socket == socket
-
-    def unread_bytes(self) -> int:
-        return self._unread.size + self.transport.get_write_buffer_size()
-
-    def drop(self) -> None:
-        self.transport.abort()
-        self._unread.clear()
-        self.count_unread()
-
-    def stop_reading(self) -> None:
-        self._is_stopped = True
-        self.choose_reading()
-
-    def close_with(self, text: bytes) -> None:
-        """Says why, and closes once that is read, or after some seconds."""
-        if self.transport.is_closing():
-            return
-        self._has_ended = True
-        self._unread.add(text)
-        self._close()
-        asyncio.get_running_loop().call_later(LINGER_SECONDS, self.transport.abort)
+        if not self._is_reading or self._left > HIGH_WATER:
+            self.choose_reading()
+            self._close_at_end()
 
     def _take(self, text: bytes) -> None:
         """Takes whole lines."""
-        count = text.count(b"\n")
-        pieces = text.split(b"\n")
-        pieces.pop()
-        if max(map(len, pieces)) <= KEPT_BYTES and self.rights.allow_all(text, count):
-            self._ask(text, count)
-            return
-        asked: list[bytes] = []
-        for line in filter(lines.gets_reply, pieces):
-            refusal = self.rights.refusal(line)
-            if refusal is None:
-                asked.append(line[:KEPT_BYTES] + b"\n")
+        for part in self.rights.parts(text):
+            if isinstance(part, Said):
+                self._clients.tally.reply(self.socket, b"", part.reply, part.lines)
+                line: Share | Said = part
             else:
-                self._ask(b"".join(asked), len(asked))
-                asked.clear()
-                self._note(refusal)
-        self._ask(b"".join(asked), len(asked))
+                cost = len(part.text) + SHARE_BYTES
+                line = Share(self, part.text, part.lines, part.lane, part.is_round, cost)
+                self._waiting_bytes += len(part.text)
+                self._clients.owe(self.socket, cost)
+            if self._later or self._waiting and self._is_other(line):
+                self._later.append(line)
+            else:
+                self._enter(line)
 
-    def _ask(self, text: bytes, count: int) -> None:
-        if count == 0:
-            return
-        if self._clients.taker.take(self, text, count):
-            self._asked += count
-            owed = Owed(self._asked, len(text) + SHARE_BYTES)
-            self._owed.append(owed)
-            self._clients.owe(self.rights.socket, owed.size)
-        elif count == 1:
-            self._note(JOURNAL_FULL)
-        else:  # some may fit
-            for line in text.split(b"\n")[:-1]:
-                self._ask(line + b"\n", 1)
+    def _is_other(self, line: Share | Said) -> bool:
+        """Whether it is not of the lane that has the lines before it."""
+        return isinstance(line, Said) or line.lane != self._lane
+
+    def _enter(self, line: Share | Said) -> None:
+        if isinstance(line, Said):
+            self._note(line.reply * line.lines)
+        else:
+            self._lane = line.lane
+            self._waiting += line.count
+            self._clients.taker.take(line)
 
     def _note(self, text: bytes) -> None:
         if self._asked == self._answered:
             self._write(text)
         else:
             self._notes.append(Note(self._asked, text))
-            self._clients.owe(self.rights.socket, NOTE_BYTES)
+            self._clients.owe(self.socket, NOTE_BYTES + len(text))
 
     def _settle(self) -> None:
         """Takes in which lines are answered, and so which notes will be told."""
-        size = 0
         while self._owed and self._owed[0].asked <= self._answered:
-            size += self._owed.popleft().size
-        if size:
-            self._clients.owe(self.rights.socket, -size)
+            self._clients.owe(self.socket, -self._owed.popleft().size)
 
     def _with_notes(self, replies: bytes, count: int) -> bytes:
         """The replies, with the notes that stand between them and behind them."""
@@ -335,8 +308,63 @@ class Client(asyncio.BufferedProtocol):
             note = self._notes.popleft()
             parts += [*lines[told - first : note.behind - first], note.text]
             told = note.behind
-            self._clients.owe(self.rights.socket, -NOTE_BYTES)
+            self._clients.owe(self.socket, -NOTE_BYTES - len(note.text))
         return b"".join(parts + lines[told - first :])
+
+    def choose_reading(self) -> None:
+        waiting = self._asked - self._answered + self._waiting + len(self._notes) + len(self._later)
+        is_ahead = waiting > LINES_AHEAD or self._waiting_bytes > BYTES_AHEAD or self._left > HIGH_WATER
+        is_stopped = self._is_stopped or self._has_ended or self._waits_turn
+        reads = not (is_stopped or is_ahead or self._clients.holds(self.socket, self._lane if self._waiting else b""))
+        if reads != self._is_reading and not self.transport.is_closing():
+            self._is_reading = reads
+            if reads:
+                self.transport.resume_reading()
+            else:
+                self.transport.pause_reading()
+
+    def stop_reading(self) -> None:
+        self._is_stopped = True
+        self.choose_reading()
+
+    # Replies
+
+    def pause_writing(self) -> None:
+        self._is_full = True
+
+    def resume_writing(self) -> None:
+        self._is_full = False
+        self._flush()
+        self.count_unread()
+        self.choose_reading()
+
+    def is_behind(self, socket: bytes) -> bool:
+        """Whether it is of the socket and has left replies unread."""
+        return self._left > 0 and self.socket == socket
+
+    def unread_bytes(self) -> int:
+        return self._unread.size + self.transport.get_write_buffer_size()
+
+    def count_unread(self) -> None:
+        """Tells what it has left unread since the last look."""
+        left = self.unread_bytes()
+        if left != self._left:
+            more, self._left = left - self._left, left
+            self._clients.left(self.socket, more)
+
+    def drop(self) -> None:
+        self.transport.abort()
+        self._unread.clear()
+        self.count_unread()
+
+    def close_with(self, text: bytes) -> None:
+        """Says why, and closes once that is read, or after some seconds."""
+        if self.transport.is_closing():
+            return
+        self._has_ended = True
+        self._unread.add(text)
+        self._close()
+        asyncio.get_running_loop().call_later(LINGER_SECONDS, self.transport.abort)
 
     def _write(self, text: bytes) -> None:
         if self.transport.is_closing():
@@ -350,6 +378,7 @@ class Client(asyncio.BufferedProtocol):
         most = self._clients.limits.unread_bytes
         if self._left > most and not self.transport.is_closing():
             say(f"a client is closed: it left more than {most} bytes of replies unread")
+            self._clients.tally.reply(self.socket, b"", UNREAD, 1)
             self.close_with(UNREAD % most)
 
     def _flush(self) -> None:
@@ -357,20 +386,8 @@ class Client(asyncio.BufferedProtocol):
         while self._unread.size and not self._is_full:
             self.transport.write(self._unread.take())
 
-    def choose_reading(self) -> None:
-        waiting = self._asked - self._answered + len(self._notes)
-        is_stopped = self._is_stopped or self._has_ended or self._clients.is_held
-        is_ahead = waiting > LINES_AHEAD or self._left > HIGH_WATER or self._clients.backlog.is_full(self.rights.socket)
-        reads = not (is_stopped or is_ahead)
-        if reads != self._is_reading and not self.transport.is_closing():
-            self._is_reading = reads
-            if reads:
-                self.transport.resume_reading()
-            else:
-                self.transport.pause_reading()
-
     def _close_at_end(self) -> None:
-        if self._has_ended and self._asked == self._answered:
+        if self._has_ended and self._asked == self._answered and not self._waiting and not self._later:
             self._close()
 
     def _close(self) -> None:
@@ -379,13 +396,6 @@ class Client(asyncio.BufferedProtocol):
             self.transport.write(self._unread.take())
         self.transport.close()
         self.count_unread()
-
-    def count_unread(self) -> None:
-        """Tells what it has left unread since the last look."""
-        left = self.unread_bytes()
-        if left != self._left:
-            more, self._left = left - self._left, left
-            self._clients.left(self.rights.socket, more)
 
 
 def user_of(transport: asyncio.BaseTransport) -> int:

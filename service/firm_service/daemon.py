@@ -14,36 +14,48 @@ import signal
 import socket
 import sys
 import time
+from collections.abc import Callable
 from contextlib import suppress
 from functools import partial
 from importlib.util import find_spec
 from pathlib import Path
 
-from . import logs
+from . import budgets, logs
 from .accept import Acceptor
 from .address import Address
 from .books import Books
 from .bounds import MEBIBYTE, Bounds
-from .clients import Client, Clients, Limits, Listener, Rights
+from .clients import Client, Clients, Limits, Listener
 from .faults import Exit, Fault, Faults, reason, say
 from .feeder import Feeder, Told
 from .journal import Journal
+from .lanes import Bounds as LaneBounds
 from .lines import is_name
+from .measure import load_of
 from .observers import Status
+from .register import Register
 from .relief import SHORTAGES, Relief
+from .rights import Rights
 from .roster import RosterError
 from .rounds import Rounds, Times
 from .serving import Serving
 from .sight import Door
 from .sockets import Names
 from .state import State
-from .stream import Firm, Stream
+from .stream import Firm, Options, Stream
 
 MOST_INPUT = 2**32  # bytes that firm reads
 SEGMENT_BYTES = 16 * 2**20
+SWITCH_SECONDS = 0.0002  # until a busy loop lets the writer go on, which waits for it several times a line
 TICK_SECONDS = 0.1  # between looks at what the status counts
+LOAD_SECONDS = 1.0  # between looks at the load of each tenant and socket
 # Eight clients at their own limit, and four such sockets: while fewer are at it, each of the others has all of its own.
 UNREAD_OF_SOCKET, UNREAD_IN_ALL = 64 * MEBIBYTE, 256 * MEBIBYTE
+# Some seconds of firmd's work each: more would only wait here instead of in the clients.
+WAITING_OF_TENANT, UNANSWERED_OF_SOCKET, UNANSWERED_IN_ALL = 4 * MEBIBYTE, 16 * MEBIBYTE, 64 * MEBIBYTE
+WORKERS = 2  # of firm, where no number is named
+ROUNDS_OF_WORKER = 2  # under way: one that is solved, and one on its way
+FIRM_TIMEOUT, LEAST_TIMEOUT = 60.0, 0.1
 SPARE_FILES = 256  # open files beside the clients'
 BUILT = Path(__file__).resolve().parents[2] / "crates" / "firm" / "out" / "firm"
 EXITS = """\
@@ -52,7 +64,7 @@ exit statuses, each but 0 with the reason on standard error:
   1  an error of firmd itself
   2  the command line, or a package that --http needs
   3  the roster can't be read, firm refuses it, or it is not the state's
-  4  the state can't be read or written, as on a full disk, or another firmd has it
+  4  the state can't be read or written, as on a full disk, or another firmd has it; or firm does not answer
   5  the state lacks a part or has others than were written, or firm replies otherwise than was kept
   6  firm can't be started, ended by itself, or was refused memory in the replay
   7  a socket or address can't be had"""
@@ -86,15 +98,20 @@ class Daemon:
             lines=0,
             process=os.getpid(),
         )
-        self._stream = Stream(firm, journal, self._status, self._faults)
+        self._books = start_books(self._roster)
+        loop = asyncio.get_running_loop()
+        register = Register(name.encode() for name in self._books.tenants)
+        self._accounts = budgets.Accounts(budgets.of_options(self._options), register, self._status, loop.time)
+        rounds = ROUNDS_OF_WORKER * (self._options.workers or WORKERS)
+        bounds = LaneBounds(self._options.most_waiting_of_tenant, rounds)
+        options = Options(bounds, self._options.firm_timeout)
+        self._stream = Stream(firm, journal, self._accounts, self._faults, options)
         self._relief = Relief(self._faults)
         self._faults.give_up = self._stream.fail
         self._stream.on_shortage = journal.on_shortage = self._relief.relieve_soon
-        loop = asyncio.get_running_loop()
         loop.set_exception_handler(self._hear_of_error)
         for number in (signal.SIGTERM, signal.SIGINT):
             loop.add_signal_handler(number, self._stop)
-        self._books = start_books(self._roster)
         self._stream.is_mistaken = self._books.may_have_moved
         self._stream.observe(self._books)
         self._stream.start()
@@ -105,8 +122,9 @@ class Daemon:
 
     async def _serve(self) -> None:
         together = Bounds(self._options.most_unread_of_socket, self._options.most_unread_in_all)
-        limits = Limits(self._options.most_clients, self._options.most_unread, together)
-        clients = Clients(self._stream, limits, self._faults)
+        unanswered = Bounds(self._options.most_unanswered_of_socket, self._options.most_unanswered_in_all)
+        limits = Limits(self._options.most_clients, self._options.most_unread, together, unanswered)
+        clients = Clients(self._stream, limits, self._accounts, self._faults)
         self._relief.look_at(clients.of_sockets)
         self._relief.on_memory = clients.hold
         rounds = Rounds(self._books, self._stream, Times(self._options.every, self._options.after), self._faults)
@@ -124,9 +142,13 @@ class Daemon:
             seconds = time.time() - self._status.started
             say(f"ready: {self._status.replayed_lines:,} lines replayed in {seconds:.1f} s", logs.INFO)
             notify(b"READY=1")
-            ticking = asyncio.create_task(self._tick(clients, feeder))
+            ticking = [
+                asyncio.create_task(self._repeat(partial(self._tell_status, clients, feeder), TICK_SECONDS)),
+                asyncio.create_task(self._repeat(partial(self._tell_load, clients, feeder), LOAD_SECONDS)),
+            ]
             await asyncio.wait([self._stream.ended])
-            ticking.cancel()
+            for task in ticking:
+                task.cancel()
         except Fault as fault:
             self._stream.fail(fault)
         finally:
@@ -154,7 +176,7 @@ class Daemon:
         ]
         address = self._address()
         http = self._listen_http(address) if address is not None else []
-        return Serving(self._listen_view(), http, address, doors, os.getpid())
+        return Serving(self._listen_view(), http, address, doors, os.getpid(), self._options.log_format)
 
     def _address(self) -> Address | None:
         """That of HTTP, once it is known that it can be served."""
@@ -192,17 +214,20 @@ class Daemon:
         rounds.stop()
         clients.stop_reading()
 
-    async def _tick(self, clients: Clients, feeder: Feeder) -> None:
-        """Keeps what the status counts of clients, and warns of a journal that grows too long."""
+    async def _repeat(self, look: Callable[[], None], seconds: float) -> None:
+        """Looks again and again, whatever comes of one look."""
         while True:
             try:
-                self._count(clients)
-                feeder.tell_status()
+                look()
             except Exception as error:
                 self._faults.note("status", error)
-            await asyncio.sleep(TICK_SECONDS)
+            await asyncio.sleep(seconds)
 
-    def _count(self, clients: Clients) -> None:
+    def _tell_load(self, clients: Clients, feeder: Feeder) -> None:
+        feeder.tell_load(load_of(self._stream, clients, self._accounts))
+
+    def _tell_status(self, clients: Clients, feeder: Feeder) -> None:
+        """Keeps what the status counts of clients, and warns of a journal that grows too long."""
         self._status.clients = len(clients.connected)
         self._status.unread_replies = clients.unread_bytes()
         self._status.owed_bytes = clients.backlog.account.total
@@ -213,6 +238,7 @@ class Daemon:
                 f"warning: the journal has {used:,} of {most:,} bytes that firm reads; "
                 "docs/SERVICE.md says how to begin anew"
             )
+        feeder.tell_status()
 
     def _hear_of_error(self, loop: asyncio.AbstractEventLoop, context: dict[str, object]) -> None:
         """An error that nobody caught. Stream and journal catch their own, so it ends its connection at most."""
@@ -250,10 +276,10 @@ def notify(text: bytes) -> None:
             manager.sendto(text, address.replace("@", "\0", 1) if address.startswith("@") else address)
 
 
-def allow_files(most_clients: int) -> None:
+def allow_files(clients: int) -> None:
     """Lets the process open a file for each client, as far as the system does."""
     _, most = resource.getrlimit(resource.RLIMIT_NOFILE)
-    wanted = most_clients + SPARE_FILES
+    wanted = clients + SPARE_FILES
     with suppress(ValueError, OSError):
         resource.setrlimit(
             resource.RLIMIT_NOFILE, (wanted if most == resource.RLIM_INFINITY else min(wanted, most), most)
@@ -272,6 +298,13 @@ def duration(text: str) -> float:
     value = float(text)
     if not 0 <= value < 10**9:
         raise argparse.ArgumentTypeError(f"{text} is no time")
+    return value
+
+
+def timeout(text: str) -> float:
+    value = duration(text)
+    if value < LEAST_TIMEOUT:
+        raise argparse.ArgumentTypeError(f"{text} is less than {LEAST_TIMEOUT} s")
     return value
 
 
@@ -307,6 +340,25 @@ def add_bytes(limits: argparse._ArgumentGroup, name: str, most: int, default: in
     limits.add_argument(name, type=partial(number, 1, most), default=default, metavar="BYTES", help=told)
 
 
+def add_limits(limits: argparse._ArgumentGroup) -> None:
+    most_clients = partial(number, 1, 10**5)
+    told = "of a socket at a time (default: %(default)s)"
+    limits.add_argument("--most-clients", type=most_clients, default=1_000, metavar="N", help=told)
+    add_bytes(limits, "--most-unread", 2**40, 8 * MEBIBYTE, "of replies that a client may leave unread")
+    told = "that the clients of a socket may leave unread together"
+    add_bytes(limits, "--most-unread-of-socket", 2**40, UNREAD_OF_SOCKET, told)
+    add_bytes(limits, "--most-unread-in-all", 2**40, UNREAD_IN_ALL, "that all clients may leave unread")
+    told = "of lines of a tenant that may wait for its turn; more are not read"
+    add_bytes(limits, "--most-waiting-of-tenant", 2**40, WAITING_OF_TENANT, told)
+    told = "of lines that the clients of a socket may leave unanswered together"
+    add_bytes(limits, "--most-unanswered-of-socket", 2**40, UNANSWERED_OF_SOCKET, told)
+    add_bytes(limits, "--most-unanswered-in-all", 2**40, UNANSWERED_IN_ALL, "of lines that all may leave unanswered")
+    add_bytes(limits, "--journal-limit", MOST_INPUT, MOST_INPUT, "of all segments; firm reads no more")
+    add_bytes(limits, "--segment-bytes", MOST_INPUT, SEGMENT_BYTES, "of a segment of the journal")
+    told = "for which firm may owe replies without a word, before it is killed (default: %(default)g)"
+    limits.add_argument("--firm-timeout", type=timeout, default=FIRM_TIMEOUT, metavar="SECONDS", help=told)
+
+
 def parser() -> argparse.ArgumentParser:
     found = argparse.ArgumentParser(
         prog="firmd",
@@ -330,16 +382,8 @@ def parser() -> argparse.ArgumentParser:
     add("--firm", default=default_firm(), metavar="PROGRAM", help="the built program (default: %(default)s)")
     add("--workers", type=partial(number, 1, 8), metavar="N", help="threads of firm that solve rounds")
     logs.add_form(found)
-    limits = found.add_argument_group("limits")
-    most_clients = partial(number, 1, 10**5)
-    told = "at a time (default: %(default)s)"
-    limits.add_argument("--most-clients", type=most_clients, default=1_000, metavar="N", help=told)
-    add_bytes(limits, "--most-unread", 2**40, 8 * MEBIBYTE, "of replies that a client may leave unread")
-    told = "that the clients of a socket may leave unread together"
-    add_bytes(limits, "--most-unread-of-socket", 2**40, UNREAD_OF_SOCKET, told)
-    add_bytes(limits, "--most-unread-in-all", 2**40, UNREAD_IN_ALL, "that all clients may leave unread")
-    add_bytes(limits, "--journal-limit", MOST_INPUT, MOST_INPUT, "of all segments; firm reads no more")
-    add_bytes(limits, "--segment-bytes", MOST_INPUT, SEGMENT_BYTES, "of a segment of the journal")
+    add_limits(found.add_argument_group("limits"))
+    budgets.add_options(found, number)
     return found
 
 
@@ -365,7 +409,8 @@ def read_options(arguments: list[str]) -> argparse.Namespace:
 def main() -> int:
     options = read_options(sys.argv[1:])
     logs.begin("firmd", options.log_format)
-    allow_files(options.most_clients)
+    sys.setswitchinterval(SWITCH_SECONDS)
+    allow_files(options.most_clients * len({listener.rights.socket for listener in options.listeners}))
     try:
         asyncio.run(Daemon(options).run())
     except Fault as fault:

@@ -2,7 +2,7 @@
 
 A message is its kind and the length of its text, and the text. Rows begin with BEGIN, which names the tenants; then
 each of these has a TENANT, or was retired meanwhile; END follows the last. LINES come from BEGIN on: those of a tenant
-whose rows are still to come are in them already. STATUS comes at any time.
+whose rows are still to come are in them already. STATUS and LOAD come at any time.
 
 Most texts are written by `marshal`, in a fifth of JSON's time: firmd serves nobody else meanwhile, and the viewer is of
 the same Python.
@@ -15,15 +15,21 @@ import marshal
 import struct
 from collections import Counter, deque
 from collections.abc import Iterator, Sequence
-from dataclasses import asdict, astuple
+from dataclasses import asdict, astuple, fields
+from operator import attrgetter
 from typing import Any
 
 from .books import COSTS_KEPT, Book, Books, Pending, RoundTimes, Task
+from .load import Load, OwnReply, SocketLoad, TenantLoad
 from .observers import Status
 from .roster import Limits
 
-BEGIN, TENANT, END, LINES, STATUS = b"BTELS"
+BEGIN, TENANT, END, LINES, STATUS, LOAD = b"BTELSO"
 HEAD = struct.Struct("<BI")
+# The fields of the parts of a load: `astuple` takes milliseconds for those of many tenants and sockets.
+OF_TENANT, OF_SOCKET, OF_REPLY = [
+    attrgetter(*[field.name for field in fields(kind)]) for kind in (TenantLoad, SocketLoad, OwnReply)
+]
 
 
 def message(kind: int, text: bytes) -> bytes:
@@ -101,3 +107,23 @@ def status_text(status: Status, faults: Counter[str]) -> bytes:
 def status_of(text: bytes) -> tuple[Status, dict[str, int]]:
     fields, faults = json.loads(text)
     return Status(**fields), faults
+
+
+def load_text(load: Load) -> bytes:
+    numbers = (load.oldest_line_seconds, load.firm_silent_seconds, load.sync_counts, load.sync_seconds)
+    tenants, sockets = list(map(OF_TENANT, load.tenants)), list(map(OF_SOCKET, load.sockets))
+    return marshal.dumps((*numbers, tenants, sockets, list(map(OF_REPLY, load.own_replies)), load.tenant_waits))
+
+
+def load_of(text: bytes) -> Load:
+    oldest, silent, counts, seconds, tenants, sockets, replies, waits = marshal.loads(text)
+    return Load(
+        oldest,
+        silent,
+        counts,
+        seconds,
+        [TenantLoad(*row) for row in tenants],
+        [SocketLoad(*row) for row in sockets],
+        [OwnReply(*row) for row in replies],
+        waits,
+    )

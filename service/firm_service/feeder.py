@@ -21,7 +21,9 @@ from pathlib import Path
 from .books import Books
 from .bounds import MEBIBYTE
 from .faults import Faults, say
-from .feed import BEGIN, END, LINES, STATUS, TENANT, begin_text, lines_text, message, status_text, tenant_text
+from .feed import BEGIN, END, LINES, LOAD, STATUS, TENANT
+from .feed import begin_text, lines_text, load_text, message, status_text, tenant_text
+from .load import Load
 from .observers import Status
 from .serving import Serving
 
@@ -31,6 +33,7 @@ AHEAD = MEBIBYTE  # of messages, from which on no further rows are added to them
 PIECES = 64  # messages that are sent together
 PAUSE_SECONDS = 0.25  # before a viewer that fell behind is told all rows anew
 SILENT_SECONDS = 60.0  # without a sign of life, after which a viewer is killed
+START_SECONDS = 60.0  # more, for the first one
 PATIENCE_SECONDS = 1.0  # for the status of one that has closed its feed
 STOP_SECONDS = 2.0  # for the last lines, and the viewer's end
 STEADY_SECONDS, SHORTEST_PAUSE, LONGEST_PAUSE = 10.0, 0.1, 5.0  # a viewer that lived so long is followed at once
@@ -46,7 +49,7 @@ class Pipe:
         self._messages: deque[bytes] = deque()
         self._sent = 0  # bytes of the first
         self.size = 0  # of all, what is sent of the first too
-        self.heard = self._loop.time()  # when the viewer last gave a sign of life
+        self.heard = self._loop.time() + START_SECONDS  # when the viewer last gave a sign of life
         self._is_due = False  # they are sent soon, or once there is room
         end.setblocking(False)
         self._loop.add_reader(end, self._hear)
@@ -129,6 +132,7 @@ class Feeder:
 
     def __init__(self, told: Told, serving: Serving) -> None:
         self._told, self._serving = told, serving
+        self._load = Load()  # as it was told last
         self._loop = asyncio.get_running_loop()
         self._process: subprocess.Popen[bytes] | None = None
         self._pipe: Pipe | None = None
@@ -166,6 +170,12 @@ class Feeder:
             say(f"the viewer, process {self._process.pid}, gives no sign of life: it is killed")
             self._process.kill()
 
+    def tell_load(self, load: Load) -> None:
+        """Tells what waits in firmd, and whose it is; called again and again, but less often, as it is longer."""
+        self._load = load
+        if self._is_telling:
+            self._tell(LOAD, partial(load_text, load))
+
     async def close(self) -> None:
         """Tells a viewer what is left, and waits for its end, for some seconds."""
         self._is_closing = True
@@ -192,6 +202,7 @@ class Feeder:
             self._is_telling, self._rows = True, deque(self._told.books.tenants)
             self._tell(BEGIN, lambda: begin_text(self._told.books, self._told.state))
             self.tell_status()
+            self.tell_load(self._load)
 
     def _go_on(self) -> None:
         """There is room for further rows, or a viewer that fell behind has taken all that it was told."""
@@ -228,12 +239,14 @@ class Feeder:
     # The process.
 
     def _spawn(self, end: socket.socket) -> subprocess.Popen[bytes]:
+        """In a process group of its own, as a signal from the terminal is firmd's to answer; not in a session, as these
+        share the processors whatever their processes' niceness."""
         return subprocess.Popen(
             [sys.executable, PROGRAM, self._serving.words(end)],
             stdin=subprocess.DEVNULL,
             stdout=subprocess.DEVNULL,
             pass_fds=[found.fileno() for found in (end, *self._serving.sockets)],
-            start_new_session=True,  # a signal from the terminal is firmd's to answer
+            process_group=0,
         )
 
     def _lose(self) -> None:

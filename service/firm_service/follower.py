@@ -5,7 +5,7 @@ from __future__ import annotations
 from collections.abc import Callable
 
 from .books import Books
-from .feed import BEGIN, END, LINES, STATUS, TENANT, begun, book_of, lines_of, status_of
+from .feed import BEGIN, END, LINES, LOAD, STATUS, TENANT, begun, book_of, lines_of, load_of, status_of
 from .shown import Shown
 
 
@@ -21,6 +21,8 @@ class Follower:
             (self._coming or self._shown).replied_all(*lines_of(text))
         elif kind == STATUS:
             self._shown.take_status(*status_of(text))
+        elif kind == LOAD:
+            self._shown.load = load_of(text)
         elif kind == BEGIN:
             self._state, self._coming = begun(text)
         elif kind == TENANT and self._coming is not None:

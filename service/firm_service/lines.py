@@ -7,9 +7,12 @@ import re
 MOST_BYTES = 256  # of a line without its end; a longer one is answered `! line-too-long`
 
 NO_MEMORY, OPERATOR_NO_MEMORY = b"no 14 memory", b"+ no 28 operator-memory"
+WORN = b"no 1 worn"
+LINE_TOO_LONG, UNKNOWN_TENANT = b"! line-too-long\n", b"! unknown-tenant\n"
 
 _FIRST_WORD = re.compile(rb"[ \t]*([^ \t]+)")
 _NAME = re.compile(rb"[a-z0-9-]{1,16}")
+_ROUND = re.compile(rb"[ \t]*[^ \t]+[ \t]+round[ \t]*\r?")
 
 
 def is_name(word: bytes) -> bool:
@@ -41,6 +44,16 @@ def addressee(line: bytes) -> bytes | None:
 def is_operators(line: bytes) -> bool:
     """Whether a line, without its LF, is the operator's, a faulty one too."""
     return first_word(line) == b"+"
+
+
+def is_too_long(line: bytes) -> bool:
+    """Whether a line, without its LF, gets `! line-too-long`, if it gets a reply."""
+    return len(line) > MOST_BYTES and len(line.removesuffix(b"\r")) > MOST_BYTES
+
+
+def is_round(line: bytes) -> bool:
+    """Whether a line, without its LF, asks for a round."""
+    return _ROUND.fullmatch(line) is not None
 
 
 def outcome(reply: bytes) -> bytes:

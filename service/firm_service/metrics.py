@@ -11,6 +11,7 @@ from prometheus_client.exposition import CONTENT_TYPE_LATEST
 from prometheus_client.registry import Collector
 
 from .books import ROUND_SECONDS, Book
+from .load_metrics import families
 from .shown import Shown
 
 
@@ -19,13 +20,14 @@ def longest_wait(book: Book) -> int:
 
 
 class BooksCollector(Collector):
-    """The metrics of the books and of firmd's status."""
+    """The metrics of the books, and of firmd's status and load."""
 
     def __init__(self, shown: Shown) -> None:
         self._shown = shown
 
     def collect(self) -> Iterator[Metric]:
         yield from self._of_service()
+        yield from families(self._shown.load)
         yield self._faults()
         yield from self._of_tenants()
         yield self._refusals()

@@ -3,21 +3,21 @@
 from __future__ import annotations
 
 import asyncio
-from collections import deque
 from collections.abc import Sequence
 from dataclasses import dataclass
 from typing import Protocol
 
 from .books import Book, Books
 from .faults import Faults
+from .lanes import Share
 from .lines import changes_rows
 
 
 class Taker(Protocol):
     """Takes lines for firm."""
 
-    def take(self, owner: Rounds, text: bytes, count: int) -> bool:
-        """Takes whole lines, each of which gets a reply; False where firm can't read as many any more."""
+    def take(self, share: Share) -> None:
+        """Takes lines of one tenant, each of which gets a reply."""
 
 
 @dataclass(frozen=True, slots=True)
@@ -28,16 +28,34 @@ class Times:
     after_seconds: float | None  # after a change
 
 
-class Rounds:
-    """Asks for rounds: an observer that waits for changes, and owns its lines, whose replies go nowhere else."""
+class Asked:
+    """Owns the line of a round; its reply goes nowhere."""
 
-    sender = b"firmd"
+    sender, socket = b"firmd", None
+
+    def __init__(self, asked: set[str], tenant: str) -> None:
+        self._asked, self._tenant = asked, tenant
+        asked.add(tenant)
+
+    def given(self, share: Share, reply: bytes | None) -> None:
+        if reply is not None:
+            self.drop()
+
+    def answered(self, replies: bytes, count: int) -> None:
+        self.drop()
+
+    def drop(self) -> None:
+        self._asked.discard(self._tenant)
+
+
+class Rounds:
+    """Asks for rounds: an observer that waits for changes."""
 
     def __init__(self, books: Books, taker: Taker, times: Times, faults: Faults) -> None:
         self._books, self._taker, self._times, self._faults = books, taker, times, faults
         self._loop = asyncio.get_running_loop()
         self._awaited: dict[str, asyncio.TimerHandle] = {}  # tenants that changed, and when each is to have its round
-        self._asked: deque[str] = deque()  # tenants whose rounds are not answered yet, in order
+        self._asked: set[str] = set()  # tenants whose rounds are not answered yet
         self._timer: asyncio.TimerHandle | None = None
 
     def start(self) -> None:
@@ -62,14 +80,6 @@ class Rounds:
         except Exception as error:
             self._faults.note("rounds", error)
 
-    def answered(self, replies: bytes, count: int) -> None:
-        # Not by the names in the replies: a tenant that was retired meanwhile is `! unknown-tenant`.
-        for _ in range(count):
-            self._asked.popleft()
-
-    def drop(self) -> None:
-        self._asked.clear()
-
     def _changed(self, tenant: str) -> None:
         after = self._times.after_seconds
         if after is not None and tenant not in self._awaited:
@@ -91,8 +101,8 @@ class Rounds:
         book = self._books.tenants.get(tenant)
         if book is None or tenant in self._asked or is_worn(book) or not book.has_waiting():
             return
-        if self._taker.take(self, b"%s round\n" % tenant.encode(), 1):
-            self._asked.append(tenant)
+        name = tenant.encode()
+        self._taker.take(Share(Asked(self._asked, tenant), b"%b round\n" % name, 1, name, is_round=True))
 
 
 def is_worn(book: Book) -> bool:

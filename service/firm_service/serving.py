@@ -19,6 +19,7 @@ class Serving:
     address: Address | None  # of HTTP
     doors: Sequence[Door]
     parent: int  # the process that starts it
+    log_format: str  # as `logs.begin` takes it
 
     @property
     def sockets(self) -> list[socket.socket]:
@@ -29,7 +30,8 @@ class Serving:
         address = None if self.address is None else asdict(self.address)
         doors = [[door.tenant, str(door.path)] for door in self.doors]
         files = [found.fileno() for found in (feed, *self.sockets)]
-        return json.dumps({"files": files, "address": address, "doors": doors, "parent": self.parent})
+        rest = {"parent": self.parent, "log_format": self.log_format}
+        return json.dumps({"files": files, "address": address, "doors": doors, **rest})
 
     @classmethod
     def read(cls, words: str) -> tuple[socket.socket, Serving]:
@@ -38,4 +40,4 @@ class Serving:
         feed, view, *http = [socket.socket(fileno=file) for file in given["files"]]
         address = None if given["address"] is None else Address(**given["address"])
         doors = [Door(tenant, Path(path)) for tenant, path in given["doors"]]
-        return feed, cls(view, http, address, doors, given["parent"])
+        return feed, cls(view, http, address, doors, given["parent"], given["log_format"])

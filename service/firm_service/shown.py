@@ -1,4 +1,4 @@
-"""What readers are shown: the books and the status as firmd last told them, and each line as it comes."""
+"""What readers are shown: books, status and load as firmd last told them, and each line as it comes."""
 
 from __future__ import annotations
 
@@ -12,6 +12,7 @@ from typing import Protocol
 from .books import Books, tenant_of
 from .bounds import MEBIBYTE
 from .faults import Faults
+from .load import Load
 from .observers import Status
 
 MOST_UNREAD_IN_ALL = 64 * MEBIBYTE  # that all readers of the view may leave unread
@@ -39,6 +40,7 @@ class Watcher(Protocol):
 class Shown:
     def __init__(self, books: Books, status: Status, state: str) -> None:
         self.books, self.status, self.state = books, status, state
+        self.load = Load()
         self.faults = Faults()  # of the viewer itself
         self.faults_of_firmd: dict[str, int] = {}
         self.watchers: list[Watcher] = []

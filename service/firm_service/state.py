@@ -15,6 +15,7 @@ from .files import replace_synced, sync_folder, write_synced
 
 ROSTER, LOCK, JOURNAL, VIEW, ID = "roster.csv", "lock", "journal", "view", "id"
 OLD_JOURNAL, NEW_JOURNAL = "journal.old", "journal.new"  # the one that was rewritten, and the one that is written
+ROSTER_SECONDS = 60  # in which firm must have judged a roster
 OLD_ID_BYTES, ID_BYTES = 8, 10  # an older firmd kept the id before its journal, this one once the journal is there
 
 
@@ -133,7 +134,11 @@ def try_roster(path: Path, given: Path, firm: Sequence[str]) -> None:
     """Lets firm judge the roster, over an empty input."""
     words = [*firm, "--roster", str(path)]
     try:
-        done = subprocess.run(words, stdin=subprocess.DEVNULL, capture_output=True, text=True, errors="replace")
+        done = subprocess.run(
+            words, stdin=subprocess.DEVNULL, capture_output=True, text=True, errors="replace", timeout=ROSTER_SECONDS
+        )
+    except subprocess.TimeoutExpired as error:
+        raise Fault(Exit.STATE, f"firm has not judged {given} for {ROSTER_SECONDS} s, so it is killed") from error
     except OSError as error:
         raise Fault(Exit.FIRM, f"cannot start {words[0]}: {reason(error)}") from error
     said = done.stderr.strip()

@@ -1,8 +1,8 @@
 """The stream through firm: lines into the journal and to firm, replies to those who asked and to the observers.
 
 Three threads: the loop's, which takes lines and hands out replies; a writer, which waits for the disk and for firm's
-input; and one that waits for firm's end. All lines that come while the writer waits share its next write and its next
-sync.
+input; and one that waits for firm's end. Lines wait in the lanes of their tenants; all that leave these while the
+writer waits share its next write and its next sync.
 """
 
 from __future__ import annotations
@@ -18,14 +18,16 @@ from contextlib import suppress
 from dataclasses import dataclass, field
 from functools import partial
 from hashlib import blake2b
-from itertools import groupby
+from itertools import groupby, islice
 from queue import SimpleQueue
 from threading import Event, Thread
-from typing import Protocol
 
+from .budgets import Accounts
 from .faults import Exit, Fault, Faults, Reader, reason
 from .journal import Journal, Piece, Place, Shortage
-from .lines import NO_MEMORY, OPERATOR_NO_MEMORY, first_word, is_memory_refused
+from .lanes import OPERATORS, Bounds, Lanes, Owner, Share
+from .lines import NO_MEMORY, OPERATOR_NO_MEMORY, WORN, first_word, is_memory_refused
+from .load import SYNC_SECONDS, Histogram
 from .logs import ERROR, tell
 from .observers import Observer, Status
 from .records import UNKNOWN, Batch, Block
@@ -36,32 +38,8 @@ DIGEST_BYTES = 16
 PIPE_BYTES = 1_048_576  # that a pipe to or from firm holds, where the system lets it
 READ_BYTES = 65_536  # a piece that needs no memory of its own from the system
 SHORTAGE_SECONDS, SHORTAGE_TRIES = 0.02, 500  # until what lacked memory is tried again, and how often at most
-
-
-class Owner(Protocol):
-    """Who asked."""
-
-    sender: bytes  # as the journal names it
-
-    def answered(self, replies: bytes, count: int) -> None:
-        """The next replies to its lines, each with its LF."""
-
-    def drop(self) -> None:
-        """Ends it: replies could not be told."""
-
-
-@dataclass(slots=True, eq=False)
-class Share:
-    """Lines that one owner gave together, each with its LF and each with a reply."""
-
-    owner: Owner | None
-    text: bytes
-    count: int
-    answered: int = 0
-    sent: float | None = None  # by the monotonic clock; None in a replay
-    place: Place | None = None  # in the journal, once they stand there
-    piece: Piece | None = None  # of the replay that they are
-    lines: list[bytes] = field(default_factory=list)  # filled when the first is answered
+WATCH_SECONDS = 1.0  # between looks at how long firm has been silent
+OPERATED, WORN_END = b"+ ok ", b" %b\n" % WORN  # what stands in replies that admit or retire, and ends a worn tenant's
 
 
 @dataclass(slots=True)
@@ -116,11 +94,17 @@ class Firm:
         return (f"status {status}" if status > 0 else f"signal {-status}") + (f", and said: {said}" if said else "")
 
 
+@dataclass(frozen=True, slots=True)
+class Options:
+    lanes: Bounds
+    firm_timeout: float  # seconds for which firm may owe replies without a word
+
+
 class Stream:
     """Gives lines to firm and replies to their owners. All but what other threads do runs on the loop's thread."""
 
-    def __init__(self, firm: Firm, journal: Journal, status: Status, faults: Faults) -> None:
-        self.status, self._faults = status, faults
+    def __init__(self, firm: Firm, journal: Journal, accounts: Accounts, faults: Faults, options: Options) -> None:
+        self.status, self._faults, self._options = accounts.status, faults, options
         self._observers: list[Observer] = []
         self.on_stop: Callable[[], None] = lambda: None  # called once, before the last lines are handed over
         self.on_shortage: Callable[[BaseException], None] = lambda error: None  # of memory; called by any thread
@@ -129,10 +113,16 @@ class Stream:
         self._loop = asyncio.get_running_loop()
         self.replayed: asyncio.Future[None] = self._loop.create_future()
         self.ended: asyncio.Future[None] = self._loop.create_future()  # has the fault, where there is one
-        self._firm, self._journal = firm, journal
-        self._taken: list[Share] = []  # since the loop's last turn
+        self._firm, self._journal, self._register = firm, journal, accounts.register
+        self.lanes = Lanes(accounts, self._tell_given, options.lanes)
+        self._is_handing = False  # lines are about to leave the lanes
+        self._given: list[Share] = []  # that have left them, and the writer does not have yet
         self._queue: SimpleQueue[list[Share] | Block | None] = SimpleQueue()  # to the writer; None: no more will come
-        self._owed: deque[Share] = deque()  # given to firm, in order
+        self._under_way: deque[Share] = deque()  # all that have left the lanes, in order
+        self._owed: deque[Share] = deque()  # those that firm has, in order
+        self.sync_times = Histogram(SYNC_SECONDS)
+        self._heard = self._loop.time()  # when firm was heard last
+        self._silence = 0.0  # that was seen at the last look
         self._half = b""  # of a reply
         self._replies: list[bytes] = []  # that are not handed out yet
         self._tries = 0  # since memory was there
@@ -154,29 +144,29 @@ class Stream:
         except RuntimeError as error:
             raise Fault(Exit.INTERNAL, f"cannot start a thread: {error}") from error
         self._loop.add_reader(self._firm.output, self._reader)
+        self._watch()
 
     def observe(self, observer: Observer) -> None:
         """Tells it of each line from now on."""
         self._observers.append(observer)
 
-    def take(self, owner: Owner | None, text: bytes, count: int) -> bool:
-        """Takes whole lines, each of which gets a reply; False where firm can't read as many bytes any more."""
-        if self.status.journal_bytes + len(text) > self.status.journal_limit:
-            return False
-        if not self._taken:
-            self._loop.call_soon(self._hand_over)
-        self._taken.append(Share(owner, text, count))
-        self.status.journal_bytes += len(text)
-        return True
+    def take(self, share: Share) -> None:
+        """Puts lines, each of which gets a reply, into the lane of their tenant."""
+        if self._is_stopping:
+            return
+        share.taken = self._loop.time()
+        self.lanes.take(share)
+        self._hand_over_soon()
 
     def stop(self) -> None:
-        """Answers what was taken, and ends; the caller takes no further lines."""
+        """Answers what has left the lanes, and ends; the caller takes no further lines."""
         if not self._is_stopping:
             self._is_stopping = True
             try:
                 self.on_stop()
             except Exception as error:
                 self._faults.note("client", error)
+            self.lanes.clear()
             self._hand_over()
             self._queue.put(None)
             self._may_write.set()
@@ -186,15 +176,78 @@ class Stream:
         self._fault = self._fault or fault
         self.stop()
 
+    def oldest_seconds(self) -> float:
+        """How long the line has waited for its reply that has waited longest."""
+        waiting = [taken for taken in (self.lanes.oldest(),) if taken is not None]
+        waiting += [share.taken for share in islice(self._under_way, 1)]
+        return self._loop.time() - min(waiting) if waiting else 0.0
+
+    def silent_seconds(self) -> float:
+        """For how long firm has said nothing though it owes replies, or its end."""
+        try:
+            share = self._owed[0]
+        except IndexError:
+            return self._loop.time() - self._heard if self._written.done() else 0.0
+        return self._loop.time() - max(self._heard, share.taken if share.sent is None else share.sent)
+
+    def _watch(self) -> None:
+        """Ends the service where firm says nothing for too long: a hung one may be cured by a restart."""
+        most = self._options.firm_timeout
+        seconds = min(WATCH_SECONDS, most / 4)
+        # Where firmd itself stood still, as at a stopped host, that was no silence of firm's.
+        self._silence = min(self.silent_seconds(), self._silence + 2 * seconds)
+        if self.ended.done():
+            return
+        if self._silence > most:
+            self._faults.count("firm", f"firm has not answered for {most:g} s")
+            return self._give_up(Fault(Exit.STATE, f"firm has not answered for {most:g} s, so it is killed"))
+        self._loop.call_later(seconds, self._watch)
+
+    def _hand_over_soon(self) -> None:
+        if not self._is_handing:
+            self._is_handing = True
+            self._loop.call_soon(self._hand_over)
+
     def _hand_over(self) -> None:
-        if self._taken:
+        """Gives the writer what may leave the lanes now."""
+        self._is_handing = True  # what is taken meanwhile leaves too
+        try:
+            self.lanes.next(self._given, self._loop.time())
+        except Exception as error:  # lines are lost
+            tell(ERROR, "an error of firmd itself", error)
+            return self._give_up(Fault(Exit.INTERNAL, f"an error of firmd itself: {error!r}"))
+        for name, seconds in self.lanes.late():
+            self._loop.call_later(seconds, self._wake, name)
+        try:
+            if self._given:
+                self._queue.put(self._given)
+                self._under_way += self._given
+                self._given = []
+            self._is_handing = False
+        except MemoryError as error:
+            self.on_shortage(error)
+            self._loop.call_later(SHORTAGE_SECONDS, self._hand_over)
+
+    def _wake(self, lane: bytes) -> None:
+        self.lanes.wake(lane)
+        self._hand_over_soon()
+
+    def _tell_given(self, share: Share, reply: bytes | None) -> None:
+        """Tells who asked that lines have left their lane."""
+        owner = share.owner
+        if owner is not None:
             try:
-                self._queue.put(self._taken)
-            except MemoryError as error:
-                self.on_shortage(error)
-                self._loop.call_later(SHORTAGE_SECONDS, self._hand_over)
-            else:
-                self._taken = []
+                owner.given(share, reply)
+            except Exception as error:
+                self._lose(owner, error)
+
+    def _lose(self, owner: Owner, error: Exception) -> None:
+        """Ends one that can't be told."""
+        if isinstance(error, MemoryError):
+            self.on_shortage(error)
+        else:
+            self._faults.note("client", error)
+        owner.drop()
 
     # Other threads.
 
@@ -221,7 +274,7 @@ class Stream:
             self._firm.close_input()
         except BaseException as error:
             self._tell_loop(self._give_up, Fault(Exit.INTERNAL, f"firm's input can't be closed: {error!r}"))
-        self._tell_loop(self._written.set_result, None)
+        self._tell_loop(self._end_writing)
 
     def _tell_loop(self, call: Callable[..., None], *arguments: object) -> None:
         """Has the loop call it soon; the end of the service waits for it, so a lack of memory may only delay it."""
@@ -238,7 +291,7 @@ class Stream:
         for piece in self._journal.pieces():
             if self._is_stopping:
                 return
-            share = Share(None, piece.text, piece.count, place=piece.place, piece=piece)
+            share = Share(None, piece.text, piece.count, taken=time.monotonic(), place=piece.place, piece=piece)
             self.status.journal_bytes += len(piece.text)
             self._owed.append(share)
             self._firm.give(without_effect(piece) if piece.refused else piece.text)
@@ -263,8 +316,10 @@ class Stream:
 
     def _write_shares(self, shares: list[Share]) -> None:
         batches, text = self._joined(shares)
+        began = time.monotonic()
         place = self._journal.append(batches)
         number, end, now = place.number, place.end - len(text), time.monotonic()
+        self.sync_times.add(now - began)
         for share in shares:
             end += len(share.text)
             share.place, share.sent = Place(number, end), now
@@ -285,6 +340,10 @@ class Stream:
 
     # The loop's thread.
 
+    def _end_writing(self) -> None:
+        self._heard = self._loop.time()  # from now on firm owes its end
+        self._written.set_result(None)
+
     def _end_replay(self) -> None:
         self._replay_is_sent = True
         self._tell_replayed()
@@ -302,6 +361,7 @@ class Stream:
             return
         except MemoryError as error:
             return self._wait_for_memory(error, self._read)
+        self._heard = self._loop.time()
         if chunk:
             self._take_in(chunk)
         else:
@@ -366,8 +426,17 @@ class Stream:
         if share.answered == share.count:
             self._owed.popleft()
             self._end_share(share)
-            share.text, share.lines = b"", []  # the writer may have the share, with many others, for some time yet
+            if share.piece is None:
+                self._leave(share)
+            share.text, share.lines = b"", ()  # the writer may have the share, with many others, for some time yet
         return count
+
+    def _leave(self, share: Share) -> None:
+        """Has the share's lane give what waited for its replies."""
+        self._under_way.popleft()
+        self.lanes.answered(share)
+        if self.lanes.has_ready:
+            self._hand_over_soon()
 
     def _begin_piece(self, share: Share, piece: Piece, count: int) -> int:
         """How many of a piece's next replies may be taken in at once: a refusal that may be a mistake is one alone."""
@@ -407,8 +476,12 @@ class Stream:
             restore_refused(share.piece, first, replies)
             text = b"\n".join(replies) + b"\n"
         self._answered.replies.update(text)
+        self._take_in_tenants(share, text, replies)
         if share.owner is not None:
-            self._tell_owner(share.owner, text, len(replies))
+            try:
+                share.owner.answered(text, len(replies))
+            except Exception as error:
+                self._lose(share.owner, error)
         seconds = None if share.sent is None else time.monotonic() - share.sent
         try:
             for observer in self._observers:
@@ -419,15 +492,14 @@ class Stream:
         share.answered = last
         self.status.lines += len(replies)
 
-    def _tell_owner(self, owner: Owner, text: bytes, count: int) -> None:
-        try:
-            owner.answered(text, count)
-        except Exception as error:
-            if isinstance(error, MemoryError):
-                self.on_shortage(error)
-            else:
-                self._faults.note("client", error)
-            owner.drop()
+    def _take_in_tenants(self, share: Share, text: bytes, replies: list[bytes]) -> None:
+        """Learns which tenants there are, and which are worn."""
+        if share.lane == OPERATORS:
+            self._register.operated(replies)
+        elif share.piece is not None and OPERATED in text:
+            self._register.take_in(replies)
+        elif text.endswith(WORN_END) and share.piece is None:
+            self._register.wear(replies[-1])
 
     def _keep_refused(self, share: Share, replies: list[bytes]) -> None:
         """Memory may be there in a replay, so it must know. This waits for the disk, which is seldom needed."""

@@ -12,10 +12,10 @@ import resource
 import signal
 import socket
 import sys
-import traceback
 from contextlib import suppress
 from pathlib import Path
 
+from . import logs
 from .books import Books
 from .feed import Messages
 from .follower import Follower
@@ -147,12 +147,12 @@ def main() -> int:
     if len(sys.argv) != 2:
         print("firm-viewer: firmd starts this program, and tells it what it shows", file=sys.stderr)
         return 2
-    for number in (
-        signal.SIGTERM,
-        signal.SIGINT,
-    ):  # as a stop of the whole service sends: its feed ends once all is told
+    # SIGTERM and SIGINT may be a stop of the whole service: the feed ends once all is told. What it says on a terminal
+    # must not stop it.
+    for number in (signal.SIGTERM, signal.SIGINT, signal.SIGTTOU):
         signal.signal(number, signal.SIG_IGN)
     feed, serving = Serving.read(sys.argv[1])
+    logs.begin("firm-viewer", serving.log_format)
     end_with(serving.parent)
     with suppress(OSError):
         os.nice(NICENESS)
@@ -164,7 +164,7 @@ def main() -> int:
 
     try:
         asyncio.run(run())
-    except Exception:
-        traceback.print_exc()
+    except Exception as error:
+        logs.tell(logs.ERROR, "an error of the viewer itself", error)
         return 1
     return 0

@@ -183,8 +183,6 @@ class Gates:
         self._look()
 
     def connect(self) -> Gate:
-        if len(self.open) >= MOST_CONNECTIONS:
-            self._close_first()
         return Gate(self, self._server())
 
     def begin(self, handler: RequestHandler, gate: Gate | None = None) -> None:
@@ -192,6 +190,8 @@ class Gates:
         gate = self.open.pop(handler, gate)
         if gate is not None:
             gate.since, self.open[handler] = self._loop.time(), gate
+        if len(self.open) > MOST_CONNECTIONS:
+            self._close_first()
 
     def _close_first(self) -> None:
         self.open.pop(next(iter(self.open))).abort()

@@ -12,9 +12,9 @@ SERVICE = ROOT / "service"
 sys.path.insert(0, str(SERVICE))
 
 from firm_service import feed, feeder, roster, supervisor  # noqa: E402 (found by the line before)
-from firm_service.bounds import LINES_OF_SOCKET  # noqa: E402
 from firm_service.books import LONGEST_WAIT, Book, Books  # noqa: E402
 from firm_service.clients import HIGH_WATER  # noqa: E402
+from firm_service.daemon import TICK_SECONDS  # noqa: E402
 from firm_service.follower import Follower  # noqa: E402
 from firm_service.kept import found_now, kept_lines  # noqa: E402
 from firm_service.lines import gets_reply  # noqa: E402
@@ -39,7 +39,6 @@ __all__ = [
     "Follower",
     "HIGH_WATER",
     "ID",
-    "LINES_OF_SOCKET",
     "LOCK_SECONDS",
     "LONGEST_WAIT",
     "MOST_OF_USER",
@@ -47,6 +46,7 @@ __all__ = [
     "SERVICE",
     "Shown",
     "Status",
+    "TICK_SECONDS",
     "bound",
     "feed",
     "feeder",

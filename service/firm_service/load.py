@@ -1,0 +1,65 @@
+"""How loaded the service is, as plain numbers: what waits, for how long, and whose it is."""
+
+from __future__ import annotations
+
+from bisect import bisect_left
+from collections.abc import Sequence
+from dataclasses import dataclass, field
+
+# In seconds: a fast disk takes a tenth of a millisecond for a sync, a slow one some tens, a failing one seconds.
+SYNC_SECONDS = (0.0001, 0.0002, 0.0005, 0.001, 0.002, 0.005, 0.01, 0.02, 0.05, 0.1, 0.2, 0.5, 1.0, 2.0, 5.0, 10.0)
+
+
+class Histogram:
+    """Times by bounds; one thread adds."""
+
+    def __init__(self, bounds: Sequence[float]) -> None:
+        self.bounds = bounds
+        self.counts = [0] * (len(bounds) + 1)  # the last is of those above all bounds
+        self.seconds = 0.0  # of all
+
+    def add(self, seconds: float) -> None:
+        self.counts[bisect_left(self.bounds, seconds)] += 1
+        self.seconds += seconds
+
+
+@dataclass(slots=True)
+class TenantLoad:
+    tenant: str
+    waiting_lines: int  # in its lane
+    waiting_bytes: int
+    lines_under_way: int  # to the disk and firm, or in firm
+    rounds_under_way: int
+    journal_bytes_left: int  # of its budget
+
+
+@dataclass(slots=True)
+class SocketLoad:
+    socket: str
+    clients: int
+    waits: int  # for its bytes a second
+    journal_bytes_left: int
+
+
+@dataclass(slots=True)
+class OwnReply:
+    """How often firmd said something itself."""
+
+    socket: str
+    tenant: str  # empty where the line was of none
+    reply: str
+    count: int
+
+
+@dataclass(slots=True)
+class Load:
+    """At one moment."""
+
+    oldest_line_seconds: float = 0.0  # since the oldest line without a reply was taken
+    firm_silent_seconds: float = 0.0  # that firm owes replies without a word
+    sync_counts: list[int] = field(default_factory=lambda: [0] * (len(SYNC_SECONDS) + 1))  # as those of a histogram
+    sync_seconds: float = 0.0
+    tenants: list[TenantLoad] = field(default_factory=list)
+    sockets: list[SocketLoad] = field(default_factory=list)
+    own_replies: list[OwnReply] = field(default_factory=list)
+    tenant_waits: dict[str, int] = field(default_factory=dict)  # for their bytes a second

@@ -1,0 +1,117 @@
+"""The sockets' clients are read in turn, so that no flood at one socket keeps the others waiting.
+
+In each turn of the loop a socket's clients are read up to some bytes, comments and faulty lines among them: as many as
+take about a fifth of a millisecond. What more they have sent waits in the system, and further turns go round among
+those that were not read to their end.
+"""
+
+from __future__ import annotations
+
+import asyncio
+from collections import deque
+from typing import Protocol
+
+from .budgets import Account, Accounts
+
+LEAST_BYTES, MOST_BYTES = 128, 16_384  # of a socket, in a turn of the loop
+TURN_SECONDS = 0.0002  # that it should take at most
+
+
+class Reader(Protocol):
+    """A client that is read."""
+
+    expected: int  # bytes that its next turn may take
+
+    def take_turn(self, waits: bool) -> None:
+        """Has it wait for its next turn, or be read again."""
+
+
+class SocketClients:
+    """The clients of one socket."""
+
+    def __init__(self, name: bytes, account: Account) -> None:
+        self.name, self.account = name, account
+        self.count = 0  # that are connected
+        self.read = 0  # bytes in this turn
+        self.most = 4_096  # bytes in a turn
+        self.waiting: deque[Reader] = deque()
+        self.is_slowed = False  # until it may take further bytes a second
+
+    @property
+    def may_read(self) -> int:
+        """Bytes of one more client, which may be ready to be read in a turn that is used up."""
+        return self.most if self.read < self.most else LEAST_BYTES
+
+    def fit(self, size: int, seconds: float) -> None:
+        """Has turns take about as long as they should, by what the last bytes took."""
+        if seconds > 2 * TURN_SECONDS and 2 * size > self.most:
+            self.most = max(LEAST_BYTES, self.most // 2)
+        elif seconds < TURN_SECONDS / 2 and size >= self.most:
+            self.most = min(MOST_BYTES, self.most * 2)
+
+
+class Turns:
+    """All sockets."""
+
+    def __init__(self, accounts: Accounts) -> None:
+        self._accounts = accounts
+        self._loop = asyncio.get_running_loop()
+        self._sockets: dict[bytes, SocketClients] = {}
+        self._touched: dict[bytes, SocketClients] = {}  # those read in this turn
+
+    def socket(self, name: bytes) -> SocketClients:
+        if name not in self._sockets:
+            self._sockets[name] = SocketClients(name, self._accounts.socket(name))
+        return self._sockets[name]
+
+    def all(self) -> list[SocketClients]:
+        return list(self._sockets.values())
+
+    def read(self, reader: Reader, socket: SocketClients, size: int) -> None:
+        """Takes in what was read of one client."""
+        reader.expected = socket.most if size >= socket.may_read else size
+        socket.read += size
+        socket.account.second.left -= size
+        self._touch(socket)
+        # A single client is read once in a turn anyway.
+        is_over = socket.read >= socket.most and socket.count > 1
+        if is_over or socket.account.second.left < 0 and not self._has_budget(socket):
+            socket.waiting.append(reader)
+            reader.take_turn(True)
+
+    def _touch(self, socket: SocketClients) -> None:
+        if not self._touched:
+            self._loop.call_soon(self._begin)
+        self._touched[socket.name] = socket
+
+    def _begin(self) -> None:
+        """Begins the loop's next turn."""
+        touched, self._touched = self._touched, {}
+        for socket in touched.values():
+            socket.read = 0
+            if socket.waiting:
+                self._go_on(socket)
+
+    def _go_on(self, socket: SocketClients) -> None:
+        """Has further clients read, about as many as a turn allows."""
+        if socket.is_slowed:
+            return
+        if not self._has_budget(socket):
+            socket.is_slowed = True
+            self._accounts.tally.waits[socket.name, b""] += 1
+            self._loop.call_later(socket.account.second.wait(), self._end_wait, socket)
+            return
+        expected = 0
+        while socket.waiting and expected < socket.most:
+            reader = socket.waiting.popleft()
+            expected += reader.expected
+            reader.take_turn(False)
+        if socket.waiting:
+            self._touch(socket)
+
+    def _end_wait(self, socket: SocketClients) -> None:
+        socket.is_slowed = False
+        self._go_on(socket)
+
+    def _has_budget(self, socket: SocketClients) -> bool:
+        return socket.account.second.has(1, self._loop.time())

@@ -1,0 +1,510 @@
+#!/usr/bin/env python3
+"""Has one tenant, or clients of none, do to firmd what they can, and looks whether all others are served as before.
+
+usage: tests/isolation.py [--quick] [--only WORDS] [--program FILE] [--seed N]
+Each check has a line; the last line is 'N passed, M failed', and the exit status is 1 where one failed. It needs Python
+3 and the built program; where only the load counts, tests/stand_in_firm.py is in its place. Checks that measure run one
+after another. --quick has fewer lines and connections.
+"""
+
+from __future__ import annotations
+
+import argparse
+import os
+import random
+import signal
+import socket
+import subprocess
+import sys
+import tempfile
+import time
+import urllib.request
+from collections.abc import Callable, Iterator, Sequence
+from concurrent.futures import ThreadPoolExecutor
+from contextlib import ExitStack, contextmanager, suppress
+from dataclasses import dataclass
+from functools import partial
+from pathlib import Path
+
+from firmd import CHECKS_AT_A_TIME, FIRMD, ROSTER, Client, Daemon, Gone, Setup, wait_for
+from harness import program
+from harness.checks import Check, count_ends, passes, require, run_script
+from harness.program import ROOT
+from harness.small_streams import random_stream
+from hostile import with_http
+
+STAND_IN = str(ROOT / "tests" / "stand_in_firm.py")
+SHOW = b"beta show"
+# What another tenant's slowest request in a hundred may take beside a hog: twice what it takes alone, and this for a
+# host that does other work too, whose own pauses are longer than any of firmd's.
+SLACK_SECONDS, TRIES = 0.05, 3
+MEMORY = "/dev/shm"
+SOON_SECONDS = 0.3
+LONGEST_SECONDS, ALL_SECONDS = 4, 10  # for one request, and for all that are measured together
+
+# Sends one text again and again over some connections, and reads all replies; says how many it has.
+HOG = """\
+import selectors, socket, sys
+path, text, count = sys.argv[1], sys.argv[2].encode().decode("unicode_escape").encode("latin-1"), int(sys.argv[3])
+poll = selectors.DefaultSelector()
+block = text * max(1, 60000 // len(text))
+for _ in range(count):
+    client = socket.socket(socket.AF_UNIX)
+    client.connect(path)
+    client.setblocking(False)
+    poll.register(client, selectors.EVENT_READ | selectors.EVENT_WRITE, [0])
+print("ready", flush=True)
+while True:
+    for key, events in poll.select():
+        if events & selectors.EVENT_READ and not key.fileobj.recv(1 << 20):
+            sys.exit("closed")
+        if events & selectors.EVENT_WRITE:
+            key.data[0] = (key.data[0] + key.fileobj.send(block[key.data[0]:])) % len(block)
+"""
+
+
+def bound(daemon: Daemon, *tenants: str) -> None:
+    """Gives tenants sockets of their own."""
+    for tenant in tenants:
+        daemon.options += ["--client", f"{tenant}={daemon.folder / tenant}"]
+
+
+@contextmanager
+def load(setup: Setup, *options: str, **environment: str) -> Iterator[Daemon]:
+    """A daemon over the stand-in for firm, with a socket for each tenant."""
+    with setup.daemon(*options, firm=STAND_IN) as daemon:
+        daemon.words = ["env", *(f"{name}={value}" for name, value in environment.items()), *FIRMD]
+        bound(daemon, "alpha", "beta")
+        yield daemon.start()
+
+
+@dataclass(frozen=True)
+class Hog:
+    path: Path
+    text: str  # as Python writes it
+    connections: int
+
+
+@contextmanager
+def running(hog: Hog) -> Iterator[None]:
+    """Has another process send a text without end."""
+    words = [sys.executable, "-c", HOG, str(hog.path), hog.text, str(hog.connections)]
+    with subprocess.Popen(words, stdout=subprocess.PIPE, stderr=subprocess.DEVNULL) as process:
+        try:
+            require(process.stdout and process.stdout.readline() == b"ready\n", "the hog has its connections")
+            time.sleep(SOON_SECONDS)
+            yield
+            require(process.poll() is None, "the hog was closed")
+        finally:
+            process.kill()
+
+
+def slowest(client: Client, count: int) -> float:
+    """The time of the slowest request in a hundred, of some that are made one after another."""
+    client.socket.settimeout(LONGEST_SECONDS)
+    seconds: list[float] = []
+    for _ in range(count):
+        began = time.monotonic()
+        try:
+            require(client.ask(SHOW).startswith(b"beta "), "a reply")
+        except TimeoutError:
+            require(False, f"another's request took more than {LONGEST_SECONDS} s")
+        seconds.append(time.monotonic() - began)
+        require(sum(seconds) < ALL_SECONDS, f"{len(seconds)} of another's requests took {ALL_SECONDS} s")
+    return sorted(seconds)[count * 99 // 100 - 1]
+
+
+def is_undisturbed(before: float, client: Client, count: int) -> None:
+    """Asks that another's requests take about as long as before; measures again where the host did other work."""
+    for attempt in range(1, TRIES + 1):
+        meanwhile = slowest(client, count)
+        told = f"{1e3 * meanwhile:.1f} ms instead of {1e3 * before:.1f}"
+        print(f"    another's slowest request in a hundred: {told}", flush=True)
+        if meanwhile <= 2 * before + SLACK_SECONDS:
+            return
+        require(attempt < TRIES, f"another's slowest request in a hundred took {told}")
+
+
+def beside(setup: Setup, daemon: Daemon, hog: Hog, seconds: float = 0.0) -> None:
+    """Compares another's requests with and without a hog, whose own may cost them some seconds each."""
+    count = 200 if setup.is_quick else 2_000
+    with Client(daemon.folder / "beta") as other:
+        slowest(other, 100)
+        before = slowest(other, count)
+        with running(hog):
+            is_undisturbed(before + seconds / 2, other, count)
+
+
+# Connections.
+
+
+def held_connections(setup: Setup) -> None:
+    """A tenant that holds all its connections, and asks for more, keeps nobody else out."""
+    most, more = (100, 200) if setup.is_quick else (1_000, 1_100)
+    with load(setup, "--most-clients", str(most)) as daemon, ExitStack() as held:
+        clients = [held.enter_context(Client(daemon.folder / "alpha")) for _ in range(most * 9 // 10)]
+        for client in clients:
+            require(client.ask(b"alpha show").startswith(b"alpha "), "they are served")
+        others = [held.enter_context(Client(daemon.folder / "beta")) for _ in range(10)]
+        before = slowest(others[0], 200)
+        burst = [held.enter_context(Client(daemon.folder / "alpha")) for _ in range(more)]
+        is_undisturbed(before, others[0], 200)
+        refused = burst[most // 10 :]
+        require(all(client.rest() == b"? too-many-clients: %d are connected\n" % most for client in refused), "told")
+        require(burst[most // 10 - 1].ask(b"alpha show").startswith(b"alpha "), "the last that had room")
+        are_admitted(daemon)
+        daemon.stop()
+
+
+def are_admitted(daemon: Daemon) -> None:
+    """New clients of others are served."""
+    for path in (daemon.folder / "beta", daemon.any, daemon.operator):
+        with Client(path) as client:
+            require(client.ask(SHOW).startswith(b"beta "), f"{path.name} has room")
+
+
+def idle_connections(setup: Setup) -> None:
+    """A thousand connections that say nothing cost the others nothing."""
+    with load(setup) as daemon, ExitStack() as held, Client(daemon.folder / "beta") as other:
+        before = slowest(other, 200)
+        for _ in range(1_000):
+            held.enter_context(Client(daemon.folder / "alpha"))
+        is_undisturbed(before, other, 200)
+        are_admitted(daemon)
+
+
+# Lines.
+
+
+def pipelined_rounds(setup: Setup) -> None:
+    """Rounds that a client sends without waiting delay another's line by one of them at most; each is answered."""
+    seconds, rounds = 0.002, 200 if setup.is_quick else 4_000
+    with load(setup, ROUND_SECONDS=str(seconds)) as daemon:
+        with Client(daemon.folder / "alpha") as client, Client(daemon.folder / "beta") as other:
+            client.send(b"alpha round\n" * rounds)
+            require(other.ask(SHOW) == b"beta 1 " + SHOWN, "another's line comes first")
+            came = client.socket.recv(1 << 20, socket.MSG_PEEK).count(b"\n")
+            require(came < rounds // 2, f"{came} of {rounds} rounds come before another's line")
+            replies = [client.reply() for _ in range(rounds)]
+            require(replies[-1] == b"alpha %d ok round cost 0" % rounds, replies[-1])
+        beside(setup, daemon, Hog(daemon.folder / "alpha", "alpha round\\n", 1), seconds)
+        daemon.stop()
+
+
+def rounds_of_all(setup: Setup) -> None:
+    """Nothing of a tenant that is away with a round goes to firm, not even its retirement; all is answered in order."""
+    with load(setup, ROUND_SECONDS="0.01", MISPLACED="misplaced") as daemon:
+        daemon.stop()
+        misplaced = daemon.folder / "misplaced"
+        daemon.words = ["env", "ROUND_SECONDS=0.01", f"MISPLACED={misplaced}", *FIRMD]
+        daemon.start()
+        with ExitStack() as held:
+            clients = {name: held.enter_context(Client(daemon.folder / name)) for name in ("alpha", "beta")}
+            operator = held.enter_context(Client(daemon.operator))
+            for name, client in clients.items():
+                client.send(b"%b round\n%b show\n" % (name.encode(), name.encode()) * 20)
+            for number in range(1, 6):
+                time.sleep(0.02)
+                require(operator.ask(b"+ retire alpha") == b"+ ok retired alpha", "the operator")
+                require(operator.ask(b"+ admit alpha,30,300,1000,1,2") == b"+ ok admitted alpha", "the operator")
+                require(operator.ask(b"alpha show").startswith(b"alpha "), number)
+            for name, client in clients.items():
+                replies = [client.reply() for _ in range(40)]
+                require(all(reply.startswith((name.encode(), b"! unknown-tenant")) for reply in replies), replies)
+        require(not misplaced.exists() or not misplaced.read_bytes(), "firm had to wait for a tenant that was away")
+        daemon.stop()
+
+
+def pipelined_questions(setup: Setup) -> None:
+    """Fifty clients that ask without waiting for replies take turns with another tenant's."""
+    with load(setup) as daemon:
+        beside(setup, daemon, Hog(daemon.folder / "alpha", "alpha show\\n", 50))
+        daemon.stop()
+
+
+def lines_of_nobody(setup: Setup) -> None:
+    """Lines that no tenant could mean, comments and endless lines keep nobody waiting, and are not kept."""
+    floods = ["#\\n", "nobody show\\n", "\\n", "alpha " + "x" * 300 + "\\n", "+ admit\\n", "x" * 1_000]
+    with load(setup) as daemon:
+        for text in floods[:2] if setup.is_quick else floods:
+            beside(setup, daemon, Hog(daemon.any, text, 20))
+        require(b"nobody" not in daemon.journal() and b"xxx" not in daemon.journal(), "they are kept")
+        daemon.stop()
+
+
+def bounded_stop(setup: Setup) -> None:
+    """A stop answers the lines that left their queues, and does not wait for all rounds that a client has sent."""
+    with load(setup, ROUND_SECONDS="0.05") as daemon, Client(daemon.folder / "alpha") as client:
+        client.send(b"alpha round\n" * 1_000)  # which take 50 seconds
+        require(client.reply() == b"alpha 1 ok round cost 0", "the first")
+        daemon.stop()
+        *replies, last = client.rest().splitlines()
+        require(last == b"? stopping: no further lines are taken" and len(replies) < 100, f"{len(replies)}, {last!r}")
+        require(daemon.journal() == b"alpha round\n" * (len(replies) + 1), "each line that is kept is answered")
+
+
+# The journal.
+
+
+def filled_journal(setup: Setup) -> None:
+    """A tenant that has used its bytes of the journal is told so; another's lines are taken, and its own later."""
+    line = b"alpha show" + b" " * 200 + b"\n"
+    with load(setup, "--bytes-a-day-of-tenant", "10000", "--journal-limit", "50000") as daemon:
+        with Client(daemon.folder / "alpha") as client, Client(daemon.folder / "beta") as other:
+            for text in (line, b"alpha " + b"y" * 250 + b"\n", b"alpha " + b"y" * 300 + b"\n"):
+                client.send(text * 300)
+                replies = [client.reply() for _ in range(300)]
+            require(replies[-1] == b"! line-too-long", replies[-1])
+            for reply in (client.ask(line[:-1]), client.ask(b"alpha round" + b" " * 100)):
+                require(reply.startswith(b"? tenant-journal-full: "), reply)
+            require(len(daemon.journal()) <= 10_000, f"{len(daemon.journal())} bytes of the journal")
+            for number in range(1, 51):
+                require(other.ask(SHOW) == b"beta %d " % number + SHOWN, "another's reply")
+            time.sleep(0.3)  # in which 34 bytes come again
+            require(client.ask(b"alpha show").startswith(b"alpha "), "it may go on, little by little")
+        daemon.stop()
+
+
+SHOWN = b"ok machines 0 jobs 0 tasks 0 running 0 nodes 2 of 30 arcs 0 of 300"
+
+
+def socket_budget(setup: Setup) -> None:
+    """A socket whose lines have used what they may of the journal is told so, whatever tenants they name."""
+    with load(setup, "--bytes-a-day-of-socket", "1000") as daemon, daemon.client() as client:
+        replies = [client.ask(b"%b show" % [b"alpha", b"beta"][number % 2]) for number in range(120)]
+        require(replies[-1].startswith(b"? socket-journal-full: "), replies[-1])
+        with Client(daemon.folder / "beta") as other:
+            require(other.ask(SHOW).startswith(b"beta "), "the tenant's own socket")
+        daemon.stop()
+
+
+def own_replies(setup: Setup) -> None:
+    """What firmd says in firm's place is what firm would have said, and each later line gets its right number."""
+    draw = random.Random(setup.seed)
+    for _ in range(15 if setup.is_quick else 300):
+        seed = draw.randrange(10**6)
+        roster, text = random_stream(random.Random(seed), 5)
+        text = b"".join(line + b"\n" for line in text.split(b"\n"))
+        with setup.daemon(roster=roster) as daemon:
+            daemon.start()
+            with Client(daemon.operator) as client:
+                client.socket.settimeout(60)
+                at = 0
+                while at < len(text):
+                    end = at + draw.choice([1, 10, 100, 5_000])
+                    client.send(text[at:end])
+                    at = end
+                told = client.end().splitlines()
+            wanted = setup.alone(roster, text)
+            require(told == wanted, f"seed {seed}: {first_difference(told, wanted)}")
+            kept = setup.alone(roster, daemon.journal())
+            left_out = [reply for reply in wanted if reply.startswith(b"!") or b" no 1 worn" in reply]
+            require(len(kept) >= len(wanted) - len(left_out), f"seed {seed}: lines are not kept")
+            others = [reply for reply in wanted if reply not in left_out]
+            require([reply for reply in kept if reply not in left_out] == others, f"seed {seed}: the journal's replies")
+            daemon.stop()
+
+
+def first_difference(told: list[bytes], wanted: list[bytes]) -> str:
+    for place, (one, other) in enumerate(zip(told, wanted)):
+        if one != other:
+            return f"reply {place}: {one!r} and not {other!r}"
+    return f"{len(told)} replies and not {len(wanted)}"
+
+
+def worn_tenants(setup: Setup) -> None:
+    """A worn tenant's further lines are not kept, until it is retired; a restart forgets nothing."""
+    roster = ROSTER + b"gamma,30,300,3,1,2\n"
+    with setup.daemon(roster=roster) as daemon:
+        for _ in range(2):
+            daemon.start()
+            with Client(daemon.operator) as client:
+                replies = [client.ask(b"gamma show") for _ in range(10)]
+                require(replies[4:] == [b"gamma 4 no 1 worn"] * 6, replies)
+                size = len(daemon.journal())
+                client.send(b"gamma show\n" * 1_000 + b"zeta show\n" * 1_000 + b"gamma " + b"x" * 300 + b"\n")
+                found = [client.reply() for _ in range(2_001)]
+                require(found[999:1_001] == [b"gamma 4 no 1 worn", b"! unknown-tenant"], found[999:1_001])
+                require(found[-1] == b"! line-too-long", found[-1])
+                require(len(daemon.journal()) == size, "they are kept")
+            daemon.stop()
+        daemon.start()
+        with Client(daemon.operator) as client:
+            client.send(b"+ retire gamma\ngamma show\n+ admit gamma,30,300,3,1,2\n" + b"gamma costs\n" * 5)
+            found = [client.reply() for _ in range(8)]
+            wanted = [b"+ ok retired gamma", b"! unknown-tenant", b"+ ok admitted gamma"]
+            wanted += [b"gamma %d ok costs" % number for number in (1, 2, 3)] + [b"gamma 4 no 1 worn"] * 2
+            require(found == wanted, found)
+        daemon.stop()
+
+
+def order_of_lines(setup: Setup) -> None:
+    """Lines of one connection stand in the journal as they were sent, whatever tenants they are of."""
+    draw = random.Random(setup.seed)
+    names = [b"t%d" % number for number in range(8)]
+    roster = ROSTER + b"".join(b"%b,30,300,1000000,1,2\n" % name for name in names)
+    with setup.daemon(roster=roster, firm=STAND_IN) as daemon:
+        daemon.words = ["env", "ROUND_SECONDS=0.001", *FIRMD]
+        daemon.start()
+        sent: dict[int, list[bytes]] = {}
+        with ExitStack() as held:
+            clients = [held.enter_context(daemon.client()) for _ in range(6)]
+            for place, client in enumerate(clients):
+                verbs = [b"show", b"show", b"show", b"round"]
+                sent[place] = [b"%b %b%b" % (draw.choice(names), draw.choice(verbs), b" " * place) for _ in range(300)]
+                sent[place] = [line.rstrip() + b" " * place for line in sent[place]]
+            for place, client in enumerate(clients):
+                client.send(b"".join(line + b"\n" for line in sent[place]))
+            for place, client in enumerate(clients):
+                for line in sent[place]:
+                    require(client.reply().split()[0] == line.split()[0], f"client {place}, {line!r}")
+        kept = daemon.journal().splitlines()
+        for place, lines in sent.items():
+            own = [line for line in kept if len(line) - len(line.rstrip()) == place]
+            require(own == lines, f"client {place}: {len(own)} lines of {len(lines)}, in another order")
+        daemon.stop()
+
+
+# Rates, a hung firm, and what is measured.
+
+
+def bytes_a_second(setup: Setup) -> None:
+    """A tenant, or a socket, that is ahead of its bytes a second waits; others don't, and nothing is lost."""
+    for budget in ("tenant", "socket"):
+        with load(setup, f"--bytes-a-second-of-{budget}", "20000") as daemon:
+            with Client(daemon.folder / "alpha") as client, Client(daemon.folder / "beta") as other:
+                before = slowest(other, 100)
+                began = time.monotonic()
+                client.send(b"alpha show\n" * 5_000)  # 55,000 bytes: 20,000 and a turn's may come at once
+                is_undisturbed(before, other, 100)
+                replies = [client.reply() for _ in range(5_000)]
+                seconds = time.monotonic() - began
+            require(replies[-1].startswith(b"alpha 5000 ok"), replies[-1])
+            require(0.8 < seconds < 10, f"55,000 bytes took {seconds:.2f} s")
+            daemon.stop()
+
+
+def hung_firm(setup: Setup) -> None:
+    """A firm that owes replies, or its end, for too long is killed: status 4; one that owes nothing is left alone."""
+    for is_asked, is_stopped in ((True, False), (False, True), (True, True)):
+        with setup.daemon("--firm-timeout", "0.5") as daemon:
+            daemon.start()
+            with daemon.client() as client:
+                require(client.ask(SHOW).startswith(b"beta 1 ok"), "it serves")
+                os.kill(daemon.firm_process(), signal.SIGSTOP)
+                time.sleep(0 if is_asked else 1)
+                require(daemon.running().poll() is None, "it owes nothing")
+                if is_asked:
+                    client.send(SHOW + b"\n")
+                if is_stopped:
+                    daemon.running().send_signal(signal.SIGTERM)
+                with suppress(Gone):
+                    require(b"beta 2" not in client.rest(), "no reply")
+            require(daemon.status() == 4 and b"firm has not answered for 0.5 s" in daemon.said(), daemon.said())
+            daemon.options = []  # a busy host may take longer to start it
+            daemon.start()
+            with daemon.client() as client:
+                number = 3 if is_asked else 2
+                require(client.ask(SHOW).startswith(b"beta %d ok" % number), "what was kept is obeyed")
+            daemon.stop()
+
+
+def metrics(port: int) -> dict[str, float]:
+    with urllib.request.urlopen(f"http://127.0.0.1:{port}/metrics", timeout=10) as answer:
+        rows = [row for row in answer.read().decode().splitlines() if not row.startswith("#")]
+    return {name: float(value) for name, _, value in (row.rpartition(" ") for row in rows)}
+
+
+def measured(setup: Setup) -> None:
+    """The metrics tell what waits and whose it is, how long firm has been silent, and what firmd says itself."""
+    with setup.daemon("--most-clients", "5", "--bytes-a-day-of-tenant", "1000") as daemon:
+        port = with_http(daemon)
+        bound(daemon, "alpha", "beta")
+        daemon.start()
+        with ExitStack() as held:
+            clients = [held.enter_context(Client(daemon.folder / "alpha")) for _ in range(5)]
+            with Client(daemon.folder / "alpha") as more:
+                require(more.rest().startswith(b"? too-many-clients"), "too many")
+            require(clients[0].ask(b"alpha show").startswith(b"alpha 1 ok"), "a reply")
+            require(clients[0].ask(b"x" * 300) == b"! line-too-long", "a long line")
+            clients[1].send(b"alpha show\n" * 100)
+            wait_for(lambda: b"tenant-journal-full" in clients[1].reply(), "its budget is used up")
+            os.kill(daemon.firm_process(), signal.SIGSTOP)
+            with Client(daemon.folder / "beta") as other:
+                other.send(b"beta round\n" * 3)
+                wait_for(lambda: metrics(port)["firm_oldest_line_seconds"] > 0.6, "the oldest line is told")
+                found = metrics(port)
+                os.kill(daemon.firm_process(), signal.SIGCONT)
+                require([other.reply()[:6] for _ in range(3)] == [b"beta 1", b"beta 2", b"beta 3"], "replies")
+        for name, value in (
+            ('firm_waiting_lines{tenant="beta"}', 2),
+            ('firm_lines_under_way{tenant="beta"}', 1),
+            ('firm_rounds_under_way{tenant="beta"}', 1),
+            ('firm_waiting_lines{tenant="alpha"}', 0),
+            ('firm_socket_clients{socket="alpha"}', 5),
+            ('firm_own_replies_total{reply="too-many-clients",socket="alpha",tenant=""}', 1),
+            ('firm_own_replies_total{reply="line-too-long",socket="alpha",tenant=""}', 1),
+        ):
+            require(found.get(name) == value, f"{name} is {found.get(name)}, not {value}")
+        require(found['firm_own_replies_total{reply="tenant-journal-full",socket="alpha",tenant="alpha"}'] > 5, "told")
+        require(found["firm_silent_seconds"] > 0.5 and found["firm_sync_seconds_count"] > 2, "silence and syncs")
+        require(found['firm_journal_bytes_left{tenant="alpha"}'] < 20, "what is left of its budget")
+        daemon.stop()
+
+
+MEASURED = [
+    held_connections,
+    idle_connections,
+    pipelined_rounds,
+    pipelined_questions,
+    lines_of_nobody,
+    bytes_a_second,
+]
+OTHERS = [
+    own_replies,
+    hung_firm,
+    rounds_of_all,
+    bounded_stop,
+    filled_journal,
+    socket_budget,
+    worn_tenants,
+    order_of_lines,
+    measured,
+]
+
+
+@contextmanager
+def before_others() -> Iterator[None]:
+    """Goes before all other work of the host, which would be measured too, where it may."""
+    with suppress(OSError):
+        os.sched_setscheduler(0, os.SCHED_RR, os.sched_param(1))
+    try:
+        yield
+    finally:
+        os.sched_setscheduler(0, os.SCHED_OTHER, os.sched_param(0))
+
+
+def named(checks: Sequence[Callable[[Setup], None]], setup: Setup) -> dict[str, Check]:
+    return {check.__name__.replace("_", " "): partial(check, setup) for check in checks}
+
+
+def main() -> int:
+    parser = argparse.ArgumentParser(description=(__doc__ or "").splitlines()[0])
+    parser.add_argument("--quick", action="store_true", help="the part that tests/quick runs")
+    program.add_program(parser)
+    parser.add_argument("--only", default="", help="nothing but the checks whose names have these words")
+    parser.add_argument("--seed", type=int, default=random.randrange(10**6), help="of the lines (default: any)")
+    options = parser.parse_args()
+    print(f"seed {options.seed}", flush=True)
+    if os.access(MEMORY, os.W_OK):  # else a disk's own pauses would be measured
+        tempfile.tempdir = MEMORY
+    setup = Setup(options.program, options.quick, options.seed)
+    with before_others():
+        ends = [passes(name, check) for name, check in named(MEASURED, setup).items() if options.only in name]
+    chosen = {name: check for name, check in named(OTHERS, setup).items() if options.only in name}
+    with ThreadPoolExecutor(CHECKS_AT_A_TIME) as pool:
+        return count_ends(ends + list(pool.map(passes, chosen.keys(), chosen.values())))
+
+
+if __name__ == "__main__":
+    run_script(main)
