@@ -564,11 +564,13 @@ for request in sys.argv[2:]:
     found.sendall(request.encode() + b"\\n")
     print(answers.readline().decode().strip(), flush=True)
 if '"watch"' in sys.argv[-1]:
-    found.settimeout(2)
-    ends = time.monotonic() + 1
+    # On a busy host the first line of a watch of all may take long; one of another's tenant has none.
+    found.settimeout(2 if '"tenant"' in sys.argv[-1] else 20)
     try:
-        while time.monotonic() < ends and (line := answers.readline()):
+        line, ends = answers.readline(), time.monotonic() + 1
+        while line:
             print(line.decode().strip(), flush=True)
+            line = answers.readline() if time.monotonic() < ends else b""
     except TimeoutError:
         pass
 """
