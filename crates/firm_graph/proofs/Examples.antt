@@ -14,7 +14,7 @@ use Rattle.firm_graph.specs.Network.{network}
 rows_of : List Task → TenantRows
 rows_of tasks =
     record {
-      limits = record { nodes = 9; arcs = 24; life = 100; spread = 1; churn = 2; remote = 7 };
+      limits = record { nodes = 9; arcs = 24; life = 100; spread = 1; churn = 2; remote = 7; patience = 1000000 };
       machines = record { name = codes "m1"; slots = 2 } ∷ record { name = codes "m2"; slots = 2 } ∷ [];
       jobs = record { name = codes "j"; weight = 10 } ∷ [];
       tasks = tasks;

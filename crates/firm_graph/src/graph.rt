@@ -13,7 +13,7 @@ ghost use Rattle.firm_flow.specs.NetFlow.{SameButFlow, IsLeastFlow};
 ghost use Rattle.firm_flow.specs.Flow.{cost_of, carried};
 ghost use Rattle.firm_rules.specs.Book.{opening_rows, machine_names, job_names, task_names, with_machine, with_job};
 ghost use Rattle.firm_rules.specs.Book.{with_task, without_machine, without_job, without_task, running_on, has_tasks};
-ghost use Rattle.firm_rules.specs.Book.{with_task_placed, most_waited};
+ghost use Rattle.firm_rules.specs.Book.{with_task_placed};
 ghost use Rattle.firm_rules.specs.Sound.{HasRoom};
 ghost use Rattle.firm_rules.specs.Names.{is_among};
 ghost use Rattle.firm_rules.specs.ArenaUse.{arena_nodes, arena_arcs};
@@ -472,12 +472,14 @@ impl Graph {
         requires there { place < length self.old.rows.tasks }
         requires machine_there { IfSome machine (λ name. is_among (machine_names self.old.rows) name ≡ true) }
         requires room { IfSome machine (λ _. HasRoom (with_task_placed self.old.rows place machine waited)) }
-        requires waited { waited ≤ most_waited }
+        requires waited { waited ≤ self.old.rows.limits.patience }
         requires running { IfSome machine (λ _. waited ≡ 0) }
         ensures rows { self.new.rows ≡ with_task_placed self.old.rows place machine waited }
         ensures asked { self.new.asked ≡ self.old.asked }
         ensures graph { IsGraph self.new }
     {
+        // No wait passes the longest patience, so the cost of its arc doesn't wrap.
+        prove!(u64::from(waited) <= self.rows.limits().patience());
         let heads = Heads {
             machines: &self.machines,
             hub: self.hub,

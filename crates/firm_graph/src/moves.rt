@@ -2,7 +2,8 @@
 ghost use Rattle.std.specs.Prelude.{◌≡◌, ◌≤◌, ◌<◌, ◌+◌, length, slice_index_or, min, List, ℕ, Option, None, Some};
 ghost use Rattle.std.specs.Prelude.{if◌then◌else◌, map, All, position, bytes_eq, slice_set, true, IfSome};
 ghost use Rattle.std.specs.List.{AllZip};
-ghost use Rattle.firm_rules.specs.Book.{is_on, evicted, most_waited, machine_names};
+ghost use Rattle.firm_rules.specs.Limits.{longest_patience};
+ghost use Rattle.firm_rules.specs.Book.{is_on, evicted, machine_names};
 ghost use Rattle.firm_rules.specs.Names.{is_among};
 ghost use Rattle.firm_rules.specs.Placement.{IsPlace};
 ghost use Rattle.firm_rules.specs.Round.{rows_after};
@@ -18,7 +19,7 @@ use firm_rules::{Choice, Name, Rows};
 /// Gives the arcs of the task at a place the ends, capacities and costs of one that stands so.
 pub(crate) fn place_task(net: &mut Net, rows: &Rows, parts: TaskParts, place: usize, stand: Stand)
     requires place { place < length rows.now.tasks }
-    requires waited { stand.waited ≤ most_waited }
+    requires waited { stand.waited ≤ longest_patience }
     ensures placed { (g : GraphRow) (home : Option (List ℕ)) → IsPlacing g net.old rows.now parts place stand home
         → Mirrors (moved g (with_task_at g.rows place home stand.waited) net.new) }
 {
@@ -155,7 +156,7 @@ pub(crate) fn settle_tasks(
 // stay on their machines, and keep all; for one that goes on waiting its wait alone costs more.
 fn settle_task(net: &mut Net, rows: &Rows, parts: &TaskParts, place: usize, stand: Stand)
     requires place { place < length rows.now.tasks }
-    requires waited { stand.waited ≤ most_waited }
+    requires waited { stand.waited ≤ longest_patience }
     ensures settled { (g : GraphRow) (home : Option (List ℕ))
         → IsPlacing g net.old rows.now parts.now place stand home
         → task_at g.rows place ≡ task_at rows.now place
@@ -201,7 +202,7 @@ fn stand_of(rows: &Rows, heads: &Heads<'_>, place: usize, choice: Choice) -> Sta
     requires place { place < length rows.now.tasks }
     requires machines { length heads.now.machines.now ≡ length rows.now.machines }
     requires there { IsPlace (length rows.now.machines) choice }
-    ensures waited { result.waited ≤ most_waited }
+    ensures waited { result.waited ≤ longest_patience }
     ensures stands { Stands rows.now (map (λ parts. parts.node) heads.now.machines.now) heads.now.hub
         (task_at rows.now place) choice result }
 {
@@ -226,13 +227,13 @@ fn stand_of(rows: &Rows, heads: &Heads<'_>, place: usize, choice: Choice) -> Sta
 // How many rounds will have left the task at a place waiting, after one more.
 fn waited_after(rows: &Rows, place: usize) -> u32
     requires { place < length rows.now.tasks }
-    ensures value { result ≡ min most_waited ((task_at rows.now place).waited + 1) }
-    ensures most { result ≤ most_waited }
+    ensures value { result ≡ min rows.now.limits.patience ((task_at rows.now place).waited + 1) }
+    ensures most { result ≤ longest_patience }
 {
     let Some(task) = rows.task_at(place) else {
         unreachable!()
     };
-    task.next_wait()
+    task.next_wait(rows.limits().patience())
 }
 
 // Whether the task at a place runs on the machine of a name.

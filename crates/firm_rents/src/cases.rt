@@ -4,7 +4,8 @@ ghost use Rattle.std.specs.Prelude.{bytes_eq, nat_le};
 ghost use Rattle.std.specs.List.{list_all, position_or_len};
 ghost use Rattle.std.specs.Option.{option_to_list};
 ghost use Rattle.arrayvec.specs.ArrayVec.{array_vec_len};
-ghost use Rattle.firm_rules.specs.Book.{job_names, machine_names, most_waited};
+ghost use Rattle.firm_rules.specs.Limits.{longest_patience};
+ghost use Rattle.firm_rules.specs.Book.{job_names, machine_names};
 ghost use Rattle.firm_rules.specs.Names.{is_among};
 ghost use Rattle.firm_rules.specs.Placement.{goes_to, is_legal, is_place, is_remote, leaves, load, numbers, prefers};
 ghost use Rattle.firm_rules.specs.Placement.{runs_at, task_cost};
@@ -307,7 +308,7 @@ fn demands_of(alloc: Global, rows: &Rows) -> Result<Vec<Demand>, AllocError>
 fn demand_of(rows: &Rows, task: &Task) -> Demand
     requires machine { IfSome task.now.machine (λ name. is_among (machine_names rows.now) name ≡ true) }
     requires preferred { All (λ name. is_among (machine_names rows.now) name ≡ true) task.now.preferred }
-    requires waited { task.now.waited ≤ most_waited }
+    requires waited { task.now.waited ≤ longest_patience }
     ensures seen { seen result ≡ demand_of rows.now task.now }
     ensures fits { Fits (length rows.now.machines) result }
 {
@@ -333,7 +334,7 @@ fn home_of(rows: &Rows, task: &Task) -> Option<u32>
 
 // What a wait costs a task apart from churn.
 fn delay_of(rows: &Rows, task: &Task) -> u64
-    requires { task.now.waited ≤ most_waited }
+    requires { task.now.waited ≤ longest_patience }
     ensures delay { result ≡ weight_at rows.now (job_place rows.now task.now) + task.now.waited }
     ensures most { result ≤ 2000000 }
 {

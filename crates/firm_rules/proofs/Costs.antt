@@ -96,5 +96,6 @@ placement-most rows placement sound legal =
         omega (
           arith,
           sound.waited k d l,
+          sound.most_patience,
           at-most 1000000 (map (λ (job : Job). job.weight) rows.jobs) (job_place rows task) weights,
         ))

@@ -23,7 +23,7 @@ pub same_home : (home : Option ℕ) (j k : ℕ) → runs_at home j ≡ true → 
 same_home None j k f g = absurd cc
 same_home (Some h) j k f g = sym (eqb-true h j f) ∙ eqb-true h k g
 
-rank_own : (m : ℕ) (home : Option ℕ) (j : ℕ) → runs_at home j ≡ true → rank m home (On j) ≡ 0
+pub rank_own : (m : ℕ) (home : Option ℕ) (j : ℕ) → runs_at home j ≡ true → rank m home (On j) ≡ 0
 rank_own m home j e = cond-true {A = ℕ} (runs_at home j) 0 (suc j) e
 
 rank_other : (m : ℕ) (home : Option ℕ) (j : ℕ) → runs_at home j ≡ false → rank m home (On j) ≡ suc j

@@ -12,9 +12,13 @@ pub mod Padded
 pub mod Recents
 pub mod Costs
 pub mod SoundBooks
+pub mod Keeping
 pub mod PreferredNames
 pub mod Listing
 pub mod Firsts
+pub mod Exchanges
+pub mod Causes
+pub mod Waits
 mod Examples
 mod RoundExamples
 pub mod Orders

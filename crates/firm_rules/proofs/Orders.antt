@@ -65,8 +65,8 @@ head_same a b p q e = ap (λ (xs : List Choice). get_or xs 0 Wait) e
 tail_same : (a b : Choice) (p q : List Choice) → a ∷ p ≡ b ∷ q → p ≡ q
 tail_same a b p q e = ap (λ (xs : List Choice). drop 1 xs) e
 
-decided : (m : ℕ) (tasks : List Demand) (p q : List Choice) (at : ℕ) → length p ≡ length tasks → length q ≡ length tasks
-    → at < length tasks → take at p ≡ take at q
+pub decided : (m : ℕ) (tasks : List Demand) (p q : List Choice) (at : ℕ) → length p ≡ length tasks
+    → length q ≡ length tasks → at < length tasks → take at p ≡ take at q
     → rank m (home_at tasks at) (get_or p at Wait) < rank m (home_at tasks at) (get_or q at Wait)
     → comes_before m tasks p q ≡ true
 decided m [] p q at lp lq low same less = absurd (omega (arith, low))

@@ -7,7 +7,6 @@ use Rattle.std.proofs.lemmas.List.Elements.{All-cons, All-head, All-tail}
 use Rattle.std.proofs.lemmas.List.Sums.{sum_by-cons}
 use Rattle.firm_rules.specs.Names.{is_among}
 use Rattle.firm_rules.specs.Book.{TenantRows, machine_names, job_names, is_on, placed_at, standing, with_task_placed}
-use Rattle.firm_rules.specs.Book.{most_waited}
 use Rattle.firm_rules.specs.ArenaUse.{preference_count}
 use Rattle.firm_rules.specs.Sound.{AreSound, HasRoom}
 use Rattle.firm_rules.specs.declared.book.Task.{Task}
@@ -103,7 +102,7 @@ module _ (rows : TenantRows) (sound : AreSound rows) (place : ℕ) (machine : Op
       by (Some name) runs h = h
 
   pub sound-placed : place < length rows.tasks → IsThere (machine_names rows) machine
-      → IfSome machine (λ _. HasRoom (with_task_placed rows place machine waited)) → waited ≤ most_waited
+      → IfSome machine (λ _. HasRoom (with_task_placed rows place machine waited)) → waited ≤ rows.limits.patience
       → AreSound (with_task_placed rows place machine waited)
   sound-placed below there room few =
       record {
@@ -128,7 +127,7 @@ module _ (rows : TenantRows) (sound : AreSound rows) (place : ℕ) (machine : Op
             sound.preferred_differ;
         room = room-placed below room;
         waited =
-            All-placed (λ (t : Task). t.waited ≤ most_waited) rows.tasks place machine waited (λ t h. few)
+            All-placed (λ (t : Task). t.waited ≤ rows.limits.patience) rows.tasks place machine waited (λ t h. few)
             sound.waited;
         fits = record {
           nodes = omega (arith, sound.fits.nodes, length-placed rows.tasks place machine waited);
@@ -146,4 +145,5 @@ module _ (rows : TenantRows) (sound : AreSound rows) (place : ℕ) (machine : Op
         most_spread = sound.most_spread;
         most_churn = sound.most_churn;
         most_remote = sound.most_remote;
+        most_patience = sound.most_patience;
       }

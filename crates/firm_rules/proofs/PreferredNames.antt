@@ -18,7 +18,7 @@ use Rattle.firm_rules.proofs.NamedRows.{bytes_eq-own, bytes_eq-other, length-fil
 use Rattle.firm_rules.proofs.Padded.{written, long, taken}
 use Rattle.firm_rules.proofs.SoundRows.{IsDistinct-without}
 
-names-equivalent : IsEquivalence bytes_eq
+pub names-equivalent : IsEquivalence bytes_eq
 names-equivalent = record {
   refl = bytes_eq-own;
   symm = λ xs ys. elim (bytes_eq xs ys) as (λ b. bytes_eq xs ys ≡ b → b ≡ bytes_eq ys xs) [

@@ -6,12 +6,14 @@ use Rattle.firm_rules.specs.Book.{TenantRows, new_task, without_machine, without
 use Rattle.firm_rules.specs.ArenaUse.{arena_use}
 use Rattle.firm_rules.specs.Placement.{placement_cost, is_legal, comes_before}
 use Rattle.firm_rules.specs.Round.{case_of, legal_placements, round_placement, changes_made, rows_after}
+use Rattle.firm_rules.specs.declared.book.Task.{Task}
 use Rattle.firm_rules.specs.declared.rounds.Choice.{Choice}
 use Rattle.firm_rules.specs.declared.rounds.Choice.TheVariants.{On, Wait}
 use Rattle.firm_rules.specs.declared.rounds.Change.TheVariants.{Start, Move, Preempt}
 
 abbrev limits : ℕ → ℕ → TenantLimits
-limits spread churn = record { nodes = 8; arcs = 30; life = 100; spread = spread; churn = churn; remote = 0 }
+limits spread churn =
+    record { nodes = 8; arcs = 30; life = 100; spread = spread; churn = churn; remote = 0; patience = 1000000 }
 
 -- the legal placements in their order, each with its cost
 abbrev costed : TenantRows → List (List Choice × ℕ)
@@ -174,7 +176,7 @@ fourth_costs = refl
 fourth_round : round_of fourth ≡ Wait ∷ On 0 ∷ []
 fourth_round = refl
 
--- a task has waited a million rounds at most
+-- a task that a round leaves waiting has waited a million rounds at most
 abbrev patient : TenantRows
 patient =
     record third {
@@ -184,6 +186,47 @@ patient =
 
 patient_rows : rows_after patient (round_of patient) ≡ patient
 patient_rows = refl
+
+-- or as many as the tenant's patience
+abbrev waiting : ℕ → TenantRows
+waiting waited =
+    record patient {
+      limits = record (limits 0 0) { patience = 3 };
+      tasks = record { name = codes "x"; job = codes "light"; preferred = []; machine = None; waited = waited } ∷ [];
+    }
+
+third_wait : rows_after (waiting 2) (round_of (waiting 2)) ≡ waiting 3
+third_wait = refl
+
+fourth_wait : rows_after (waiting 3) (round_of (waiting 3)) ≡ waiting 3
+fourth_wait = refl
+
+-- one slot and one weight, and a task that has waited as long as churn is high: it takes the machine of one that was
+-- submitted later, and of no other
+abbrev tied : List Task → TenantRows
+tied tasks =
+    record {
+      limits = record (limits 0 3) { patience = 3 };
+      machines = record { name = codes "m1"; slots = 1 } ∷ [];
+      jobs = record { name = codes "j"; weight = 10 } ∷ [];
+      tasks = tasks;
+    }
+
+abbrev waiter : Task
+waiter = record { name = codes "x"; job = codes "j"; preferred = []; machine = None; waited = 3 }
+
+abbrev runner : Task
+runner = record { name = codes "y"; job = codes "j"; preferred = []; machine = Some (codes "m1"); waited = 0 }
+
+tied_costs : costed (tied (waiter ∷ runner ∷ []))
+    ≡ (On 0 ∷ Wait ∷ [], 13) ∷ (Wait ∷ On 0 ∷ [], 13) ∷ (Wait ∷ Wait ∷ [], 26) ∷ []
+tied_costs = refl
+
+waiter_first : round_of (tied (waiter ∷ runner ∷ [])) ≡ On 0 ∷ Wait ∷ []
+waiter_first = refl
+
+runner_first : round_of (tied (runner ∷ waiter ∷ [])) ≡ On 0 ∷ Wait ∷ []
+runner_first = refl
 
 -- two machines of one slot, and two tasks that prefer the second: one of them pays for the first
 abbrev preferring : TenantRows

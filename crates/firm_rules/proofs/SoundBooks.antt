@@ -5,7 +5,7 @@ use Rattle.std.specs.Prelude.{nat_le}
 use Rattle.std.specs.List.{IsDistinct, list_all}
 use Rattle.std.proofs.lemmas.Bool.{and_from, and_parts, le-leb, leb-true}
 use Rattle.std.proofs.lemmas.List.Elements.{All-nil, All-cons, All-head, All-tail}
-use Rattle.firm_rules.specs.Limits.{TenantLimits, are_limits, is_within}
+use Rattle.firm_rules.specs.Limits.{TenantLimits, are_limits, is_within, longest_patience}
 use Rattle.firm_rules.specs.Book.{Book, opening_rows}
 use Rattle.firm_rules.specs.Sound.{AreSound}
 use Rattle.firm_rules.specs.SoundBook.{AreInForm, IsSoundBook, OpeningBooksAreSound, is_cost, most_cost, entry_count}
@@ -46,8 +46,10 @@ opening-sound limits within =
     let spread : Bool = is_within 0 1000 limits.spread in
     let churn : Bool = is_within 0 1000000 limits.churn in
     let remote : Bool = is_within 0 1000000 limits.remote in
-    let last = and_parts (nodes && arcs && life && spread && churn) remote within in
-    let fifth = and_parts (nodes && arcs && life && spread) churn last.0 in
+    let patience : Bool = is_within 0 longest_patience limits.patience in
+    let last = and_parts (nodes && arcs && life && spread && churn && remote) patience within in
+    let sixth = and_parts (nodes && arcs && life && spread && churn) remote last.0 in
+    let fifth = and_parts (nodes && arcs && life && spread) churn sixth.0 in
     let fourth = and_parts (nodes && arcs && life) spread fifth.0 in
     let third = and_parts (nodes && arcs) life fourth.0 in
     let first = and_parts nodes arcs third.0 in
@@ -70,7 +72,8 @@ opening-sound limits within =
       most_arcs = (range 0 65536 limits.arcs first.1).1;
       most_spread = (range 0 1000 limits.spread fourth.1).1;
       most_churn = (range 0 1000000 limits.churn fifth.1).1;
-      most_remote = (range 0 1000000 limits.remote last.1).1;
+      most_remote = (range 0 1000000 limits.remote sixth.1).1;
+      most_patience = (range 0 longest_patience limits.patience last.1).1;
     }
 
 pub opening-form : (limits : TenantLimits) → are_limits limits ≡ true → AreInForm (opening_rows limits)

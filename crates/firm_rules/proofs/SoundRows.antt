@@ -16,7 +16,7 @@ use Rattle.std.proofs.lemmas.Map.Made.{AllPairs-from_IsDistinct, IsDistinct-from
 use Rattle.firm_rules.specs.Names.{is_among}
 use Rattle.firm_rules.specs.Book.{TenantRows, machine_names, job_names, task_names, name_at, is_on, evicted, running_on}
 use Rattle.firm_rules.specs.Book.{with_machine, with_job, with_restored, without_machine, without_job, without_task}
-use Rattle.firm_rules.specs.Book.{has_tasks, forgetting, most_waited}
+use Rattle.firm_rules.specs.Book.{has_tasks, forgetting}
 use Rattle.firm_rules.specs.Preferences.{without_preference}
 use Rattle.firm_rules.specs.ArenaUse.{FitsLimits, preference_count}
 use Rattle.firm_rules.specs.Sound.{AreSound, HasRoom}
@@ -92,6 +92,7 @@ module _ (rows : TenantRows) (sound : AreSound rows) where
         most_spread = sound.most_spread;
         most_churn = sound.most_churn;
         most_remote = sound.most_remote;
+        most_patience = sound.most_patience;
       }
     where
       one_more : (other : List ℕ) → is_among (machine_names rows) other ≡ true
@@ -133,6 +134,7 @@ module _ (rows : TenantRows) (sound : AreSound rows) where
         most_spread = sound.most_spread;
         most_churn = sound.most_churn;
         most_remote = sound.most_remote;
+        most_patience = sound.most_patience;
       }
 
   -- a task that waits takes no slot
@@ -156,7 +158,7 @@ module _ (rows : TenantRows) (sound : AreSound rows) where
   pub sound-with_restored : (task : Task) → IsDistinct bytes_eq (task_names (with_restored rows task))
       → is_among (job_names rows) task.job ≡ true → IsThere (machine_names rows) task.machine
       → AreThere (machine_names rows) task.preferred → length task.preferred ≤ 4 → IsDistinct bytes_eq task.preferred
-      → IfSome task.machine (λ _. HasRoom (with_restored rows task)) → task.waited ≤ most_waited
+      → IfSome task.machine (λ _. HasRoom (with_restored rows task)) → task.waited ≤ rows.limits.patience
       → FitsLimits (with_restored rows task) → AreSound (with_restored rows task)
   sound-with_restored task differ there home machines few apart room waited fits =
       record {
@@ -174,7 +176,7 @@ module _ (rows : TenantRows) (sound : AreSound rows) where
         preferred_differ =
             All-push (λ (t : Task). IsDistinct bytes_eq t.preferred) rows.tasks task sound.preferred_differ apart;
         room = room-with_restored task room;
-        waited = All-push (λ (t : Task). t.waited ≤ most_waited) rows.tasks task sound.waited waited;
+        waited = All-push (λ (t : Task). t.waited ≤ rows.limits.patience) rows.tasks task sound.waited waited;
         fits = fits;
         slots = sound.slots;
         weights = sound.weights;
@@ -183,6 +185,7 @@ module _ (rows : TenantRows) (sound : AreSound rows) where
         most_spread = sound.most_spread;
         most_churn = sound.most_churn;
         most_remote = sound.most_remote;
+        most_patience = sound.most_patience;
       }
 
 -- a task that is thrown out keeps its name and job, has waited no longer, and runs nowhere else
@@ -278,9 +281,9 @@ module _ (rows : TenantRows) (sound : AreSound rows) where
               sum_by-map (on name) (evicted gone) rows.tasks,
               sum_by-le-each (λ (t : Task). on name (evicted gone t)) (on name) rows.tasks (on-evicted-le gone name),
             ));
-        waited = All-map (λ (t : Task). t.waited ≤ most_waited) (evicted gone) rows.tasks (λ k d l.
-            evicted-cases gone (slice_index_or rows.tasks k d) (λ (t : Task). t.waited ≤ most_waited) (λ _. omega arith)
-            (λ _. sound.waited k d l));
+        waited = All-map (λ (t : Task). t.waited ≤ rows.limits.patience) (evicted gone) rows.tasks (λ k d l.
+            evicted-cases gone (slice_index_or rows.tasks k d) (λ (t : Task). t.waited ≤ rows.limits.patience)
+            (λ _. omega arith) (λ _. sound.waited k d l));
         fits = record {
           nodes = omega (
             arith,
@@ -306,6 +309,7 @@ module _ (rows : TenantRows) (sound : AreSound rows) where
         most_spread = sound.most_spread;
         most_churn = sound.most_churn;
         most_remote = sound.most_remote;
+        most_patience = sound.most_patience;
       }
     where
       stays : (home : Option (List ℕ)) → is_on gone home ≡ false → IsThere (machine_names rows) home
@@ -355,6 +359,7 @@ module _ (rows : TenantRows) (sound : AreSound rows) where
         most_spread = sound.most_spread;
         most_churn = sound.most_churn;
         most_remote = sound.most_remote;
+        most_patience = sound.most_patience;
       }
 
   pub sound-without_task : (gone : List ℕ) → IsDistinct bytes_eq (task_names (without_task rows gone))
@@ -378,7 +383,7 @@ module _ (rows : TenantRows) (sound : AreSound rows) where
         room = λ k d l.
             let on : Task → ℕ = λ t. cond (is_on (slice_index_or rows.machines k d).name t.machine) 1 0 in
             omega (arith, sound.room k d l, sum_by-filter-le on others rows.tasks);
-        waited = All-filter others (λ (t : Task). t.waited ≤ most_waited) rows.tasks sound.waited;
+        waited = All-filter others (λ (t : Task). t.waited ≤ rows.limits.patience) rows.tasks sound.waited;
         fits = record {
           nodes = omega (arith, sound.fits.nodes, length-filter-le others rows.tasks);
           arcs = omega (
@@ -395,6 +400,7 @@ module _ (rows : TenantRows) (sound : AreSound rows) where
         most_spread = sound.most_spread;
         most_churn = sound.most_churn;
         most_remote = sound.most_remote;
+        most_patience = sound.most_patience;
       }
 
 -- what holds of each task and choice holds of each task after them
@@ -551,7 +557,7 @@ module _ (rows : TenantRows) (sound : AreSound rows) (placement : List Choice)
               ap (λ (n : List ℕ). running_on (rows_after rows placement) n) name-at,
             );
         waited =
-            All-zipped (λ (t : Task). t.waited ≤ most_waited) (λ _. Unit {0}) (λ _. Unit {0}) (task_after rows)
+            All-zipped (λ (t : Task). t.waited ≤ rows.limits.patience) (λ _. Unit {0}) (λ _. Unit {0}) (task_after rows)
             waited-few rows.tasks placement (λ k d l. tt) (λ k d l. tt);
         fits = record {
           nodes = omega (arith, sound.fits.nodes, length-zipped (task_after rows) rows.tasks placement one_each);
@@ -569,6 +575,7 @@ module _ (rows : TenantRows) (sound : AreSound rows) (placement : List Choice)
         most_spread = sound.most_spread;
         most_churn = sound.most_churn;
         most_remote = sound.most_remote;
+        most_patience = sound.most_patience;
       }
     where
       kept : (P : List (List ℕ) → Type 0) → All (λ (t : Task). P t.preferred) rows.tasks
@@ -591,6 +598,6 @@ module _ (rows : TenantRows) (sound : AreSound rows) (placement : List Choice)
       machine-there t (On j) u place = among-at (machine_names rows) j place
       machine-there t Wait u place = tt
 
-      waited-few : (t : Task) (c : Choice) → Unit {0} → Unit {0} → (task_after rows t c).waited ≤ most_waited
+      waited-few : (t : Task) (c : Choice) → Unit {0} → Unit {0} → (task_after rows t c).waited ≤ rows.limits.patience
       waited-few t (On j) u v = omega arith
       waited-few t Wait u v = omega arith

@@ -15,7 +15,7 @@ use Rattle.firm_rules.specs.Limits.{TenantLimits}
 use Rattle.firm_rules.specs.Names.{is_among, is_name}
 use Rattle.firm_rules.specs.Book.{TenantRows, machine_names, job_names, task_names, name_at, is_on, evicted}
 use Rattle.firm_rules.specs.Book.{running_count, with_machine, with_job, with_restored, placed_at, with_task_placed}
-use Rattle.firm_rules.specs.Book.{without_machine, without_job, without_task, has_tasks, forgetting, most_waited}
+use Rattle.firm_rules.specs.Book.{without_machine, without_job, without_task, has_tasks, forgetting}
 use Rattle.firm_rules.specs.ArenaUse.{FitsLimits, machine_arc_count, preference_count}
 use Rattle.firm_rules.specs.Sound.{AreSound, HasRoom}
 use Rattle.firm_rules.specs.SoundBook.{AreInForm}
@@ -207,7 +207,7 @@ module _ {limits : TenantLimits} {machines : List (List ℕ × Machine)} {jobs :
       → IsDistinct bytes_eq (keys_of more) → is_among (job_names rows) task.job ≡ true
       → IsThere (machine_names rows) task.machine
       → AreThere (machine_names rows) task.preferred → length task.preferred ≤ 4 → IsDistinct bytes_eq task.preferred
-      → IfSome task.machine (λ _. HasRoom (with_restored rows task)) → task.waited ≤ most_waited
+      → IfSome task.machine (λ _. HasRoom (with_restored rows task)) → task.waited ≤ rows.limits.patience
       → IfSome task.machine (λ _. task.waited ≡ 0) → FitsLimits (with_restored rows task)
       → is_name task.name ≡ true → many ≡ length task.preferred → one ≡ one_if (is_some task.machine)
       → AreTablesOf (with_restored rows task) limits machines jobs more arcs (preferences + many) (running + one)
@@ -272,7 +272,7 @@ module _ {limits : TenantLimits} {machines : List (List ℕ × Machine)} {jobs :
   -- counts for
   pub tables-placed : (place : ℕ) (machine : Option (List ℕ)) (waited : ℕ) {placed : List (List ℕ × Task)} {ran one : ℕ}
       → place < length rows.tasks → IsThere (machine_names rows) machine
-      → IfSome machine (λ _. HasRoom (with_task_placed rows place machine waited)) → waited ≤ most_waited
+      → IfSome machine (λ _. HasRoom (with_task_placed rows place machine waited)) → waited ≤ rows.limits.patience
       → IfSome machine (λ _. waited ≡ 0) → keys_of placed ≡ keys_of tasks
       → values_of placed ≡ placed_at (values_of tasks) place machine waited
       → ((d : Task) → ran ≡ one_if (is_some (slice_index_or (values_of tasks) place d).machine))
@@ -500,16 +500,18 @@ module _ {limits : TenantLimits} {machines : List (List ℕ × Machine)} {jobs :
         view = after;
       }
 
-  pub tables-settled : (choices : List Choice) {placed : List (List ℕ × Task)} {now : ℕ}
+  pub tables-settled : (choices : List Choice) {placed : List (List ℕ × Task)} {patience now : ℕ}
       → is_legal (case_of rows) choices ≡ true
       → keys_of placed ≡ keys_of tasks
-      → values_of placed ≡ zipped (settled (values_of machines)) (values_of tasks) choices
+      → patience ≡ limits.patience
+      → values_of placed ≡ zipped (settled patience (values_of machines)) (values_of tasks) choices
       → now ≡ running_count (values_of placed)
       → AreTablesOf (rows_after rows choices) limits machines jobs placed arcs preferences now
-  tables-settled choices {placed} {now} legal same-keys values now-is =
+  tables-settled choices {placed} {patience} {now} legal same-keys same-patience values now-is =
       let is_legal_list : IsLegal (case_of rows) choices = to_legal (case_of rows) choices legal in
       let round : values_of placed ≡ zipped (task_after rows) rows.tasks choices =
-      values ∙ ap (λ (r : TenantRows). zipped (settled r.machines) r.tasks choices) view in
+      values ∙ ap (λ (p : ℕ). zipped (settled p (values_of machines)) (values_of tasks) choices) same-patience
+      ∙ ap (λ (r : TenantRows). zipped (settled r.limits.patience r.machines) r.tasks choices) view in
       let after : rows_in limits machines jobs placed ≡ rows_after rows choices =
       ap (λ (l : List Task). let r : TenantRows =
       record { limits = limits; machines = values_of machines; jobs = values_of jobs; tasks = l } in r)

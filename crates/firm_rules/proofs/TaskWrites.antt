@@ -175,25 +175,27 @@ abbrev pub any_choice : Choice
 any_choice = On 0
 
 -- one more task is given its choice
-module _ (machines : List Machine) (old : List Task) (choices : List Choice) (same : length choices ≡ length old) where
+module _ (patience : ℕ) (machines : List Machine) (old : List Task) (choices : List Choice)
+    (same : length choices ≡ length old) where
   abbrev pub round : List Task
-  round = zipped (settled machines) old choices
+  round = zipped (settled patience machines) old choices
 
   pub settled-next : (now next : List Task) (place running more : ℕ) → now ≡ written round old place
       → place < length old
       → next ≡ set now place
-      (settled machines (slice_index_or now place no_task) (slice_index_or choices place any_choice))
+      (settled patience machines (slice_index_or now place no_task) (slice_index_or choices place any_choice))
       → running ≡ running_count (take place round)
       → more ≡ (if is_placed (slice_index_or choices place any_choice) then 1 else 0)
       → (next ≡ written round old (place + 1)) × (running + more ≡ running_count (take (place + 1) round))
       × (running + more ≤ length old)
   settled-next now next place running more now-is below next-is running-is more-is =
-      let long : length round ≡ length old = length-zipped (settled machines) old choices same in
+      let long : length round ≡ length old = length-zipped (settled patience machines) old choices same in
       let choice : Choice = slice_index_or choices place any_choice in
       let here : slice_index_or now place no_task ≡ slice_index_or old place no_task =
       ap (λ (l : List Task). slice_index_or l place no_task) now-is ∙ written-next round old place long below no_task in
-      let there : slice_index_or round place no_task ≡ settled machines (slice_index_or old place no_task) choice =
-      zipped-at (settled machines) old choices place same below in
+      let there : slice_index_or round place no_task
+      ≡ settled patience machines (slice_index_or old place no_task) choice =
+      zipped-at (settled patience machines) old choices place same below in
       let counted : running + more ≡ running_count (take (place + 1) round) =
       omega (
         arith,
@@ -202,11 +204,12 @@ module _ (machines : List Machine) (old : List Task) (choices : List Choice) (sa
             ∙ ap (λ (t : Task). one_if (is_some t.machine)) (sym there),
         sum_by_more (λ (t : Task). one_if (is_some t.machine)) round place no_task (omega (arith, long, below)),
       ) in (
-        next-is ∙ ap (λ (l : List Task). set l place (settled machines (slice_index_or now place no_task) choice))
+        next-is
+            ∙ ap (λ (l : List Task). set l place (settled patience machines (slice_index_or now place no_task) choice))
             now-is
-            ∙ ap (λ (t : Task). set (written round old place) place (settled machines t choice)) here
-            ∙ written-more round old place no_task (settled machines (slice_index_or old place no_task) choice) long
-            below there,
+            ∙ ap (λ (t : Task). set (written round old place) place (settled patience machines t choice)) here
+            ∙ written-more round old place no_task (settled patience machines (slice_index_or old place no_task) choice)
+            long below there,
         counted,
         omega (
           arith,
@@ -218,7 +221,7 @@ module _ (machines : List Machine) (old : List Task) (choices : List Choice) (sa
       )
     where
       runs : (task : Task) (choice : Choice)
-          → one_if (is_placed choice) ≡ one_if (is_some (settled machines task choice).machine)
+          → one_if (is_placed choice) ≡ one_if (is_some (settled patience machines task choice).machine)
       runs task (On j) = refl
       runs task Wait = refl
 
@@ -232,25 +235,25 @@ module _ (machines : List Machine) (old : List Task) (choices : List Choice) (sa
       zipped-at f (x ∷ xs) (y ∷ ys) (suc place) same below = zipped-at f xs ys place (omega arith) (omega arith)
 
 -- a task that is given its choice at a place
-pub settled-written : (machines : List Machine) (entries : List (List ℕ × Task)) (place : ℕ) (task placed : Task)
-    (choice : Choice)
-    → Some task ≡ slice_get (values_of entries) place → placed ≡ settled machines task choice → (d : Task)
+pub settled-written : (patience : ℕ) (machines : List Machine) (entries : List (List ℕ × Task)) (place : ℕ)
+    (task placed : Task) (choice : Choice)
+    → Some task ≡ slice_get (values_of entries) place → placed ≡ settled patience machines task choice → (d : Task)
     → values_of (set_value_at entries place placed)
-    ≡ set (values_of entries) place (settled machines (slice_index_or (values_of entries) place d) choice)
-settled-written machines entries place task placed choice read is d =
+    ≡ set (values_of entries) place (settled patience machines (slice_index_or (values_of entries) place d) choice)
+settled-written patience machines entries place task placed choice read is d =
     values-written entries place placed
     ∙ ap (set (values_of entries) place)
-    (is ∙ ap (λ (t : Task). settled machines t choice) (sym (read-at (values_of entries) place task read d)))
+    (is ∙ ap (λ (t : Task). settled patience machines t choice) (sym (read-at (values_of entries) place task read d)))
 
 -- as many values as entries
 pub as-many-values : {Row : Type 0} (entries : List (List ℕ × Row)) → length (values_of entries) ≡ length entries
 as-many-values {Row} entries = length-map entries (λ (e : List ℕ × Row). e.1)
 
 -- a task on the machine that was read at a place
-pub settled-on : (machines : List Machine) (place : ℕ) (machine : Machine) (task : Task)
+pub settled-on : (patience : ℕ) (machines : List Machine) (place : ℕ) (machine : Machine) (task : Task)
     → slice_get machines place ≡ Some machine
-    → (record task { machine = Some machine.name; waited = 0 }) ≡ settled machines task (On place)
-settled-on machines place machine task read =
+    → (record task { machine = Some machine.name; waited = 0 }) ≡ settled patience machines task (On place)
+settled-on patience machines place machine task read =
     let none : Machine = record { name = []; slots = 0 } in
     let same : slice_index_or machines place none ≡ machine = read-at machines place machine (sym read) none in
     ap (λ (name : List ℕ). let t : Task = record task { machine = Some name; waited = 0 } in t)

@@ -10,5 +10,8 @@ pub mod Order
 pub mod Round
 pub mod Recent
 pub mod SoundBook
+pub mod Keeping
+pub mod Preemption
+pub mod Starvation
 pub mod Refusals
 pub mod inner

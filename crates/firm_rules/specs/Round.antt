@@ -2,7 +2,7 @@
 use Rattle.std.specs.Prelude.{◌≡◌, ℕ, ◌+◌, ◌≤◌, ◌==◌, not, false, min, List, [], ◌∷◌, ◌++◌, length, map, filter, Option}
 use Rattle.std.specs.Prelude.{Some, None, if◌then◌else◌, bytes_eq, slice_index_or}
 use Rattle.std.specs.List.{flat_map, position_or_len}
-use Rattle.firm_rules.specs.Book.{TenantRows, machine_names, job_names, name_at, most_waited}
+use Rattle.firm_rules.specs.Book.{TenantRows, machine_names, job_names, name_at}
 use Rattle.firm_rules.specs.Placement.{Demand, Case, numbers, IsLegal, is_legal, placement_cost, runs_at, comes_before}
 use Rattle.firm_rules.specs.declared.book.Machine.{Machine}
 use Rattle.firm_rules.specs.declared.book.Task.{Task}
@@ -119,15 +119,16 @@ changed machine_at name (Some home) Wait = Preempt name home ∷ []
 abbrev pub task_changes : TenantRows → Task → Choice → List Change
 task_changes rows task choice = changed (machine_at rows) task.name task.machine choice
 
--- a task settled among these machines: on the one of its choice with no wait behind it, or left waiting once more
-abbrev pub settled : List Machine → Task → Choice → Task
-settled machines task (On j) =
+-- a task settled among these machines: on the one of its choice with no wait behind it, or left waiting once more,
+-- which counts up to the patience
+abbrev pub settled : ℕ → List Machine → Task → Choice → Task
+settled patience machines task (On j) =
     record task { machine = Some (name_at (map (λ machine. machine.name) machines) j); waited = 0 }
-settled machines task Wait = record task { machine = None; waited = min most_waited (task.waited + 1) }
+settled patience machines task Wait = record task { machine = None; waited = min patience (task.waited + 1) }
 
 -- the task after the round
 abbrev pub task_after : TenantRows → Task → Choice → Task
-task_after rows = settled rows.machines
+task_after rows = settled rows.limits.patience rows.machines
 
 -- what `f` makes of the elements of two lists, one by one
 abbrev pub zipped : {A B C : Type 0} → (A → B → C) → List A → List B → List C

@@ -2,8 +2,9 @@
 use Rattle.std.specs.Prelude.{◌≡◌, ◌≤◌, true, All, IfSome, length, bytes_eq}
 use Rattle.std.specs.List.{IsDistinct}
 use Rattle.firm_rules.specs.Names.{is_among}
+use Rattle.firm_rules.specs.Limits.{longest_patience}
 use Rattle.firm_rules.specs.Preferences.{most_preferences}
-use Rattle.firm_rules.specs.Book.{TenantRows, machine_names, job_names, task_names, running_on, most_waited}
+use Rattle.firm_rules.specs.Book.{TenantRows, machine_names, job_names, task_names, running_on}
 use Rattle.firm_rules.specs.ArenaUse.{FitsLimits}
 
 -- no machine runs more tasks than it has slots
@@ -12,8 +13,8 @@ HasRoom rows = All (λ machine. running_on rows machine.name ≤ machine.slots) 
 
 -- names differ in each list; each task's job is there, and so is the machine of each that runs; a task prefers at most
 -- 4 machines, which differ and are there; no machine runs more tasks than it has slots; no task has waited for more
--- than 1,000,000 rounds; the counts fit the limits; slots, weights and the limits of nodes, arcs, spread, churn and
--- remote are in their ranges (the life, which no round reads, is in its range by `Limits`)
+-- rounds than the patience; the counts fit the limits; slots, weights and the limits of nodes, arcs, spread, churn,
+-- remote and patience are in their ranges (the life, which no round reads, is in its range by `Limits`)
 pub record AreSound (rows : TenantRows) : Type 0 where
   pub machine_names_differ : IsDistinct bytes_eq (machine_names rows)
   pub job_names_differ : IsDistinct bytes_eq (job_names rows)
@@ -24,7 +25,7 @@ pub record AreSound (rows : TenantRows) : Type 0 where
   pub preferred_few : All (λ task. length task.preferred ≤ most_preferences) rows.tasks
   pub preferred_differ : All (λ task. IsDistinct bytes_eq task.preferred) rows.tasks
   pub room : All (λ machine. running_on rows machine.name ≤ machine.slots) rows.machines
-  pub waited : All (λ task. task.waited ≤ most_waited) rows.tasks
+  pub waited : All (λ task. task.waited ≤ rows.limits.patience) rows.tasks
   pub fits : FitsLimits rows
   pub slots : All (λ machine. (1 ≤ machine.slots) × (machine.slots ≤ 64)) rows.machines
   pub weights : All (λ job. (1 ≤ job.weight) × (job.weight ≤ 1000000)) rows.jobs
@@ -33,3 +34,4 @@ pub record AreSound (rows : TenantRows) : Type 0 where
   pub most_spread : rows.limits.spread ≤ 1000
   pub most_churn : rows.limits.churn ≤ 1000000
   pub most_remote : rows.limits.remote ≤ 1000000
+  pub most_patience : rows.limits.patience ≤ longest_patience

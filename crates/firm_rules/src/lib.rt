@@ -1,5 +1,15 @@
-//! What a tenant of the scheduler is: names, limits, its machines, jobs and tasks, its use of the arena, and the
-//! commands and replies that it takes and gives.
+//! A tenant before any network: names and limits, rows, their use of its arena, the cost of a placement and the choice
+//! of a round; also commands and replies. docs/PLACEMENT.md has the rules in words.
+//!
+//! `Rows` are the record `TenantRows` of `specs/Book.antt`, always sound (`specs/Sound.antt`): names differ, a task's
+//! job and machines exist, no machine runs more tasks than it has slots, no wait is above the patience, the limits of
+//! nodes and arcs are kept. A `Book` is rows, costs and a count of commands.
+//!
+//! A round is a function, `round_placement` in `specs/Round.antt`, which three laws (docs/TRUST.md) read aloud;
+//! `proofs/RoundExamples.antt` computes worked rounds with all their placements. Three more laws, in
+//! `specs/Preemption.antt`, say what a preemption takes (docs/PLACEMENT.md), one in `specs/Starvation.antt` what a
+//! round does to a long wait. Only the adders and `changes_of` take memory; `legal` and `cost_of` take time in
+//! proportion to tasks times machines.
 #![tactic(auto)]
 
 mod amounts;
@@ -21,12 +31,13 @@ mod tickets;
 pub use amounts::{Slots, Weight};
 pub use book::{Job, Machine, Task, Use};
 pub use books::{Book, BookFault};
-pub use bounds::Limits;
+pub use bounds::{LONGEST_PATIENCE, Limits};
 pub use changes::{Changes, changes_of};
 pub use commands::{Command, LineFault};
 pub use laws::{
-    legality_is_judged, opening_books_are_sound, the_first_difference_decides,
-    the_round_is_the_first,
+    legality_is_judged, long_waits_yield_to_long_waits, opening_books_are_sound,
+    patience_bounds_preemptions, preemptions_gain, preemptions_have_causes, sound_rows_stay_sound,
+    the_first_difference_decides, the_round_is_the_first,
 };
 pub use names::Name;
 pub use placements::{cost_of, cost_of_load, legal, loads_of, ranks_before, weight_of};

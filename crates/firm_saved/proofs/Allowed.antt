@@ -9,7 +9,7 @@ use Rattle.std.proofs.lemmas.List.{length_push, map-append}
 use Rattle.std.proofs.lemmas.List.Elements.{All-from_recursion}
 use Rattle.std.proofs.lemmas.List.Sums.{sum_by-append, sum_by-cons}
 use Rattle.firm_rules.specs.ArenaUse.{FitsLimits, arena_arcs, arena_nodes}
-use Rattle.firm_rules.specs.Book.{TenantRows, are_machines, job_names, machine_names, most_waited, running_on}
+use Rattle.firm_rules.specs.Book.{TenantRows, are_machines, job_names, machine_names, running_on}
 use Rattle.firm_rules.specs.Book.{task_names}
 use Rattle.firm_rules.specs.Book.{with_job, with_machine, with_restored}
 use Rattle.firm_rules.specs.Names.{is_among}
@@ -100,7 +100,7 @@ pub record TaskMay (rows : TenantRows) (task : Task) : Type 0 where
   pub machine : IfSome task.machine (λ name. is_among (machine_names rows) name ≡ true)
   pub preferred : All (λ name. is_among (machine_names rows) name ≡ true) task.preferred
   pub room : IfSome task.machine (λ _. HasRoom (with_restored rows task))
-  pub waited : task.waited ≤ most_waited
+  pub waited : task.waited ≤ rows.limits.patience
   pub running : IfSome task.machine (λ _. task.waited ≡ 0)
   pub fits : FitsLimits (with_restored rows task)
 
@@ -144,7 +144,7 @@ task_may t task e =
     let new = none_cond (is_among (task_names t.rows) task.name) fault.Repeated _ second.0 in
     let job = none_cond (not (is_among (job_names t.rows) task.job)) fault.NoSuchJob _ new.1 in
     let preferred = none_cond (not (are_machines t.rows task.preferred)) fault.NoSuchMachine _ job.1 in
-    let waited = none_cond (nat_lt most_waited task.waited) fault.BadNumber None preferred.1 in
+    let waited = none_cond (nat_lt t.rows.limits.patience task.waited) fault.BadNumber None preferred.1 in
     let run = run_may t.rows task task.machine third.0 in
     let space = limit_allows t (3 + length task.preferred) third.1 in
     let n = space.nodes in
@@ -158,7 +158,7 @@ task_may t task e =
           (each_passed (is_among (machine_names t.rows)) task.preferred
           (not_false (are_machines t.rows task.preferred) preferred.0));
       room = run.room;
-      waited = ltb-false most_waited task.waited waited.0;
+      waited = ltb-false t.rows.limits.patience task.waited waited.0;
       running = run.idle;
       fits = record {
         nodes = omega (arith, length_push t.rows.tasks task);

@@ -10,7 +10,7 @@ use Rattle.std.proofs.lemmas.List.{append-nil, map-append, length-append}
 use Rattle.std.proofs.lemmas.List.Elements.{recursion_from_All}
 use Rattle.std.proofs.lemmas.List.Sums.{sum_by-append, sum_by-cons}
 use Rattle.firm_rules.specs.ArenaUse.{machine_arc_count, preference_count}
-use Rattle.firm_rules.specs.Book.{TenantRows, Book, are_machines, is_on, job_names, machine_names, most_waited}
+use Rattle.firm_rules.specs.Book.{TenantRows, Book, are_machines, is_on, job_names, machine_names}
 use Rattle.firm_rules.specs.Book.{running_on}
 use Rattle.firm_rules.specs.Names.{is_among}
 use Rattle.firm_rules.specs.Sound.{AreSound}
@@ -226,14 +226,14 @@ module _ (name : List ℕ) (costs : List ℤ) (given : ℕ) (final : TenantRows)
       (middle (λ (x : Task). All (λ name. is_among (machine_names final) name ≡ true) x.preferred) ts1 ts2 t
       (subst (λ l. All (λ (x : Task). All (λ name. is_among (machine_names final) name ≡ true) x.preferred) l) (sym is)
       sound.preferred_there)) in
-      let waited : t.waited ≤ most_waited =
-      middle (λ (x : Task). x.waited ≤ most_waited) ts1 ts2 t
-      (subst (λ l. All (λ (x : Task). x.waited ≤ most_waited) l) (sym is) sound.waited) in
+      let waited : t.waited ≤ final.limits.patience =
+      middle (λ (x : Task). x.waited ≤ final.limits.patience) ts1 ts2 t
+      (subst (λ l. All (λ (x : Task). x.waited ≤ final.limits.patience) l) (sym is) sound.waited) in
       rw (
         apart (map (λ (x : Task). x.name) ts1) (map (λ (x : Task). x.name) ts2) t.name names,
         job,
         preferred,
-        le-ltb most_waited t.waited waited,
+        le-ltb final.limits.patience t.waited waited,
       ) refl
 
   task_free : (ts1 ts2 : List Task) (t : Task) → ts1 ++ t ∷ ts2 ≡ final.tasks

@@ -10,7 +10,7 @@ use Rattle.firm_saved.specs.declared.saved.SavedPlace.{SavedPlace}
 -- a tenant with one machine, one job and two tasks, of which one runs: it was given a machine of one slot, a job, a
 -- task and a round, which placed the task, and then one more task and a round, which left this waiting at a cost of 10
 abbrev limits : TenantLimits
-limits = record { nodes = 9; arcs = 24; life = 1000000; spread = 1; churn = 2; remote = 0 }
+limits = record { nodes = 9; arcs = 24; life = 1000000; spread = 1; churn = 2; remote = 0; patience = 1000000 }
 
 abbrev rows : TenantRows
 rows =

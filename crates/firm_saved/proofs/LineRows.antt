@@ -3,16 +3,15 @@ use Rattle.std.proofs.Common.{◌≡◌, ◌<◌, ◌≤◌, ◌+◌, ◌-◌, �
 use Rattle.std.proofs.Common.{length, map, refl, sym, ap, subst, ◌∙◌, arith, append_assoc, Option, Some, None, Result}
 use Rattle.std.proofs.Common.{Ok, Err}
 use Rattle.std.proofs.Common.{true≢false, bytes_eq, codes}
-use Rattle.std.specs.Prelude.{ℤ, pos, negsuc, IfSome, nat_le, drop}
+use Rattle.std.specs.Prelude.{ℤ, pos, negsuc, IfSome, ◌==◌, nat_le, drop, if◌then◌else◌}
 use Rattle.std.specs.Fmt.{decimal, signed_decimal}
 use Rattle.std.specs.List.{list_all, AllByRecursion, IsDistinct}
 use Rattle.std.specs.Option.{ok_or}
-use Rattle.std.proofs.lemmas.Bool.{and_from, and_parts, le-leb, leb-true, lt-ltb}
+use Rattle.std.proofs.lemmas.Bool.{and_from, and_parts, eqb-true, le-leb, leb-true, lt-ltb}
 use Rattle.std.proofs.lemmas.List.{append-nil, length_push}
 use Rattle.std.proofs.lemmas.Slice.Eq.{bytes_eq-Decides}
 use Rattle.firm_rules.specs.Amounts.{slots_from, weight_from}
-use Rattle.firm_rules.specs.Book.{most_waited}
-use Rattle.firm_rules.specs.Limits.{TenantLimits, are_limits, is_within}
+use Rattle.firm_rules.specs.Limits.{TenantLimits, are_limits, is_within, longest_patience}
 use Rattle.firm_rules.specs.Names.{is_among, is_name}
 use Rattle.firm_rules.specs.Preferences.{most_preferences}
 use Rattle.firm_rules.specs.Recent.{with_cost}
@@ -20,14 +19,15 @@ use Rattle.firm_rules.specs.declared.book.Task.{Task}
 use Rattle.firm_text.specs.Commands.{◌>>=◌}
 use Rattle.firm_text.specs.Replies.{labelled}
 use Rattle.firm_rules.specs.SoundBook.{is_cost, most_cost}
-use Rattle.firm_saved.specs.StateText.{row_words, words_text, limits_words, preference_words, standing_words}
+use Rattle.firm_saved.specs.StateText.{row_words, words_text, limits_words, patience_words, preference_words}
+use Rattle.firm_saved.specs.StateText.{standing_words}
 use Rattle.firm_saved.specs.declared.faults.FaultKind.{FaultKind}
 use Rattle.firm_saved.specs.declared.faults.FaultKind.TheVariants as fault
 use Rattle.firm_saved.specs.declared.rows.Row.{Row}
 use Rattle.firm_saved.specs.declared.rows.Row.TheVariants as row
 use Rattle.firm_saved.specs.Lines.{checked_at, cost_word, costs_at, labelled_at, limits_at, words_row}
 use Rattle.firm_saved.specs.Lines.{name_word, names_at, number_word, preferred_at, row_of, standing_at}
-use Rattle.firm_saved.specs.Lines.{own_row, words_of}
+use Rattle.firm_saved.specs.Lines.{names_patience, own_row, patience_at, words_of}
 use Rattle.firm_saved.proofs.Clean.{above, decimal_clean, line_above, name_clean, words_split}
 use Rattle.firm_saved.proofs.Digits.{number_back}
 
@@ -36,7 +36,7 @@ pub record IsTaskRow (task : Task) : Type 0 where
   pub named : is_name task.name ≡ true
   pub job : is_name task.job ≡ true
   pub machine : IfSome task.machine (λ name. (is_name name ≡ true) × (task.waited ≡ 0))
-  pub waited : task.waited ≤ most_waited
+  pub waited : task.waited ≤ longest_patience
   pub preferred : list_all is_name task.preferred ≡ true
   pub few : length task.preferred ≤ most_preferences
   pub differ : IsDistinct bytes_eq task.preferred
@@ -67,6 +67,25 @@ labelled_back : (label : List ℕ) (n : ℕ) (rest : List (List ℕ)) → n < 10
     → labelled_at (label ∷ decimal n ∷ rest) ≡ Ok (n, rest)
 labelled_back label n rest small = rw (number_word_back n small) refl
 
+-- so is a patience, if the words behind it begin with another label
+patience_back : (n : ℕ) → n < 10 ^ 13 → (rest : List (List ℕ)) → names_patience rest ≡ false
+    → patience_at (patience_words n ++ rest) ≡ Ok (n, rest)
+patience_back n small rest other = by (n == longest_patience) refl
+  where
+    by : (b : Bool) → (n == longest_patience) ≡ b
+        → patience_at ((if b then [] else labelled (codes "patience") n) ++ rest) ≡ Ok (n, rest)
+    by true same = rw other (ap (λ (m : ℕ). Ok (m, rest)) (sym (eqb-true n longest_patience same)))
+    by false different = rw (number_word_back n small) refl
+
+-- the words of a patience are between spaces
+patience_clean : (n : ℕ) → n ≤ longest_patience → (rest : List (List ℕ)) → list_all (above 32) rest ≡ true
+    → list_all (above 32) (patience_words n ++ rest) ≡ true
+patience_clean n few rest clean = by (n == longest_patience)
+  where
+    by : (b : Bool) → list_all (above 32) ((if b then [] else labelled (codes "patience") n) ++ rest) ≡ true
+    by true = clean
+    by false = rw (decimal_clean n (omega arith)) clean
+
 module _ (limits : TenantLimits) (h : are_limits limits ≡ true) where
   -- the ranges of limits
   pub record AreWithin : Type 0 where
@@ -76,13 +95,15 @@ module _ (limits : TenantLimits) (h : are_limits limits ≡ true) where
     pub spread : limits.spread ≤ 1000
     pub churn : limits.churn ≤ 1000000
     pub remote : limits.remote ≤ 1000000
+    pub patience : limits.patience ≤ longest_patience
 
   within : (low high n : ℕ) → is_within low high n ≡ true → n ≤ high
   within low high n e = leb-true n high (and_parts (nat_le low n) (nat_le n high) e).1
 
   pub limits_within : AreWithin
   limits_within =
-      let a = and_parts _ (is_within 0 1000000 limits.remote) h in
+      let p = and_parts _ (is_within 0 longest_patience limits.patience) h in
+      let a = and_parts _ (is_within 0 1000000 limits.remote) p.0 in
       let b = and_parts _ (is_within 0 1000000 limits.churn) a.0 in
       let c = and_parts _ (is_within 0 1000 limits.spread) b.0 in
       let d = and_parts _ (is_within 1 (2 ^ 40) limits.life) c.0 in
@@ -94,10 +115,21 @@ module _ (limits : TenantLimits) (h : are_limits limits ≡ true) where
         spread = within 0 1000 limits.spread c.1;
         churn = within 0 1000000 limits.churn b.1;
         remote = within 0 1000000 limits.remote a.1;
+        patience = within 0 longest_patience limits.patience p.1;
       }
 
-  limits_back : (rest : List (List ℕ)) → limits_at (limits_words limits ++ rest) ≡ Ok (limits, rest)
-  limits_back rest =
+  -- and the ranges of the first six, whatever the patience
+  others_within : are_limits (record limits { patience = longest_patience }) ≡ true
+  others_within =
+      let p = and_parts _ (is_within 0 longest_patience limits.patience) h in
+      and_from _ (is_within 0 longest_patience longest_patience) p.0 refl
+
+  patience_within : is_within 0 longest_patience limits.patience ≡ true
+  patience_within = (and_parts _ (is_within 0 longest_patience limits.patience) h).1
+
+  limits_back : (rest : List (List ℕ)) → names_patience rest ≡ false
+      → limits_at (limits_words limits ++ rest) ≡ Ok (limits, rest)
+  limits_back rest other =
       let w = limits_within in
       let b1 = w.nodes in let b2 = w.arcs in let b3 = w.life in let b4 = w.spread in let b5 = w.churn in
       let b6 = w.remote in
@@ -108,7 +140,9 @@ module _ (limits : TenantLimits) (h : are_limits limits ≡ true) where
         number_word_back limits.spread (omega arith),
         number_word_back limits.churn (omega arith),
         number_word_back limits.remote (omega arith),
-        h,
+        patience_back limits.patience (let b7 = w.patience in omega arith) rest other,
+        others_within,
+        patience_within,
       ) refl
 
 cost_back : (cost : ℤ) → is_cost cost ≡ true → (n : ℕ) × (cost ≡ pos n) × (cost_word (signed_decimal cost) ≡ Ok n)
@@ -181,7 +215,7 @@ standing_back task sound (Some machine) is =
     rw (name_word_back machine home.0, preferred_back task.preferred sound.few sound.differ sound.preferred)
     (ap (λ (n : ℕ). Ok (Some machine, n, task.preferred)) (sym home.1))
 standing_back task sound None is =
-    let few = le-leb task.waited most_waited sound.waited in
+    let few = le-leb task.waited longest_patience sound.waited in
     let small : task.waited < 10 ^ 13 = let w = sound.waited in omega arith in
     rw (
       number_word_back task.waited small,
@@ -202,7 +236,7 @@ words_back (row.Rows n) h = rw (number_word_back n h) refl
 words_back (row.Tenant name limits given) h =
     rw (
       name_word_back name h.named,
-      limits_back limits h.ranges (labelled (codes "commands") given),
+      limits_back limits h.ranges (labelled (codes "commands") given) refl,
       number_word_back given h.few,
     ) refl
 words_back (row.Costs costs) h = rw (costs_back [] costs (let few = h.0 in omega arith) h.1) refl
@@ -219,6 +253,8 @@ row_clean (row.Tenant name limits given) h =
     let w = limits_within limits h.ranges in
     let b1 = w.nodes in let b2 = w.arcs in let b3 = w.life in let b4 = w.spread in let b5 = w.churn in
     let b6 = w.remote in let b7 = h.few in
+    let last : list_all (above 32) (labelled (codes "commands") given) ≡ true =
+    rw (decimal_clean given (omega arith)) refl in
     rw (
       name_clean name h.named,
       decimal_clean limits.nodes (omega arith),
@@ -227,8 +263,7 @@ row_clean (row.Tenant name limits given) h =
       decimal_clean limits.spread (omega arith),
       decimal_clean limits.churn (omega arith),
       decimal_clean limits.remote (omega arith),
-      decimal_clean given (omega arith),
-    ) refl
+    ) (patience_clean limits.patience w.patience (labelled (codes "commands") given) last)
 row_clean (row.Costs costs) h = costs_clean costs h.1
   where
     costs_clean : (costs : List ℤ) → list_all is_cost costs ≡ true

@@ -12,21 +12,22 @@ use Rattle.firm_saved.specs.declared.rows.Row.TheVariants as row
 pub kept_trans : (xs ys zs : List ℕ) → StartsWith xs ys → StartsWith ys zs → StartsWith xs zs
 kept_trans = starts_with_trans
 
-six_labels : (text a i b j c k d l e m f n : List ℕ)
-    → text ++ a ++ i ++ b ++ j ++ c ++ k ++ d ++ l ++ e ++ m ++ f ++ n
-    ≡ text ++ (a ++ (i ++ (b ++ (j ++ (c ++ (k ++ (d ++ (l ++ (e ++ (m ++ (f ++ (n ++ []))))))))))))
-six_labels text a i b j c k d l e m f n = simp (append_assoc, append-nil)
+six_labels : (text a i b j c k d l e m f n last : List ℕ)
+    → text ++ a ++ i ++ b ++ j ++ c ++ k ++ d ++ l ++ e ++ m ++ f ++ n ++ last
+    ≡ text ++ (a ++ (i ++ (b ++ (j ++ (c ++ (k ++ (d ++ (l ++ (e ++ (m ++ (f ++ (n ++ last))))))))))))
+six_labels text a i b j c k d l e m f n last = simp append_assoc
 
--- six labels, each with its digits, of which the last was added with success, are the text of these words
+-- six labels, each with its digits, and what was added last with success, are the text of these words
 pub labels_added : {A E : Type 0} (result : Result A E)
-    (text t1 t2 t3 t4 t5 new a i b j c k d l e m f n all : List ℕ)
+    (text t1 t2 t3 t4 t5 t6 new a i b j c k d l e m f n last all : List ℕ)
     → t1 ≡ text ++ a ++ i → t2 ≡ t1 ++ b ++ j → t3 ≡ t2 ++ c ++ k → t4 ≡ t3 ++ d ++ l → t5 ≡ t4 ++ e ++ m
-    → OnOk result (new ≡ t5 ++ f ++ n)
-    → a ++ (i ++ (b ++ (j ++ (c ++ (k ++ (d ++ (l ++ (e ++ (m ++ (f ++ (n ++ []))))))))))) ≡ all
+    → t6 ≡ t5 ++ f ++ n
+    → OnOk result (new ≡ t6 ++ last)
+    → a ++ (i ++ (b ++ (j ++ (c ++ (k ++ (d ++ (l ++ (e ++ (m ++ (f ++ (n ++ last))))))))))) ≡ all
     → OnOk result (new ≡ text ++ all)
-labels_added (Ok done) text t1 t2 t3 t4 t5 new a i b j c k d l e m f n all p q r s t u same =
-    u ∙ rw (t, s, r, q, p, ← same) (six_labels text a i b j c k d l e m f n)
-labels_added (Err refused) text t1 t2 t3 t4 t5 new a i b j c k d l e m f n all p q r s t u same = tt
+labels_added (Ok done) text t1 t2 t3 t4 t5 t6 new a i b j c k d l e m f n last all p q r s t u v same =
+    v ∙ rw (u, t, s, r, q, p, ← same) (six_labels text a i b j c k d l e m f n last)
+labels_added (Err refused) text t1 t2 t3 t4 t5 t6 new a i b j c k d l e m f n last all p q r s t u v same = tt
 
 -- two parts that were added one after the other
 pub two_added : (new first text a b all : List ℕ) → first ≡ text ++ a → new ≡ first ++ b → a ++ b ≡ all

@@ -82,7 +82,7 @@ module _ (book : Book) (sound : IsSoundBook book) where
         named = sound.form.tasks k d below;
         job = among_named (job_names book.rows) task.job (rows.jobs_there k d below) jobs_formed;
         machine = home task.machine task.waited (rows.machines_there k d below) (sound.form.running k d below);
-        waited = rows.waited k d below;
+        waited = let few = rows.waited k d below in let most = rows.most_patience in omega arith;
         preferred = each_named (machine_names book.rows) task.preferred
             (recursion_from_All (λ name. is_among (machine_names book.rows) name ≡ true) task.preferred there)
             machines_formed;

@@ -4,7 +4,7 @@ use Rattle.std.specs.Prelude.{Result, Ok, Err, length, nat_le, nat_lt, option_ma
 use Rattle.std.specs.List.{list_all, list_any}
 use Rattle.std.specs.Option.{is_none, is_some}
 use Rattle.firm_rules.specs.ArenaUse.{arena_arcs, arena_nodes}
-use Rattle.firm_rules.specs.Book.{TenantRows, Book, are_machines, job_names, machine_names, most_waited, opening_rows}
+use Rattle.firm_rules.specs.Book.{TenantRows, Book, are_machines, job_names, machine_names, opening_rows}
 use Rattle.firm_rules.specs.Book.{running_on, task_names, with_job, with_machine, with_restored}
 use Rattle.firm_rules.specs.Limits.{TenantLimits}
 use Rattle.firm_rules.specs.Names.{is_among}
@@ -112,7 +112,7 @@ naming_fault rows task =
     if is_among (task_names rows) task.name then Some fault.Repeated
     else (if not (is_among (job_names rows) task.job) then Some fault.NoSuchJob
     else (if not (are_machines rows task.preferred) then Some fault.NoSuchMachine
-    else (if nat_lt most_waited task.waited then Some fault.BadNumber else None)))
+    else (if nat_lt rows.limits.patience task.waited then Some fault.BadNumber else None)))
 
 -- why a task may not be the next row of a tenant
 abbrev pub task_fault : TenantDraft → Task → Option FaultKind

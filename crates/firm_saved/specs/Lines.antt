@@ -1,12 +1,11 @@
 -- How a line is read as a row: as far as its words tell, and then it must be the row's own line.
-use Rattle.std.specs.Prelude.{ℕ, ℤ, pos, Bool, List, [], ◌∷◌, ◌==◌, Option, Some, None, Result, Ok, Err, bytes_eq}
-use Rattle.std.specs.Prelude.{codes}
+use Rattle.std.specs.Prelude.{ℕ, ℤ, pos, Bool, false, List, [], ◌∷◌, ◌==◌, Option, Some, None, Result, Ok, Err}
+use Rattle.std.specs.Prelude.{bytes_eq, codes}
 use Rattle.std.specs.Prelude.{length, nat_le, nat_lt, option_and_then, if◌then◌else◌}
 use Rattle.std.specs.List.{slice_split}
 use Rattle.std.specs.Option.{ok_or}
 use Rattle.firm_rules.specs.Amounts.{slots_from, weight_from}
-use Rattle.firm_rules.specs.Book.{most_waited}
-use Rattle.firm_rules.specs.Limits.{TenantLimits, limits_of}
+use Rattle.firm_rules.specs.Limits.{TenantLimits, limits_of, longest_patience, with_patience}
 use Rattle.firm_rules.specs.Names.{name_of}
 use Rattle.firm_rules.specs.Preferences.{most_preferences, with_preference}
 use Rattle.firm_rules.specs.Recent.{with_cost}
@@ -66,6 +65,15 @@ labelled_at (label ∷ word ∷ rest) = do
   number ← number_word word
   Ok (number, rest)
 
+-- whether the first word is the label of a patience
+abbrev pub names_patience : List (List ℕ) → Bool
+names_patience [] = false
+names_patience (word ∷ rest) = bytes_eq word (codes "patience")
+
+-- the patience behind its label, or the longest where the label is missing, and the words behind it
+abbrev pub patience_at : List (List ℕ) → Result (ℕ × List (List ℕ)) FaultKind
+patience_at words = if names_patience words then labelled_at words else Ok (longest_patience, words)
+
 -- the limits of a tenant, and the words behind them
 abbrev pub limits_at : List (List ℕ) → Result (TenantLimits × List (List ℕ)) FaultKind
 limits_at words = do
@@ -75,8 +83,10 @@ limits_at words = do
   spread ← labelled_at life.1
   churn ← labelled_at spread.1
   remote ← labelled_at churn.1
+  patience ← patience_at remote.1
   limits ← ok_or (limits_of nodes.0 arcs.0 life.0 spread.0 churn.0 remote.0) fault.BadNumber
-  Ok (limits, remote.1)
+  patient ← ok_or (with_patience limits patience.0) fault.BadNumber
+  Ok (patient, patience.1)
 
 -- how often a place was given, behind a label
 abbrev pub place_row : List (List ℕ) → Result Row FaultKind
@@ -132,7 +142,7 @@ job_row (word ∷ rest) = do
 abbrev pub standing_of : List ℕ → List ℕ → Result (Option (List ℕ) × ℕ) FaultKind
 standing_of verb word =
     if bytes_eq verb (codes "at") then (name_word word >>= λ machine. Ok (Some machine, 0))
-    else (number_word word >>= λ number. at_most most_waited number >>= λ waited. Ok (None, waited))
+    else (number_word word >>= λ number. at_most longest_patience number >>= λ waited. Ok (None, waited))
 
 -- these machines, and then those that the words name
 abbrev pub names_at : List (List ℕ) → List (List ℕ) → Result (List (List ℕ)) FaultKind

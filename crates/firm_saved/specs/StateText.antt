@@ -3,7 +3,7 @@ use Rattle.std.specs.Prelude.{ℕ, List, [], ◌∷◌, ◌++◌, ◌==◌, Opti
 use Rattle.std.specs.List.{flat_map}
 use Rattle.std.specs.Fmt.{signed_decimal}
 use Rattle.firm_rules.specs.Book.{Book}
-use Rattle.firm_rules.specs.Limits.{TenantLimits}
+use Rattle.firm_rules.specs.Limits.{TenantLimits, longest_patience}
 use Rattle.firm_text.specs.Replies.{labelled, spaced}
 use Rattle.firm_saved.specs.declared.rows.Row.{Row}
 use Rattle.firm_saved.specs.declared.rows.Row.TheVariants as row
@@ -14,12 +14,17 @@ abbrev pub words_text : List (List ℕ) → List ℕ
 words_text [] = []
 words_text (first ∷ rest) = first ++ flat_map spaced rest
 
+-- the patience behind its name, unless it is the longest
+abbrev pub patience_words : ℕ → List (List ℕ)
+patience_words patience =
+    if patience == longest_patience then [] else labelled (codes "patience") patience
+
 -- the limits of a tenant, each behind its name
 abbrev pub limits_words : TenantLimits → List (List ℕ)
 limits_words limits =
     labelled (codes "nodes") limits.nodes ++ labelled (codes "arcs") limits.arcs ++ labelled (codes "life") limits.life
     ++ labelled (codes "spread") limits.spread ++ labelled (codes "churn") limits.churn
-    ++ labelled (codes "remote") limits.remote
+    ++ labelled (codes "remote") limits.remote ++ patience_words limits.patience
 
 -- where a task runs, or how many rounds left it waiting
 abbrev pub standing_words : Option (List ℕ) → ℕ → List (List ℕ)

@@ -1,17 +1,19 @@
 //! Reading a line as a row.
 ghost use Rattle.std.specs.Prelude.{◌≡◌, ◌≤◌, IfOk, MatchResult, Ok, Err, []};
 ghost use Rattle.firm_saved.specs.Lines.{words_of, words_behind, name_word, number_word, number_at, labelled_at};
+ghost use Rattle.firm_saved.specs.Lines.{names_patience, patience_at};
 ghost use Rattle.firm_saved.specs.Lines.{limits_at, place_row, tenant_row, cost_word, costs_at, costs_row, machine_row};
 ghost use Rattle.firm_saved.specs.Lines.{job_row, standing_of, names_at, preferred_at, standing_at, task_row, verb_row};
 ghost use Rattle.firm_saved.specs.Lines.{words_row, row_of};
 ghost use Rattle.firm_saved.specs.inner.Returned.{Gives};
 
 use crate::faults::FaultKind;
-use crate::rows::{MOST_WAITED, Row};
+use crate::rows::Row;
 use crate::words::{cut, is_word, next_word};
 use crate::writing::put_words;
 use firm_rules::{
-    Job, Limits, MOST_PREFERENCES, Machine, Name, Preferred, RecentCosts, Slots, Task, Weight,
+    Job, LONGEST_PATIENCE, Limits, MOST_PREFERENCES, Machine, Name, Preferred, RecentCosts, Slots,
+    Task, Weight,
 };
 use firm_text::number;
 
@@ -90,10 +92,34 @@ fn limits_at(behind: &[u8]) -> Result<(Limits, &[u8]), FaultKind>
     let (spread, behind) = labelled_at(behind)?;
     let (churn, behind) = labelled_at(behind)?;
     let (remote, behind) = labelled_at(behind)?;
+    let (patience, behind) = patience_at(behind)?;
     let limits = Limits::check(nodes, arcs, life, spread, churn, remote).ok_or(
         FaultKind::BadNumber,
     )?;
+    let limits = limits.with_patience(patience).ok_or(FaultKind::BadNumber)?;
     Ok((limits, behind))
+}
+
+// The patience, which stands only where it is not the longest, and the rest behind it.
+fn patience_at(behind: &[u8]) -> Result<(u64, &[u8]), FaultKind>
+    ensures { MatchResult result (λ read. patience_at (words_behind behind.now) ≡ Ok (read.0, words_behind read.1.now))
+        (λ kind. patience_at (words_behind behind.now) ≡ Err kind) }
+{
+    if names_patience(behind) {
+        labelled_at(behind)
+    } else {
+        Ok((LONGEST_PATIENCE, behind))
+    }
+}
+
+// Whether the next word is the label of a patience.
+fn names_patience(behind: &[u8]) -> bool
+    ensures { result ≡ names_patience (words_behind behind.now) }
+{
+    match next_word(behind) {
+        Ok((word, _)) => is_word(word, "patience"),
+        Err(_) => false,
+    }
 }
 
 fn costs_row(behind: &[u8]) -> Result<Row, FaultKind>
@@ -183,7 +209,7 @@ fn standing_of(verb: &[u8], word: &[u8]) -> Result<(Option<Name>, u32), FaultKin
         return Ok((Some(name_word(word)?), 0));
     }
     let waited = number_word(word)?;
-    if waited > u64::from(MOST_WAITED) {
+    if waited > LONGEST_PATIENCE {
         return Err(FaultKind::BadNumber);
     }
     Ok((None, waited as u32))

@@ -2,9 +2,6 @@
 
 use firm_rules::{Job, Limits, Machine, Name, RecentCosts, Task};
 
-/// A task counts at most this many rounds that left it waiting.
-pub const MOST_WAITED: u32 = 1_000_000;
-
 /// A row of a state's text.
 #[derive(Clone, Copy)]
 pub enum Row {

@@ -15,7 +15,7 @@ ghost use Rattle.firm_saved.specs.inner.Loads.{AreLoads, loads_of, view};
 ghost use Rattle.firm_saved.specs.inner.Returned.{Gives};
 
 use crate::faults::FaultKind;
-use crate::rows::{MOST_WAITED, Row};
+use crate::rows::Row;
 use firm_rules::{Book, BookFault, Job, Limits, Machine, Name, RecentCosts, Rows, Task, use_of};
 use std::alloc::Global;
 
@@ -256,7 +256,7 @@ fn naming_fault(rows: &Rows, task: &Task) -> Option<FaultKind>
     if !rows.has_machines(task.preferred.as_slice()) {
         return Some(FaultKind::NoSuchMachine);
     }
-    if task.waited > MOST_WAITED {
+    if u64::from(task.waited) > rows.limits().patience() {
         return Some(FaultKind::BadNumber);
     }
     None

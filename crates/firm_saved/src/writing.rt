@@ -10,6 +10,7 @@ ghost use Rattle.firm_rules.specs.declared.book.Task.{Task as TaskRow};
 ghost use Rattle.firm_text.specs.Replies.{labelled, spaced};
 ghost use Rattle.firm_saved.specs.declared.rows.Row.TheVariants as row;
 ghost use Rattle.firm_saved.specs.StateText.{words_text, row_words, row_text, heading, limits_words, standing_words};
+ghost use Rattle.firm_saved.specs.StateText.{patience_words};
 ghost use Rattle.firm_text.specs.Rosters.{most_places};
 ghost use Rattle.firm_text.specs.Registers.{IsRegister};
 ghost use Rattle.firm_saved.specs.Saved.{IsSoundPlace, IsSoundSaved, register_of};
@@ -18,7 +19,7 @@ ghost use Rattle.firm_saved.specs.declared.saved.SavedPlace.{SavedPlace as Place
 
 use crate::rows::Row;
 use crate::saved::{Saved, SavedPlace};
-use firm_rules::{Job, Limits, Machine, Name, RecentCosts, Rows, Task};
+use firm_rules::{Job, LONGEST_PATIENCE, Limits, Machine, Name, RecentCosts, Rows, Task};
 use firm_text::Entry;
 use itoa::Buffer;
 use std::alloc::AllocError;
@@ -229,7 +230,19 @@ fn put_limits(output: &mut Vec<u8>, limits: &Limits) -> Result<(), AllocError>
     put_labelled(output, b" life ", limits.life())?;
     put_labelled(output, b" spread ", limits.spread())?;
     put_labelled(output, b" churn ", limits.churn())?;
-    put_labelled(output, b" remote ", limits.remote())
+    put_labelled(output, b" remote ", limits.remote())?;
+    put_patience(output, limits.patience())
+}
+
+#[tactic(auto, using(crate::proofs::Puts::kept_trans))]
+fn put_patience(output: &mut Vec<u8>, patience: u64) -> Result<(), AllocError>
+    ensures kept { StartsWith output.new.items output.old.items }
+    ensures added { OnOk result (output.new.items ≡ output.old.items ++ flat_map spaced (patience_words patience)) }
+{
+    if patience == LONGEST_PATIENCE {
+        return Ok(());
+    }
+    put_labelled(output, b" patience ", patience)
 }
 
 #[tactic(auto, using(crate::proofs::Puts::kept_trans))]

@@ -1,4 +1,16 @@
 //! Tests alone: rules, formats, a tenant and the table of tenants, asked by their public calls.
+//!
+//! Tests of rules, formats, one tenant, rents and the table, by their public calls. A new line, reply or fault is one
+//! more row of an array, a new round or event one more step:
+//!
+//! ```text
+//! static OF_A_WORN_TENANT: [Row; 4] = [
+//!     (Show(0), Shows(1, 2, 0)),
+//!     (Ask(0), Worn(2)),
+//!     (Take(0), NotNow),
+//!     (Costs(0), Worn(2)),
+//! ];
+//! ```
 #![tactic(auto)]
 
 #[cfg(test)]

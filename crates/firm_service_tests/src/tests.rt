@@ -43,6 +43,11 @@ fn limits(rt: &impl Abort, numbers: &[u64; 6]) -> Limits {
     Limits::check(nodes, arcs, life, spread, churn, remote).expect(rt, "limits")
 }
 
+fn patient(rt: &impl Abort, numbers: &[u64; 6], patience: u64) -> Limits {
+    let limits = limits(rt, numbers);
+    limits.with_patience(patience).expect(rt, "a patience")
+}
+
 fn preferring(rt: &impl Abort, machines: &[&[u8]]) -> Preferred {
     let mut preferred = Preferred::new();
     for machine in machines {

@@ -7,6 +7,7 @@ mod graph;
 mod net;
 mod paths;
 mod plain;
+mod proposals;
 mod random;
 mod restored;
 mod start;

@@ -22,7 +22,7 @@ use Rattle.firm_table.specs.Places.{MarkedLine}
 
 abbrev tenant : List ℕ → ℕ → ℕ → ℕ → RosterRow
 tenant name nodes arcs life =
-    (name, record { nodes = nodes; arcs = arcs; life = life; spread = 1; churn = 2; remote = 0 })
+    (name, record { nodes = nodes; arcs = arcs; life = life; spread = 1; churn = 2; remote = 0; patience = 1000000 })
 
 abbrev says : List ℕ → ℕ → Outcome → LineAnswer
 says name number outcome = Replied name (record { number = number; outcome = outcome })
@@ -77,7 +77,7 @@ abbrev b : List ℕ
 b = codes "b"
 
 abbrev one_tenant : List RosterRow
-one_tenant = (a, record { nodes = 4; arcs = 9; life = 10; spread = 0; churn = 0; remote = 0 }) ∷ []
+one_tenant = (a, record { nodes = 4; arcs = 9; life = 10; spread = 0; churn = 0; remote = 0; patience = 1000000 }) ∷ []
 
 -- a name is known from its admission to its retirement, and its numbers begin anew; each refusal has its code
 coming_and_going : told one_tenant
@@ -112,7 +112,7 @@ abbrev behind_it : List MarkedLine
 behind_it = lines_of (codes "b round" ∷ codes "+ admit b,9,9,9,9,9" ∷ codes "a show" ∷ codes "b show" ∷ [])
 
 begins_there : BeginsStay one_tenant before_it (unmarked (line_of (codes "+ admit b,2,0,5,0,0"))) behind_it b
-    (record { nodes = 2; arcs = 0; life = 5; spread = 0; churn = 0; remote = 0 })
+    (record { nodes = 2; arcs = 0; life = 5; spread = 0; churn = 0; remote = 0; patience = 1000000 })
 begins_there = record { asks = refl; admits = refl; stays = refl }
 
 its_commands : commands_to b behind_it ≡ (Round, false) ∷ (Show, false) ∷ []

@@ -16,7 +16,8 @@ use Rattle.firm_table.specs.declared.events.Answer.TheVariants.{Retired, NotNow}
 use Rattle.firm_rules.specs.declared.tickets.Ticket.{Ticket}
 
 abbrev row : List ℕ → ℕ → ℕ → RosterRow
-row name nodes arcs = (name, record { nodes = nodes; arcs = arcs; life = 100; spread = 1; churn = 2; remote = 0 })
+row name nodes arcs =
+    (name, record { nodes = nodes; arcs = arcs; life = 100; spread = 1; churn = 2; remote = 0; patience = 1000000 })
 
 abbrev ticket : ℕ → ℕ → Ticket
 ticket place number = record { place = place; number = number }
@@ -37,7 +38,7 @@ one_worker = refl
 
 -- a place that goes from tenant to tenant
 abbrev small : TenantLimits
-small = record { nodes = 2; arcs = 0; life = 5; spread = 0; churn = 0; remote = 0 }
+small = record { nodes = 2; arcs = 0; life = 5; spread = 0; churn = 0; remote = 0; patience = 1000000 }
 
 abbrev coming_and_going : List MarkedEvent
 coming_and_going =

@@ -17,7 +17,8 @@ use Rattle.firm_tenant.specs.Alone.{alone, alone_marked, replies_from}
 use Rattle.firm_rules.specs.Book.{Book}
 
 abbrev limits : ℕ → ℕ → ℕ → TenantLimits
-limits nodes arcs life = record { nodes = nodes; arcs = arcs; life = life; spread = 1; churn = 2; remote = 3 }
+limits nodes arcs life =
+    record { nodes = nodes; arcs = arcs; life = life; spread = 1; churn = 2; remote = 3; patience = 1000000 }
 
 abbrev reply : ℕ → Outcome → Reply
 reply number outcome = record { number = number; outcome = outcome }

@@ -24,7 +24,15 @@ outcomes number (outcome ∷ more) = record { number = number; outcome = outcome
 
 abbrev tenant : ℕ → ℕ → ℕ → ℕ → ℕ → Book
 tenant nodes arcs life spread churn =
-    opening_book (record { nodes = nodes; arcs = arcs; life = life; spread = spread; churn = churn; remote = 0 })
+    opening_book (record {
+      nodes = nodes;
+      arcs = arcs;
+      life = life;
+      spread = spread;
+      churn = churn;
+      remote = 0;
+      patience = 1000000;
+    })
 
 -- two tasks on two machines, one each, and then a third
 spreading : replies (tenant 9 24 100 1 2)
@@ -144,7 +152,16 @@ after_it : (step (tenant 2 0 3 0 0) Round true).1 ≡ record (tenant 2 0 3 0 0) 
 after_it = refl
 
 abbrev near : ℕ → Book
-near remote = opening_book (record { nodes = 9; arcs = 30; life = 100; spread = 0; churn = 0; remote = remote })
+near remote =
+    opening_book (record {
+      nodes = 9;
+      arcs = 30;
+      life = 100;
+      spread = 0;
+      churn = 0;
+      remote = remote;
+      patience = 1000000;
+    })
 
 abbrev preferring : List Command
 preferring =

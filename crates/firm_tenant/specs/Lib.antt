@@ -1,4 +1,5 @@
 pub mod Step
 pub mod Alone
 pub mod Laws
+pub mod Starvation
 pub mod inner

@@ -1,4 +1,11 @@
-//! One tenant: the reply to each of its commands, and the rows that it keeps.
+//! One tenant: its rows, and their network in a graph. It answers one command at a time, and knows no text, no other
+//! tenant and no thread. Contracts see its *book*: its rows, the costs of its last 8 rounds at most, and the number of
+//! commands given.
+//!
+//! `specs/Step.antt` defines the step of a command, with an equation for each verb, given a *mark* for refused memory,
+//! which is set exactly if the reply is that refusal; docs/FORMATS.md has it in words. Only the three adders and a
+//! round are refused for memory; no clause can say that a growth really was refused. `specs/Alone.antt` folds the step
+//! over marked commands: the replies of a tenant that is alone. `specs/Starvation.antt` says how long a task waits.
 #![tactic(auto)]
 
 mod laws;
@@ -6,7 +13,7 @@ mod pools;
 mod tenants;
 
 pub use laws::{
-    one_more_command_adds_one_step, replies_tell_their_marks, steps_count_once,
+    no_task_starves, one_more_command_adds_one_step, replies_tell_their_marks, steps_count_once,
     unmarked_steps_are_granted,
 };
 pub use tenants::Tenant;

@@ -8,13 +8,16 @@ use Rattle.firm_text.specs.declared.operator.OperatorLine.TheVariants.{Admit, Re
 use Rattle.firm_text.specs.declared.operator.OperatorRefusal.TheVariants.{BadCommand, BadRow, BadName, BadNumber}
 
 abbrev small : TenantLimits
-small = record { nodes = 2; arcs = 0; life = 5; spread = 0; churn = 0; remote = 0 }
+small = record { nodes = 2; arcs = 0; life = 5; spread = 0; churn = 0; remote = 0; patience = 1000000 }
 
 an_admission : line_of (codes "+ admit b,2,0,5,0,0") ≡ Operator (Admit (codes "b") small)
 an_admission = refl
 
 seven_fields : line_of (codes "+ admit b,2,0,5,0,0,0") ≡ Operator (Admit (codes "b") small)
 seven_fields = refl
+
+eight_fields : line_of (codes "+ admit b,2,0,5,0,0,0,3") ≡ Operator (Admit (codes "b") (record small { patience = 3 }))
+eight_fields = refl
 
 a_retirement : line_of (codes " + retire  b ") ≡ Operator (Retire (codes "b"))
 a_retirement = refl
@@ -32,14 +35,17 @@ two_rows = refl
 five_fields : line_of (codes "+ admit C,2,0,1,x") ≡ Operator (Faulty BadRow)
 five_fields = refl
 
-eight_fields : line_of (codes "+ admit c,2,0,1,0,0,0,0") ≡ Operator (Faulty BadRow)
-eight_fields = refl
+nine_fields : line_of (codes "+ admit c,2,0,1,0,0,0,0,0") ≡ Operator (Faulty BadRow)
+nine_fields = refl
 
 a_wrong_name : line_of (codes "+ admit C,1,0,1,0,0") ≡ Operator (Faulty BadName)
 a_wrong_name = refl
 
 a_wrong_number : line_of (codes "+ admit c,1,0,1,0,0") ≡ Operator (Faulty BadNumber)
 a_wrong_number = refl
+
+a_longer_patience : line_of (codes "+ admit c,2,0,1,0,0,0,1000001") ≡ Operator (Faulty BadNumber)
+a_longer_patience = refl
 
 -- quotes are no quotes
 a_quoted_field : line_of (codes "+ admit c,\"2\",0,1,0,0") ≡ Operator (Faulty BadNumber)

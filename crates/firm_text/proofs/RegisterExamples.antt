@@ -8,7 +8,7 @@ use Rattle.firm_text.specs.declared.operator.OperatorRefusal.TheVariants.{Tenant
 use Rattle.firm_text.specs.declared.registers.Entry.{Entry}
 
 abbrev limits : TenantLimits
-limits = record { nodes = 2; arcs = 0; life = 1; spread = 0; churn = 0; remote = 0 }
+limits = record { nodes = 2; arcs = 0; life = 1; spread = 0; churn = 0; remote = 0; patience = 1000000 }
 
 -- a service that begins with the tenants a and b
 abbrev places : List Entry

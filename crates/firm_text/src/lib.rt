@@ -1,4 +1,13 @@
-//! The formats of the service: what its input lines mean, what its replies read as, and which tenants a roster admits.
+//! The formats (docs/FORMATS.md) as calls: input lines, replies, rosters and the places of their tenants, sources and
+//! sinks of bytes.
+//!
+//! Bytes are lists of numbers. A `Cutter` *stands for* each text without a line feed that agrees with it in the first
+//! 257 bytes and, up to 258, in length. A `Source` and a `Sink` know the bytes left or written, or leave them open, and
+//! whether a call has failed so far; a read of 0 bytes into a buffer with room comes only at the end, and a write takes
+//! at least one byte of a buffer that is not empty.
+//!
+//! No two places of a register have one tenant, and a refusal changes nothing. A roster's text that is too long is
+//! always `Row`. What `Source::is_ready` answers is open. Only replies and rosters take memory.
 #![tactic(auto)]
 
 mod bytes;

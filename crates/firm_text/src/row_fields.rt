@@ -1,18 +1,18 @@
 //! Cutting a row at its commas.
 
-ghost use Rattle.std.specs.Prelude.{◌≡◌, ◌≤◌, ◌∷◌, [], false, None, MatchOption, length, option_map};
-ghost use Rattle.std.specs.Option.{option_to_list};
+ghost use Rattle.std.specs.Prelude.{◌≡◌, ◌≤◌, ◌∷◌, [], false, Ok, MatchOption, length};
 ghost use Rattle.std.specs.List.{position_or_len, slice_split};
 ghost use Rattle.firm_text.specs.OperatorLines.{is_comma};
-ghost use Rattle.firm_text.specs.inner.Fields.{all_fields, are_fields};
+ghost use Rattle.firm_text.specs.Rosters.{last_fields};
+ghost use Rattle.firm_text.specs.inner.Fields.{AreFields, are_fields, behind_sixth, rest_fields, seen};
 
 use crate::records::Fields;
 
-/// The fields of a row, which stand between its commas. None where they are neither six nor seven.
+/// The fields of a row, which stand between its commas. None where they are fewer than six or more than eight.
 pub fn row_fields(row: &[u8]) -> Option<Fields<'_>>
-    ensures { MatchOption result (are_fields (slice_split is_comma row.now) ≡ false) (λ f. slice_split is_comma row.now
-        ≡ all_fields f.tenant.now f.nodes.now f.arcs.now f.life.now f.spread.now f.churn.now
-        (option_map (λ field. field.now) f.remote)) }
+    ensures { MatchOption result (are_fields (slice_split is_comma row.now) ≡ false) (λ f.
+        AreFields (slice_split is_comma row.now) f.tenant.now f.nodes.now f.arcs.now f.life.now f.spread.now
+        f.churn.now (seen f.remote) (seen f.patience)) }
 {
     let (tenant, rest) = first_field(row);
     let (nodes, rest) = first_field(rest?);
@@ -20,6 +20,7 @@ pub fn row_fields(row: &[u8]) -> Option<Fields<'_>>
     let (life, rest) = first_field(rest?);
     let (spread, rest) = first_field(rest?);
     let (churn, rest) = first_field(rest?);
+    let (remote, patience) = last_fields(rest)?;
     Some(Fields {
         tenant,
         nodes,
@@ -27,21 +28,27 @@ pub fn row_fields(row: &[u8]) -> Option<Fields<'_>>
         life,
         spread,
         churn,
-        remote: last_field(rest)?,
+        remote,
+        patience,
     })
 }
 
-// The field that the rest of a row is, where there is a rest. None where the rest has a comma.
-fn last_field(rest: Option<&[u8]>) -> Option<Option<&[u8]>>
-    ensures { MatchOption result (MatchOption rest.entry ⊥ (λ r. 2 ≤ length (slice_split is_comma r.now)))
-        (λ last. MatchOption rest.entry (last ≡ None)
-        (λ r. option_to_list (option_map (λ field. field.now) last) ≡ slice_split is_comma r.now)) }
+// The fields that the rest of a row is, where there is a rest. None where they are more than two.
+fn last_fields(rest: Option<&[u8]>) -> Option<(Option<&[u8]>, Option<&[u8]>)>
+    ensures fields { MatchOption result (3 ≤ length (rest_fields rest.entry))
+        (λ last. rest_fields rest.entry ≡ behind_sixth (seen last.0) (seen last.1)) }
+    ensures told { MatchOption result (3 ≤ length (rest_fields rest.entry))
+        (λ last. last_fields (rest_fields rest.entry) ≡ Ok (seen last.0, seen last.1)) }
 {
     let Some(rest) = rest else {
-        return Some(None);
+        return Some((None, None));
+    };
+    let (remote, rest) = first_field(rest);
+    let Some(rest) = rest else {
+        return Some((Some(remote), None));
     };
     match first_field(rest) {
-        (field, None) => Some(Some(field)),
+        (patience, None) => Some((Some(remote), Some(patience))),
         (_, Some(_)) => None,
     }
 }

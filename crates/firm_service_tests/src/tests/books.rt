@@ -61,7 +61,7 @@ fn rows(rt: &impl Abort, alloc: Global) -> Rows {
 }
 
 fn let_wait(rt: &impl Abort, rows: &mut Rows) {
-    assert!(rt; 0 < rows.task_count());
+    assert!(rt; 0 < rows.task_count() && 5 <= rows.limits().patience());
     rows.place_task(0, None, 5);
 }
 

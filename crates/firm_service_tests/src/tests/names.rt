@@ -1,5 +1,5 @@
 //! Names, limits, slots, weights, and what refusals are called.
-use super::{limits, name, slots, weight};
+use super::{limits, name, patient, slots, weight};
 use firm_rules::{Limits, LineFault, Name, Refusal, Slots, Weight};
 use std::alloc::Global;
 use std::process::Abort;
@@ -116,6 +116,25 @@ fn expect_no_limits(rt: &impl Abort, numbers: &[u64; 6]) {
 fn limits_out_of_their_ranges_are_refused(rt: HostRuntime) {
     for numbers in &NO_LIMITS {
         expect_no_limits(&rt, numbers);
+    }
+}
+
+fn expect_patience(rt: &impl Abort, patience: u64) {
+    let numbers = [9, 24, 100, 1, 2, 7];
+    let limits = patient(rt, &numbers, patience);
+    assert_eq!(rt; limits.patience(), patience);
+    assert_eq!(rt; numbers_of(&limits), numbers);
+}
+
+#[test]
+fn a_patience_is_checked_at_each_end(rt: HostRuntime) {
+    for patience in [0, 3, 1_000_000] {
+        expect_patience(&rt, patience);
+    }
+    let limits = limits(&rt, &[2, 0, 1, 0, 0, 0]);
+    assert_eq!(rt; limits.patience(), 1_000_000);
+    for patience in [1_000_001, u64::MAX] {
+        assert_eq!(rt; limits.with_patience(patience), None);
     }
 }
 

@@ -1,5 +1,5 @@
 //! Lines of the operator, and the replies to it.
-use super::{limits, name};
+use super::{limits, name, patient};
 use OperatorRefusal::{BadCommand, BadName, BadNumber, BadRow};
 use firm_text::{Line, OperatorLine, OperatorRefusal, OperatorReply, line, put_operator_reply};
 use std::alloc::{AllocError, Global};
@@ -41,6 +41,21 @@ fn admissions(rt: HostRuntime) {
     }
 }
 
+static ADMISSIONS_WITH_PATIENCE: [(&[u8], u64); 3] = [
+    (b"+ admit b,3,2,5,0,1,7,0", 0),
+    (b"+ admit b,3,2,5,0,1,7,04", 4),
+    (b"+ admit b,3,2,5,0,1,7,1000000", 1_000_000),
+];
+
+#[test]
+fn admissions_with_patience(rt: HostRuntime) {
+    for (bytes, patience) in &ADMISSIONS_WITH_PATIENCE {
+        let limits = patient(&rt, &[3, 2, 5, 0, 1, 7], *patience);
+        let asked = OperatorLine::Admit(name(&rt, b"b"), limits);
+        expect_asked(&rt, bytes, asked);
+    }
+}
+
 static RETIREMENTS: [(&[u8], &[u8]); 3] = [
     (b"+ retire b", b"b"),
     (b" +\tretire  b\t", b"b"),
@@ -54,7 +69,7 @@ fn retirements(rt: HostRuntime) {
     }
 }
 
-static REFUSED: [(&[u8], OperatorRefusal); 45] = [
+static REFUSED: [(&[u8], OperatorRefusal); 48] = [
     (b"+", BadCommand),
     (b" + \t", BadCommand),
     (b"+ \xff", BadCommand),
@@ -73,11 +88,12 @@ static REFUSED: [(&[u8], OperatorRefusal); 45] = [
     (b"+ admit ,", BadRow),
     (b"+ admit c,2,0,1,0", BadRow),
     (b"+ admit C,x,0,1,0", BadRow),
-    (b"+ admit c,2,0,1,0,0,0,0", BadRow),
-    (b"+ admit ,,,,,,,", BadRow),
+    (b"+ admit c,2,0,1,0,0,0,0,0", BadRow),
+    (b"+ admit ,,,,,,,,", BadRow),
     (b"+ admit c;2;0;1;0;0", BadRow),
     (b"+ admit ,,,,,", BadName),
     (b"+ admit ,,,,,,", BadName),
+    (b"+ admit ,,,,,,,", BadName),
     (b"+ admit C,1,0,1,0,0", BadName),
     (b"+ admit C,2,0,1,0,0", BadName),
     (b"+ admit \"c\",2,0,1,0,0", BadName),
@@ -95,8 +111,10 @@ static REFUSED: [(&[u8], OperatorRefusal); 45] = [
     (b"+ admit c,2,0,1,1001,0", BadNumber),
     (b"+ admit c,2,0,1,0,1000001", BadNumber),
     (b"+ admit c,2,0,1,0,0,1000001", BadNumber),
+    (b"+ admit c,2,0,1,0,0,0,1000001", BadNumber),
     (b"+ admit c,2,0,1,0,", BadNumber),
     (b"+ admit c,2,0,1,0,0,", BadNumber),
+    (b"+ admit c,2,0,1,0,0,0,", BadNumber),
     (b"+ admit c,+2,0,1,0,0", BadNumber),
     (b"+ admit c,\"2\",0,1,0,0", BadNumber),
     (b"+ admit c,00000000000002,0,1,0,0", BadNumber),

@@ -94,6 +94,79 @@ fn the_state_after_two_rounds(rt: HostRuntime) {
     );
 }
 
+static PATIENT: &[u8] = b"tenant,nodes,arcs,life,spread,churn,remote,patience
+alpha,9,30,100,0,2,0,2
+";
+
+/// Two equal tasks for one slot; the second waits for more rounds than the patience.
+static OF_EQUALS: &[u8] = b"\
+alpha machine m1 1
+alpha job j 1
+alpha task j a
+alpha task j b
+alpha round
+alpha round
+alpha round
+alpha round
+alpha round
+";
+
+static REPLIES_TO_EQUALS: &[u8] = b"\
+alpha 1 ok
+alpha 2 ok
+alpha 3 ok
+alpha 4 ok
+alpha 5 ok round cost 1 start a m1
+alpha 6 ok round cost 2
+alpha 7 ok round cost 3
+alpha 8 ok round cost 3
+alpha 9 ok round cost 3
+";
+
+static AFTER_EQUALS: &[u8] = b"\
+firm state 1
+place admissions 1
+tenant alpha nodes 9 arcs 30 life 100 spread 0 churn 2 remote 0 patience 2 commands 9
+costs 1 2 3 3 3
+machine m1 1
+job j 1
+task j a at m1
+task j b waits 2
+rows 7
+";
+
+fn expect_replies(
+    rt: &impl Abort,
+    alloc: Global,
+    opening: Opening<'_>,
+    lines: &[u8],
+    written: &[u8],
+) {
+    let ended = served(rt, alloc, opening, lines);
+    assert!(rt; ended.written.as_slice() == written, "{:?}", ended.written);
+}
+
+#[test]
+fn patience_lasts_through_rounds_and_states(rt: HostRuntime) {
+    let roster = admitted(&rt, rt.alloc(), PATIENT);
+    let ended = served(&rt, rt.alloc(), Opening::Roster(&roster), OF_EQUALS);
+    assert!(rt;
+        ended.written.as_slice() == REPLIES_TO_EQUALS,
+        "{:?}",
+        ended.written
+    );
+    assert!(rt; ended.state.as_slice() == AFTER_EQUALS, "{:?}", ended.state);
+    let saved = read(&rt, rt.alloc(), AFTER_EQUALS);
+    let opening = Opening::State(&saved);
+    expect_replies(
+        &rt,
+        rt.alloc(),
+        opening,
+        b"alpha round\n",
+        b"alpha 10 ok round cost 3\n",
+    );
+}
+
 /// The state of a text, which is `Memory`'s fault once at most.
 fn read_at_last(rt: &impl Abort, alloc: Global, text: &[u8]) -> Saved {
     match Saved::read(alloc, text) {

@@ -1,5 +1,5 @@
 //! Which tenants a roster admits.
-use super::{admitted, name};
+use super::{admitted, name, patient};
 use RosterFault::{BadName, BadNumber, Count, Header, Memory, Repeated, Row};
 use firm_rules::{Limits, Name};
 use firm_text::{Roster, RosterFault, roster};
@@ -50,6 +50,10 @@ fn a_roster_admits_its_tenant(rt: HostRuntime) {
     }
 }
 
+const OF_SEVEN: &str = "tenant,nodes,arcs,life,spread,churn,remote\n";
+
+const OF_EIGHT: &str = "tenant,nodes,arcs,life,spread,churn,remote,patience\n";
+
 // Under a heading of seven fields each record has seven.
 static WITH_REMOTE: &str = "tenant,nodes,arcs,life,spread,churn,remote\n\
     alpha,9,24,100,1,2,7\nbeta,8,30,100,0,3,1000000\n";
@@ -60,6 +64,20 @@ fn a_seventh_field_is_remote(rt: HostRuntime) {
     let limits = Limits::check(9, 24, 100, 1, 2, 7).expect(&rt, "limits");
     expect_tenant(&rt, &roster, 0, name(&rt, b"alpha"), limits);
     let limits = Limits::check(8, 30, 100, 0, 3, 1_000_000).expect(&rt, "limits");
+    expect_tenant(&rt, &roster, 1, name(&rt, b"beta"), limits);
+    expect_end(&rt, &roster, 2, name(&rt, b"gamma"));
+}
+
+// And under one of eight each has eight.
+static WITH_PATIENCE: &str = "tenant,nodes,arcs,life,spread,churn,remote,patience\n\
+    alpha,9,24,100,1,2,7,0\nbeta,8,30,100,0,3,0,1000000\n";
+
+#[test]
+fn an_eighth_field_is_the_patience(rt: HostRuntime) {
+    let roster = admitted(&rt, rt.alloc(), WITH_PATIENCE.as_bytes());
+    let limits = patient(&rt, &[9, 24, 100, 1, 2, 7], 0);
+    expect_tenant(&rt, &roster, 0, name(&rt, b"alpha"), limits);
+    let limits = Limits::check(8, 30, 100, 0, 3, 0).expect(&rt, "limits");
     expect_tenant(&rt, &roster, 1, name(&rt, b"beta"), limits);
     expect_end(&rt, &roster, 2, name(&rt, b"gamma"));
 }
@@ -75,17 +93,31 @@ static ROWS_OF_SEVEN: [(&str, RosterFault); 8] = [
     ("a,2,0,1,0,0,0\na,2,0,1,0,0,1\n", Repeated),
 ];
 
-fn expect_row_of_seven(rt: &impl Abort, alloc: Global, row: &str, wanted: RosterFault) {
-    let Ok(text) = format!(in alloc; "tenant,nodes,arcs,life,spread,churn,remote\n{row}") else {
+static ROWS_OF_EIGHT: [(&str, RosterFault); 8] = [
+    ("", Count),
+    ("a,2,0,1,0,0,0\n", Row),
+    ("A,1,0,1,0,0,0\n", Row),
+    ("a,2,0,1,0,0,0,0,0\n", Row),
+    ("A,2,0,1,0,0,0,1000001\n", BadName),
+    ("a,2,0,1,0,0,0,1000001\n", BadNumber),
+    ("a,2,0,1,0,0,0,\n", BadNumber),
+    ("a,2,0,1,0,0,0,0\na,2,0,1,0,0,0,1\n", Repeated),
+];
+
+fn expect_row_under(rt: &impl Abort, alloc: Global, heading: &str, row: &str, wanted: RosterFault) {
+    let Ok(text) = format!(in alloc; "{heading}{row}") else {
         panic!(rt; "no memory")
     };
     expect_fault(rt, alloc, text.as_bytes(), wanted);
 }
 
 #[test]
-fn the_first_fault_of_a_record_of_seven(rt: HostRuntime) {
+fn the_first_fault_of_a_record_of_seven_or_eight(rt: HostRuntime) {
     for (row, fault) in &ROWS_OF_SEVEN {
-        expect_row_of_seven(&rt, rt.alloc(), row, *fault);
+        expect_row_under(&rt, rt.alloc(), OF_SEVEN, row, *fault);
+    }
+    for (row, fault) in &ROWS_OF_EIGHT {
+        expect_row_under(&rt, rt.alloc(), OF_EIGHT, row, *fault);
     }
 }
 
@@ -94,7 +126,7 @@ fn expect_fault(rt: &impl Abort, alloc: Global, text: &[u8], wanted: RosterFault
     assert_eq!(rt; fault, Some(wanted), "of {text:?}");
 }
 
-static WITHOUT_HEADING: [&str; 11] = [
+static WITHOUT_HEADING: [&str; 14] = [
     "",
     "\n\n",
     "a,2,0,1,0,0\n",
@@ -102,6 +134,9 @@ static WITHOUT_HEADING: [&str; 11] = [
     "tenant,nodes,arcs,life,spread,churn,remotes\n",
     "tenant,nodes,arcs,life,spread,remote\n",
     "tenant,nodes,arcs,life,spread,churn,remote,remote\n",
+    "tenant,nodes,arcs,life,spread,churn,patience\n",
+    "tenant,nodes,arcs,life,spread,churn,patience,remote\n",
+    "tenant,nodes,arcs,life,spread,churn,remote,patience,patience\n",
     "tenant,arcs,nodes,life,spread,churn\n",
     "Tenant,nodes,arcs,life,spread,churn\n",
     "tenant, nodes,arcs,life,spread,churn\n",

@@ -1,11 +1,11 @@
 //! Rounds worked by hand.
 use super::rows::{with_job, with_machine, with_task};
-use super::{limits, name, preferring, slots, weight};
+use super::{limits, name, patient, preferring, slots, weight};
 use Changed::{Moved, Preempted, Started};
 use Choice::{On, Wait};
 use Step::{Costs, Job, Machine, Makes, NotLegal, Settle, Task};
 use firm_rules::{
-    Change, Changes, Choice, RecentCosts, Rows, changes_of, cost_of, legal, ranks_before,
+    Change, Changes, Choice, Limits, RecentCosts, Rows, changes_of, cost_of, legal, ranks_before,
 };
 use std::alloc::Global;
 use std::process::Abort;
@@ -139,7 +139,15 @@ fn take(rt: &impl Abort, alloc: Global, rows: &mut Rows, step: &Step) {
 /// Takes the steps, one after the other, with rows that have none before. The numbers are spread, churn and remote.
 fn play(rt: &impl Abort, alloc: Global, numbers: [u64; 3], steps: &[&[Step]]) {
     let [spread, churn, remote] = numbers;
-    let limits = limits(rt, &[8, 30, 100, spread, churn, remote]);
+    play_within(
+        rt,
+        alloc,
+        limits(rt, &[8, 30, 100, spread, churn, remote]),
+        steps,
+    );
+}
+
+fn play_within(rt: &impl Abort, alloc: Global, limits: Limits, steps: &[&[Step]]) {
     let mut rows = Rows::new(alloc, limits);
     for steps in steps {
         for step in *steps {
@@ -216,6 +224,53 @@ static CONTESTED: [Step; 9] = [
 #[test]
 fn a_task_that_waits_for_more_preempts(rt: HostRuntime) {
     play(&rt, rt.alloc(), [0, 3, 0], &[&CONTESTED]);
+}
+
+// A machine of one slot, and two equal tasks, of which one runs and the other is left waiting three times.
+static EQUAL: [Step; 7] = [
+    Machine(b"m1", 1),
+    Job(b"j", 1),
+    Task(b"j", b"x", &[]),
+    Task(b"j", b"y", &[]),
+    Settle(&[On(0), Wait]),
+    Settle(&[On(0), Wait]),
+    Settle(&[On(0), Wait]),
+];
+
+static NO_PREEMPTION: [Step; 1] = [Costs(&[
+    (&[On(0), Wait], 3),
+    (&[Wait, On(0)], 3),
+    (&[Wait, Wait], 6),
+])];
+
+#[test]
+fn within_the_churn_patience_keeps_equals_from_preempting(rt: HostRuntime) {
+    let limits = patient(&rt, &[8, 30, 100, 0, 2, 0], 2);
+    play_within(&rt, rt.alloc(), limits, &[&EQUAL, &NO_PREEMPTION]);
+}
+
+static PREEMPTION: [Step; 1] = [Costs(&[
+    (&[On(0), Wait], 4),
+    (&[Wait, On(0)], 3),
+    (&[Wait, Wait], 7),
+])];
+
+#[test]
+fn a_longer_patience_does_not(rt: HostRuntime) {
+    let limits = patient(&rt, &[8, 30, 100, 0, 2, 0], 3);
+    play_within(&rt, rt.alloc(), limits, &[&EQUAL, &PREEMPTION]);
+}
+
+static NO_WAIT_COUNTS: [Step; 1] = [Costs(&[
+    (&[On(0), Wait], 1),
+    (&[Wait, On(0)], 1),
+    (&[Wait, Wait], 2),
+])];
+
+#[test]
+fn without_patience_no_wait_counts(rt: HostRuntime) {
+    let limits = patient(&rt, &[8, 30, 100, 0, 0, 0], 0);
+    play_within(&rt, rt.alloc(), limits, &[&EQUAL, &NO_WAIT_COUNTS]);
 }
 
 // Two tasks run on the first of two machines.

@@ -65,7 +65,7 @@ pub fn with_restored<A: Allocator>(
     assert!(rt; rows.has_job(task.job));
     assert!(rt; !rows.has_task(task.name));
     assert!(rt; rows.has_machines(task.preferred.as_slice()));
-    assert!(rt; task.waited <= 1_000_000);
+    assert!(rt; u64::from(task.waited) <= rows.limits().patience());
     has_room(rt, rows, 1, 3 + task.preferred.as_slice().len() as u64);
     rows.restore_task(Task {
         name: task.name,

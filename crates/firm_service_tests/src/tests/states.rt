@@ -45,7 +45,7 @@ fn expect_read(rt: &impl Abort, alloc: Global, text: &str, given: usize) {
 }
 
 /// Texts of states, and how many places were given.
-static TEXTS: [(&str, usize); 4] = [
+static TEXTS: [(&str, usize); 5] = [
     ("firm state 1\nrows 0\n", 0),
     ("firm state 1\nplace admissions 32768\nrows 1\n", 1),
     (
@@ -57,6 +57,21 @@ costs
 rows 3
 ",
         1,
+    ),
+    (
+        "\
+firm state 1
+place admissions 1
+tenant a nodes 9 arcs 0 life 1 spread 0 churn 0 remote 0 patience 0 commands 0
+costs
+place admissions 1
+tenant b nodes 9 arcs 9 life 9 spread 0 churn 0 remote 0 patience 999999 commands 2
+costs
+job j 1
+task j x waits 999999
+rows 8
+",
+        2,
     ),
     (
         "\
@@ -166,7 +181,7 @@ static OF_PLACES: [Change; 25] = [
     (10, "place admissions 1\nrows 8\n", (Rows, 11)),
 ];
 
-static OF_TENANTS: [Change; 21] = [
+static OF_TENANTS: [Change; 26] = [
     (3, "", (Row, 3)),
     (3, "tenant a\n", (Row, 3)),
     (
@@ -208,6 +223,31 @@ static OF_TENANTS: [Change; 21] = [
         3,
         "tenant a nodes 8 arcs 12 life 9 spread 1 churn 2 remote 7 commands 9\n",
         (ArenaArcs, 9),
+    ),
+    (
+        3,
+        "tenant a nodes 8 arcs 20 life 9 spread 1 churn 2 remote 7 patience 1000000 commands 9\n",
+        (Row, 3),
+    ),
+    (
+        3,
+        "tenant a nodes 8 arcs 20 life 9 spread 1 churn 2 remote 7 patience 1000001 commands 9\n",
+        (BadNumber, 3),
+    ),
+    (
+        3,
+        "tenant a nodes 8 arcs 20 life 9 spread 1 churn 2 remote 7 patience commands 9\n",
+        (BadNumber, 3),
+    ),
+    (
+        3,
+        "tenant a nodes 8 arcs 20 life 9 spread 1 churn 2 remote 7 commands 9 patience 3\n",
+        (Row, 3),
+    ),
+    (
+        3,
+        "tenant a nodes 8 arcs 20 life 9 spread 1 churn 2 remote 7 patience 2 commands 9\n",
+        (BadNumber, 9),
     ),
     (4, "", (Row, 4)),
     (4, "costs 5 12\ncosts 5 12\n", (Row, 5)),

@@ -1,6 +1,5 @@
 use Rattle.std.proofs.Common.{◌≡◌, ◌≤◌, ℕ, true, List, All, IfSome, Result, Err, ap, subst, sym, ◌∙◌}
 use Rattle.firm_rules.specs.Book.{TenantRows, machine_names, task_names, with_task, with_task_placed}
-use Rattle.firm_rules.specs.Book.{most_waited}
 use Rattle.firm_rules.specs.Names.{is_among}
 use Rattle.firm_rules.specs.Sound.{HasRoom}
 use Rattle.firm_rules.specs.declared.book.Task.{Task}
@@ -52,8 +51,13 @@ place_task-requires-clause-room c =
 
 pub place_task-requires-clause-waited : goal.place_task-requires-clause-waited
 place_task-requires-clause-waited c =
-    of-task c.args.rows.now c.limits.ensures.sound c.args.place c.in-Some.task c.requires.place c.in-Some.ensures
-    (λ (t : Task). t.waited ≤ most_waited) c.limits.ensures.sound.waited
+    let rows : TenantRows = c.args.rows.now in
+    let task : Task = c.in-Some.task in
+    subst (λ (r : TenantRows). task.waited ≤ r.limits.patience)
+    (sym (c.in-Ok.ensures.ok ∙ ap (λ (r : TenantRows). with_task r task.job task.name task.preferred)
+    c.requires.before))
+    (of-task rows c.limits.ensures.sound c.args.place task c.requires.place c.in-Some.ensures
+    (λ (t : Task). t.waited ≤ rows.limits.patience) c.limits.ensures.sound.waited)
 
 pub place_task-requires-clause-running : goal.place_task-requires-clause-running
 place_task-requires-clause-running c =

@@ -1,4 +1,4 @@
-use Rattle.std.proofs.Common.{◌≡◌, ◌≤◌, true, IfSome, List, length, map, sym, ap, subst, ◌∙◌}
+use Rattle.std.proofs.Common.{◌≡◌, ◌≤◌, arith, true, IfSome, List, length, map, sym, ap, subst, ◌∙◌}
 use Rattle.std.proofs.lemmas.List.{map_push}
 use Rattle.std.proofs.lemmas.List.Elements.{All-push}
 use Rattle.std.specs.List.{All}
@@ -25,9 +25,13 @@ demand_of-requires-clause-preferred c =
 
 pub demand_of-requires-clause-waited : goal.demand_of-requires-clause-waited
 demand_of-requires-clause-waited c =
-    known (λ (task : Task). task.waited ≤ 1000000)
-    c.args.rows.now.tasks c.loop-number.number c.in-Some.task c.limits.ensures.sound.waited
-    (sym c.task_at.ensures ∙ c.in-Some.is)
+    omega (
+      arith,
+      c.limits.ensures.sound.most_patience,
+      known (λ (task : Task). task.waited ≤ c.args.rows.now.limits.patience)
+          c.args.rows.now.tasks c.loop-number.number c.in-Some.task c.limits.ensures.sound.waited
+          (sym c.task_at.ensures ∙ c.in-Some.is),
+    )
 
 pub loop-number-preserved : goal.loop-number-preserved
 loop-number-preserved c = record {

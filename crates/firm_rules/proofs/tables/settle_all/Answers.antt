@@ -13,21 +13,22 @@ loop-place-init g c = (refl, refl, refl)
 pub settle_at-running-requires-clause-there : goal.settle_at-running-requires-clause-there
 settle_at-running-requires-clause-there g c =
     let old = values c.args.tasks.now in
-    let target = round (values c.args.machines.now) old c.args.choices.now c.requires.one_each in
+    let target = round c.args.patience (values c.args.machines.now) old c.args.choices.now c.requires.one_each in
     omega (
       arith,
       c.loop-place-test.true,
       c.requires.one_each,
       ap length c.loop-place.invariant.1,
       written-length target old c.loop-place.place
-          (length-zipped (settled (values c.args.machines.now)) old c.args.choices.now c.requires.one_each),
+          (length-zipped (settled c.args.patience (values c.args.machines.now)) old c.args.choices.now
+          c.requires.one_each),
     )
 
 pub overflow_add-running : goal.overflow_add-running
 overflow_add-running g c =
     let next =
-    settled-next (values c.args.machines.now) (values c.args.tasks.now) c.args.choices.now c.requires.one_each
-    (values c.loop-place.tasks)
+    settled-next c.args.patience (values c.args.machines.now) (values c.args.tasks.now) c.args.choices.now
+    c.requires.one_each (values c.loop-place.tasks)
     (values c.settle_at-running.new.tasks) c.loop-place.place c.loop-place.running c.settle_at-running.result
     c.loop-place.invariant.1
     (omega (arith, c.loop-place-test.true, c.requires.one_each)) (c.settle_at-running.ensures.tasks no_task)
@@ -38,8 +39,8 @@ overflow_add-running g c =
 pub loop-place-preserved : goal.loop-place-preserved
 loop-place-preserved g c =
     let next =
-    settled-next (values c.args.machines.now) (values c.args.tasks.now) c.args.choices.now c.requires.one_each
-    (values c.loop-place.tasks)
+    settled-next c.args.patience (values c.args.machines.now) (values c.args.tasks.now) c.args.choices.now
+    c.requires.one_each (values c.loop-place.tasks)
     (values c.settle_at-running.new.tasks) c.loop-place.place c.loop-place.running c.settle_at-running.result
     c.loop-place.invariant.1
     (omega (arith, c.loop-place-test.true, c.requires.one_each)) (c.settle_at-running.ensures.tasks no_task)
@@ -54,15 +55,16 @@ pub returns-clause-tasks : goal.returns-clause-tasks
 returns-clause-tasks g c =
     let old = values c.args.tasks.now in
     c.loop-place.invariant.1
-    ∙ written-all (zipped (settled (values c.args.machines.now)) old c.args.choices.now) old c.loop-place.place
-    (length-zipped (settled (values c.args.machines.now)) old c.args.choices.now c.requires.one_each)
-    (omega (arith, c.loop-place-test.false, c.requires.one_each))
+    ∙ written-all (zipped (settled c.args.patience (values c.args.machines.now)) old c.args.choices.now) old
+    c.loop-place.place (length-zipped (settled c.args.patience (values c.args.machines.now)) old c.args.choices.now
+    c.requires.one_each) (omega (arith, c.loop-place-test.false, c.requires.one_each))
 
 pub returns-clause-running : goal.returns-clause-running
 returns-clause-running g c =
     let old = values c.args.tasks.now in
-    let target = zipped (settled (values c.args.machines.now)) old c.args.choices.now in
-    let long = length-zipped (settled (values c.args.machines.now)) old c.args.choices.now c.requires.one_each in
+    let target = zipped (settled c.args.patience (values c.args.machines.now)) old c.args.choices.now in
+    let long = length-zipped (settled c.args.patience (values c.args.machines.now)) old c.args.choices.now
+    c.requires.one_each in
     c.loop-place.invariant.2
     ∙ ap running_count
     (take_all c.loop-place.place target (omega (arith, long, c.loop-place-test.false, c.requires.one_each)))

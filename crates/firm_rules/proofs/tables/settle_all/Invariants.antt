@@ -10,7 +10,8 @@ abbrev pub invariant-loop-place : goal.invariant-loop-place
 invariant-loop-place g l =
     (keys l.tasks ≡ keys l.fn.tasks)
     × (values l.tasks
-    ≡ written (zipped (settled (values l.fn.machines)) (values l.fn.tasks) l.fn.choices) (values l.fn.tasks)
-    l.place)
+    ≡ written (zipped (settled l.fn.patience (values l.fn.machines)) (values l.fn.tasks) l.fn.choices)
+    (values l.fn.tasks) l.place)
     × (l.running
-    ≡ running_count (take l.place (zipped (settled (values l.fn.machines)) (values l.fn.tasks) l.fn.choices)))
+    ≡ running_count (take l.place
+    (zipped (settled l.fn.patience (values l.fn.machines)) (values l.fn.tasks) l.fn.choices)))

@@ -11,20 +11,21 @@ returns-in-On-clause-names g c = keys-with_value_at c.args.tasks.now c.args.plac
 
 pub returns-in-On-clause-tasks : goal.returns-in-On-clause-tasks
 returns-in-On-clause-tasks g c =
-    settled-written (values c.args.machines.now) c.args.tasks.now.entries c.args.place c.in-Some.task.now
-    c.run_on.new.self c.args.choice c.in-Some.ensures.value
+    settled-written c.args.patience (values c.args.machines.now) c.args.tasks.now.entries c.args.place
+    c.in-Some.task.now c.run_on.new.self c.args.choice c.in-Some.ensures.value
     (c.run_on.ensures
-    ∙ settled-on (values c.args.machines.now) c.in-On.machine c.index.result.now c.in-Some.task.now c.index.ensures
-    ∙ ap (settled (values c.args.machines.now) c.in-Some.task.now) (sym c.in-On.is))
+    ∙ settled-on c.args.patience (values c.args.machines.now) c.in-On.machine c.index.result.now c.in-Some.task.now
+    c.index.ensures
+    ∙ ap (settled c.args.patience (values c.args.machines.now) c.in-Some.task.now) (sym c.in-On.is))
 
 pub returns-in-Wait-clause-names : goal.returns-in-Wait-clause-names
 returns-in-Wait-clause-names g c = keys-with_value_at c.args.tasks.now c.args.place c.placed.result
 
 pub returns-in-Wait-clause-tasks : goal.returns-in-Wait-clause-tasks
 returns-in-Wait-clause-tasks g c =
-    settled-written (values c.args.machines.now) c.args.tasks.now.entries c.args.place c.in-Some.task.now
-    c.placed.result c.args.choice c.in-Some.ensures.value
+    settled-written c.args.patience (values c.args.machines.now) c.args.tasks.now.entries c.args.place
+    c.in-Some.task.now c.placed.result c.args.choice c.in-Some.ensures.value
     (c.placed.ensures
     ∙ ap (λ (waited : ℕ). let t : Task = record c.in-Some.task.now { machine = None; waited = waited } in t)
     c.next_wait.ensures
-    ∙ ap (settled (values c.args.machines.now) c.in-Some.task.now) (sym c.in-Wait.is))
+    ∙ ap (settled c.args.patience (values c.args.machines.now) c.in-Some.task.now) (sym c.in-Wait.is))

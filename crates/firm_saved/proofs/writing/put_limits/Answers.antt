@@ -1,18 +1,20 @@
 use Rattle.std.proofs.Common.{refl}
 use Rattle.std.specs.List.{flat_map}
 use Rattle.firm_text.specs.Replies.{spaced}
-use Rattle.firm_saved.specs.StateText.{limits_words}
+use Rattle.firm_saved.specs.StateText.{limits_words, patience_words}
 use Rattle.firm_saved.proofs.Puts.{labels_added}
 use Rattle.firm_saved.proofs.writing.put_limits.Goals as goal
 
 pub returns-clause-added : goal.returns-clause-added
 returns-clause-added c =
-    labels_added c.put_labelled-6.result c.args.output.now.items c.put_labelled.new.output.items
+    labels_added c.put_patience.result c.args.output.now.items c.put_labelled.new.output.items
     c.put_labelled-2.new.output.items c.put_labelled-3.new.output.items c.put_labelled-4.new.output.items
-    c.put_labelled-5.new.output.items c.put_labelled-6.new.output.items _ _ _ _ _ _ _ _ _ _ _ _
+    c.put_labelled-5.new.output.items c.put_labelled-6.new.output.items
+    c.put_patience.new.output.items _ _ _ _ _ _ _ _ _ _ _ _ (flat_map spaced (patience_words c.patience.result))
     (flat_map spaced (limits_words c.args.limits.now))
     c.in_ok-put_labelled.ensures.added c.in_ok-put_labelled-2.ensures.added c.in_ok-put_labelled-3.ensures.added
-    c.in_ok-put_labelled-4.ensures.added c.in_ok-put_labelled-5.ensures.added c.put_labelled-6.ensures.added
+    c.in_ok-put_labelled-4.ensures.added c.in_ok-put_labelled-5.ensures.added c.in_ok-put_labelled-6.ensures.added
+    c.put_patience.ensures.added
     (rw (
       c.nodes.ensures.value,
       c.arcs.ensures.value,
@@ -20,4 +22,5 @@ returns-clause-added c =
       c.spread.ensures.value,
       c.churn.ensures.value,
       c.remote.ensures.value,
+      c.patience.ensures.value,
     ) refl)

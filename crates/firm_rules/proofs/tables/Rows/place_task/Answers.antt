@@ -1,4 +1,4 @@
-use Rattle.std.proofs.Common.{ap, ◌∙◌, is_some}
+use Rattle.std.proofs.Common.{ap, ◌∙◌}
 use Rattle.firm_rules.proofs.SoundRows.{one_if, one_if-from_bool}
 use Rattle.firm_rules.proofs.TableLemmas.{tables-placed, ran-le}
 use Rattle.firm_rules.proofs.tables.Rows.place_task.Goals as goal

@@ -1,10 +1,6 @@
-use Rattle.std.proofs.Common.{◌^◌, ◌<◌, length, is_some, ap, ◌∙◌, arith}
-use Rattle.std.proofs.lemmas.List.Sums.{count_by-le-length}
-use Rattle.std.specs.Map.{values_of}
-use Rattle.firm_rules.specs.Book.{TenantRows}
-use Rattle.firm_rules.specs.declared.book.Task.{Task}
+use Rattle.std.proofs.Common.{length, ap, ◌∙◌}
 use Rattle.firm_rules.proofs.SoundRows.{one_if, one_if-from_bool}
-use Rattle.firm_rules.proofs.TableLemmas.{AreTablesOf, tables-with_restored}
+use Rattle.firm_rules.proofs.TableLemmas.{tables-with_restored}
 use Rattle.firm_rules.proofs.tables.Rows.restore_task.Goals as goal
 
 pub invariant_of-self-2 : goal.invariant_of-self-2

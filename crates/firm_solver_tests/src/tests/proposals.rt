@@ -1,0 +1,152 @@
+//! Rounds that are proposed, beside the network's.
+ghost use Rattle.std.specs.Prelude.{◌≡◌, ◌<◌};
+
+use super::canon::{add_job, add_machine, add_task, name, one_to, opened, remove_task};
+use super::random::Random;
+use firm_canon::first_best;
+use firm_graph::Graph;
+use firm_paths::{Prices, Scratch};
+use firm_proposals::{Allowance, Proposer, Work};
+use firm_rents::{Case, shows_first};
+use firm_rules::{Choice, Limits, Name, Preferred, legal};
+use std::alloc::Global;
+use std::process::Abort;
+
+/// What is allowed where nothing is to be given up.
+const AMPLE: Allowance = Allowance {
+    searches: 1_000_000,
+    looks: 1_000_000,
+};
+
+/// How many machines and tasks a book has at most.
+const MOST_MACHINES: u32 = 8;
+
+const MOST_TASKS: u32 = 24;
+
+// A name of two digits.
+fn numbered(rt: &impl Abort, number: u32) -> Name {
+    let tens = b'0' + (number / 10 % 10) as u8;
+    let ones = b'0' + (number % 10) as u8;
+    name(rt, &[tens, ones])
+}
+
+fn random_limits(rt: &impl Abort, random: &mut Random) -> Limits {
+    let spread = u64::from(random.below(4));
+    let churn = u64::from(random.below(3));
+    let remote = u64::from(random.below(4));
+    Limits::check(80, 400, 1_000, spread, churn, remote).expect(rt, "limits")
+}
+
+fn random_preferred(rt: &impl Abort, graph: &Graph, random: &mut Random) -> Preferred {
+    let mut preferred = Preferred::new();
+    for _ in 0..random.below(5) {
+        let machine = numbered(rt, random.below(MOST_MACHINES));
+        if graph.rows().has_machine(machine) && preferred.len() < 4 {
+            preferred.add(machine);
+        }
+    }
+    preferred
+}
+
+// Adds machines and tasks that are not there, after some of those that are have gone.
+fn change(rt: &impl Abort, alloc: Global, graph: &mut Graph, random: &mut Random) {
+    for _ in 0..random.below(6) {
+        remove_task(graph, numbered(rt, random.below(MOST_TASKS)));
+    }
+    let machine = numbered(rt, random.below(MOST_MACHINES));
+    if graph.rows().has_machine(machine) {
+        graph.drop_machine(machine);
+    }
+    for _ in 0..random.below(MOST_MACHINES) {
+        let machine = numbered(rt, random.below(MOST_MACHINES));
+        add_machine(rt, alloc, graph, machine, one_to(4, random));
+    }
+    for _ in 0..random.below(MOST_TASKS) {
+        let job = numbered(rt, random.below(3));
+        add_job(rt, graph, job, one_to(9, random));
+        let preferred = random_preferred(rt, graph, random);
+        let task = numbered(rt, random.below(MOST_TASKS));
+        add_task(rt, graph, job, task, preferred);
+    }
+}
+
+// The round by the network.
+fn by_network(rt: &impl Abort, alloc: Global, graph: &mut Graph) -> Vec<Choice> {
+    let mut prices = Prices::new(alloc, graph.net()).expect(rt, "memory");
+    let mut scratch = Scratch::new(alloc, graph.net()).expect(rt, "memory");
+    first_best(alloc, graph, &mut prices, &mut scratch).expect(rt, "memory")
+}
+
+// Whether a round is proposed that is shown to be the first; what is not shown is not accepted.
+fn is_proposed(proposer: &mut Proposer, case: &Case, most: Allowance) -> bool {
+    let mut work = Work::new(most);
+    let is_found = proposer.propose(case, None, &mut work);
+    is_found && shows_first(case, proposer.rents(), proposer.placement())
+}
+
+fn expect_proposed(rt: &impl Abort, proposer: &mut Proposer, case: &Case, wanted: &[Choice]) {
+    assert!(rt; is_proposed(proposer, case, AMPLE));
+    assert!(rt; proposer.placement() == wanted);
+    let mut work = Work::new(AMPLE);
+    let price = Some(proposer.hub_price());
+    assert!(rt; proposer.propose(case, price, &mut work));
+    assert!(rt; shows_first(case, proposer.rents(), proposer.placement()));
+    assert!(rt; proposer.placement() == wanted);
+}
+
+// A proposal that may not do all its work is the round's or none.
+fn expect_cut_off(
+    rt: &impl Abort,
+    proposer: &mut Proposer,
+    case: &Case,
+    looks: u64,
+    wanted: &[Choice],
+) -> bool {
+    let most = Allowance {
+        searches: 1_000,
+        looks,
+    };
+    let mut work = Work::new(most);
+    let is_found = proposer.propose(case, None, &mut work);
+    assert!(rt; work.looks() <= looks && work.searches() <= 1_000);
+    if is_found {
+        assert!(rt; shows_first(case, proposer.rents(), proposer.placement()));
+        assert!(rt; proposer.placement() == wanted);
+    }
+    !is_found
+}
+
+// One round of a book, which becomes its own. Says whether a proposal was cut off.
+fn compare(
+    rt: &impl Abort,
+    alloc: Global,
+    graph: &mut Graph,
+    proposer: &mut Proposer,
+    looks: u64,
+) -> bool {
+    let case = Case::of(alloc, graph.rows()).expect(rt, "memory");
+    let wanted = by_network(rt, alloc, graph);
+    let is_cut_off = expect_cut_off(rt, proposer, &case, looks, &wanted);
+    expect_proposed(rt, proposer, &case, &wanted);
+    assert!(rt; legal(graph.rows(), &wanted));
+    graph.settle(&wanted);
+    is_cut_off
+}
+
+#[test]
+fn proposals_are_the_rounds_of_the_network(rt: HostRuntime) {
+    let mut random = Random::new(2_026);
+    let mut cut_off = 0_u64;
+    for _ in 0..60 {
+        let limits = random_limits(&rt, &mut random);
+        let mut proposer = Proposer::new(rt.alloc(), limits).expect(&rt, "memory");
+        let mut graph = opened(&rt, rt.alloc(), limits);
+        for _ in 0..4 {
+            change(&rt, rt.alloc(), &mut graph, &mut random);
+            let looks = u64::from(random.below(200));
+            let is_cut_off = compare(&rt, rt.alloc(), &mut graph, &mut proposer, looks);
+            cut_off = cut_off.saturating_add(u64::from(is_cut_off));
+        }
+    }
+    assert!(rt; cut_off > 20, "{cut_off} cut off");
+}
