@@ -1,0 +1,108 @@
+//! The classes of places by which prices differ behind their amounts.
+
+use crate::numbers::{Numbers, Stack};
+use crate::table::Table;
+use firm_rents::{Class, LevelRents};
+use std::alloc::{AllocError, Global};
+
+/// The number of the first class at each time, and of a class that is cheaper or dearer than its parent at its own.
+const PAR: u32 = 1;
+
+const CHEAPER: u32 = 0;
+
+const DEARER: u32 = 2;
+
+/// A tree of classes, and the class of each place. A class is parted from its parent where a search finds no way into
+/// it or out of it.
+#[derive(Drop)]
+pub(crate) struct Classes {
+    of: Numbers,
+    parents: Stack,
+    times: Stack,
+    numbers: Stack,
+}
+
+impl Classes {
+    /// Room for this many tasks and machines together.
+    pub(crate) fn new(alloc: Global, nodes: usize) -> Result<Classes, AllocError> {
+        let most = most_classes(nodes);
+        let of = Numbers::new(alloc, nodes)?;
+        let parents = Stack::new(alloc, most)?;
+        let times = Stack::new(alloc, most)?;
+        let numbers = Stack::new(alloc, most)?;
+        Ok(Classes {
+            of,
+            parents,
+            times,
+            numbers,
+        })
+    }
+
+    /// All places are of one class.
+    pub(crate) fn clear(&mut self, table: &Table) {
+        self.of.reset(table.places(), 0);
+        self.parents.clear();
+        self.times.clear();
+        self.numbers.clear();
+        self.add(0, 0, PAR);
+    }
+
+    #[inline(always)]
+    pub(crate) fn of(&self, place: u32) -> u32 {
+        self.of.at(place)
+    }
+
+    #[inline(always)]
+    pub(crate) fn are_one(&self, place: u32, other: u32) -> bool {
+        self.of.at(place) == self.of.at(other)
+    }
+
+    /// Parts these places, of one class, from it at this time, from which on they are dearer or cheaper.
+    pub(crate) fn part(&mut self, places: &Stack, time: u32, is_dearer: bool) {
+        let class = self.parents.count();
+        let parent = self.of.at(places.at(0));
+        self.add(parent, time, if is_dearer { DEARER } else { CHEAPER });
+        for at in 0..places.count() {
+            self.of.set(places.at(at), class);
+        }
+    }
+
+    /// Parts a place that nothing leaves any more from its class.
+    pub(crate) fn part_one(&mut self, place: u32, time: u32) {
+        let class = self.parents.count();
+        let parent = self.of.at(place);
+        self.add(parent, time, DEARER);
+        self.of.set(place, class);
+    }
+
+    fn add(&mut self, parent: u32, time: u32, number: u32) {
+        self.parents.push(parent);
+        self.times.push(time);
+        self.numbers.push(number);
+    }
+
+    /// Writes the classes, and the class of each machine and of the outside. Fails only if memory is refused, of
+    /// which none is needed where the rents have had room for so many before.
+    pub(crate) fn write(&self, table: &Table, rents: &mut LevelRents) -> Result<(), AllocError> {
+        rents.places.clear();
+        for place in 0..table.machines() {
+            rents.places.push(self.of.at(place))?;
+        }
+        rents.places.push(self.of.at(table.outside()))?;
+        rents.classes.clear();
+        for class in 0..self.parents.count() {
+            rents.classes.push(Class {
+                parent: self.parents.at(class),
+                time: self.times.at(class),
+                number: self.numbers.at(class),
+            })?;
+        }
+        Ok(())
+    }
+}
+
+/// How many classes there are at most for so many places: each parting leaves two classes for one, and each machine
+/// is parted by itself once.
+pub(crate) fn most_classes(nodes: usize) -> usize {
+    nodes.saturating_mul(2)
+}

@@ -1,0 +1,261 @@
+//! A placement while it is made: the way that each task takes, what stands on each machine, and the places' prices.
+
+use crate::numbers::{NONE, Numbers};
+use crate::table::{Span, Table, Way};
+use std::alloc::{AllocError, Global};
+
+/// A price that no task pays: that of a full machine until a task on it had rather go.
+pub(crate) const FULL: u32 = 1 << 30;
+
+/// What moves by a step of a path where no task does: a unit between a machine and the hub or the outside.
+pub(crate) const UNIT: u32 = NONE - 1;
+
+/// A step of a path: by a task's way, or `UNIT`.
+#[derive(Clone, Copy)]
+pub(crate) struct Step {
+    pub(crate) from: u32,
+    pub(crate) to: u32,
+    pub(crate) by: u32,
+}
+
+/// A way of a task, and what it costs with the price of its place.
+#[derive(Clone, Copy)]
+pub(crate) struct Offer {
+    pub(crate) way: u32,
+    pub(crate) paid: u32,
+}
+
+/// The way of each task, and the places' prices and loads.
+#[derive(Drop)]
+pub(crate) struct Draft {
+    // The way that each task takes, `NONE` while it is left out.
+    taken: Numbers,
+    prices: Numbers,
+    // How many tasks stand on each machine, those that come over the hub among them.
+    loads: Numbers,
+    // How many of them come over the hub.
+    through: Numbers,
+    // How many of those may no longer go back to the hub.
+    held: Numbers,
+    // The tasks at each place that may move, as a list in both directions.
+    first: Numbers,
+    next: Numbers,
+    before: Numbers,
+}
+
+impl Draft {
+    /// A draft for this many tasks and machines together.
+    pub(crate) fn new(alloc: Global, nodes: usize) -> Result<Draft, AllocError> {
+        let taken = Numbers::new(alloc, nodes)?;
+        let prices = Numbers::new(alloc, nodes)?;
+        let loads = Numbers::new(alloc, nodes)?;
+        let through = Numbers::new(alloc, nodes)?;
+        let held = Numbers::new(alloc, nodes)?;
+        let first = Numbers::new(alloc, nodes)?;
+        let next = Numbers::new(alloc, nodes)?;
+        let before = Numbers::new(alloc, nodes)?;
+        Ok(Draft {
+            taken,
+            prices,
+            loads,
+            through,
+            held,
+            first,
+            next,
+            before,
+        })
+    }
+
+    #[inline(always)]
+    pub(crate) fn taken(&self, task: u32) -> u32 {
+        self.taken.at(task)
+    }
+
+    #[inline(always)]
+    pub(crate) fn take(&mut self, task: u32, way: u32) {
+        self.taken.set(task, way);
+    }
+
+    #[inline(always)]
+    pub(crate) fn price(&self, place: u32) -> u32 {
+        self.prices.at(place)
+    }
+
+    #[inline(always)]
+    pub(crate) fn set_price(&mut self, place: u32, price: u32) {
+        self.prices.set(place, price);
+    }
+
+    #[inline(always)]
+    pub(crate) fn load(&self, machine: u32) -> u32 {
+        self.loads.at(machine)
+    }
+
+    pub(crate) fn set_load(&mut self, machine: u32, load: u32) {
+        self.loads.set(machine, load);
+    }
+
+    pub(crate) fn add_load(&mut self, machine: u32) {
+        self.loads.add(machine, 1);
+    }
+
+    pub(crate) fn drop_load(&mut self, machine: u32) {
+        self.loads.subtract(machine, 1);
+    }
+
+    #[inline(always)]
+    pub(crate) fn through(&self, machine: u32) -> u32 {
+        self.through.at(machine)
+    }
+
+    /// Has this many more tasks come to a machine over the hub.
+    pub(crate) fn bring(&mut self, machine: u32, units: u32) {
+        self.through.add(machine, units);
+        self.loads.add(machine, units);
+    }
+
+    /// Whether a unit on the machine may go back to the hub.
+    #[inline(always)]
+    pub(crate) fn is_loose(&self, machine: u32) -> bool {
+        self.through.at(machine) > self.held.at(machine)
+    }
+
+    /// Holds a unit that came over the hub, and gives how many are held.
+    pub(crate) fn hold(&mut self, machine: u32) -> u32 {
+        self.held.add(machine, 1);
+        self.held.at(machine)
+    }
+
+    #[inline(always)]
+    pub(crate) fn paid(&self, way: Way) -> u32 {
+        way.cost.saturating_add(self.prices.at(way.place))
+    }
+
+    /// What the task pays for the way that it takes.
+    #[inline(always)]
+    pub(crate) fn paid_by(&self, table: &Table, task: u32) -> u32 {
+        self.paid(table.way(self.taken.at(task)))
+    }
+
+    /// Where the task is, `NONE` while it is left out.
+    #[inline(always)]
+    pub(crate) fn place_of(&self, table: &Table, task: u32) -> u32 {
+        table.way(self.taken.at(task)).place
+    }
+
+    /// The cheapest of some ways, the first if several are, but for one of them.
+    #[inline(always)]
+    pub(crate) fn cheapest(&self, table: &Table, ways: Span, but: u32) -> Offer {
+        let mut best = Offer {
+            way: NONE,
+            paid: NONE,
+        };
+        for way in ways.from..ways.to {
+            let paid = self.paid(table.way(way));
+            if paid < best.paid && way != but {
+                best = Offer { way, paid };
+            }
+        }
+        best
+    }
+
+    /// What one more task on the machine costs as a load.
+    #[inline(always)]
+    pub(crate) fn next_slot_cost(&self, table: &Table, machine: u32) -> u32 {
+        self.loads.at(machine).saturating_mul(table.spread())
+    }
+
+    /// What the last task on the machine costs as a load.
+    #[inline(always)]
+    pub(crate) fn last_slot_cost(&self, table: &Table, machine: u32) -> u32 {
+        let others = self.loads.at(machine).saturating_sub(1);
+        others.saturating_mul(table.spread())
+    }
+
+    /// Whether a task more would be worth its slot at the machine's price.
+    #[inline(always)]
+    pub(crate) fn has_room(&self, table: &Table, machine: u32) -> bool {
+        self.loads.at(machine) < table.slots(machine)
+            && self.next_slot_cost(table, machine) <= self.prices.at(machine)
+    }
+
+    /// Whether the machine's last task is worth no more than its slot.
+    #[inline(always)]
+    pub(crate) fn may_leave(&self, table: &Table, machine: u32) -> bool {
+        self.loads.at(machine) > 0 && self.last_slot_cost(table, machine) >= self.prices.at(machine)
+    }
+
+    /// Leaves out each task, and empties each machine.
+    pub(crate) fn clear(&mut self, table: &Table) {
+        self.taken.reset(table.tasks(), NONE);
+        self.loads.reset(table.machines(), 0);
+        self.through.reset(table.machines(), 0);
+        self.held.reset(table.machines(), 0);
+        self.prices.set(table.outside(), 0);
+    }
+
+    /// Takes all tasks off the lists.
+    pub(crate) fn clear_lists(&mut self, table: &Table) {
+        self.first.reset(table.places(), NONE);
+    }
+
+    /// The first task on the list of a place, `NONE` if there is none.
+    #[inline(always)]
+    pub(crate) fn first(&self, place: u32) -> u32 {
+        self.first.at(place)
+    }
+
+    /// The task behind this one on the list of its place, `NONE` if there is none.
+    #[inline(always)]
+    pub(crate) fn next(&self, task: u32) -> u32 {
+        self.next.at(task)
+    }
+
+    /// Puts the task on the list of its place.
+    pub(crate) fn enter(&mut self, table: &Table, task: u32) {
+        let place = self.place_of(table, task);
+        let next = self.first.at(place);
+        self.next.set(task, next);
+        self.before.set(task, NONE);
+        self.before.set(next, task);
+        self.first.set(place, task);
+    }
+
+    /// Takes the task off the list of its place.
+    pub(crate) fn leave(&mut self, table: &Table, task: u32) {
+        let place = self.place_of(table, task);
+        let next = self.next.at(task);
+        let before = self.before.at(task);
+        if before == NONE {
+            self.first.set(place, next);
+        } else {
+            self.next.set(before, next);
+        }
+        self.before.set(next, before);
+    }
+
+    /// Has a task that is on a list go another way.
+    pub(crate) fn turn(&mut self, table: &Table, way: u32) {
+        let task = table.way(way).task;
+        if self.taken.at(task) != NONE {
+            self.leave(table, task);
+        }
+        self.taken.set(task, way);
+        self.enter(table, task);
+    }
+
+    /// Makes a step of a path.
+    pub(crate) fn make(&mut self, table: &Table, step: Step) {
+        if step.by != UNIT {
+            self.turn(table, step.by);
+        } else if step.to == table.outside() {
+            self.loads.add(step.from, 1);
+        } else if step.from == table.outside() {
+            self.loads.subtract(step.to, 1);
+        } else if step.to == table.hub() {
+            self.through.subtract(step.from, 1);
+        } else {
+            self.through.add(step.to, 1);
+        }
+    }
+}

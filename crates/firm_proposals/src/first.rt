@@ -1,0 +1,357 @@
+//! The first of the least placements: for each task in order the choice that ranks first among those that others
+//! leave it. A search that fails parts the places by a class, which shows later why the choice was not made.
+ghost use Rattle.std.specs.Prelude.{◌≡◌};
+
+use crate::classes::Classes;
+use crate::draft::{Draft, Step, UNIT};
+use crate::links::Links;
+use crate::numbers::{NONE, Numbers};
+use crate::sides::{Found, Side, View};
+use crate::table::{Span, Table};
+use crate::work::Work;
+use std::alloc::{AllocError, Global};
+
+/// A place from which a unit is to go to another one, and the time of the choice for which it is.
+#[derive(Clone, Copy)]
+struct Wish {
+    from: u32,
+    to: u32,
+    time: u32,
+}
+
+/// A way of a task or a machine that is tried for it, and the time of the choice.
+#[derive(Clone, Copy)]
+struct Trial {
+    at: u32,
+    time: u32,
+}
+
+/// Whether a task is at the hub.
+#[derive(Clone, Copy, PartialEq, Eq)]
+enum AtHub {
+    Unasked,
+    Yes,
+    No,
+}
+
+/// What making a least placement the first needs beside the draft.
+#[derive(Drop)]
+pub(crate) struct First {
+    links: Links,
+    classes: Classes,
+    ahead: Side,
+    behind: Side,
+    // The place that each task goes to.
+    chosen: Numbers,
+    search: u32,
+    // The first task that may still move.
+    now: u32,
+    // The first machine to which a unit at the hub may yet go.
+    alive: u32,
+}
+
+impl First {
+    pub(crate) fn new(alloc: Global, nodes: usize, ways: usize) -> Result<First, AllocError> {
+        let links = Links::new(alloc, nodes, ways)?;
+        let classes = Classes::new(alloc, nodes)?;
+        let ahead = Side::new(alloc, nodes, true)?;
+        let behind = Side::new(alloc, nodes, false)?;
+        let chosen = Numbers::new(alloc, nodes)?;
+        Ok(First {
+            links,
+            classes,
+            ahead,
+            behind,
+            chosen,
+            search: 0,
+            now: 0,
+            alive: 0,
+        })
+    }
+
+    /// The machine or the outside that was chosen for a task.
+    pub(crate) fn chosen(&self, task: u32) -> u32 {
+        self.chosen.at(task)
+    }
+
+    pub(crate) fn classes(&self) -> &Classes {
+        &self.classes
+    }
+
+    /// Makes the least placement of the draft the first one, and says whether it was able to.
+    pub(crate) fn choose(&mut self, table: &Table, draft: &mut Draft, work: &mut Work) -> bool
+        ensures most { work.new.most ≡ work.old.most }
+    {
+        self.links.read(table, draft);
+        self.classes.clear(table);
+        self.ahead.clear(table);
+        self.behind.clear(table);
+        self.search = 0;
+        self.alive = 0;
+        for task in 0..table.tasks() {
+            if !work.look() {
+                return false;
+            }
+            self.now = task;
+            let place = self.place_for(table, draft, task, work);
+            if place == NONE || work.is_short() {
+                return false;
+            }
+            self.chosen.set(task, place);
+            if self.links.may_move(task) {
+                draft.leave(table, task);
+            }
+        }
+        true
+    }
+
+    // The first place that the task can have; `NONE` if none was found.
+    fn place_for(&mut self, table: &Table, draft: &mut Draft, task: u32, work: &mut Work) -> u32
+        ensures most { work.new.most ≡ work.old.most }
+    {
+        let (own, wait) = (table.own_way(task), table.wait_way(task));
+        let begun = time_of(table, task);
+        if draft.taken(task) == wait && !self.links.may_move(task) {
+            return table.outside();
+        }
+        if own != NONE
+            && self.turn_to(
+                table,
+                draft,
+                Trial {
+                    at: own,
+                    time: begun,
+                },
+                work,
+            )
+        {
+            return table.home(task);
+        }
+        let machine = self.machine_for(table, draft, task, work);
+        if machine != NONE {
+            if draft.taken(task) == table.hub_way(task) {
+                self.hold(table, draft, machine, begun);
+            }
+            return machine;
+        }
+        if draft.taken(task) == wait {
+            table.outside()
+        } else {
+            NONE
+        }
+    }
+
+    // The first machine, but for its own, that the task can have; `NONE` if there is none.
+    fn machine_for(&mut self, table: &Table, draft: &mut Draft, task: u32, work: &mut Work) -> u32
+        ensures most { work.new.most ≡ work.old.most }
+    {
+        let preferred = table.preferred_ways(task);
+        let mut next = preferred.from;
+        let mut machine = self.first_alive(table, draft);
+        let mut at_hub = self.at_hub(table, draft, task);
+        let begun = time_of(table, task).saturating_add(1);
+        for _ in 0..table.way_count().saturating_add(table.machines()) {
+            next = self.next_tight(next, preferred);
+            let wanted = table.way(next).place;
+            if next < preferred.to && (wanted <= machine || at_hub == AtHub::No) {
+                let time = begun.saturating_add(wanted);
+                if self.turn_to(table, draft, Trial { at: next, time }, work) {
+                    return wanted;
+                }
+                next = next.saturating_add(1);
+            } else if machine >= table.machines() || at_hub == AtHub::No {
+                return NONE;
+            } else if table.is_near(task, machine) || !self.is_alive(table, draft, machine) {
+                machine = machine.saturating_add(1);
+            } else if at_hub == AtHub::Unasked {
+                let at = table.hub_way(task);
+                let time = begun.saturating_add(machine);
+                at_hub = AtHub::of(self.turn_to(table, draft, Trial { at, time }, work));
+            } else {
+                let time = begun.saturating_add(machine);
+                if self.send_through(table, draft, Trial { at: machine, time }, work) {
+                    return machine;
+                }
+                machine = machine.saturating_add(1);
+            }
+        }
+        NONE
+    }
+
+    // The first of some ways from this one on that costs no more; their end if there is none.
+    fn next_tight(&self, from: u32, ways: Span) -> u32 {
+        for way in from..ways.to {
+            if self.links.is_tight(way) {
+                return way;
+            }
+        }
+        ways.to
+    }
+
+    fn at_hub(&self, table: &Table, draft: &Draft, task: u32) -> AtHub {
+        let way = table.hub_way(task);
+        if draft.taken(task) == way {
+            AtHub::Yes
+        } else if self.links.is_tight(way) {
+            AtHub::Unasked
+        } else {
+            AtHub::No
+        }
+    }
+
+    // The first machine to which a unit at the hub may yet go. Once one may not it never will.
+    fn first_alive(&mut self, table: &Table, draft: &Draft) -> u32 {
+        for machine in self.alive..table.machines() {
+            if self.is_alive(table, draft, machine) {
+                break;
+            }
+            self.alive = machine.saturating_add(1);
+        }
+        self.alive
+    }
+
+    fn is_alive(&self, table: &Table, draft: &Draft, machine: u32) -> bool {
+        let hub = table.hub();
+        draft.is_loose(machine)
+            || draft.price(machine) == draft.price(hub) && self.classes.are_one(machine, hub)
+    }
+
+    // Tries to have a task go a way, for a choice of this time.
+    fn turn_to(&mut self, table: &Table, draft: &mut Draft, trial: Trial, work: &mut Work) -> bool
+        ensures most { work.new.most ≡ work.old.most }
+    {
+        let Trial { at, time } = trial;
+        let way = table.way(at);
+        if draft.taken(way.task) == at {
+            return true;
+        }
+        if !self.links.is_tight(at) {
+            return false;
+        }
+        let to = draft.place_of(table, way.task);
+        let from = way.place;
+        if !self.send(table, draft, Wish { from, to, time }, work) {
+            return false;
+        }
+        draft.turn(table, at);
+        true
+    }
+
+    // Tries to have a unit at the hub go to a machine, for a choice of this time.
+    fn send_through(
+        &mut self,
+        table: &Table,
+        draft: &mut Draft,
+        trial: Trial,
+        work: &mut Work,
+    ) -> bool
+        ensures most { work.new.most ≡ work.old.most }
+    {
+        let machine = trial.at;
+        if draft.is_loose(machine) {
+            return true;
+        }
+        let hub = table.hub();
+        if draft.price(machine) != draft.price(hub) {
+            return false;
+        }
+        let wish = Wish {
+            from: machine,
+            to: hub,
+            time: trial.time,
+        };
+        if !self.send(table, draft, wish, work) {
+            return false;
+        }
+        draft.make(
+            table,
+            Step {
+                from: hub,
+                to: machine,
+                by: UNIT,
+            },
+        );
+        true
+    }
+
+    // Holds a unit on a machine. Where only held ones are left there and no slot, nothing leaves it any more: it is
+    // dearer from the time on at which the task could wait, after all machines that it could have.
+    fn hold(&mut self, table: &Table, draft: &mut Draft, machine: u32, begun: u32) {
+        if draft.hold(machine) == table.slots(machine) {
+            let time = begun.saturating_add(table.outside());
+            self.classes.part_one(machine, time);
+        }
+    }
+
+    // Sends a unit from a place to another over links; where there is no path their class is parted.
+    fn send(&mut self, table: &Table, draft: &mut Draft, wish: Wish, work: &mut Work) -> bool
+        ensures most { work.new.most ≡ work.old.most }
+    {
+        if !self.classes.are_one(wish.from, wish.to) {
+            return false;
+        }
+        self.search = self.search.saturating_add(1);
+        if !work.begin_search() {
+            return false;
+        }
+        let met = self.meet(table, draft, wish, work);
+        if met == NONE {
+            return false;
+        }
+        self.ahead.make(table, draft, met);
+        self.behind.make(table, draft, met);
+        true
+    }
+
+    // Looks from both ends in turn. Gives the place where they meet; `NONE` if they don't.
+    fn meet(&mut self, table: &Table, draft: &Draft, wish: Wish, work: &mut Work) -> u32
+        ensures most { work.new.most ≡ work.old.most }
+    {
+        let view = View {
+            table,
+            draft,
+            links: &self.links,
+            classes: &self.classes,
+            search: self.search,
+            now: self.now,
+        };
+        self.ahead.begin(view, wish.from);
+        self.behind.begin(view, wish.to);
+        for _ in 0..work.left() {
+            if !work.look() {
+                return NONE;
+            }
+            match self.ahead.look(view, &self.behind) {
+                Found::On => {}
+                Found::Met(place) => return place,
+                Found::Closed => {
+                    self.classes.part(self.ahead.seen(), wish.time, true);
+                    return NONE;
+                }
+            }
+            if !work.look() {
+                return NONE;
+            }
+            match self.behind.look(view, &self.ahead) {
+                Found::On => {}
+                Found::Met(place) => return place,
+                Found::Closed => {
+                    self.classes.part(self.behind.seen(), wish.time, false);
+                    return NONE;
+                }
+            }
+        }
+        NONE
+    }
+}
+
+impl AtHub {
+    fn of(is_there: bool) -> AtHub {
+        if is_there { AtHub::Yes } else { AtHub::No }
+    }
+}
+
+// The time of the task's first choice.
+fn time_of(table: &Table, task: u32) -> u32 {
+    task.saturating_mul(table.places())
+}

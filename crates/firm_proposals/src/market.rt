@@ -1,0 +1,291 @@
+//! What the tasks do at a price of the hub: prices of machines fall from it until no task on them had rather go.
+ghost use Rattle.std.specs.Prelude.{◌≡◌};
+
+use crate::draft::{Draft, FULL};
+use crate::numbers::{NONE, Stack};
+use crate::table::{Span, Table};
+use crate::work::Work;
+use std::alloc::{AllocError, Global};
+
+/// How often prices fall at most; then the tasks that prefer machines are left out.
+const MOST_PASSES: u32 = 64;
+
+/// The most machines that a task prefers.
+const MOST_PREFERRED: u32 = 4;
+
+/// How the tasks at the hub suit the slots at its price.
+#[derive(Clone, Copy)]
+pub(crate) struct Market {
+    pub(crate) price: u32,
+    /// Slots that cost less than the price.
+    pub(crate) needs: u32,
+    /// Slots that cost just the price.
+    pub(crate) spares: u32,
+    /// Tasks that had rather come than wait.
+    pub(crate) sure: u32,
+    /// Tasks that as well wait as come.
+    pub(crate) ties: u32,
+    /// Tasks on their own machines, at the hub's price, that had as well wait.
+    pub(crate) movable: u32,
+}
+
+impl Market {
+    /// How many slots are too many at this price: those that cost less and are not wanted.
+    pub(crate) fn lacks(&self) -> u32 {
+        self.needs
+            .saturating_sub(self.sure.saturating_add(self.ties))
+    }
+
+    /// How many tasks are too many at this price: those that find no slot.
+    pub(crate) fn rest(&self) -> u32 {
+        let room = self.needs.saturating_add(self.spares);
+        self.sure.saturating_sub(room.saturating_add(self.movable))
+    }
+
+    /// How far the price is from right.
+    pub(crate) fn gap(&self) -> u32 {
+        self.lacks().max(self.rest())
+    }
+}
+
+/// The tasks that may yet move where prices fall.
+#[derive(Drop)]
+pub(crate) struct Traders {
+    // Tasks that wait, and tasks that prefer machines.
+    waiting: Stack,
+    near: Stack,
+}
+
+impl Traders {
+    pub(crate) fn new(alloc: Global, nodes: usize) -> Result<Traders, AllocError> {
+        let waiting = Stack::new(alloc, nodes)?;
+        let near = Stack::new(alloc, nodes)?;
+        Ok(Traders { waiting, near })
+    }
+
+    pub(crate) fn read(&mut self, table: &Table) {
+        self.waiting.clear();
+        self.near.clear();
+        for task in 0..table.tasks() {
+            let preferred = table.preferred_ways(task);
+            if preferred.from < preferred.to {
+                self.near.push(task);
+                if table.home(task) == NONE {
+                    self.waiting.push(task);
+                }
+            }
+        }
+    }
+
+    /// What the tasks do where the hub has this price.
+    pub(crate) fn trade(
+        &self,
+        table: &Table,
+        draft: &mut Draft,
+        price: u32,
+        work: &mut Work,
+    ) -> Market
+        ensures most { work.new.most ≡ work.old.most }
+    {
+        begin(table, draft, price);
+        for count in 1..=MOST_PREFERRED {
+            for at in 0..self.waiting.count() {
+                prefer(table, draft, self.waiting.at(at), count);
+            }
+        }
+        self.fall(table, draft, work);
+        let mut market = Market {
+            price,
+            needs: 0,
+            spares: 0,
+            sure: 0,
+            ties: 0,
+            movable: 0,
+        };
+        for task in 0..table.tasks() {
+            if !work.look() {
+                break;
+            }
+            settle(table, draft, task, &mut market);
+        }
+        let slots = count_slots(table, draft, price);
+        market.needs = slots.from;
+        market.spares = slots.to;
+        market
+    }
+
+    // Has prices fall until no task on a machine had rather go.
+    fn fall(&self, table: &Table, draft: &mut Draft, work: &mut Work)
+        ensures most { work.new.most ≡ work.old.most }
+    {
+        let mut falls = false;
+        for task in 0..table.tasks() {
+            if !work.look() {
+                return;
+            }
+            falls = yields(table, draft, task) || falls;
+        }
+        for _ in 0..MOST_PASSES {
+            if !falls {
+                return;
+            }
+            // A task that prefers no machine is content after one pass.
+            falls = false;
+            for at in 0..self.near.count() {
+                if !work.look() {
+                    return;
+                }
+                falls = yields(table, draft, self.near.at(at)) || falls;
+            }
+        }
+        if falls {
+            forget(table, draft);
+        }
+    }
+}
+
+// Each task that runs stays, and all others are left out.
+fn begin(table: &Table, draft: &mut Draft, price: u32) {
+    draft.clear(table);
+    draft.set_price(table.hub(), price);
+    for task in 0..table.tasks() {
+        let home = table.home(task);
+        if home != NONE {
+            draft.take(task, table.own_way(task));
+            draft.add_load(home);
+        }
+    }
+    for machine in 0..table.machines() {
+        let top = top_price(table, draft, machine);
+        draft.set_price(machine, top);
+    }
+}
+
+// The highest price of a machine at which no slot of it is left that a unit from the hub would be worth.
+fn top_price(table: &Table, draft: &Draft, machine: u32) -> u32 {
+    if draft.load(machine) < table.slots(machine) {
+        draft
+            .price(table.hub())
+            .max(draft.next_slot_cost(table, machine))
+    } else {
+        FULL
+    }
+}
+
+// Puts a task that prefers this many machines on the cheapest of them, the one that fewest prefer, if that is no
+// dearer than any machine is.
+fn prefer(table: &Table, draft: &mut Draft, task: u32, count: u32) {
+    let preferred = table.preferred_ways(task);
+    if preferred.to.saturating_sub(preferred.from) != count {
+        return;
+    }
+    let best = draft.cheapest(table, table.ways_of(task), NONE);
+    if best.way >= preferred.to {
+        return;
+    }
+    let way = least_wanted(table, draft, preferred, best.paid);
+    let machine = table.way(way).place;
+    draft.take(task, way);
+    draft.add_load(machine);
+    let top = top_price(table, draft, machine);
+    draft.set_price(machine, top);
+}
+
+// Of the ways for which this much is paid the one to the machine that fewest tasks prefer.
+fn least_wanted(table: &Table, draft: &Draft, ways: Span, paid: u32) -> u32 {
+    let mut best = NONE;
+    let mut fewest = NONE;
+    for number in ways.from..ways.to {
+        let way = table.way(number);
+        let demand = table.demand(way.place);
+        if draft.paid(way) == paid && demand < fewest {
+            best = number;
+            fewest = demand;
+        }
+    }
+    best
+}
+
+// Whether the task had rather leave its machine: then the machine's price falls to what holds it or, where no slot is
+// worth that, it is left out.
+fn yields(table: &Table, draft: &mut Draft, task: u32) -> bool {
+    let taken = draft.taken(task);
+    let way = table.way(taken);
+    if way.place >= table.machines() {
+        return false;
+    }
+    let other = draft.cheapest(table, table.ways_of(task), taken).paid;
+    if draft.paid(way) <= other {
+        return false;
+    }
+    let hub = draft.price(table.hub());
+    let floor = hub.max(draft.last_slot_cost(table, way.place));
+    if other >= way.cost.saturating_add(floor) {
+        draft.set_price(way.place, other.saturating_sub(way.cost));
+    } else {
+        draft.take(task, NONE);
+        draft.drop_load(way.place);
+        let top = top_price(table, draft, way.place);
+        let price = draft.price(way.place).min(top);
+        draft.set_price(way.place, price);
+    }
+    true
+}
+
+// Leaves out all tasks on machines.
+fn forget(table: &Table, draft: &mut Draft) {
+    let hub = draft.price(table.hub());
+    draft.clear(table);
+    for machine in 0..table.machines() {
+        draft.set_price(machine, hub);
+    }
+}
+
+// Has a task that is left out take its cheapest way, unless that leads to a machine without room; counts it.
+fn settle(table: &Table, draft: &mut Draft, task: u32, market: &mut Market) {
+    let waits = draft.paid(table.way(table.wait_way(task)));
+    if draft.taken(task) == NONE {
+        let best = draft.cheapest(table, table.ways_of(task), NONE);
+        let hub_way = table.hub_way(task);
+        let place = table.way(best.way).place;
+        if best.way > hub_way {
+            draft.take(task, best.way);
+        } else if place < table.machines() && draft.has_room(table, place) {
+            draft.take(task, best.way);
+            draft.add_load(place);
+        } else if draft.paid(table.way(hub_way)) == best.paid {
+            draft.take(task, hub_way);
+            if waits > best.paid {
+                market.sure = market.sure.saturating_add(1);
+            } else {
+                market.ties = market.ties.saturating_add(1);
+            }
+        }
+    }
+    let home = table.home(task);
+    if home != NONE
+        && draft.taken(task) == table.own_way(task)
+        && waits == market.price
+        && draft.price(home) == market.price
+    {
+        market.movable = market.movable.saturating_add(1);
+    }
+}
+
+/// How many slots are left on machines of this price that cost less, and how many that cost as much.
+pub(crate) fn count_slots(table: &Table, draft: &Draft, price: u32) -> Span {
+    let mut needs = 0u32;
+    let mut spares = 0u32;
+    for machine in 0..table.machines() {
+        if draft.price(machine) == price {
+            let slots = table.slots_at(machine, price);
+            let load = draft.load(machine);
+            needs = needs.saturating_add(slots.from.saturating_sub(load));
+            spares = spares.saturating_add(slots.to.saturating_sub(load.max(slots.from)));
+        }
+    }
+    Span {
+        from: needs,
+        to: spares,
+    }
+}

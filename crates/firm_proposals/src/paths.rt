@@ -1,0 +1,467 @@
+//! Paths over the places that bring the tasks that were left out to a slot or outside, and to the hub what it lacks.
+ghost use Rattle.std.specs.Prelude.{◌≡◌};
+
+use crate::draft::{Draft, Step, UNIT};
+use crate::nearest::Nearest;
+use crate::numbers::{NONE, Numbers, Stack};
+use crate::table::Table;
+use crate::work::Work;
+use std::alloc::{AllocError, Global};
+
+/// Searches from tasks that are left out, or from the outside, to the outside or to the hub while units are lacking
+/// there.
+#[derive(Drop)]
+pub(crate) struct Paths {
+    nearest: Nearest,
+    // By what step each place was reached.
+    from: Numbers,
+    by: Numbers,
+    // In which search each place was seen, and in which sweep it led nowhere.
+    seen: Numbers,
+    dead: Numbers,
+    search: u32,
+    sweep: u32,
+    queue: Stack,
+    settled: Stack,
+    /// How many units are lacking at the hub.
+    pub(crate) lacks: u32,
+    // The place where the search ends.
+    goal: u32,
+}
+
+impl Paths {
+    pub(crate) fn new(alloc: Global, nodes: usize) -> Result<Paths, AllocError> {
+        let nearest = Nearest::new(alloc, nodes)?;
+        let from = Numbers::new(alloc, nodes)?;
+        let by = Numbers::new(alloc, nodes)?;
+        let seen = Numbers::new(alloc, nodes)?;
+        let dead = Numbers::new(alloc, nodes)?;
+        let queue = Stack::new(alloc, nodes)?;
+        let settled = Stack::new(alloc, nodes)?;
+        Ok(Paths {
+            nearest,
+            from,
+            by,
+            seen,
+            dead,
+            search: 0,
+            sweep: 0,
+            queue,
+            settled,
+            lacks: 0,
+            goal: 0,
+        })
+    }
+
+    /// Nothing is seen, and this many units are lacking at the hub.
+    pub(crate) fn clear(&mut self, table: &Table, lacks: u32) {
+        self.seen.reset(table.places(), NONE);
+        self.dead.reset(table.places(), NONE);
+        self.search = 0;
+        self.sweep = 0;
+        self.lacks = lacks;
+    }
+
+    /// Begins a sweep, if a search is left: prices have changed, so what led nowhere may lead on again. A sweep
+    /// counts as one search, since no place that led nowhere is seen in it twice.
+    pub(crate) fn begin_sweep(&mut self, work: &mut Work)
+        ensures most { work.new.most ≡ work.old.most }
+    {
+        work.begin_search();
+        self.sweep = self.sweep.saturating_add(1);
+    }
+
+    /// Sends a task that is left out over ways that cost nothing more, and says whether it found one.
+    pub(crate) fn send_free(
+        &mut self,
+        table: &Table,
+        draft: &mut Draft,
+        task: u32,
+        work: &mut Work,
+    ) -> bool
+        ensures most { work.new.most ≡ work.old.most }
+    {
+        self.begin(table.outside());
+        let paid = draft.cheapest(table, table.ways_of(task), NONE).paid;
+        self.see_ways(
+            table,
+            draft,
+            Leaving {
+                task,
+                paid,
+                from: NONE,
+            },
+            work,
+        );
+        self.follow(table, draft, work)
+    }
+
+    /// Brings a unit to the hub from a machine that as well gives up a slot, over ways that cost nothing more.
+    pub(crate) fn pull_slot(
+        &mut self,
+        table: &Table,
+        draft: &mut Draft,
+        machine: u32,
+        work: &mut Work,
+    ) -> bool
+        ensures most { work.new.most ≡ work.old.most }
+    {
+        self.begin(table.hub());
+        self.seen.set(table.outside(), self.search);
+        self.see(
+            Step {
+                from: table.outside(),
+                to: machine,
+                by: UNIT,
+            },
+            work,
+        );
+        self.follow(table, draft, work)
+    }
+
+    /// Brings a task that waits to the hub, or another in its place, over ways that cost nothing more.
+    pub(crate) fn pull_task(
+        &mut self,
+        table: &Table,
+        draft: &mut Draft,
+        task: u32,
+        work: &mut Work,
+    ) -> bool
+        ensures most { work.new.most ≡ work.old.most }
+    {
+        self.begin(table.hub());
+        self.seen.set(table.outside(), self.search);
+        let paid = draft.paid_by(table, task);
+        let from = table.outside();
+        self.see_ways(table, draft, Leaving { task, paid, from }, work);
+        self.follow(table, draft, work)
+    }
+
+    /// Whether this machine led nowhere in this sweep.
+    pub(crate) fn is_dead(&self, place: u32) -> bool {
+        self.dead.at(place) == self.sweep
+    }
+
+    fn begin(&mut self, goal: u32) {
+        self.search = self.search.saturating_add(1);
+        self.goal = goal;
+        self.queue.clear();
+    }
+
+    fn is_end(&self, table: &Table, place: u32) -> bool {
+        place == self.goal || place == table.hub() && self.lacks > 0
+    }
+
+    #[inline(always)]
+    fn see(&mut self, step: Step, work: &mut Work)
+        ensures most { work.new.most ≡ work.old.most }
+    {
+        if !work.look() {
+            return;
+        }
+        if self.seen.at(step.to) == self.search || self.dead.at(step.to) == self.sweep {
+            return;
+        }
+        self.seen.set(step.to, self.search);
+        self.from.set(step.to, step.from);
+        self.by.set(step.to, step.by);
+        self.queue.push(step.to);
+    }
+
+    // Sees where a task's other ways lead that cost as much as it pays.
+    #[inline(always)]
+    fn see_ways(&mut self, table: &Table, draft: &Draft, leaving: Leaving, work: &mut Work)
+        ensures most { work.new.most ≡ work.old.most }
+    {
+        let ways = table.ways_of(leaving.task);
+        let taken = draft.taken(leaving.task);
+        for number in ways.from..ways.to {
+            let way = table.way(number);
+            if number != taken && draft.paid(way) == leaving.paid {
+                self.see(
+                    Step {
+                        from: leaving.from,
+                        to: way.place,
+                        by: number,
+                    },
+                    work,
+                );
+            }
+        }
+    }
+
+    // Goes on from what was seen, breadth first, and makes the steps to the first end.
+    fn follow(&mut self, table: &Table, draft: &mut Draft, work: &mut Work) -> bool
+        ensures most { work.new.most ≡ work.old.most }
+    {
+        for at in 0..table.places() {
+            if at >= self.queue.count() {
+                break;
+            }
+            let place = self.queue.at(at);
+            if self.is_end(table, place) {
+                self.make(table, draft, place);
+                return true;
+            }
+            self.see_units(table, draft, place, work);
+            self.see_tasks(table, draft, place, work);
+        }
+        for closed in 0..self.queue.count().min(table.places()) {
+            self.dead.set(self.queue.at(closed), self.sweep);
+        }
+        false
+    }
+
+    // Sees where units may go from a place for nothing.
+    fn see_units(&mut self, table: &Table, draft: &Draft, place: u32, work: &mut Work)
+        ensures most { work.new.most ≡ work.old.most }
+    {
+        let hub = table.hub();
+        let price = draft.price(place);
+        if place < hub {
+            if draft.has_room(table, place) {
+                self.see(unit(place, table.outside()), work);
+            }
+            if draft.through(place) > 0 && price == draft.price(hub) {
+                self.see(unit(place, hub), work);
+            }
+        } else if place == hub {
+            for machine in 0..hub {
+                if draft.price(machine) == price {
+                    self.see(unit(hub, machine), work);
+                }
+            }
+        }
+    }
+
+    fn see_tasks(&mut self, table: &Table, draft: &Draft, place: u32, work: &mut Work)
+        ensures most { work.new.most ≡ work.old.most }
+    {
+        let mut task = draft.first(place);
+        for _ in 0..table.tasks() {
+            if task == NONE {
+                return;
+            }
+            let paid = draft.paid_by(table, task);
+            self.see_ways(
+                table,
+                draft,
+                Leaving {
+                    task,
+                    paid,
+                    from: place,
+                },
+                work,
+            );
+            task = draft.next(task);
+        }
+    }
+
+    // Makes the steps from the search's beginning to this place.
+    fn make(&mut self, table: &Table, draft: &mut Draft, end: u32) {
+        if end == table.hub() {
+            self.lacks = self.lacks.saturating_sub(1);
+        }
+        let mut to = end;
+        for _ in 0..table.places() {
+            let from = self.from.at(to);
+            let by = self.by.at(to);
+            if by == NONE {
+                return;
+            }
+            draft.make(table, Step { from, to, by });
+            if from == NONE || from == table.outside() {
+                return;
+            }
+            to = from;
+        }
+    }
+
+    /// Begins a search for the cheapest path of some tasks, all left out.
+    pub(crate) fn begin_send(&mut self, table: &Table, work: &mut Work)
+        ensures most { work.new.most ≡ work.old.most }
+    {
+        self.begin_far(table, table.outside(), work);
+    }
+
+    /// Has the search start from this task too.
+    pub(crate) fn start_at(&mut self, table: &Table, draft: &Draft, task: u32, work: &mut Work)
+        ensures most { work.new.most ≡ work.old.most }
+    {
+        let paid = draft.cheapest(table, table.ways_of(task), NONE).paid;
+        let from = NONE;
+        self.reach_ways(table, draft, Leaving { task, paid, from }, work);
+    }
+
+    /// Sends the task that finds the cheapest path, and has prices rise by what it costs.
+    pub(crate) fn end_send(&mut self, table: &Table, draft: &mut Draft, work: &mut Work)
+        ensures most { work.new.most ≡ work.old.most }
+    {
+        let end = self.find(table, draft, work);
+        if end == NONE {
+            return;
+        }
+        let far = self.nearest.distance(end);
+        for at in 0..self.settled.count().min(table.places()) {
+            let place = self.settled.at(at);
+            let rise = far.saturating_sub(self.nearest.distance(place));
+            draft.set_price(place, draft.price(place).saturating_add(rise));
+        }
+        self.make(table, draft, end);
+    }
+
+    /// Brings a unit to the hub from the outside by the cheapest path, and has prices fall by what it costs.
+    pub(crate) fn pull(&mut self, table: &Table, draft: &mut Draft, work: &mut Work)
+        ensures most { work.new.most ≡ work.old.most }
+    {
+        self.begin_far(table, table.hub(), work);
+        self.from.set(table.outside(), NONE);
+        self.by.set(table.outside(), NONE);
+        self.nearest.bring(table.outside(), 0);
+        let end = self.find(table, draft, work);
+        if end == NONE {
+            return;
+        }
+        let far = self.nearest.distance(end);
+        for place in 0..table.outside() {
+            let fall = far.min(self.nearest.distance(place));
+            draft.set_price(place, draft.price(place).saturating_sub(fall));
+        }
+        self.make(table, draft, end);
+    }
+
+    fn begin_far(&mut self, table: &Table, goal: u32, work: &mut Work)
+        ensures most { work.new.most ≡ work.old.most }
+    {
+        work.begin_search();
+        self.begin(goal);
+        self.nearest.clear(table.places());
+        self.settled.clear();
+    }
+
+    // Settles places, the nearest first, up to an end, which it gives; `NONE` if there is none.
+    fn find(&mut self, table: &Table, draft: &Draft, work: &mut Work) -> u32
+        ensures most { work.new.most ≡ work.old.most }
+    {
+        for _ in 0..table.places() {
+            let place = self.nearest.take();
+            if place == NONE {
+                return NONE;
+            }
+            if self.is_end(table, place) {
+                return place;
+            }
+            self.settled.push(place);
+            self.seen.set(place, self.search);
+            self.reach_units(table, draft, place, work);
+            self.reach_tasks(table, draft, place, work);
+        }
+        NONE
+    }
+
+    // Reaches a place from another one that is settled, by a step that costs this much.
+    #[inline(always)]
+    fn reach(&mut self, step: Step, cost: u32, work: &mut Work)
+        ensures most { work.new.most ≡ work.old.most }
+    {
+        if !work.look() {
+            return;
+        }
+        let near = if step.from == NONE {
+            0
+        } else {
+            self.nearest.distance(step.from)
+        };
+        let distance = near.saturating_add(cost);
+        if distance >= self.nearest.distance(step.to)
+            || distance >= self.nearest.distance(self.goal)
+            || self.seen.at(step.to) == self.search
+        {
+            return;
+        }
+        self.from.set(step.to, step.from);
+        self.by.set(step.to, step.by);
+        self.nearest.bring(step.to, distance);
+    }
+
+    #[inline(always)]
+    fn reach_ways(&mut self, table: &Table, draft: &Draft, leaving: Leaving, work: &mut Work)
+        ensures most { work.new.most ≡ work.old.most }
+    {
+        let ways = table.ways_of(leaving.task);
+        let taken = draft.taken(leaving.task);
+        for number in ways.from..ways.to {
+            let way = table.way(number);
+            if number != taken {
+                let step = Step {
+                    from: leaving.from,
+                    to: way.place,
+                    by: number,
+                };
+                self.reach(step, draft.paid(way).saturating_sub(leaving.paid), work);
+            }
+        }
+    }
+
+    fn reach_units(&mut self, table: &Table, draft: &Draft, place: u32, work: &mut Work)
+        ensures most { work.new.most ≡ work.old.most }
+    {
+        let (hub, outside) = (table.hub(), table.outside());
+        let price = draft.price(place);
+        if place < hub {
+            if draft.load(place) < table.slots(place) {
+                let cost = draft.next_slot_cost(table, place).saturating_sub(price);
+                self.reach(unit(place, outside), cost, work);
+            }
+            if draft.through(place) > 0 {
+                let cost = draft.price(hub).saturating_sub(price);
+                self.reach(unit(place, hub), cost, work);
+            }
+            return;
+        }
+        for machine in 0..hub {
+            let there = draft.price(machine);
+            if place == hub {
+                self.reach(unit(hub, machine), there.saturating_sub(price), work);
+            } else if draft.load(machine) > 0 {
+                let cost = there.saturating_sub(draft.last_slot_cost(table, machine));
+                self.reach(unit(outside, machine), cost, work);
+            }
+        }
+    }
+
+    fn reach_tasks(&mut self, table: &Table, draft: &Draft, place: u32, work: &mut Work)
+        ensures most { work.new.most ≡ work.old.most }
+    {
+        let mut task = draft.first(place);
+        for _ in 0..table.tasks() {
+            if task == NONE {
+                return;
+            }
+            let paid = draft.paid_by(table, task);
+            self.reach_ways(
+                table,
+                draft,
+                Leaving {
+                    task,
+                    paid,
+                    from: place,
+                },
+                work,
+            );
+            task = draft.next(task);
+        }
+    }
+}
+
+/// A task that may leave a place, where it pays this much.
+#[derive(Clone, Copy)]
+struct Leaving {
+    task: u32,
+    paid: u32,
+    from: u32,
+}
+
+fn unit(from: u32, to: u32) -> Step {
+    Step { from, to, by: UNIT }
+}
