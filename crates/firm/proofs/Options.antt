@@ -1,15 +1,15 @@
--- A command of the two options `--roster` and `--workers`.
+-- A command of the three options `--roster`, `--state` and `--workers`.
 use Rattle.std.proofs.Common.{zero, suc, ◌≡◌, ◌≤◌, ◌<◌, ◌∙◌, ◌++◌, ◌||◌, ℕ, List, [], ◌∷◌, Some, Result, Ok, Err}
 use Rattle.std.proofs.Common.{true, false}
 use Rattle.std.proofs.Common.{length, slice_index, refl, sym, ap, ap₂, subst, inl, inr, codes, arith}
-use Rattle.std.specs.Prelude.{IfOk, Option, is_some, option_map, pos}
+use Rattle.std.specs.Prelude.{IfOk, Option, option_map, pos}
 use Rattle.std.specs.Borrow.{Bor}
 use Rattle.std.specs.Str.Parse.{IsNumeral, ParsesUnsigned, digits_value, without_leading_plus}
 use Rattle.std.specs.List.{All, slice_index_or}
 use Rattle.std.specs.Str.{bytes_eq}
 use Rattle.std.proofs.lemmas.List.Elements.{All-nil}
 use Rattle.std.proofs.lemmas.Slice.Eq.{bytes_eq-Decides}
-use Rattle.clap.proofs.CallerLemmas.{added_plain, required_has_value}
+use Rattle.clap.proofs.CallerLemmas.{added_plain}
 use Rattle.clap.proofs.CallerReads.{signed_reads}
 use Rattle.clap.proofs.WalkLemmas.{first_value-rows}
 use Rattle.clap.specs.Built.{IsAuto}
@@ -25,7 +25,8 @@ use Rattle.clap.specs.declared.builder.command.Command.TheViews.{out-Command as 
 use Rattle.clap.specs.declared.builder.value_parser.ValueParser.TheVariants.{Signed}
 use Rattle.clap.specs.declared.error.Error.{Error}
 use Rattle.clap.specs.declared.parser.matches.ArgMatches.{ArgMatches}
-use Rattle.firm.specs.CommandLine.{command_line, faults_in, roster_option, versioned_app, workers_option}
+use Rattle.firm.specs.CommandLine.{command_line, faults_in, roster_option, state_option}
+use Rattle.firm.specs.CommandLine.{versioned_app, workers_option}
 use Rattle.firm.specs.inner.Options.{HasNumber, IsCommandLine, IsOption}
 use Rattle.firm.proofs.Entries.{default_is_read}
 
@@ -37,40 +38,60 @@ pub record IsBare (command : Command) : Type 0 where
   pub globals : (fields_of command).has_globals ≡ false
   pub negates : (fields_of command).subcommand_negates_reqs ≡ false
 
--- a command of two arguments, each with the rules of one option
-record IsOfTwo (command : Command) (roster workers : Arg) : Type 0 where
+-- a command of three arguments, the last with the rules of an option
+record IsOfThree (command : Command) (workers : Arg) : Type 0 where
   first : Arg
   second : Arg
-  arguments : args_of command ≡ first ∷ second ∷ []
-  roster_rules : SameRules roster first
-  workers_rules : SameRules workers second
+  third : Arg
+  arguments : args_of command ≡ first ∷ second ∷ third ∷ []
+  roster_id : first.id.now ≡ codes "roster"
+  state_id : second.id.now ≡ codes "state"
+  workers_rules : SameRules workers third
   plain : IsPlain command
   globals : (fields_of command).has_globals ≡ false
   negates : (fields_of command).subcommand_negates_reqs ≡ false
 
-is_of_two : (bare one command : Command) (roster workers : Arg) → IsBare bare → IsOption roster_option roster
-    → IsOption workers_option workers → AddsArg bare roster one → AddsArg one workers command
-    → IsOfTwo command roster workers
-is_of_two bare one command roster workers b r w first second = record {
-  first = first.arg;
-  second = second.arg;
-  arguments = second.args ∙ ap (λ l. l ++ second.arg ∷ []) (first.args ∙ ap (λ l. l ++ first.arg ∷ []) b.arguments);
-  roster_rules = first.rules;
-  workers_rules = second.rules;
-  plain = added_plain one command workers second (added_plain bare one roster first bare_plain r.plain) w.plain;
-  globals = second.globals
-      ∙ ap₂ (λ x y. x || y) (first.globals ∙ ap₂ (λ x y. x || y) b.globals r.global) w.global;
-  negates = second.negates ∙ (first.negates ∙ b.negates);
-}
-  where
-    bare_plain : IsPlain bare
-    bare_plain = (subst (All IsPlainArg) (sym b.arguments) (All-nil IsPlainArg), b.groups)
+-- a command, once three arguments are added in turn
+record IsGrown (bare one two command : Command) (roster state workers : Arg) : Type 0 where
+  bare_is : IsBare bare
+  roster_is : IsOption roster_option roster
+  state_is : IsOption state_option state
+  workers_is : IsOption workers_option workers
+  first : AddsArg bare roster one
+  second : AddsArg one state two
+  third : AddsArg two workers command
 
-app_is : (bare one command : Command) (roster workers : Arg) → IsBare bare → IsOption roster_option roster
-    → IsOption workers_option workers → AddsArg bare roster one → AddsArg one workers command
-    → app_of command ≡ command_line
-app_is bare one command roster workers b r w first second =
-    second.shape w.global ∙ ap₂ with_rule (first.shape r.global ∙ ap₂ with_rule b.app r.rules) w.rules
+module _ (bare one two command : Command) (roster state workers : Arg)
+    (g : IsGrown bare one two command roster state workers) where
+  is_of_three : IsOfThree command workers
+  is_of_three = record {
+    first = g.first.arg;
+    second = g.second.arg;
+    third = g.third.arg;
+    arguments = g.third.args
+        ∙ ap (λ l. l ++ g.third.arg ∷ [])
+        (g.second.args ∙ ap (λ l. l ++ g.second.arg ∷ []) (g.first.args
+        ∙ ap (λ l. l ++ g.first.arg ∷ []) g.bare_is.arguments));
+    roster_id = ap (λ id. id.now) g.first.rules.id ∙ g.roster_is.id;
+    state_id = ap (λ id. id.now) g.second.rules.id ∙ g.state_is.id;
+    workers_rules = g.third.rules;
+    plain = added_plain two command workers g.third (added_plain one two state g.second
+        (added_plain bare one roster g.first bare_plain g.roster_is.plain) g.state_is.plain) g.workers_is.plain;
+    globals = g.third.globals ∙ ap₂ (λ x y. x || y) (g.second.globals
+        ∙ ap₂ (λ x y. x || y) (g.first.globals
+        ∙ ap₂ (λ x y. x || y) g.bare_is.globals g.roster_is.global) g.state_is.global) g.workers_is.global;
+    negates = g.third.negates ∙ (g.second.negates ∙ (g.first.negates ∙ g.bare_is.negates));
+  }
+    where
+      bare_plain : IsPlain bare
+      bare_plain = (subst (All IsPlainArg) (sym g.bare_is.arguments) (All-nil IsPlainArg), g.bare_is.groups)
+
+  app_is : app_of command ≡ command_line
+  app_is =
+      g.third.shape g.workers_is.global
+      ∙ ap₂ with_rule (g.second.shape g.state_is.global
+      ∙ ap₂ with_rule (g.first.shape g.roster_is.global ∙ ap₂ with_rule g.bare_is.app g.roster_is.rules)
+      g.state_is.rules) g.workers_is.rules
 
 -- an option's argument, at its place in a list in which no other has its name
 record Stands (arguments : List Arg) (k : ℕ) (option d : Arg) : Type 0 where
@@ -79,43 +100,34 @@ record Stands (arguments : List Arg) (k : ℕ) (option d : Arg) : Type 0 where
       → bytes_eq (slice_index_or arguments j e).id.now (slice_index_or arguments k d).id.now ≡ true → j ≡ k
   rules : SameRules option (slice_index_or arguments k d)
 
-other : (a b : Arg) → a.id.now ≡ codes "roster" → b.id.now ≡ codes "workers" → bytes_eq a.id.now b.id.now ≡ true → ⊥
-other a b roster workers same =
-    let is : codes "roster" ≡ codes "workers" = sym roster ∙ ((bytes_eq-Decides a.id.now b.id.now).0 same ∙ workers) in
-    cc
+-- two arguments whose names differ
+differ : (a b : Arg) (first second : List ℕ) → a.id.now ≡ first → b.id.now ≡ second → (first ≡ second → ⊥)
+    → bytes_eq a.id.now b.id.now ≡ true → ⊥
+differ a b first second one two other same =
+    other (sym one ∙ ((bytes_eq-Decides a.id.now b.id.now).0 same ∙ two))
 
-other_way : (a b : Arg) → a.id.now ≡ codes "roster" → b.id.now ≡ codes "workers" → bytes_eq b.id.now a.id.now ≡ true → ⊥
-other_way a b roster workers same =
-    let is : codes "workers" ≡ codes "roster" = sym workers ∙ ((bytes_eq-Decides b.id.now a.id.now).0 same ∙ roster) in
-    cc
+roster_is_not_workers : codes "roster" ≡ codes "workers" → ⊥
+roster_is_not_workers is = cc
 
-module _ (first second : Arg) (roster : first.id.now ≡ codes "roster") (workers : second.id.now ≡ codes "workers") where
-  alone_first : (d : Arg) (j : ℕ) (e : Arg) → j < 2
-      → bytes_eq (slice_index_or (first ∷ second ∷ []) j e).id.now first.id.now ≡ true → j ≡ 0
-  alone_first d zero e lt same = refl
-  alone_first d (suc zero) e lt same = absurd (other_way first second roster workers same)
-  alone_first d (suc (suc n)) e lt same = absurd (omega arith)
+state_is_not_workers : codes "state" ≡ codes "workers" → ⊥
+state_is_not_workers is = cc
 
-  alone_second : (d : Arg) (j : ℕ) (e : Arg) → j < 2
-      → bytes_eq (slice_index_or (first ∷ second ∷ []) j e).id.now second.id.now ≡ true → j ≡ 1
-  alone_second d zero e lt same = absurd (other first second roster workers same)
-  alone_second d (suc zero) e lt same = refl
-  alone_second d (suc (suc n)) e lt same = absurd (omega arith)
+module _ (first second third : Arg) (roster : first.id.now ≡ codes "roster") (state : second.id.now ≡ codes "state")
+    (workers : third.id.now ≡ codes "workers") where
+  alone_third : (j : ℕ) (e : Arg) → j < 3
+      → bytes_eq (slice_index_or (first ∷ second ∷ third ∷ []) j e).id.now third.id.now ≡ true → j ≡ 2
+  alone_third zero e lt same =
+      absurd (differ first third (codes "roster") (codes "workers") roster workers roster_is_not_workers same)
+  alone_third (suc zero) e lt same =
+      absurd (differ second third (codes "state") (codes "workers") state workers state_is_not_workers same)
+  alone_third (suc (suc zero)) e lt same = refl
+  alone_third (suc (suc (suc n))) e lt same = absurd (omega arith)
 
 -- the parser adds no option of these names by itself
 own : (a : Arg) (name : List ℕ) → a.id.now ≡ name → (name ≡ codes "help" → ⊥) → (name ≡ codes "version" → ⊥)
     → IsAuto a → ⊥
 own a name is help version (inl auto) = help (sym is ∙ auto)
 own a name is help version (inr auto) = version (sym is ∙ auto)
-
-roster_named : codes "roster" ≡ [] → ⊥
-roster_named empty = cc
-
-roster_is_no_help : codes "roster" ≡ codes "help" → ⊥
-roster_is_no_help help = cc
-
-roster_is_no_version : codes "roster" ≡ codes "version" → ⊥
-roster_is_no_version version = cc
 
 workers_named : codes "workers" ≡ [] → ⊥
 workers_named empty = cc
@@ -130,50 +142,27 @@ workers_are_no_version : codes "workers" ≡ codes "version" → ⊥
 workers_are_no_version version =
     no_such_letter (slice_index (codes "version") 0) refl (ap (λ text. slice_index text 0) (sym version))
 
-module _ (command : Command) (roster workers : Arg) (r : IsOption roster_option roster)
-    (w : IsOption workers_option workers) (two : IsOfTwo command roster workers) where
-  first_id : two.first.id.now ≡ codes "roster"
-  first_id = ap (λ id. id.now) two.roster_rules.id ∙ r.id
+module _ (command : Command) (workers : Arg) (w : IsOption workers_option workers)
+    (three : IsOfThree command workers) where
+  third_id : three.third.id.now ≡ codes "workers"
+  third_id = ap (λ id. id.now) three.workers_rules.id ∙ w.id
 
-  second_id : two.second.id.now ≡ codes "workers"
-  second_id = ap (λ id. id.now) two.workers_rules.id ∙ w.id
-
-  roster_stands : Stands (args_of command) 0 roster roster
-  roster_stands = subst (λ l. Stands l 0 roster roster) (sym two.arguments) (record {
+  workers_stand : Stands (args_of command) 2 workers workers
+  workers_stand = subst (λ l. Stands l 2 workers workers) (sym three.arguments) (record {
     there = omega arith;
-    alone = alone_first two.first two.second first_id second_id roster;
-    rules = two.roster_rules;
+    alone = alone_third three.first three.second three.third three.roster_id three.state_id third_id;
+    rules = three.workers_rules;
   })
-
-  workers_stand : Stands (args_of command) 1 workers workers
-  workers_stand = subst (λ l. Stands l 1 workers workers) (sym two.arguments) (record {
-    there = omega arith;
-    alone = alone_second two.first two.second first_id second_id workers;
-    rules = two.workers_rules;
-  })
-
-  roster_is_given : (m : ArgMatches) → IsParsedFrom command m
-      → is_some (first_value (found_of m) (codes "roster")) ≡ true
-  roster_is_given m p =
-      let s = roster_stands in
-      let id : (slice_index_or (args_of command) 0 roster).id.now ≡ codes "roster" =
-      ap (λ b. b.now) s.rules.id ∙ r.id in
-      subst (λ name. is_some (first_value (found_of m) name) ≡ true) id
-      (required_has_value command m p two.plain two.globals two.negates 0 roster s.there
-      (s.rules.required ∙ ap (λ rule. rule.required) r.rules) (s.rules.action Set r.action)
-      (s.rules.val_delim ∙ r.delimiter) (s.rules.least r.action r.least) s.alone
-      (λ empty. roster_named (sym id ∙ empty))
-      (own (slice_index_or (args_of command) 0 roster) (codes "roster") id roster_is_no_help roster_is_no_version))
 
   workers_are_given : WantsDefault workers → (m : ArgMatches) → IsParsedFrom command m → HasNumber m
   workers_are_given wants m p =
       let s = workers_stand in
-      let id : (slice_index_or (args_of command) 1 workers).id.now ≡ codes "workers" =
+      let id : (slice_index_or (args_of command) 2 workers).id.now ≡ codes "workers" =
       ap (λ b. b.now) s.rules.id ∙ w.id in
       let parser : workers.value_parser ≡ Some (Signed (pos 1) (pos 8)) = ap (λ rule. rule.parser) w.rules in
-      let got = default_is_read command m p two.plain two.globals 1 workers s.there s.alone
+      let got = default_is_read command m p three.plain three.globals 2 workers s.there s.alone
       (λ empty. workers_named (sym id ∙ empty))
-      (own (slice_index_or (args_of command) 1 workers) (codes "workers") id workers_are_no_help workers_are_no_version)
+      (own (slice_index_or (args_of command) 2 workers) (codes "workers") id workers_are_no_help workers_are_no_version)
       (s.rules.ifs ∙ wants.0, rw (s.rules.defaults wants.1) wants.1)
       (s.rules.action Set w.action) (s.rules.val_delim ∙ w.delimiter) (s.rules.least w.action w.least)
       (Signed (pos 1) (pos 8)) (s.rules.parser _ parser) in
@@ -183,24 +172,34 @@ module _ (command : Command) (roster workers : Arg) (r : IsOption roster_option 
         within = got.2;
       }
 
-pub is_command_line : (bare one command : Command) (roster workers : Arg) → IsBare bare → IsOption roster_option roster
-    → IsOption workers_option workers → WantsDefault workers → AddsArg bare roster one → AddsArg one workers command
+pub is_command_line : (bare one two command : Command) (roster state workers : Arg) → IsBare bare
+    → IsOption roster_option roster → IsOption state_option state → IsOption workers_option workers
+    → WantsDefault workers → AddsArg bare roster one → AddsArg one state two → AddsArg two workers command
     → IsCommandLine command
-is_command_line bare one command roster workers b r w wants first second =
-    let two = is_of_two bare one command roster workers b r w first second in
+is_command_line bare one two command roster state workers b r s w wants first second third =
+    let g : IsGrown bare one two command roster state workers = record {
+      bare_is = b;
+      roster_is = r;
+      state_is = s;
+      workers_is = w;
+      first = first;
+      second = second;
+      third = third;
+    } in
+    let three = is_of_three bare one two command roster state workers g in
     record {
-      app = app_is bare one command roster workers b r w first second;
-      roster = roster_is_given command roster workers r w two;
-      workers = workers_are_given command roster workers r w two wants;
+      app = app_is bare one two command roster state workers g;
+      workers = workers_are_given command workers w three wants;
     }
 
-pub is_command_line-if : (bare one : Command) (roster workers : Arg) {E : Type 0} (result : Result Command E)
-    → IsBare bare → IsOption roster_option roster → IsOption workers_option workers → WantsDefault workers
-    → AddsArg bare roster one → IfOk result (AddsArg one workers)
+pub is_command_line-if : (bare one two : Command) (roster state workers : Arg) {E : Type 0} (result : Result Command E)
+    → IsBare bare → IsOption roster_option roster → IsOption state_option state → IsOption workers_option workers
+    → WantsDefault workers
+    → AddsArg bare roster one → AddsArg one state two → IfOk result (AddsArg two workers)
     → IfOk result IsCommandLine
-is_command_line-if bare one roster workers (Ok command) b r w wants first second =
-    is_command_line bare one command roster workers b r w wants first second
-is_command_line-if bare one roster workers (Err error) b r w wants first second = tt
+is_command_line-if bare one two roster state workers (Ok command) b r s w wants first second third =
+    is_command_line bare one two command roster state workers b r s w wants first second third
+is_command_line-if bare one two roster state workers (Err error) b r s w wants first second third = tt
 
 simple : is_simple_and_free command_line ≡ true
 simple = refl
@@ -250,11 +249,9 @@ reads_number {E} G only m h r read =
       most = got.3;
     }
 
--- what the getters read of the roster's path
-pub finds_path : (rows : List Row) (m : ArgMatches) (o : Option (Bor (List ℕ))) (path : Bor (List ℕ))
-    → rows_of (found_of m) ≡ rows → option_map (λ s. s.now) o ≡ first_value (found_of m) (codes "roster")
-    → o ≡ Some path
-    → first_of (codes "roster") rows ≡ Some path.now
-finds_path rows m o path found got is =
-    ap (first_of (codes "roster")) (sym found)
-    ∙ (sym (first_value-rows (found_of m) (codes "roster")) ∙ (sym got ∙ ap (option_map (λ s. s.now)) is))
+-- what the getters read of a path
+pub finds_path : (rows : List Row) (m : ArgMatches) (name : List ℕ) (o : Option (Bor (List ℕ)))
+    → rows_of (found_of m) ≡ rows → option_map (λ (s : Bor (List ℕ)). s.now) o ≡ first_value (found_of m) name
+    → option_map (λ (s : Bor (List ℕ)). s.now) o ≡ first_of name rows
+finds_path rows m name o found got =
+    got ∙ (first_value-rows (found_of m) name ∙ ap (first_of name) found)

@@ -1,5 +1,14 @@
 #![tactic(auto)]
-//! A bounded map from ids to values in one block of memory, taken whole by the constructor.
+//! A map from ids to values with a fixed number of places, in one block of memory that the constructor takes whole. The
+//! id of a value that was taken never finds a value again, so a stale id can't reach another's row.
+//!
+//! Contracts see the record `Arena` of `specs/Arena.antt`; `specs/Steps.antt` applies a list of calls. Every call
+//! ensures `IsBoundedMap`: at most `capacity` entries, exactly those that ids find, at different places and with stamps
+//! below the counter.
+//!
+//! The raw pointer is in `src/block.rt` alone, proved against the memory model: a value that was moved out is neither
+//! used nor dropped again. No clause says that only constructors take memory, since an arena keeps a handle of the heap
+//! for its drop. An arena is `Send` if its values are.
 ghost use Rattle.std.specs.Prelude.{◌≡◌, ℕ, ◌+◌, ◌<◌, ◌≤◌, ◌^◌, ◌↔◌, IsOk, IsSome, OnSome, IfSome, IfNone, IfOk, IfErr};
 ghost use Rattle.std.specs.Prelude.{OnOk, OnErr, List, Some, None, option_copied};
 ghost use Rattle.std.specs.Option.{option_copied_mut};

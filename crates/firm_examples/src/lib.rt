@@ -1,4 +1,4 @@
-//! The callers that the pages of docs/ show, one for each library; `tests/layout` compares the pages with this text.
+//! A caller of each library, for a reader who would call it; docs/CRATES.md says what each is.
 #![tactic(auto)]
 
 pub mod arena;
@@ -7,7 +7,9 @@ pub mod flow;
 pub mod graph;
 pub mod hall;
 pub mod net;
+pub mod parts;
 pub mod paths;
+pub mod program;
 pub mod rents;
 pub mod rounds;
 pub mod rules;

@@ -1,29 +1,55 @@
 //! Answers standard input as `firm` does, and after the reply to each round writes why, in comment lines: what the
 //! placement costs, the rents that show that no legal placement costs less, and what other choices would cost the tasks
 //! that changed or wait.
+//!
+//! A reader and two sinks, for replies and for reasons (`specs/Program.antt`).
+//!
+//! # What is proved
+//!
+//! On `Ok` of the private `serve_file` some text was a roster, and the sink of replies got what `firm` writes.
+//! Otherwise nothing was read, or the service stopped, or reasons could not be written. `serve_state` says the same of
+//! a state. No contract says which words lead to which.
+//!
+//! A `Market` is a round that is explained: by its ghost fields its placement is legal, the low and the high rents show
+//! it to be least, and no low rent is above the high one. `Market::of` has `firm_rents` check all that, else the
+//! reasons are the line `# NOT SHOWN to be least`. Printed numbers rest on these contracts (claims: docs/TRUST.md,
+//! firm_rents):
+//!
+//! - the cost, payments and gains: `shows_least`
+//! - loads, moves, preemptions, waits, remote: `parts_of`
+//! - low and high rents; those of `--why`: `low_rents`, `high_rents`; `rents_for`
+//! - what a task's choice costs it, and its rents: `Case::cost_of_choice`, `Rents::of_choice`
+//! - `at least N more`; the choices of `--why`: private `Market::more`; `more_by`, from `excess`
+//! - the best other machine: private `best_machine`, from `Nearest::machine`
+//! - what one more machine saves: `saved_by_machine`
+//!
+//! The rents of `--why` are checked as well; if they fail, `# NOT SHOWN to be least by T's rents` replaces that task's
+//! lines. No contract covers the order and the words of the lines, the commonest rent, the least and the greatest
+//! number of a crowd, and that the case and the rows behind it are of one round.
+//!
+//! # How it works
+//!
+//! `explainer` is the watcher that `firm_table::serve_watched_from` shows each round. It reads the case from the rows
+//! before a round (`Case::of`) and the placement from those after it (`placement_of`), so the round is solved once.
+//! `choices` finds the best other machine of each task that changes or waits, in a pass over the machines for each gap
+//! between a low and a high rent.
 #![tactic(auto)]
 
 mod choices;
 mod cost_line;
 mod crowds;
 mod explainer;
-mod faults;
 mod market;
 mod options;
 mod program;
 mod reasons;
-mod roster_file;
 mod text;
 mod why;
 
-use faults::{Fault, tell};
-use firm_table::ServeFault;
-use firm_text::{Bytes, Sink, write_all};
-use program::{BAD_COMMAND_LINE, Sinks, run};
-use std::io::ErrorKind;
+use firm_program::{arguments, refuse_words};
+use firm_text::Bytes;
+use program::{NAME, Sinks, run};
 use std::process::ExitCode;
-use std::rt::Env;
-use std::{env, io};
 
 fn main(rt: HostRuntime) -> ExitCode {
     // None of them holds bytes back, so what goes to standard output appears there in the order in which it is written.
@@ -34,24 +60,8 @@ fn main(rt: HostRuntime) -> ExitCode {
     };
     let words = match arguments(&rt) {
         Ok(words) => words,
-        Err(error) => return ExitCode::from(refuse_words(&error, &mut sinks.faults)),
+        Err(error) => return ExitCode::from(refuse_words(NAME, &error, &mut sinks.faults)),
     };
     let mut reader = Bytes::new(rt.stdin());
     ExitCode::from(run(&rt, rt.alloc(), words.as_slice(), &mut reader, &mut sinks))
-}
-
-fn arguments<R: Env + AllocGlobal>(rt: &R) -> io::Result<Vec<String>> {
-    Ok(env::args(rt)?.collect(rt.alloc())?)
-}
-
-// Refuses a command line that can't be read: it is not text, or memory was refused.
-fn refuse_words<F: Sink>(error: &io::Error, faults: &mut F) -> u8 {
-    match error.kind() {
-        ErrorKind::OutOfMemory => tell(faults, &Fault::Service(ServeFault::Memory)),
-        _ => {
-            let _ = write_all(faults, b"firm_explain: the command line is no text\n");
-            let _ = faults.flush();
-            BAD_COMMAND_LINE
-        }
-    }
 }

@@ -1,4 +1,5 @@
-//! The command line: `firm_explain --roster FILE [--tenant NAME] [--why TASK] [--machine SLOTS] [--all]`.
+//! The command line: `firm_explain --roster FILE [--tenant NAME] [--why TASK] [--machine SLOTS] [--all]`, or with
+//! `--state FILE` in the roster's place.
 
 use clap::{Arg, ArgAction, Command, Error, value_parser};
 use firm_rules::{Name, Slots};
@@ -8,8 +9,10 @@ use std::convert::AsStr;
 /// What the words of the command line give.
 #[derive(Drop)]
 pub(crate) struct Given<'a> {
-    /// The path of the roster's file, as it stands.
-    pub(crate) roster: &'a str,
+    /// The path of the roster's file, as it stands, if it is given.
+    pub(crate) roster: Option<&'a str>,
+    /// The path of the state's file, likewise.
+    pub(crate) state: Option<&'a str>,
     /// The tenant whose rounds are explained, if it is one alone.
     pub(crate) tenant: Option<&'a str>,
     /// The task whose choices are all given.
@@ -69,7 +72,8 @@ fn name_of(word: Option<&str>) -> Option<Option<Name>> {
 pub(crate) fn read<'a, S: AsStr>(alloc: Global, words: &'a [S]) -> Result<Given<'a>, Error> {
     let matches = command_line(alloc)?.try_get_matches_from(words)?;
     Ok(Given {
-        roster: matches.get_str("roster").unwrap_or(""),
+        roster: matches.get_str("roster"),
+        state: matches.get_str("state"),
         tenant: matches.get_str("tenant"),
         why: matches.get_str("why"),
         machine: matches.get_one::<u8>("machine"),
@@ -78,7 +82,13 @@ pub(crate) fn read<'a, S: AsStr>(alloc: Global, words: &'a [S]) -> Result<Given<
 }
 
 fn command_line<'a>(alloc: Global) -> Result<Command<'a>, AllocError> {
-    let roster = named(alloc, "roster", "FILE", "The roster of tenants, a CSV file").required(true);
+    let roster = named(alloc, "roster", "FILE", "The roster of tenants, a CSV file");
+    let state = named(
+        alloc,
+        "state",
+        "FILE",
+        "The state to go on from, in place of a roster",
+    );
     let tenant = named(
         alloc,
         "tenant",
@@ -100,6 +110,7 @@ fn command_line<'a>(alloc: Global) -> Result<Command<'a>, AllocError> {
     Command::new(alloc, "firm_explain")
         .about("Answers as firm does, and writes behind each round why it is the cheapest")
         .arg(roster)?
+        .arg(state)?
         .arg(tenant)?
         .arg(why)?
         .arg(machine)?

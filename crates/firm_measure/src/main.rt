@@ -1,5 +1,16 @@
 //! Serves on one thread, for measurements beside the program: `firm_measure --roster FILE` answers standard input as
 //! `firm` does, and `firm_measure --counts --roster FILE` then says how much each round searched.
+//!
+//! ```sh
+//! cd crates/firm_measure
+//! rt run -- --roster data/roster.csv < stdin            # answers as firm does, without workers
+//! rt run -- --counts --roster data/roster.csv < stdin   # the same, and then a line for each round, as alpha 2 29
+//! ```
+//!
+//! With `--counts` the whole input is read first. After the replies each tenant of the roster, but none admitted by a
+//! line, answers its own commands again, and each of its rounds has a line: the tenant's name, the round's searches,
+//! their looks. A fault or refused memory ends it with a message and status 1. It is proved safe, and to end; its
+//! stored run shows `firm`'s replies, and the exact counts of five rounds.
 #![tactic(auto)]
 
 mod counts;

@@ -1,7 +1,7 @@
 -- The options as the parser's own arguments, and what a parse of them gives.
-use Rattle.std.specs.Prelude.{◌≡◌, ◌≤◌, ℕ, List, true, false, is_some, None, Some, codes, pos}
+use Rattle.std.specs.Prelude.{◌≡◌, ◌≤◌, ℕ, List, false, None, Some, codes, pos}
 use Rattle.clap.specs.Facts.{least_values}
-use Rattle.clap.specs.Words.{IsPlainArg, IsParsedFrom, IsSignedIn, Rule, app_of, first_value, found_of, one_text}
+use Rattle.clap.specs.Words.{IsPlainArg, IsParsedFrom, IsSignedIn, Rule, app_of, found_of, one_text}
 use Rattle.clap.specs.Words.{rule_of, without_minus}
 use Rattle.clap.specs.declared.builder.action.ArgAction.TheVariants.{Set}
 use Rattle.clap.specs.declared.builder.arg.Arg.{Arg}
@@ -25,8 +25,7 @@ pub record HasNumber (m : ArgMatches) : Type 0 where
   pub read : one_text (found_of m) (codes "workers") ≡ Some (without_minus text)
   pub within : IsSignedIn (pos 1) (pos 8) text
 
--- the parser's own command is this command line, and when it parses words, both options have values
+-- the parser's own command is this command line, and when it parses words, there is a number of workers
 pub record IsCommandLine (command : Command) : Type 0 where
   pub app : app_of command ≡ command_line
-  pub roster : (m : ArgMatches) → IsParsedFrom command m → is_some (first_value (found_of m) (codes "roster")) ≡ true
   pub workers : (m : ArgMatches) → IsParsedFrom command m → HasNumber m

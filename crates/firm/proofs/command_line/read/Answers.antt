@@ -32,8 +32,8 @@ returns-clause-given g c =
     let workers : c.from.result ≡ number.number =
     c.from.ensures ∙ ap (λ o. unwrap_or o 0) (sym c.unwrap-workers.ensures ∙ number.is) in
     record {
-      path = finds_path _ m c.get_str.result c.unwrap-roster.result found c.get_str.ensures
-          c.unwrap-roster.ensures;
+      roster_path = finds_path _ m (codes "roster") c.get_str-roster.result found c.get_str-roster.ensures;
+      state_path = finds_path _ m (codes "state") c.get_str-state.result found c.get_str-state.ensures;
       text = without_minus has.text;
       found = ap (one_of (codes "workers")) (sym found)
           ∙ (sym (one_text-rows (found_of m) (codes "workers")) ∙ has.read);

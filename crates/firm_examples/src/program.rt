@@ -1,0 +1,15 @@
+use firm_program::{Fault, Named, read_roster, read_state};
+use std::alloc::Global;
+use std::rt::Files;
+
+/// How many tenants a service has that opens with a file.
+pub fn tenants_named<R: Files>(rt: &R, alloc: Global, named: Named<'_>) -> Result<usize, Fault> {
+    match named {
+        Named::Roster(path) => Ok(read_roster(rt, alloc, path)?.len()),
+        Named::State(path) => {
+            let saved = read_state(rt, alloc, path)?;
+            let places = saved.places().iter();
+            Ok(places.filter(|place| place.tenant.is_some()).count())
+        }
+    }
+}

@@ -1,0 +1,58 @@
+-- A state with some of its tenants alone, and the state that two of them make up.
+use Rattle.std.specs.Prelude.{◌+◌, ℕ, List, [], ◌∷◌, map, option_map, Option, Some, None, Result, Ok, Err}
+use Rattle.std.specs.Prelude.{slice_index_or, slice_set, if◌then◌else◌}
+use Rattle.firm_rules.specs.Book.{Book}
+use Rattle.firm_rules.specs.Names.{is_among}
+use Rattle.firm_text.specs.Commands.{◌>>=◌}
+use Rattle.firm_text.specs.Registers.{is_named, place_for}
+use Rattle.firm_text.specs.declared.operator.OperatorRefusal.{OperatorRefusal}
+use Rattle.firm_saved.specs.Saved.{register_of, tenant_name, untouched}
+use Rattle.firm_parts.specs.declared.joining.JoinFault.{JoinFault}
+use Rattle.firm_saved.specs.declared.saved.SavedPlace.{SavedPlace}
+
+-- the book of the tenant of this name, if it stays at one of the places
+abbrev pub book_in : List SavedPlace → List ℕ → Option Book
+book_in [] name = None
+book_in (place ∷ rest) name =
+    if is_named name (tenant_name place) then option_map (λ (tenant : List ℕ × Book). tenant.1) place.tenant
+    else book_in rest name
+
+-- the tenant, if it has one of these names
+abbrev pub kept_tenant : List (List ℕ) → Option (List ℕ × Book) → Option (List ℕ × Book)
+kept_tenant names None = None
+kept_tenant names (Some tenant) = if is_among names tenant.0 then Some tenant else None
+
+-- the place once its tenant has left, unless that has one of these names; how often it was given stays
+abbrev pub kept_place : List (List ℕ) → SavedPlace → SavedPlace
+kept_place names place = record place { tenant = kept_tenant names place.tenant }
+
+-- the state with the tenants of these names alone: the others have left
+abbrev pub cut_to : List (List ℕ) → List SavedPlace → List SavedPlace
+cut_to names places = map (kept_place names) places
+
+-- the state once a tenant has come to this place with its book; that counts as an admission
+abbrev pub settled_at : List SavedPlace → ℕ → List ℕ × Book → List SavedPlace
+settled_at places at tenant =
+    let admissions : ℕ = (slice_index_or places at untouched).admissions in
+    slice_set places at (record { admissions = admissions + 1; tenant = Some tenant })
+
+-- the state once a tenant has come to the place that the register gives to one of its name, or why it gives none
+abbrev pub settled : List SavedPlace → List ℕ × Book → Result ℕ OperatorRefusal → Result (List SavedPlace) JoinFault
+settled places tenant (Ok at) = Ok (settled_at places at tenant)
+settled places tenant (Err refusal) = Err (record { tenant = tenant.0; refusal = refusal })
+
+-- the state once the tenant of a place, if there is one, has come
+abbrev pub joined_by : List SavedPlace → Option (List ℕ × Book) → Result (List SavedPlace) JoinFault
+joined_by places None = Ok places
+joined_by places (Some tenant) = settled places tenant (place_for (register_of places) tenant.0)
+
+-- the state once the tenants of another have come, in the order of their places: each gets the place that an admission
+-- would give it. A tenant that is there already has no place, and is a fault, as is want of one
+abbrev pub joined : List SavedPlace → List SavedPlace → Result (List SavedPlace) JoinFault
+joined places [] = Ok places
+joined places (other ∷ rest) = joined_by places other.tenant >>= λ more. joined more rest
+
+-- the first of two books, or the second
+abbrev pub either_book : Option Book → Option Book → Option Book
+either_book (Some book) second = Some book
+either_book None second = second

@@ -1,0 +1,4 @@
+pub mod Changes
+pub mod GoingOn
+pub mod Naming
+pub mod Stopping

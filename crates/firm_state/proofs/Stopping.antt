@@ -1,0 +1,131 @@
+-- How the program stops.
+use Rattle.std.proofs.Common.{◌≡◌, ◌++◌, ℕ, List, Vec, Global, [], append-nil, false, inr, refl, subst, sym}
+use Rattle.std.specs.Prelude.{Bool, Option, MatchResult, Result, Ok, Err}
+use Rattle.std.specs.Borrow.{Bor}
+use Rattle.std.specs.Io.KnownBytes.{Consumes}
+use Rattle.firm_text.specs.Rosters.{RosterRow, roster_of}
+use Rattle.firm_saved.specs.Saved.{IsSoundSaved}
+use Rattle.firm_saved.specs.StateText.{state_text}
+use Rattle.firm_saved.specs.declared.saved.SavedPlace.{SavedPlace}
+use Rattle.firm_table.specs.Ends.{ServedTo, tenants_state}
+use Rattle.firm_table.specs.Places.{Place, opening_places, restored_places}
+use Rattle.firm_table.specs.Service.{Device, StoppedFrom, device}
+use Rattle.firm_table.specs.Tenants.{TenantsState}
+use Rattle.firm_table.specs.declared.faults.ServeFault.{ServeFault}
+use Rattle.firm_table.specs.declared.faults.ServeFault.TheVariants.{Memory}
+use Rattle.firm_program.specs.Runs.{IsUnread, IsUntouched, IsUnwritten, most_input}
+use Rattle.firm_program.specs.declared.faults.Fault.{Fault}
+use Rattle.firm_program.specs.declared.faults.Fault.TheVariants.{Service}
+use Rattle.firm_program.specs.Files.{RefusesRoster, RefusesState}
+use Rattle.firm_program.specs.declared.words.Named.{Named}
+use Rattle.firm_program.specs.declared.words.Named.TheVariants.{Roster, State}
+use Rattle.firm_state.specs.CommandLine.{Asked}
+use Rattle.firm_state.specs.Program.{CannotWrite, Folds, FoldsFile, FoldsText, FoldsTo, HalfWritten, NoChange, NoFold}
+use Rattle.firm_state.specs.Program.{NoText, NotChanged, NotFolded, NotOpened, Opens, RefusesFile, Stopped}
+use Rattle.firm_state.specs.Program.{StopsReading, StopsState, TellsState, Unwritten, WritesState, Wrote}
+
+-- a service that wrote its replies nowhere stopped
+pub stops_reading : (places : List Place) (reader : Device) (before after : Option (List ℕ)) (cause : ServeFault)
+    → StoppedFrom places most_input reader (device before after false) cause → StopsReading reader (Service cause)
+stops_reading places reader before after cause stopped = record {
+  cause = cause;
+  is = refl;
+  answered = stopped.answered;
+  rest = stopped.rest;
+  read = stopped.read;
+  whole = stopped.whole;
+  caused = stopped.cause;
+}
+
+-- memory was refused once all was read
+pub lacks_memory : (places : List Place) (reader : Device) (saved : List SavedPlace) → Folds places reader saved
+    → StopsReading reader (Service Memory)
+lacks_memory places reader saved folds = record {
+  cause = Memory;
+  is = refl;
+  answered = folds.input;
+  rest = [];
+  read = subst (Consumes reader.before reader.after) (sym (append-nil folds.input)) folds.read;
+  whole = inr (refl, folds.at_end, folds.reads);
+  caused = (folds.reads, refl);
+}
+
+-- what becomes of a service that opened with a file
+folds_or_stops : (named : Named) (reader : Device) (places : List Place) → Opens named places
+    → (result : Result (Vec ℕ Global) Fault)
+    → MatchResult result (λ text. FoldsTo places reader text.items) (StopsReading reader)
+    → MatchResult result (λ text. FoldsText named reader text.items) (NoFold named reader)
+folds_or_stops named reader places opens (Ok text) to = record {
+  saved = to.saved;
+  file = record { places = places; opens = opens; folds = to.folds; sound = to.sound };
+  is = to.is;
+}
+folds_or_stops named reader places opens (Err fault) stopped =
+    Stopped (record { places = places; opens = opens; stopped = stopped })
+
+-- with a roster, and with a state
+pub from_roster : (path : Bor (List ℕ)) (reader : Device) (text : List ℕ) (roster : List RosterRow)
+    → roster_of text ≡ Ok roster
+    → (result : Result (Vec ℕ Global) Fault)
+    → MatchResult result (λ text. FoldsTo (opening_places roster) reader text.items) (StopsReading reader)
+    → MatchResult result (λ text. FoldsText (Roster path) reader text.items) (NoFold (Roster path) reader)
+from_roster path reader text roster judged result to =
+    folds_or_stops (Roster path) reader (opening_places roster)
+    (record { text = text; roster = roster; judged = judged; places_are = refl }) result to
+
+pub from_state : (path : Bor (List ℕ)) (reader : Device) (saved : List SavedPlace) → IsSoundSaved saved
+    → (result : Result (Vec ℕ Global) Fault)
+    → MatchResult result (λ text. FoldsTo (restored_places saved) reader text.items) (StopsReading reader)
+    → MatchResult result (λ text. FoldsText (State path) reader text.items) (NoFold (State path) reader)
+from_state path reader saved sound result to =
+    folds_or_stops (State path) reader (restored_places saved)
+    (record { saved = saved; sound = sound; places_are = refl }) result to
+
+module _ (path : Bor (List ℕ)) (left : Option (List ℕ)) (failed : Bool) (reads : failed ≡ false) (fault : Fault) where
+  -- the file is refused
+  pub no_roster : RefusesRoster fault → NoFold (Roster path) (device left left failed) fault
+  no_roster refused = NotOpened (record { unread = refl; reads = reads }) refused
+
+  pub no_state : RefusesState fault → NoFold (State path) (device left left failed) fault
+  no_state refused = NotOpened (record { unread = refl; reads = reads }) refused
+
+-- the state after the lines is not changed as asked
+pub stops_changing : (asked : Asked) (reader : Device) (text : List ℕ) (fault : Fault)
+    → FoldsText asked.opening reader text
+    → ((saved : List SavedPlace) → IsSoundSaved saved → text ≡ state_text saved
+    → NoChange asked.names asked.others saved fault)
+    → NoText asked reader fault
+stops_changing asked reader text fault folded change = NotChanged (record {
+  saved = folded.saved;
+  file = folded.file;
+  unchanged = change folded.saved folded.file.sound folded.is;
+})
+
+-- the text was written, or cut off
+pub writes_or_stops : (asked : Asked) (reader writer : Device) (text : List ℕ) {A : Type 0} (result : Result A Fault)
+    → TellsState asked reader text → MatchResult result (λ _. Wrote text writer) (CannotWrite text writer)
+    → MatchResult result (λ _. WritesState asked reader writer) (StopsState asked reader writer)
+writes_or_stops asked reader writer text (Ok done) told wrote = record { text = text; told = told; written = wrote }
+writes_or_stops asked reader writer text (Err fault) told cut =
+    HalfWritten (record { text = text; told = told; cut = cut })
+
+-- there is no text, and nothing was written
+pub stops_unwritten : (asked : Asked) (reader : Device) (fault : Fault) (written : Option (List ℕ)) (failed : Bool)
+    → failed ≡ false → NoText asked reader fault
+    → StopsState asked reader (device written written failed) fault
+stops_unwritten asked reader fault written failed writes none =
+    Unwritten (record { unwritten = refl; writes = writes }) none
+
+-- what a service that came to the end says of the state after it
+pub folds_served : (places : List Place) (reader writer : Device) (after : TenantsState)
+    → ServedTo places most_input reader writer after → Folds places reader (tenants_state after)
+folds_served places reader writer after ended = record {
+  input = ended.served.input;
+  read = ended.served.read;
+  at_end = ended.served.at_end;
+  within = ended.served.within;
+  reads = ended.served.reads;
+  lines = ended.served.answers.lines;
+  are_lines = ended.served.answers.are_lines;
+  state = ended.state;
+}

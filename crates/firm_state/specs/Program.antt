@@ -1,0 +1,243 @@
+-- What the program's exit status says of what it read and wrote.
+use Rattle.std.specs.Prelude.{◌≡◌, ◌≤◌, ◌<◌, ◌++◌, ℕ, All, List, [], ◌∷◌, Result, Ok, Err, true, false, get_or, is_some}
+use Rattle.std.specs.Prelude.{length, take}
+use Rattle.std.specs.Io.KnownBytes.{Appends, Consumes, IsAtEnd}
+use Rattle.firm_text.specs.Commands.{◌>>=◌}
+use Rattle.firm_text.specs.Rosters.{RosterRow, roster_of}
+use Rattle.firm_text.specs.declared.operator.OperatorRefusal.TheVariants.{NoSuchTenant}
+use Rattle.firm_parts.specs.Parts.{book_in, cut_to, joined}
+use Rattle.firm_parts.specs.declared.joining.JoinFault.{JoinFault}
+use Rattle.firm_saved.specs.Saved.{IsSoundSaved}
+use Rattle.firm_saved.specs.StateText.{state_text}
+use Rattle.firm_saved.specs.declared.saved.SavedPlace.{SavedPlace}
+use Rattle.firm_table.specs.Output.{AreLinesFrom}
+use Rattle.firm_table.specs.Places.{MarkedLine, Place, after_lines, opening_places, restored_places, saved_after}
+use Rattle.firm_table.specs.Service.{AreWholeLines, Device, IsCause}
+use Rattle.firm_table.specs.declared.faults.ServeFault.{ServeFault}
+use Rattle.firm_table.specs.declared.faults.ServeFault.TheVariants.{Memory, Write}
+use Rattle.firm_program.specs.Faults.{status_of}
+use Rattle.firm_program.specs.Files.{RefusesRoster, RefusesState}
+use Rattle.firm_program.specs.Runs.{IsUnread, IsUntouched, IsUnwritten, most_input}
+use Rattle.firm_program.specs.Words.{AnswersWords}
+use Rattle.firm_program.specs.declared.faults.Fault.{Fault}
+use Rattle.firm_program.specs.declared.faults.Fault.TheVariants.{Service, Tenant}
+use Rattle.firm_program.specs.declared.words.Named.{Named}
+use Rattle.firm_program.specs.declared.words.Named.TheVariants.{Roster, State}
+use Rattle.firm_state.specs.CommandLine.{AskAmiss, AskFor, Asked, faults_in}
+
+-- a text was a roster, and these are the places of its tenants
+pub record OpensRoster (places : List Place) : Type 0 where
+  pub text : List ℕ
+  pub roster : List RosterRow
+  pub judged : roster_of text ≡ Ok roster
+  pub places_are : places ≡ opening_places roster
+
+-- these are the places of a sound state
+pub record OpensState (places : List Place) : Type 0 where
+  pub saved : List SavedPlace
+  pub sound : IsSoundSaved saved
+  pub places_are : places ≡ restored_places saved
+
+-- the places that a service opens with, by the file that is named
+abbrev pub Opens : Named → List Place → Type 0
+Opens (Roster path) places = OpensRoster places
+Opens (State path) places = OpensState places
+
+-- that file is refused
+abbrev pub RefusesFile : Named → Fault → Type 0
+RefusesFile (Roster path) fault = RefusesRoster fault
+RefusesFile (State path) fault = RefusesState fault
+
+-- everything left to read was read, and this is the state after its lines
+pub record Folds (places : List Place) (reader : Device) (saved : List SavedPlace) : Type 0 where
+  pub input : List ℕ
+  pub read : Consumes reader.before reader.after input
+  pub at_end : IsAtEnd reader.after
+  pub within : length input ≤ most_input
+  pub reads : reader.failed ≡ false
+  pub lines : List MarkedLine
+  pub are_lines : AreLinesFrom places input lines
+  pub state : saved ≡ saved_after (after_lines places lines)
+
+-- and this is its text
+pub record FoldsTo (places : List Place) (reader : Device) (text : List ℕ) : Type 0 where
+  pub saved : List SavedPlace
+  pub sound : IsSoundSaved saved
+  pub folds : Folds places reader saved
+  pub is : text ≡ state_text saved
+
+-- a service opened with the file that is named, and came to the end of the input in this state
+pub record FoldsFile (named : Named) (reader : Device) (saved : List SavedPlace) : Type 0 where
+  pub places : List Place
+  pub opens : Opens named places
+  pub folds : Folds places reader saved
+  pub sound : IsSoundSaved saved
+
+-- and this is its text
+pub record FoldsText (named : Named) (reader : Device) (text : List ℕ) : Type 0 where
+  pub saved : List SavedPlace
+  pub file : FoldsFile named reader saved
+  pub is : text ≡ state_text saved
+
+-- a service stopped: whole lines and a rest were read, and the fault has its cause, which is no failed write
+pub record StopsReading (reader : Device) (fault : Fault) : Type 0 where
+  pub cause : ServeFault
+  pub is : fault ≡ Service cause
+  pub answered : List ℕ
+  pub rest : List ℕ
+  pub read : Consumes reader.before reader.after (answered ++ rest)
+  pub whole : AreWholeLines answered rest reader
+  pub caused : IsCause cause (answered ++ rest) most_input reader.failed false
+
+-- a service opened with the file that is named, and stopped
+pub record StopsService (named : Named) (reader : Device) (fault : Fault) : Type 0 where
+  pub places : List Place
+  pub opens : Opens named places
+  pub stopped : StopsReading reader fault
+
+-- why there is no state after the lines: the file is refused, and nothing was read; or the service stopped
+pub data NoFold (named : Named) (reader : Device) (fault : Fault) : Type 0 where
+  NotOpened : IsUnread reader → RefusesFile named fault → NoFold named reader fault
+  Stopped : StopsService named reader fault → NoFold named reader fault
+
+-- the state to which these are joined, one after the other
+abbrev pub all_joined : List SavedPlace → List (List SavedPlace) → Result (List SavedPlace) JoinFault
+all_joined saved [] = Ok saved
+all_joined saved (other ∷ rest) = joined saved other >>= λ more. all_joined more rest
+
+-- the state with the tenants of these names alone, or with all where no name is given
+abbrev pub kept : List (List ℕ) → List SavedPlace → List SavedPlace
+kept [] saved = saved
+kept (name ∷ rest) saved = cut_to (name ∷ rest) saved
+
+-- others, this many, were joined to a state, which became the other
+pub record JoinsAll (count : ℕ) (saved both : List SavedPlace) : Type 0 where
+  pub others : List (List SavedPlace)
+  pub as_many : length others ≡ count
+  pub sound : All IsSoundSaved others
+  pub whole : all_joined saved others ≡ Ok both
+
+-- a tenant of a sound state finds no place in this one: the first that doesn't, and why
+pub record NotJoined (before : List SavedPlace) (fault : Fault) : Type 0 where
+  pub other : List SavedPlace
+  pub sound : IsSoundSaved other
+  pub first : JoinFault
+  pub refused : joined before other ≡ Err first
+  pub is : fault ≡ Tenant first.tenant first.refusal
+
+-- why a state is not joined to this one: its file is refused, or a tenant finds no place
+pub data RefusesOther (before : List SavedPlace) (fault : Fault) : Type 0 where
+  NotRead : RefusesState fault → RefusesOther before fault
+  NoPlace : NotJoined before fault → RefusesOther before fault
+
+-- of the states to join, this many, some were joined, and the next is refused
+pub record StopsJoining (count : ℕ) (saved : List SavedPlace) (fault : Fault) : Type 0 where
+  pub so_far : ℕ
+  pub fewer : so_far < count
+  pub before : List SavedPlace
+  pub joins : JoinsAll so_far saved before
+  pub next : RefusesOther before fault
+
+-- a state was cut to the tenants of these names, if there are names: each of them is there
+pub record CutsTo (names : List (List ℕ)) (both after : List SavedPlace) : Type 0 where
+  pub there : All (λ name. is_some (book_in both name) ≡ true) names
+  pub cut : after ≡ kept names both
+
+-- this is the first of the names that no tenant of the state has
+pub record IsMissing (names : List (List ℕ)) (both : List SavedPlace) (name : List ℕ) : Type 0 where
+  pub at : ℕ
+  pub within : at < length names
+  pub found : get_or names at name ≡ name
+  pub before : All (λ name. is_some (book_in both name) ≡ true) (take at names)
+  pub gone : is_some (book_in both name) ≡ false
+
+-- it can't be cut, since no tenant has that name
+pub record StopsCutting (names : List (List ℕ)) (both : List SavedPlace) (fault : Fault) : Type 0 where
+  pub name : List ℕ
+  pub missing : IsMissing names both name
+  pub is : fault ≡ Tenant name NoSuchTenant
+
+-- a state has become this once others, this many, were joined to it, and it was cut to the tenants of these names
+pub record Changed (names : List (List ℕ)) (count : ℕ) (saved after : List SavedPlace) : Type 0 where
+  pub both : List SavedPlace
+  pub joins : JoinsAll count saved both
+  pub cuts : CutsTo names both after
+
+-- it is sound, and this is its text
+pub record ChangesText (names : List (List ℕ)) (count : ℕ) (saved : List SavedPlace) (text : List ℕ) : Type 0 where
+  pub after : List SavedPlace
+  pub changed : Changed names count saved after
+  pub sound : IsSoundSaved after
+  pub is : text ≡ state_text after
+
+-- a name is missing once all others are joined
+pub record StopsMissing (names : List (List ℕ)) (count : ℕ) (saved : List SavedPlace) (fault : Fault) : Type 0 where
+  pub both : List SavedPlace
+  pub joins : JoinsAll count saved both
+  pub cutting : StopsCutting names both fault
+
+-- why a state is not changed so: another is not joined to it, a name is missing, or memory was refused
+pub data NoChange (names : List (List ℕ)) (count : ℕ) (saved : List SavedPlace) (fault : Fault) : Type 0 where
+  NotAllJoined : StopsJoining count saved fault → NoChange names count saved fault
+  NotThere : StopsMissing names count saved fault → NoChange names count saved fault
+  NoMemoryToChange : fault ≡ Service Memory → NoChange names count saved fault
+
+-- all was read, and this is the text of the state after it, changed as asked
+pub record TellsState (asked : Asked) (reader : Device) (text : List ℕ) : Type 0 where
+  pub saved : List SavedPlace
+  pub file : FoldsFile asked.opening reader saved
+  pub changed : ChangesText asked.names asked.others saved text
+
+-- all was read, and the state after it is not changed so
+pub record StopsChanging (asked : Asked) (reader : Device) (fault : Fault) : Type 0 where
+  pub saved : List SavedPlace
+  pub file : FoldsFile asked.opening reader saved
+  pub unchanged : NoChange asked.names asked.others saved fault
+
+-- why there is no text of the state that is asked for
+pub data NoText (asked : Asked) (reader : Device) (fault : Fault) : Type 0 where
+  NotFolded : NoFold asked.opening reader fault → NoText asked reader fault
+  NotChanged : StopsChanging asked reader fault → NoText asked reader fault
+
+-- this text was written
+pub record Wrote (text : List ℕ) (writer : Device) : Type 0 where
+  pub wrote : Appends writer.before writer.after text
+  pub writes : writer.failed ≡ false
+
+-- a front of it was, maybe all of it, and a write or a flush failed
+pub record CannotWrite (text : List ℕ) (writer : Device) (fault : Fault) : Type 0 where
+  pub is : fault ≡ Service Write
+  pub count : ℕ
+  pub few : count ≤ length text
+  pub wrote : Appends writer.before writer.after (take count text)
+  pub failed : writer.failed ≡ true
+
+-- the text of the state that is asked for was written
+pub record WritesState (asked : Asked) (reader writer : Device) : Type 0 where
+  pub text : List ℕ
+  pub told : TellsState asked reader text
+  pub written : Wrote text writer
+
+-- or it was cut off
+pub record CutsOff (asked : Asked) (reader writer : Device) (fault : Fault) : Type 0 where
+  pub text : List ℕ
+  pub told : TellsState asked reader text
+  pub cut : CannotWrite text writer fault
+
+-- how the program stops: there is no text, and nothing is written; or a write failed
+pub data StopsState (asked : Asked) (reader writer : Device) (fault : Fault) : Type 0 where
+  Unwritten : IsUnwritten writer → NoText asked reader fault → StopsState asked reader writer fault
+  HalfWritten : CutsOff asked reader writer fault → StopsState asked reader writer fault
+
+-- how the program ends: its words ask for a state, which it wrote, or it stopped with a fault's status; or the words
+-- have their forms but ask for none, and are refused, or they were answered: then nothing was read
+pub data Exits (words : List (List ℕ)) (reader writer : Device) (status : ℕ) : Type 0 where
+  Writes : (asked : Asked) → AskFor words asked → status ≡ 0 → WritesState asked reader writer
+      → Exits words reader writer status
+  Stops : (asked : Asked) → AskFor words asked → (fault : Fault) → status ≡ status_of fault
+      → StopsState asked reader writer fault
+      → Exits words reader writer status
+  AsksAmiss : faults_in words ≡ [] → (fault : Fault) → status ≡ status_of fault → AskAmiss words fault
+      → IsUntouched reader writer
+      → Exits words reader writer status
+  NamesNothing : IsUnread reader → AnswersWords (faults_in words) writer status → Exits words reader writer status
