@@ -1,7 +1,7 @@
 #!/usr/bin/env python3
 """Answers commands once, without any proof, and keeps nothing.
 
-usage: ./firm --unproved --roster FILE [OPTION..] < COMMANDS
+usage: ./firm --unproved (--roster FILE | --state FILE) [OPTION..] < COMMANDS
 
 This is a first look, for whoever has no proved program yet: `rt try` runs the sources. No answer is sent before all
 commands are there, so it serves no live client. Exit status: the program's own; 2 where it can't be asked so, 70 where
@@ -41,9 +41,10 @@ class Stopped(Exception):
 
 
 class Asked(NamedTuple):
-    """The roster, and the other words for the program."""
+    """The option that names the file to open with, what the file holds, and the other words for the program."""
 
-    roster: bytes
+    option: str
+    file: bytes
     words: list[str]
 
 
@@ -58,15 +59,18 @@ def refuse(text: str) -> NoReturn:
 
 def read_words(arguments: list[str]) -> Asked:
     parser = argparse.ArgumentParser("firm --unproved", add_help=False, allow_abbrev=False)
-    parser.add_argument("--roster", default="")
+    parser.add_argument("--roster")
+    parser.add_argument("--state")
     parser.add_argument("--unproved", action="store_true")
     options, words = parser.parse_known_args(arguments)
-    if not options.roster:
-        refuse("no roster: give --roster FILE")
+    given = {name: path for name in ("roster", "state") if (path := getattr(options, name))}
+    if len(given) != 1:
+        refuse("give --roster FILE or --state FILE, one of the two")
+    ((name, path),) = given.items()
     try:
-        return Asked(Path(options.roster).read_bytes(), words)
+        return Asked(f"--{name}", Path(path).read_bytes(), words)
     except OSError as error:
-        refuse(f"no roster: {options.roster}: {error.strerror}")
+        refuse(f"no {name}: {path}: {error.strerror}")
 
 
 def read_input(to: BinaryIO) -> None:
@@ -79,11 +83,11 @@ def read_input(to: BinaryIO) -> None:
 
 def try_program(asked: Asked, folder: Path) -> int:
     """Runs the program on the input in the folder, where rt try writes what it says; the status of rt."""
-    (folder / "roster.csv").write_bytes(asked.roster)
-    words = ["rt", "try", "--seconds", str(MOST_SECONDS), "--data", f"roster.csv={folder}/roster.csv"]
+    (folder / "opened").write_bytes(asked.file)
+    words = ["rt", "try", "--seconds", str(MOST_SECONDS), "--data", f"opened={folder}/opened"]
     with open(folder / "input", "rb") as given, open(folder / "said", "wb") as said:
         process = subprocess.Popen(
-            [*words, "--", "--roster", "roster.csv", *asked.words],
+            [*words, "--", asked.option, "opened", *asked.words],
             cwd=CRATE,
             env={**os.environ, "TMPDIR": str(folder)},
             stdin=given,

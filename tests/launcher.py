@@ -2,6 +2,7 @@
 
 from __future__ import annotations
 
+import contextlib
 import os
 import pty
 import re
@@ -28,7 +29,7 @@ ONE_LINE, TWO_LINES = "one line\n", "one line\nand one more\n"
 TEXT = b"alpha show\n"
 REPLY = b"the program: --roster day.csv\n" + TEXT
 ROSTER = "tenant\nalpha\n"
-TRIAL = f"the trial: --roster roster.csv {ROSTER} ".encode() + TEXT
+TRIAL = f"the trial: --roster opened {ROSTER} ".encode() + TEXT
 MOST_BYTES = 64 << 20  # of commands for an unproved answer
 
 
@@ -158,8 +159,15 @@ class Place:
 
     def still_runs(self) -> bool:
         """Whether a process of a crate's check is left."""
-        folders = (folder for folder in Path("/proc").glob("[0-9]*/cwd") if os.access(folder, os.R_OK))
-        return any(os.path.realpath(folder).startswith(f"{self.top}/crates/") for folder in folders)
+        for folder in Path("/proc").glob("[0-9]*/cwd"):
+            with contextlib.suppress(FileNotFoundError, PermissionError, ProcessLookupError):  # one that ends meanwhile
+                if os.readlink(folder).startswith(f"{self.top}/crates/"):
+                    return True
+        return False
+
+    def standing(self) -> set[str]:
+        """The crates that a run has taken for proved: one whose check ends as its run is killed may not be."""
+        return {stamp.parts[-4] for stamp in self.top.glob("crates/*/out/statements/stamp")}
 
     def asked(self) -> list[list[str]]:
         """What the stand-in has written down since the last call, each line a word and a crate."""
@@ -358,8 +366,8 @@ def no_rt(place: Place) -> None:
 
 def interrupted(place: Place) -> None:
     """An interrupted run ends what it started, and the next goes on from there."""
-    made = []
     for number in (signal.SIGINT, signal.SIGTERM):
+        stood = place.standing()
         launched = place.start(KIT_SLOW="firm_graph")
         place.wait_for("begin firm_graph", launched)
         launched.send_signal(number)
@@ -367,11 +375,8 @@ def interrupted(place: Place) -> None:
         require(done.status == 128 + number and done.output == b"", done)
         require(b"goes on from here" in done.faults, done.faults)
         require(not place.still_runs(), "a check goes on")
-        made += place.made()
-    require("firm_flow" in made and "firm_graph" not in made, made)
-    require_reply(place.run())
-    made += place.made()
-    require(sorted(made) == sorted(place.needed), made)
+        require(not stood & set(place.made()), f"proved twice, of {stood}")
+    require_goes_on(place)
 
 
 def killed(place: Place) -> None:
@@ -384,9 +389,16 @@ def killed(place: Place) -> None:
     while place.still_runs():
         require(time.monotonic() < ends, "a check goes on")
         time.sleep(0.02)
-    made = place.made()
+    place.asked()
+    require_goes_on(place)
+
+
+def require_goes_on(place: Place) -> None:
+    """After a run that ended at firm_graph, the next proves what that one did not prove, and nothing else."""
+    stood = place.standing()
+    require("firm_flow" in stood and "firm_graph" not in stood, stood)
     require_reply(place.run())
-    require(sorted(made + place.made()) == sorted(place.needed), made)
+    require_made(place, place.needed - stood)
 
 
 def failing_crate(place: Place) -> None:
@@ -440,8 +452,10 @@ def unproved(place: Place) -> None:
             require(said == b"a word of the program", said)
             require(all(b"UNPROVED" in label and b"no proof" in label for label in (first, last)), done.faults)
     done = ask_unproved(place, "--workers", "8", "--roster", "day.csv")
-    require(done.output.startswith(b"the trial: --roster roster.csv --workers 8 "), done.output)
-    require(place.asked() == [["try", "firm"]] * 5, "it is tried once for each")
+    require(done.output.startswith(b"the trial: --roster opened --workers 8 "), done.output)
+    done = ask_unproved(place, "--state", "day.csv")
+    require(done.output.startswith(b"the trial: --state opened "), done.output)
+    require(place.asked() == [["try", "firm"]] * 6, "it is tried once for each")
     require(place.files() == before, place.files() - before)
 
 
@@ -467,7 +481,9 @@ def unproved_refused(place: Place) -> None:
         long.truncate(MOST_BYTES + 1)
         refusals = {
             b"roster": ask_unproved(place),
+            b"one of the two": ask_unproved(place, "--roster", "day.csv", "--state", "day.csv"),
             b"no roster": ask_unproved(place, "--roster", "none.csv"),
+            b"no state": ask_unproved(place, "--state", "none"),
             b"< FILE": ask_unproved(place, "--roster", "day.csv", stdin=typed),
             b"64 MiB": ask_unproved(place, "--roster", "day.csv", stdin=long),
             b"PATH": ask_unproved(place, "--roster", "day.csv", has_rt=False),

@@ -1,0 +1,187 @@
+#!/usr/bin/env python3
+"""Makes a release of the built programs, installs it into an empty root, and runs what it brings, without a kit.
+
+usage: tests/release.py
+Each check has a line; the last line is 'N passed, M failed', and the exit status is 1 where one failed. It needs
+dpkg-deb, help2man and python3-shtab, Debian's packages; what can't be asked here is said and skipped.
+"""
+
+from __future__ import annotations
+
+import argparse
+import gzip
+import importlib.machinery
+import importlib.util
+import os
+import shutil
+import subprocess
+import sys
+import tempfile
+from functools import partial
+from pathlib import Path
+from types import ModuleType
+
+import firmd
+import launcher
+from harness.checks import Check, Skipped, count_ends, passes, require, run_script
+from harness.program import ROOT, built
+
+TOOL = ROOT / "tools" / "release"
+NEEDED = ("dpkg-deb", "dpkg", "help2man")
+SECONDS = 120
+EXAMPLES = ROOT / "examples"
+PROOFS = "firm_rules\tsum\tlogic=proved\n"
+
+
+def tool() -> ModuleType:
+    """The script as a module."""
+    loader = importlib.machinery.SourceFileLoader("release_tool", str(TOOL))
+    spec = importlib.util.spec_from_loader("release_tool", loader)
+    assert spec
+    found = importlib.util.module_from_spec(spec)
+    loader.exec_module(found)
+    return found
+
+
+def said(words: list[str | Path], stdin: bytes = b"", **environment: str) -> bytes:
+    """What a command writes, in an empty environment but for its path."""
+    done = subprocess.run(words, input=stdin, capture_output=True, cwd="/", env=environment, timeout=SECONDS)
+    require(done.returncode == 0, f"{words}: status {done.returncode}: {done.stderr.decode()}")
+    return done.stdout
+
+
+def needs(release: ModuleType) -> None:
+    missing = [name for name in NEEDED if shutil.which(name) is None]
+    if subprocess.run([release.PYTHON, "-c", "import shtab"], capture_output=True).returncode:
+        missing.append("python3-shtab")
+    if missing:
+        raise Skipped(f"there is no {' and no '.join(missing)}")
+
+
+def installed() -> None:
+    """The package installs into an empty root; its programs answer there, and its service serves."""
+    release = tool()
+    needs(release)
+    programs = {name: built(name) for name in release.PROGRAMS}
+    if missing := [name for name, file in programs.items() if not file.exists()]:
+        raise Skipped(f"not built: ./build.py {' '.join(missing)}")
+    with tempfile.TemporaryDirectory(prefix="firm-") as name:
+        folder = Path(name)
+        version = release.Version("0.1.0+git20260102.0123456789", "0" * 40, 1767312000, "One <one@example.org>")
+        release.lay_out(folder / "usr", programs, version, PROOFS)
+        packs_alike(release, folder, version)
+        root = unpack(folder / "firm.deb", folder)
+        files_are_there(release, root)
+        programs_answer(root)
+        serves(root)
+
+
+def packs_alike(release: ModuleType, folder: Path, version: object) -> None:
+    """The same files give the same bytes; the package is left as firm.deb."""
+    for make, name in ((release.make_tarball, "firm.tar.gz"), (release.make_package, "firm.deb")):
+        for file in (folder / name, folder / f"again-{name}"):
+            make(folder / "usr", version, file)
+        require((folder / name).read_bytes() == (folder / f"again-{name}").read_bytes(), name)
+    packed = said(["tar", "-tzf", folder / "firm.tar.gz"], PATH=os.environ["PATH"]).decode()
+    require("firm-0.1.0+git20260102.0123456789/bin/firmd\n" in packed, packed)
+
+
+def unpack(package: Path, folder: Path) -> Path:
+    """Installs the package into a root of its own."""
+    root = folder / "root"
+    (root / "var/lib/dpkg").mkdir(parents=True)
+    (root / "var/lib/dpkg/status").touch()
+    flags = ["--force-depends", "--force-not-root", f"--root={root}", "--log=/dev/null"]
+    said(["dpkg", *flags, "--install", package], PATH=os.environ["PATH"])
+    return root
+
+
+def files_are_there(release: ModuleType, root: Path) -> None:
+    """Each program has its page and its completions, and systemd takes the units."""
+    share = root / "usr/share"
+    for program in (release.PROGRAMS | release.SERVICES).keys() - {release.NO_HELP}:
+        page = gzip.decompress((share / f"man/man1/{program}.1.gz").read_bytes()).decode()
+        require(page.startswith('.\\" DO NOT MODIFY') and ".SH NAME" in page and "0.1.0+git" in page, page[:200])
+        said(["bash", "-n", share / f"bash-completion/completions/{program}"], PATH=os.environ["PATH"])
+        require((share / f"zsh/vendor-completions/_{program}").read_text().startswith("#compdef "), program)
+    require((share / "doc/firm/proved.tsv").read_text() == PROOFS, "what was proved")
+    units = sorted((root / "usr/lib/systemd/system").iterdir())
+    require([unit.name for unit in units] == ["firm-agent@.service", "firm.service"], units)
+    if shutil.which("systemd-analyze"):
+        takes_units(root, [unit.name.replace("@.", "@alpha.") for unit in units])
+
+
+def takes_units(root: Path, units: list[str]) -> None:
+    """Whether systemd would start these; of what it lacks in an empty root only its own targets may be missing."""
+    shutil.copy2("/usr/bin/install", root / "usr/bin")  # which a unit calls
+    words = ["systemd-analyze", "verify", f"--root={root}", "--man=no", *units]
+    done = subprocess.run(words, stdin=subprocess.DEVNULL, capture_output=True, text=True, timeout=SECONDS)
+    lines = [line for line in done.stderr.splitlines() if ".target" not in line and ".slice" not in line]
+    require(not [line for line in lines if "firm" in line], done.stderr)
+
+
+def programs_answer(root: Path) -> None:
+    """firm answers the examples, firm_explain and firm_state too, where nothing but the root is on the path."""
+    path = f"{root}/usr/bin"
+    opened = ["--roster", str(EXAMPLES / "roster.csv")]
+    commands = (EXAMPLES / "commands.txt").read_bytes()
+    output = said([f"{path}/firm", *opened], commands, PATH=path)
+    require(output == (EXAMPLES / "expected.txt").read_bytes(), output)
+    require(b"# least" in said([f"{path}/firm_explain", *opened], commands, PATH=path), "the reasons")
+    require(said([f"{path}/firm_state", *opened], commands, PATH=path).startswith(b"firm state"), "the state")
+
+
+def serves(root: Path) -> None:
+    """The installed firmd finds the installed firm, and the installed firmctl that firmd."""
+    path = f"{root}/usr/bin:{Path(sys.executable).parent}:/usr/bin:/bin"
+    with firmd.Setup(f"{root}/usr/bin/firm", True, 1).daemon() as daemon:
+        daemon.words = [f"{root}/usr/bin/firmd"]
+        daemon.start()
+        with daemon.client() as client:
+            require(client.ask(b"alpha job web 10") == b"alpha 1 ok", "a reply")
+        jobs = said([f"{root}/usr/bin/firmctl", "--state", daemon.state, "jobs"], PATH=path)
+        require(b"web" in jobs, jobs)
+        daemon.stop()
+
+
+def refused(place: launcher.Place) -> None:
+    """Without a commit, after a change, and before a proof there is nothing to release: it says which."""
+    (place.top / "tools").mkdir()
+    for name in ("tools/release", "pyproject.toml"):
+        shutil.copy2(ROOT / name, place.top / name)
+    (place.top / ".gitignore").write_text("out/\nasked\n")
+    git = ["git", "-c", "user.name=one", "-c", "user.email=one@example.org"]
+    path = f"{place.paths[True]}:{os.environ['PATH']}"
+
+    def refusal() -> str:
+        done = subprocess.run(
+            [sys.executable, place.top / "tools/release"],
+            env={**os.environ, "PATH": path, "GIT_CEILING_DIRECTORIES": str(place.room)},
+            stdin=subprocess.DEVNULL,
+            capture_output=True,
+            text=True,
+            timeout=SECONDS,
+        )
+        require(done.returncode == 3 and not done.stdout, done)
+        require(not (place.top / "out/release").exists(), "a folder is left")
+        return done.stderr
+
+    require("is no checkout" in refusal(), refusal())
+    for words in (["init", "-q"], ["add", "-A"], ["commit", "-q", "-m", "one"]):
+        subprocess.run([*git, *words], cwd=place.top, check=True)
+    require("not proved: firm_arena, " in refusal(), refusal())
+    place.write("crates/firm/src/main.rt", launcher.TWO_LINES)
+    require("crates/firm/src/main.rt" in refusal(), refusal())
+
+
+def main() -> int:
+    argparse.ArgumentParser(description=(__doc__ or "").splitlines()[0]).parse_args()
+    checks: dict[str, Check] = {
+        "refused": partial(launcher.run_in_place, refused),
+        "installed": installed,
+    }
+    return count_ends([passes(name, check) for name, check in checks.items()])
+
+
+if __name__ == "__main__":
+    run_script(main)
