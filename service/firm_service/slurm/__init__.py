@@ -1,0 +1,1 @@
+"""firm-slurm: Slurm executes what firm decides."""

@@ -1,0 +1,167 @@
+"""Looks at slurm.conf before the first start, and says what to write."""
+
+from __future__ import annotations
+
+import re
+import subprocess
+from collections.abc import Iterator
+from dataclasses import dataclass, field
+from pathlib import Path
+from typing import NamedTuple
+
+from ..lines import is_name
+from ..sizes import MOST_NODES
+from .hook import hook
+from .table import Partition, Table
+
+DEPTH = 10_000  # jobs that a cycle of Slurm's scheduler looks at: with its own 100, pinned jobs start late
+SCHEDULER = {"batch_sched_delay": (0, 0), "sched_min_interval": (1, 50_000), "sched_interval": (1, 5)}
+SCHEDULER |= {"default_queue_depth": (DEPTH, 10**9)}
+LINE = re.compile(r"\s*([A-Za-z]+)\s*=\s*(.*)", re.DOTALL)
+WORD = re.compile(r'([A-Za-z]+)=("[^"]*"|\S+)')
+MOST_INCLUDED = 100  # files
+
+
+class Advice(NamedTuple):
+    """Something to be changed: what is wrong, and what to write."""
+
+    what: str
+    write: str
+
+
+@dataclass
+class Conf:
+    """slurm.conf, as far as it matters here. The keys are in lower case."""
+
+    path: Path
+    values: dict[str, str] = field(default_factory=dict)
+    nodes: list[dict[str, str]] = field(default_factory=list)
+    partitions: dict[str, dict[str, str]] = field(default_factory=dict)
+
+    @classmethod
+    def read(cls, path: Path) -> Conf:
+        """Raises `OSError`."""
+        found = cls(path)
+        common: dict[str, dict[str, str]] = {"nodename": {}, "partitionname": {}}
+        for line in lines_of(path):
+            first = LINE.match(line)
+            if first is None:
+                continue
+            key, value = first[1].lower(), first[2].strip()
+            if key not in common:
+                found.values[key] = value.strip('"')
+                continue
+            words = {word.lower(): text.strip('"') for word, text in WORD.findall(line)}
+            if words[key].upper() == "DEFAULT":
+                common[key] |= words
+            elif key == "nodename":
+                found.nodes.append(common[key] | words)
+            else:
+                found.partitions[words[key]] = common[key] | words
+        return found
+
+    def options(self, key: str) -> dict[str, str]:
+        """A list like a=1,b as a dictionary."""
+        parts = (part.partition("=") for part in self.values.get(key, "").split(",") if part)
+        return {name.strip().lower(): value for name, _, value in parts}
+
+    def node_names(self) -> list[str]:
+        return [name for row in self.nodes for name in names_of(row["nodename"])]
+
+    def names_in(self, partition: str) -> list[str]:
+        listed = self.partitions[partition].get("nodes", "")
+        return self.node_names() if listed.upper() == "ALL" else names_of(listed)
+
+
+def lines_of(path: Path, depth: int = 0) -> Iterator[str]:
+    """The lines of a file and of those that it includes, without comments, continued ones as one."""
+    text = re.sub(r"\\\n", " ", path.read_text())
+    for line in text.splitlines():
+        line = line.partition("#")[0].strip()
+        words = line.split(None, 1)
+        if len(words) == 2 and words[0].lower() == "include" and depth < MOST_INCLUDED:
+            yield from lines_of(path.parent / words[1], depth + 1)
+        elif line:
+            yield line
+
+
+def names_of(listed: str) -> list[str]:
+    """The nodes of a list like node[1-3], as Slurm's own command has them."""
+    if not listed:
+        return []
+    done = subprocess.run(["scontrol", "show", "hostnames", listed], capture_output=True, text=True, timeout=60)
+    return done.stdout.split() if done.returncode == 0 else [listed]
+
+
+def advice(table: Table, conf: Conf) -> Iterator[Advice]:
+    """All that is to be changed."""
+    yield from of_scheduler(conf)
+    yield from of_hook(table, conf)
+    for key, wanted, bad in (
+        ("selecttype", "SelectType=select/cons_tres", "select/linear"),
+        ("preempttype", "PreemptType=preempt/none", "preempt/"),
+    ):
+        value = conf.values.get(key, "").lower()
+        if value.startswith(bad) and value not in wanted.lower():
+            yield Advice(f"{value}: Slurm must give single slots, and preempt nothing itself", wanted)
+    owners: dict[str, str] = {}
+    for partition in table.partitions:
+        yield from of_partition(partition, conf, owners)
+    yield from of_shared(table, conf, owners)
+
+
+def of_scheduler(conf: Conf) -> Iterator[Advice]:
+    options = conf.options("schedulerparameters")
+    wrong = {name: bounds for name, bounds in SCHEDULER.items() if not is_within(options.get(name), *bounds)}
+    if wrong:
+        wanted = {name: str(low if name == "default_queue_depth" else high) for name, (low, high) in wrong.items()}
+        text = ",".join(f"{name}={value}" if value else name for name, value in (options | wanted).items())
+        told = f"{', '.join(wrong)}: decided jobs would start late, or their dependencies be seen late"
+        yield Advice(told, f"SchedulerParameters={text}")
+
+
+def is_within(text: str | None, low: int, high: int) -> bool:
+    return text is not None and text.isdigit() and low <= int(text) <= high
+
+
+def of_hook(table: Table, conf: Conf) -> Iterator[Advice]:
+    plugins = [name for name in conf.values.get("jobsubmitplugins", "").split(",") if name]
+    if "lua" not in plugins:
+        yield Advice("jobs would not be held for firm", f"JobSubmitPlugins={','.join([*plugins, 'lua'])}")
+    path = conf.path.parent / "job_submit.lua"
+    if not path.exists():
+        yield Advice(f"{path} is not there", f"firm-slurm hook --table TABLE > {path}")
+    elif hook(table).strip() not in path.read_text():
+        told = f"{path} has not the hook of this table, or one of an older firm-slurm"
+        yield Advice(told, f"firm-slurm hook --table TABLE > {path}, or into a site's own file")
+
+
+def of_partition(partition: Partition, conf: Conf, owners: dict[str, str]) -> Iterator[Advice]:
+    name = partition.name
+    if name not in conf.partitions:
+        yield Advice(f"partition {name} is not there", f"PartitionName={name} Nodes=..")
+        return
+    names = conf.names_in(name)
+    for node in names:
+        if not is_name(node.encode()):
+            told = f"node {node} can't be a machine of firm: names have 1 to 16 of a to z, 0 to 9 and -"
+            yield Advice(told, f"NodeName={re.sub('[^a-z0-9-]', '-', node.lower())[:16]} NodeHostname={node} ..")
+        if node in owners:
+            yield Advice(f"node {node} is in {owners[node]} and {name}; only {owners[node]} has it", "one of them")
+        owners.setdefault(node, name)
+    if len(names) > MOST_NODES - 2:
+        yield Advice(f"{name} has {len(names):,} nodes; a tenant has {MOST_NODES - 2:,} at most", "several partitions")
+    row = conf.partitions[name]
+    for key, bad, wanted in (("oversubscribe", "EXCLUSIVE", "NO"), ("exclusiveuser", "YES", "NO")):
+        if row.get(key, "").upper() == bad:
+            yield Advice(f"{name}: a job would take a whole node", f"PartitionName={name} .. {key}={wanted}")
+
+
+def of_shared(table: Table, conf: Conf, owners: dict[str, str]) -> Iterator[Advice]:
+    """Nodes that partitions have which firm doesn't decide."""
+    ours = {partition.name for partition in table.partitions}
+    for name in conf.partitions:
+        shared = [node for node in conf.names_in(name) if name not in ours and node in owners]
+        if shared:
+            told = f"{name} has {len(shared)} nodes of firm's, as {shared[0]}: its jobs take slots that firm gives away"
+            yield Advice(told, f"PartitionName={name} with nodes of its own")

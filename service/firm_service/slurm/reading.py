@@ -1,0 +1,213 @@
+"""What Slurm says of nodes and jobs, as sinfo and squeue print it."""
+
+from __future__ import annotations
+
+import re
+from collections.abc import Iterator, Sequence
+from enum import Enum
+from typing import NamedTuple
+
+END = "|"  # of a field; the hook keeps it, and line feeds, out of what users write, and a comment comes last
+NODE_FIELDS = ("PartitionName", "NodeHost", "CPUsState", "StateComplete")
+JOB_FIELDS = (
+    *("Partition", "JobArrayID", "State", "PriorityLong", "Reason", "Account", "QOS", "Dependency"),
+    *("ReqNodes", "NodeList", "EligibleTime", "LastSchedEval", "StartTime", "Comment"),
+)
+NOTHING = frozenset({"", "N/A", "(null)", "Unknown"})
+CLOSED = {"drain", "fail", "maint", "maintenance", "reboot", "reboot_requested", "reboot_issued"}
+CLOSED |= {"powered_down", "powering_down", "power_down", "planned_down"}
+UNCLEAR = {"not_responding", "powering_up", "power_up", "invalid_reg", "unknown"}
+GONE = {"down", "error", "future"}
+NEAR = re.compile(r"(?:^|\s)near=([a-z0-9,-]+)")
+MOST = re.compile(r"(?:^|\s)firm:most=([0-9]{1,9})(?!\S)")
+HELD = re.compile(r"(?:^|\s)firm:held(?!\S)")
+HELD_STATES = {"SPECIAL_EXIT", "RESV_DEL_HOLD"}  # by an administrator, or as a reservation is no more
+MOST_NEAR = 4  # machines that a task may prefer
+FIRM_HOLDS = {"JobHeldUser", "job requeued in held state"}  # by the hook, by `uhold` and by `requeuehold`
+# A job that Slurm was asked to start and has looked at again so much later can't start where it is pinned.
+STUCK_SECONDS = 60.0
+# A start that is set further ahead is its user's or firm-slurm's own; Slurm delays what it requeues by two minutes.
+LATER_SECONDS = 300.0
+
+
+class Use(Enum):
+    """What a node's state means for its machine."""
+
+    OPEN = "takes jobs"
+    UNCLEAR = "Slurm has not given it up, or doesn't know it yet, as after a restart: all stays as it is"
+    CLOSED = "takes no more jobs; those that run go on"
+    GONE = "what ran there is over"
+
+
+class Node(NamedTuple):
+    name: str
+    cpus: int
+    allocated: int  # of them
+    use: Use
+
+
+class State(Enum):
+    PENDING = "pending"
+    RUNNING = "running"
+    LEAVING = "leaving"  # it has ended or is to start anew, and has not left its node
+
+
+class Hold(Enum):
+    NONE = "released"
+    FIRM = "held for firm"
+    OTHER = "held"  # by its user, an administrator or Slurm
+    MISSED = "released, and held by its user"  # as he held it when it was being released
+
+
+class Job(NamedTuple):
+    """A job of a partition that has not ended; an element of an array is one of its own."""
+
+    name: str  # the task's: 17, or 17-3 for an element of an array
+    account: str
+    qos: str
+    near: tuple[str, ...]  # machines that it prefers
+    most: int | None  # elements of its array that may run at a time
+    state: State
+    hold: Hold
+    has_needs: bool  # it depends on jobs that have not ended
+    node: str | None  # where it runs
+    pinned: str | None  # the node that it asks for
+    eligible: float | None  # when Slurm may start it, once it is released
+    evaluated: float | None  # when Slurm last looked whether it can start
+    started: float | None
+
+    @property
+    def id(self) -> str:
+        return self.name.replace("-", "_")
+
+    @property
+    def array(self) -> str:
+        return self.name.partition("-")[0]
+
+    @property
+    def is_pending(self) -> bool:
+        return self.state is State.PENDING
+
+    @property
+    def is_released(self) -> bool:
+        return self.is_pending and self.hold in (Hold.NONE, Hold.MISSED)
+
+    @property
+    def is_stuck(self) -> bool:
+        """Whether Slurm can't start it where it is pinned."""
+        if not self.is_released or self.pinned is None or self.eligible is None or self.evaluated is None:
+            return False
+        return self.evaluated - self.eligible >= STUCK_SECONDS
+
+    def is_firms(self, now: float) -> bool:
+        """Whether firm may decide when and where a pending job starts, or keep it if it has it."""
+        is_free = self.hold in (Hold.NONE, Hold.FIRM) and not self.has_needs and not self.is_stuck
+        return is_free and (self.eligible is None or self.eligible - now <= LATER_SECONDS)
+
+    def is_due(self, now: float) -> bool:
+        """Whether firm is to have it, if it is pending and firm doesn't have it."""
+        return self.is_pending and self.is_firms(now) and (self.eligible is None or self.eligible <= now)
+
+
+class Picture(NamedTuple):
+    """What Slurm said at a moment."""
+
+    nodes: dict[str, dict[str, Node]]  # by partition and name
+    jobs: dict[str, dict[str, Job]]  # by partition and task, in order of submission
+    at: float  # Unix time before it was asked
+
+
+def format_of(fields: Sequence[str]) -> str:
+    """The fields as squeue and sinfo take them with -O."""
+    return ",".join(f"{field}:{END}" for field in fields)
+
+
+def rows_of(text: str, fields: Sequence[str]) -> Iterator[list[str]]:
+    """The fields of each line; a line with fewer is none. A user's words may have what else ends a line in Unicode."""
+    for line in text.split("\n"):
+        row = line.removesuffix(END).split(END, len(fields) - 1)
+        if len(row) == len(fields):
+            yield [word.strip() for word in row]
+
+
+def word(text: str) -> str | None:
+    return None if text in NOTHING else text
+
+
+def time_of(text: str) -> float | None:
+    """A time as squeue prints it with SLURM_TIME_FORMAT=%s."""
+    return float(text) if text.isascii() and text.isdigit() else None
+
+
+def use_of(state: str) -> Use:
+    """From words like idle+drain+not_responding."""
+    words = set(state.lower().split("+"))
+    if words & GONE:
+        return Use.GONE
+    if words & CLOSED:
+        return Use.CLOSED
+    return Use.UNCLEAR if words & UNCLEAR else Use.OPEN
+
+
+def read_nodes(text: str) -> dict[str, dict[str, Node]]:
+    """By partition and name."""
+    found: dict[str, dict[str, Node]] = {}
+    for partition, name, cpus, state in rows_of(text, NODE_FIELDS):
+        allocated, _, _, total = cpus.split("/")
+        found.setdefault(partition, {})[name] = Node(name, int(total), int(allocated), use_of(state))
+    return found
+
+
+def without_shared(nodes: dict[str, dict[str, Node]], partitions: Sequence[str]) -> dict[str, dict[str, Node]]:
+    """The nodes of each partition that none before it has."""
+    taken: set[str] = set()
+    found: dict[str, dict[str, Node]] = {}
+    for partition in partitions:
+        rows = nodes.get(partition, {})
+        found[partition] = {name: node for name, node in rows.items() if name not in taken}
+        taken |= rows.keys()
+    return found
+
+
+def read_jobs(text: str) -> dict[str, dict[str, Job]]:
+    """By partition and task's name, in order of submission."""
+    found: dict[str, list[tuple[tuple[int, int], Job]]] = {}
+    for partition, *row in rows_of(text, JOB_FIELDS):
+        number, _, index = row[0].partition("_")
+        is_whole = row[2].isdigit()  # the priority, where no field before it has an end within
+        if is_whole and number.isdigit() and (index == "" or index.isdigit()):  # neither a part nor a whole array
+            found.setdefault(partition, []).append(((int(number), int(index or 0)), job_of(row)))
+    return {partition: {job.name: job for _, job in sorted(jobs)} for partition, jobs in found.items()}
+
+
+def job_of(row: Sequence[str]) -> Job:
+    """From all fields behind the partition."""
+    name, state, priority, reason, account, qos, needs, pinned, node, eligible, evaluated, started, comment = row
+    is_pending = state == "PENDING" or state in HELD_STATES
+    hold, is_users = Hold.NONE, HELD.search(comment) is not None
+    if is_pending and (priority == "0" or state in HELD_STATES):
+        is_firms = state == "PENDING" and reason in FIRM_HOLDS and not is_users
+        hold = Hold.FIRM if is_firms else Hold.OTHER
+    elif is_pending and is_users:
+        hold = Hold.MISSED
+    near, most = NEAR.search(comment), MOST.search(comment)
+    return Job(
+        name=name.replace("_", "-"),
+        account=word(account) or "",
+        qos=word(qos) or "",
+        near=tuple(dict.fromkeys(near[1].split(",")))[:MOST_NEAR] if near else (),
+        most=int(most[1]) if most else None,
+        state=State.PENDING if is_pending else state_of(state),
+        hold=hold,
+        has_needs=word(needs) is not None,
+        node=None if is_pending else word(node),
+        pinned=word(pinned),
+        eligible=time_of(eligible),
+        evaluated=time_of(evaluated),
+        started=time_of(started),
+    )
+
+
+def state_of(text: str) -> State:
+    """Of a job that is on a node, or leaves one."""
+    return State.RUNNING if text in ("RUNNING", "CONFIGURING", "SUSPENDED", "STOPPED", "RESIZING") else State.LEAVING

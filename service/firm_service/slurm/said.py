@@ -1,0 +1,162 @@
+"""What firm is said: the lines that bring a tenant's rows to what Slurm has. Nothing here has an effect."""
+
+from __future__ import annotations
+
+from collections import Counter, defaultdict
+from collections.abc import Iterator
+from dataclasses import dataclass, field
+
+from ..books import Book
+from ..lines import is_name
+from ..queue.backlog import TASK_ARCS, Room, reserve
+from .reading import Job, Node, State, Use
+from .table import Drain, Partition
+
+MOST_LINES = 4_000  # at a time: what is left comes with the next look
+
+
+@dataclass(frozen=True, slots=True)
+class Seen:
+    """What firm and Slurm have of a partition. The rows' tasks are read before Slurm is asked.
+
+    So a task without a job has none any more, even where others say lines meanwhile.
+    """
+
+    book: Book
+    tasks: frozenset[str]
+    nodes: dict[str, Node]
+    jobs: dict[str, Job]
+    now: float
+
+
+@dataclass(slots=True)
+class News:
+    """Lines, and the tasks that they take over with the nodes on which these run already."""
+
+    lines: list[str] = field(default_factory=list)
+    taken: dict[str, str] = field(default_factory=dict)
+
+
+def news(seen: Seen, partition: Partition, has_room: bool = True) -> News:
+    """The lines, without the round that follows them; no tasks where firm had no room for some a moment ago."""
+    ended = {task for task in seen.tasks if not is_kept(seen, task)}
+    ended |= set(finishing(seen)) if partition.drain is Drain.FINISH else set()
+    found = News([f"done {task}" for task in seen.book.tasks if task in ended])
+    found.lines += [f"drain {machine}" for machine in seen.book.machines if is_over(seen.nodes.get(machine))]
+    told = Telling(seen, partition, ended)
+    for node in new_nodes(seen):
+        told.add(node, found)
+    if has_room and not found.taken:
+        found.lines += told.tasks()
+    used = told.groups | {task.job for name, task in seen.book.tasks.items() if name not in ended}
+    idle = [job for job in seen.book.jobs if job not in used]
+    return News([*(f"close {job}" for job in idle if not ended), *found.lines], found.taken)
+
+
+def is_kept(seen: Seen, task: str) -> bool:
+    """Whether a task of firm's stays one: its job has not ended, and is no one else's to start."""
+    job = seen.jobs.get(task)
+    return job is not None and (not job.is_pending or job.is_firms(seen.now))
+
+
+def is_over(node: Node | None) -> bool:
+    """Whether a machine takes no more tasks."""
+    return node is None or node.use in (Use.CLOSED, Use.GONE)
+
+
+def finishing(seen: Seen) -> Iterator[str]:
+    """Tasks that run to their end on nodes that take no more."""
+    for task, row in seen.book.tasks.items():
+        job, node = seen.jobs.get(task), seen.nodes.get(row.machine or "")
+        if job is not None and node is not None and node.use is Use.CLOSED:
+            if job.state is State.RUNNING and job.node == row.machine:
+                yield task
+
+
+def new_nodes(seen: Seen) -> Iterator[Node]:
+    """Nodes that are to become machines."""
+    for node in seen.nodes.values():
+        if node.use is Use.OPEN and node.name not in seen.book.machines and is_name(node.name.encode()):
+            yield node
+
+
+class Telling:
+    """Finds the lines for what firm doesn't have yet, within its arena."""
+
+    def __init__(self, seen: Seen, partition: Partition, ended: set[str]) -> None:
+        self._seen, self._partition = seen, partition
+        self._kept = [name for name in seen.book.tasks if name not in ended]
+        self._room = Room.of(seen.book)
+        for name in ended & seen.book.tasks.keys():
+            self._room.take(-1, -TASK_ARCS - len(seen.book.tasks[name].prefers))
+        self._known = set(seen.book.jobs)
+        self._near = {name for name in seen.book.machines if not is_over(seen.nodes.get(name))}
+        self._on_node: dict[str, list[Job]] = defaultdict(list)
+        for job in seen.jobs.values():
+            if job.node is not None:
+                self._on_node[job.node].append(job)
+        self.groups: set[str] = set()  # firm's jobs that lines are told of
+
+    def add(self, node: Node, found: News) -> None:
+        """Tells of a node without jobs, or of one with the jobs that run there, where firm is sure to place them so."""
+        jobs, slots = self._on_node[node.name], self._partition.slots_of(node)
+        if (jobs or node.allocated) and not self._can_take(node, jobs, slots):
+            return
+        groups = len({self._partition.group(job).name for job in jobs} - self._known)
+        if not self._room.take(1 + len(jobs) + groups, 1 + slots + len(jobs) * (TASK_ARCS + 1) + groups):
+            return
+        self._near.add(node.name)
+        found.lines.append(f"machine {node.name} {slots}")
+        for job in jobs:
+            found.lines += self._lines_of(job, [node.name])
+            found.taken[job.name] = node.name
+        if jobs:
+            found.lines.append("round")
+
+    def _can_take(self, node: Node, jobs: list[Job], slots: int) -> bool:
+        """Whether a round places all that run on a node there: nothing else waits, and any other slot is dearer."""
+        book, partition = self._seen.book, self._partition
+        if book.waiting or len(jobs) > slots or node.allocated > len(jobs) * partition.cpus:
+            return False
+        if any(job.state is not State.RUNNING or job.name in book.tasks for job in jobs):
+            return False
+        dearest = book.limits.spread * (len(jobs) - 1)
+        return book.limits.remote > dearest and min(partition.group(job).weight for job in jobs) > dearest
+
+    def tasks(self) -> Iterator[str]:
+        """Pending jobs, heavy ones first, then in order of submission."""
+        partition, jobs = self._partition, self._seen.jobs
+        arrays = Counter(job.array for job in jobs.values() if not job.is_pending and job.name not in self._kept)
+        arrays.update(name.partition("-")[0] for name in self._kept)
+        count, told = len(self._kept), 0
+        self._room = self._room.without(reserve(self._seen.book.limits))
+        for job in sorted(self._due(), key=lambda job: -partition.group(job).weight):
+            if job.most is not None and arrays[job.array] >= job.most:
+                continue
+            if told >= MOST_LINES or partition.most is not None and count >= partition.most:
+                break
+            near = [machine for machine in job.near if machine in self._near]
+            is_new = partition.group(job).name not in self._known
+            if not self._room.take(1 + is_new, TASK_ARCS + len(near) + is_new):
+                break
+            yield from self._lines_of(job, near)
+            arrays[job.array] += 1
+            count, told = count + 1, told + 1
+
+    def _due(self) -> Iterator[Job]:
+        tasks, now = self._seen.book.tasks, self._seen.now
+        return (job for job in self._seen.jobs.values() if job.name not in tasks and job.is_due(now))
+
+    def _lines_of(self, job: Job, near: list[str]) -> Iterator[str]:
+        group = self._partition.group(job)
+        self.groups.add(group.name)
+        if group.name not in self._known:
+            self._known.add(group.name)
+            yield f"job {group.name} {group.weight}"
+        yield " ".join(["task", group.name, job.name, *near])
+
+
+def strays(book: Book, taken: dict[str, str]) -> list[str]:
+    """Takes back what was to be taken over where it runs, and was placed otherwise: it ends as a stranger."""
+    found = (task for task in taken if task in book.tasks and book.tasks[task].machine != taken[task])
+    return [f"done {task}" for task in found]

@@ -1,0 +1,572 @@
+#!/usr/bin/env python3
+"""Asks firm-slurm over Debian's Slurm on this host whether Slurm does what firm decides, whatever is killed meanwhile.
+
+usage: tests/slurm_bridge.py [--program FILE] [--only WORDS] [--chaos RUNS] [--seed N]
+It needs root, the built program, and Debian's packages slurmctld, slurmd, slurm-client, slurm-wlm-basic-plugins and
+munge; where they are missing its checks are skipped. Each check has a line; the last line is 'N passed, M failed', and
+the exit status is 1 where one failed. --chaos also has so many runs of random events, with seeds from N on.
+KEEP_LOGS names a folder for the logs of all daemons.
+"""
+
+from __future__ import annotations
+
+import argparse
+import random
+import signal
+import subprocess
+import tempfile
+import time
+import urllib.request
+from collections import Counter
+from collections.abc import Callable
+from concurrent.futures import ThreadPoolExecutor
+from contextlib import suppress
+from datetime import datetime, timedelta
+from functools import partial
+from pathlib import Path
+
+from harness import program, sessions
+from harness.checks import Check, count_ends, passes, require, run_script
+from harness.deployed import SERVICE
+from harness.guard import guard
+from slurm_kit import BRIDGE, Cluster, Judge, Site, free_ports, require_packages, site, slowness, wait
+
+EQUAL_SECONDS, START_SECONDS = 2.0, 5.0  # in which squeue has what firm decided, and 160 jobs run, on an idle host
+RETRY_SECONDS = 2.0  # at most, until firmd is found again
+STUCK_SECONDS = 60.0  # until a job that can't start is put off
+AT_A_TIME = 3  # checks
+USER = "nobody"
+PAGE = program.ROOT / "docs" / "CLUSTER.md"
+MOVING = "4096,65536,1099511627776,10,5,0"  # a third task on a machine costs more than a move
+DOWN_SECONDS = 120.0  # for Slurm to give a node up
+
+
+def tell(text: str) -> None:
+    print(f"         {text}", flush=True)
+
+
+def settle(place: Site, what: str, most: float = EQUAL_SECONDS) -> None:
+    """Asks that squeue soon equals what firm says, in two seconds on an idle host."""
+    seconds = place.settle(what)
+    tell(f"{what}: squeue equals where after {seconds:.1f} s")
+    require(seconds <= most * slowness() + 1, f"{what}: equal only after {seconds:.1f} s")
+
+
+def drained(place: Site, node: str) -> bool:
+    return node not in [row["machine"] for row in place.rows()["machines"]]
+
+
+def places_of(place: Site) -> set[str | None]:
+    return set(place.places().values())
+
+
+def set_node(place: Site, node: str, state: str) -> None:
+    reason = ["Reason=test"] if state == "DRAIN" else []
+    place.cluster.run("scontrol", "update", f"NodeName={node}", f"State={state}", *reason)
+
+
+def decided(firm: str) -> None:
+    """Five nodes, 86 jobs: a drain, preemption, kills of bridge, firmd and slurmctld, and a dead node."""
+    with site(firm, 5, 4) as place:
+        place.start_bridge()
+        place.submit(32, 12, "light")
+        place.submit(8, 12, "light", "--comment=near=node3")
+        wait(lambda: len(place.places()) == 40, "40 tasks")
+        settle(place, "40 jobs of 12 s")
+        set_node(place, "node2", "DRAIN")
+        wait(lambda: drained(place, "node2"), "the drain of node2")
+        place.submit(6, 6, "heavy")
+        wait(lambda: place.count_said("preempt"), "a preemption")
+        settle(place, "heavy jobs preempt light ones")
+        set_node(place, "node2", "RESUME")
+        wait(lambda: "node2" in places_of(place), "node2 again")
+        settle(place, "node2 is there again")
+        place.kill_bridge()
+        time.sleep(2)
+        place.start_bridge()
+        settle(place, "the bridge was killed")
+        place.submit(20, 8, "light")
+        time.sleep(0.7)
+        place.daemon.kill()
+        time.sleep(2)
+        place.daemon.start()
+        settle(place, "firmd was killed", EQUAL_SECONDS + RETRY_SECONDS)
+        place.cluster.kill("slurmctld")
+        time.sleep(3)
+        place.cluster.start_controller()
+        settle(place, "slurmctld was stopped")
+        place.submit(20, 8, "light")
+        wait(lambda: "node4" in places_of(place), "jobs on node4")
+        place.cluster.cut_power("node4")
+        wait(lambda: drained(place, "node4"), "node4 is given up", DOWN_SECONDS)
+        settle(place, "node4 is dead")
+        wait(place.is_empty, "the end of all jobs", 180)
+        judge(place, 86, 4)
+
+
+def judge(place: Site, count: int, slots: int) -> dict[str, int]:
+    """Asks of the logs that all jobs ended once, none ran twice at a time, and all changes were carried out; which."""
+    found = Judge(place)
+    found.require_single()
+    cancelled = found.require_ended_once(count)
+    most = found.most_at_a_time()
+    require(most <= slots, f"{most} jobs on a node of {slots}")
+    told = f"{count - cancelled} jobs ended once, {cancelled} were cancelled, {most} of {slots} on a node at most"
+    carried_out = found.require_carried_out()
+    tell(f"{told}; carried out: {carried_out}")
+    return carried_out
+
+
+def count_running(place: Site) -> int:
+    return sum(state == "RUNNING" for state, _ in place.cluster.squeue().values())
+
+
+def large(firm: str) -> None:
+    """40 nodes of 4 and 400 jobs: 160 run within five seconds of an idle host."""
+    with site(firm, 40, 4) as place:
+        place.start_bridge()
+        wait(lambda: len(place.rows()["machines"]) == 40, "40 machines")
+        began = time.monotonic()
+        place.submit(400, 20, "light")
+        wait(lambda: count_running(place) == 160, "160 jobs that run")
+        seconds = time.monotonic() - began
+        tell(
+            f"160 of 400 jobs run {seconds:.1f} s after they were submitted, on a host {slowness():.1f} times too busy"
+        )
+        require(seconds <= START_SECONDS * slowness(), f"160 jobs run only after {seconds:.1f} s")
+        settle(place, "400 jobs on 40 nodes")
+
+
+# What users may do
+
+
+def state_of(place: Site, job: str) -> str:
+    return place.cluster.squeue().get(job, ("ended", ""))[0]
+
+
+def is_in_firm(place: Site, *jobs: str) -> bool:
+    return set(jobs) <= place.places().keys()
+
+
+def holds(firm: str) -> None:
+    """A hold is its user's own until he releases the job, or an administrator's; nobody releases what firm holds."""
+    with site(firm, 1, 2) as place:
+        run = partial(place.cluster.run, user=USER)
+        first = place.submit(1, 60, "light", "--hold", user=USER)
+        array = place.submit(3, 60, "light", user=USER)
+        run("scontrol", "hold", f"{array}_3")
+        waiting = place.submit(1, 1, "light", user=USER)
+        place.start_bridge()
+        wait(lambda: is_in_firm(place, f"{array}-1", f"{array}-2", waiting), "the tasks that nobody holds")
+        wait(lambda: count_running(place) == 2, "two jobs that run")
+        require(not place.places().keys() & {first, f"{array}-3"}, f"held jobs are firm's: {place.places()}")
+        done = place.cluster.try_run("scontrol", "release", waiting, user=USER)
+        require(done.returncode != 0 and state_of(place, waiting) == "PENDING", f"a user releases: {done}")
+        run("scontrol", "hold", waiting)
+        wait(lambda: not is_in_firm(place, waiting), "a hold of a task")
+        for held in (waiting, first, f"{array}_3"):
+            run("scontrol", "release", held)
+        wait(lambda: is_in_firm(place, waiting, first, f"{array}-3"), "released jobs are firm's")
+        place.cluster.run("scontrol", "hold", waiting)
+        wait(lambda: not is_in_firm(place, waiting), "a hold of an administrator")
+        place.cluster.run("scontrol", "uhold", waiting)
+        wait(lambda: is_in_firm(place, waiting), "it is firm's again")
+        run("scancel", array, first)
+        wait(lambda: place.is_empty(), "the end of all jobs")
+
+
+def orders(firm: str) -> None:
+    """Dependencies, a time to begin, elements of an array at a time, preferred nodes and weights are kept."""
+    with site(firm, 2, 2) as place:
+        place.start_bridge()
+        near = place.submit(1, 8, "light", "--comment=near=node2")
+        few = place.submit(4, 3, "light", "--array=1-4%1")
+        later = place.submit(1, 1, "light", f"--dependency=afterok:{near}")
+        begins = place.submit(1, 1, "light", "--begin=now+12")
+        wait(lambda: place.places().get(near) == "node2", "a preferred node")
+        most = 0
+        while state_of(place, near) == "RUNNING" or few in str(place.cluster.squeue()):
+            running = [job for job, (state, _) in place.cluster.squeue().items() if state == "RUNNING"]
+            most = max(most, sum(job.startswith(f"{few}-") for job in running))
+            require(later not in running or near not in running, "a job before the one that it needs")
+            require(not is_in_firm(place, begins) or not place.cluster.squeue().get(near), "a job before its time")
+            time.sleep(0.3)
+        require(most == 1, f"{most} elements of an array at a time")
+        wait(place.is_empty, "the end of all jobs")
+        judge(place, 7, 2)
+
+
+def refusals(firm: str) -> None:
+    """What is more than one slot, or chooses its node, is refused with Slurm's own words."""
+    with site(firm, 2, 2) as place:
+        script = place.folder / "job"
+        script.write_text("#!/bin/sh\n")
+        for words, said in (
+            (["-N2"], "one slot"),
+            (["-n2"], "one slot"),
+            (["-c2"], "one slot"),
+            (["--exclusive"], "one slot"),
+            (["--exclusive=user"], "one slot"),
+            (["-w", "node1"], "firm chooses the node"),
+            (["-x", "node1"], "firm chooses the node"),
+            (["--comment=a\nb"], "control characters"),
+            (["-A", "a|b"], "control characters"),
+        ):
+            done = place.cluster.try_run("sbatch", *words, str(script), user=USER)
+            require(done.returncode != 0 and said in done.stderr, f"{words}: {done}")
+        done = place.cluster.try_run("srun", "true", user=USER)
+        require(done.returncode != 0 and "use sbatch" in done.stderr, f"srun: {done}")
+        require(not place.cluster.squeue(), "a refused job is there")
+
+
+# Changes of a job that its user may not make: of its size, its node, when it runs, and whether firm may preempt it.
+CHANGES = ["NumCPUs=4", "NumNodes=2", "NumTasks=3", "CPUsPerTask=3", "MinCPUsNode=2", "Requeue=0"]
+CHANGES += ["ReqNodeList=node1", "ExcNodeList=node1", "Comment=a|b", "Comment=a\nb", "Account=a|b", "QOS=a\nb"]
+
+
+def changes(firm: str) -> None:
+    """Whatever its user changes of a job, it has one slot, firm may preempt it, and his own hold stays."""
+    with site(firm, 1, 2) as place:
+        held = place.submit(1, 60, "light", "--hold", user=USER)
+        array = place.submit(4, 60, "light", "--array=1-4%1", user=USER)
+        update = partial(place.cluster.try_run, "scontrol", "update", user=USER)
+        for job in (held, array):
+            for change in CHANGES:
+                done = update(f"JobId={job}", change)
+                require(done.returncode != 0, f"a user changes {change} of {job}: {done}")
+        require(update(f"JobId={array}", "Priority=77").returncode != 0, "a user releases an array")
+        for job in (held, array):
+            for words in ("mine", "firm:most=9", "near=node1 \u2028 \x85"):
+                require(update(f"JobId={job}", f"Comment={words}").returncode == 0, f"a comment: {words!r}")
+        place.start_bridge()
+        wait(lambda: count_running(place) == 1, "an element of the array")
+        place.submit(2, 1, "heavy")
+        wait(lambda: place.count_said("preempt"), "a preemption of a job that its user has changed")
+        wait(lambda: place.count_said("requeuehold"), "it is carried out")
+        require(set(place.places()) & {held} == set(), "a held job whose comment has changed is firm's")
+        require(sum(name.startswith(array) for name in place.places()) == 1, f"elements at a time: {place.places()}")
+        for verb, is_there in (("hold", False), ("release", True)):
+            place.cluster.run("scontrol", verb, array, user=USER)
+            wait(lambda: is_there == any(name.startswith(array) for name in place.places()), f"{verb} of an array")
+        place.cluster.run("scontrol", "release", held, user=USER)
+        wait(lambda: is_in_firm(place, held), "it is released")
+        place.cluster.run("scancel", array, held, user=USER)
+        wait(place.is_empty, "the end of all jobs")
+
+
+# What else there is
+
+
+def is_put_off(place: Site, job: str) -> bool:
+    """Whether a job is held, with a later time to begin."""
+    reason, eligible, _ = place.cluster.run("squeue", "-h", "-j", job, "-O", "Reason:|,EligibleTime:|").split("|")
+    later = datetime.now() + timedelta(seconds=100)
+    return reason == "JobHeldUser" and eligible != "N/A" and datetime.fromisoformat(eligible) > later
+
+
+def moved(firm: str) -> None:
+    """A job that firm moves is requeued, and runs to its end where firm has it then; a killed bridge is no matter."""
+    with site(firm, 3, 4, limits=MOVING) as place:
+        place.start_bridge()
+        wait(lambda: len(place.rows()["machines"]) == 3, "three machines")
+        for node in ("node2", "node3"):
+            set_node(place, node, "DRAIN")
+        wait(lambda: drained(place, "node2") and drained(place, "node3"), "one machine")
+        place.submit(3, 20, "heavy")
+        wait(lambda: count_running(place) == 3, "three jobs on node1")
+        for node in ("node2", "node3"):
+            set_node(place, node, "RESUME")
+        wait(lambda: place.count_said(" move "), "a move")
+        place.kill_bridge()  # whatever it has begun, the next one carries it out
+        place.start_bridge()
+        wait(lambda: places_of(place) == {"node1", "node2", "node3"}, "a job on each node")
+        settle(place, "firm moved two jobs", EQUAL_SECONDS + RETRY_SECONDS)
+        wait(place.is_empty, "the end of all jobs")
+        carried_out = judge(place, 3, 4)
+        require(carried_out.get("move", 0) >= 2, f"moves: {carried_out}")
+
+
+def put_off(firm: str) -> None:
+    """A job that Slurm can't start within a minute gives its slot back, and is put off."""
+    others = "PartitionName=firm Nodes=node1 Default=YES State=UP\nPartitionName=other Nodes=node1 State=UP"
+    with site(firm, 1, 2, partitions=others) as place:
+        place.start_bridge()
+        wait(lambda: place.rows()["machines"], "a machine")
+        place.submit(1, 300, "light", "-p", "other", "-n2")
+        wait(lambda: count_running(place) == 1, "the other partition's job")
+        job = place.submit(1, 1, "light")
+        wait(lambda: place.places().get(job) == "node1", "firm places the job")
+        wait(lambda: not is_in_firm(place, job), "its slot is given back", 2 * STUCK_SECONDS)
+        wait(lambda: is_put_off(place, job), "it is put off")
+        place.cluster.run("scancel", "-p", "other")
+        place.cluster.run("scontrol", "update", f"JobId={job}", "StartTime=now")
+        wait(place.is_empty, "its end")
+
+
+def taken_over(firm: str) -> None:
+    """Jobs that run before the bridge's first start go on, as tasks of the nodes on which they are."""
+    with site(firm, 3, 2) as place:
+        job = place.submit(3, 25, "light")
+        for index, node in ((1, "node1"), (2, "node2"), (3, "node2")):
+            place.cluster.run("scontrol", "update", f"JobId={job}_{index}", f"ReqNodeList={node}", "StartTime=now")
+            place.cluster.run("scontrol", "release", f"{job}_{index}")
+        wait(lambda: count_running(place) == 3, "three jobs that run")
+        place.submit(4, 1, "light")
+        place.start_bridge()
+        wanted = {f"{job}-1": "node1", f"{job}-2": "node2", f"{job}-3": "node2"}
+        wait(lambda: wanted.items() <= place.places().items(), "tasks where their jobs run")
+        wait(place.is_empty, "the end of all jobs")
+        require(not place.count_said("requeuehold"), "a job was requeued")
+        judge(place, 7, 2)
+
+
+def rivals(firm: str) -> None:
+    """A second bridge waits for the first one's end; one by another table does no harm, and says that there is one."""
+    with site(firm, 2, 4) as place:
+        place.start_bridge("first")
+        wait(lambda: place.count_said("machine node", "first") == 2, "two machines")
+        place.start_bridge("second")
+        wait(lambda: place.count_said("another bridge has", "second"), "the second waits")
+        place.kill_bridge("first")
+        place.submit(4, 0.5, "light")
+        wait(lambda: place.count_said("4 task", "second"), "the second has taken over")
+        other = place.folder / "other.toml"
+        other.write_text(place.table.read_text())
+        place.start_bridge("third", other)
+        count = 4
+        while not any(place.count_said("another bridge or client speaks", name) for name in ("second", "third")):
+            require(count < 200, "neither bridge says that there is another")
+            place.submit(4, 0.5, "light")
+            count += 4
+            time.sleep(0.7)
+        wait(place.is_empty, "the end of all jobs")
+        judge(place, count, 4)
+
+
+def several(firm: str) -> None:
+    """One bridge has several partitions, each with a tenant."""
+    two = "PartitionName=a Nodes=node1 Default=YES State=UP\nPartitionName=b Nodes=node2 State=UP"
+    with site(firm, 2, 2, partitions=two, tenants=("a", "b")) as place:
+        place.start_bridge()
+        first, second = place.submit(2, 5, "light"), place.submit(2, 5, "light", "-p", "b")
+        wait(lambda: count_running(place) == 4, "four jobs that run")
+        nodes = {job: node for job, (_, node) in place.cluster.squeue().items()}
+        require(nodes == {f"{first}-{k}": "node1" for k in (1, 2)} | {f"{second}-{k}": "node2" for k in (1, 2)}, nodes)
+        wait(lambda: not place.cluster.squeue(), "the end of all jobs")
+
+
+def shown(firm: str) -> None:
+    """`status` tells what differs and since when, `check` what to write, /metrics the same as numbers."""
+    with site(firm, 1, 2) as place:
+        require("nothing is to be changed" in place.tool("check"), "an advice for a good slurm.conf")
+        place.start_bridge()
+        job = place.submit(1, 60, "light")
+        wait(lambda: count_running(place) == 1, "a job that runs")
+        require(f"\nfirm       {job}" not in place.tool("status"), "a difference where none is")
+        place.kill_bridge(number=signal.SIGTERM)
+        place.cluster.run("scancel", job)
+        wait(lambda: state_of(place, job) == "ended", "its end")
+        told = place.tool("status").split()
+        require(told[-5:-1] == ["firm", job, "node1", "ended"], f"status: {told}")
+        metrics(place)
+        conf = place.cluster.conf
+        text = conf.read_text().replace("default_queue_depth=10000,", "").replace("=lua", "=")
+        (place.folder / "slurm.conf").write_text(text.replace("NodeName=node[1-1]", "NodeName=Node_[1-1]"))
+        done = place.try_tool("check", "--conf", str(place.folder / "slurm.conf"))
+        for advice in ("default_queue_depth=10000", "JobSubmitPlugins=lua", "firm-slurm hook", "node Node_1"):
+            require(done.returncode == 1 and advice in done.stdout, f"{advice}: {done}")
+
+
+def metrics(place: Site) -> None:
+    python, port = "/usr/bin/python3", free_ports(1)
+    if subprocess.run([python, "-c", "import prometheus_client"], capture_output=True).returncode:
+        return tell("no metrics: there is no python3-prometheus-client")
+    command = [python, *BRIDGE[1:], "run", "--table", str(place.table), "--http", str(port)]
+    with subprocess.Popen(command, env=place.cluster.environment, stderr=subprocess.DEVNULL) as bridge:
+        try:
+            wait(lambda: 'firm_slurm_nodes{partition="firm",use="open"} 1.0' in scraped(port), "the metrics")
+            wait(lambda: 'firm_slurm_different{partition="firm"} 0.0' in scraped(port), "no difference")
+            require('firm_slurm_lines_total{partition="firm",verb="done"} 1.0' in scraped(port), scraped(port))
+        finally:
+            bridge.terminate()
+
+
+def scraped(port: int) -> str:
+    with suppress(OSError), urllib.request.urlopen(f"http://127.0.0.1:{port}/metrics", timeout=10) as answer:
+        return bytes(answer.read()).decode()
+    return ""
+
+
+# Chaos
+
+
+def chaos(seed: int, firm: str, seconds: float = 60.0) -> None:
+    """Two bridges, and random submissions, drains, cancels and kills."""
+    chance = random.Random(seed)
+    drain = chance.choice(["finish", "move"])
+    with site(firm, 5, 4, partition_options=f'drain = "{drain}"') as place:
+        for name in ("bridge", "second"):
+            place.start_bridge(name)
+        events = Events(place, chance)
+        ends = time.monotonic() + seconds
+        while time.monotonic() < ends:
+            events.next()
+            time.sleep(chance.uniform(0.1, 1.5))
+        events.resume_all()
+        place.settle("after all events")
+        wait(place.is_empty, "the end of all jobs", 240)
+        tell(f"seed {seed}, drain {drain}: {dict(events.counts)}")
+        judge(place, events.submitted, 4)
+
+
+class Events:
+    def __init__(self, place: Site, chance: random.Random) -> None:
+        self.place, self.chance = place, chance
+        self.counts: Counter[str] = Counter()
+        self.submitted = 0
+        self._drained: set[str] = set()
+
+    def next(self) -> None:
+        kinds: dict[Callable[[], None], float] = {self.submit: 5, self.drain: 1, self.resume: 2, self.cancel: 1}
+        kinds |= {self.bridge: 1, self.firmd: 1, self.slurmctld: 1, self.power: 0.3}
+        event = self.chance.choices(list(kinds), list(kinds.values()))[0]
+        self.counts[event.__name__] += 1
+        event()
+
+    def submit(self) -> None:
+        count, seconds = self.chance.randint(1, 8), self.chance.choice([0.2, 2, 6, 12])
+        near = f"--comment=near=node{self.chance.randint(1, 5)}"
+        self.place.submit(count, seconds, self.chance.choice(["a", "b", "c", "heavy"]), near)
+        self.submitted += count
+
+    def drain(self) -> None:
+        if len(self._drained) < 3:
+            node = f"node{self.chance.randint(1, 5)}"
+            self._drained.add(node)
+            set_node(self.place, node, "DRAIN")
+
+    def resume(self) -> None:
+        if self._drained:
+            self.place.cluster.try_run("scontrol", "update", f"NodeName={self._drained.pop()}", "State=RESUME")
+
+    def resume_all(self) -> None:
+        while self._drained:
+            self.resume()
+
+    def cancel(self) -> None:
+        jobs = sorted(self.place.cluster.squeue())
+        if jobs:
+            self.place.cluster.try_run("scancel", self.chance.choice(jobs).replace("-", "_"))
+
+    def bridge(self) -> None:
+        name = self.chance.choice(["bridge", "second"])
+        self.place.kill_bridge(name)
+        time.sleep(self.chance.uniform(0, 1.5))
+        self.place.start_bridge(name)
+
+    def firmd(self) -> None:
+        self.place.daemon.kill()
+        time.sleep(self.chance.uniform(0, 1))
+        self.place.daemon.start()
+
+    def slurmctld(self) -> None:
+        self.place.cluster.kill("slurmctld")
+        time.sleep(self.chance.uniform(0, 1))
+        self.place.cluster.start_controller()
+
+    def power(self) -> None:
+        node = f"node{self.chance.randint(1, 5)}"
+        self.place.cluster.cut_power(node)
+        time.sleep(self.chance.uniform(0, 3))
+        self.place.cluster.start_node(node)
+
+
+# The page
+
+
+def page(firm: str) -> None:
+    """The commands and the table of docs/CLUSTER.md take an operator to a job that ran."""
+    require_packages()
+    typed, table = (sessions.block_with(PAGE, words).text for words in ("firm-slurm check", "[partitions.batch]"))
+    partition = "PartitionName=batch Nodes=ALL Default=YES State=UP"
+    with tempfile.TemporaryDirectory(prefix="firm-slurm-") as name:
+        folder = Path(name)
+        cluster = Cluster(folder / "slurm", 2, 8, partition)
+        names = {
+            "/var/lib/firm/state": f"{folder}/state",
+            "/run/firm/": f"{folder}/",
+            "/etc/slurm": str(cluster.folder),
+        }
+        names |= {"service/": f"{SERVICE}/", " --http 9181": ""}
+        for old, new in names.items():
+            typed, table = typed.replace(old, new), table.replace(old, new)
+        (folder / "slurm.toml").write_text(table)
+        (folder / "job.sh").write_text(f"#!/bin/sh\n#SBATCH -o /dev/null\necho done >> {folder}/ledger\n")
+        served: list[subprocess.Popen[bytes]] = []
+        try:
+            for line in typed.splitlines():
+                follow(line, folder, cluster, served, firm)
+            wait(lambda: (folder / "ledger").exists(), "the first job")
+            wait(lambda: (folder / "ledger").read_text().count("done") == 100, "all 100 jobs", 180)
+        finally:
+            for process in served:
+                process.terminate()
+                process.wait()
+            cluster.stop()
+
+
+def follow(line: str, folder: Path, cluster: Cluster, served: list[subprocess.Popen[bytes]], firm: str) -> None:
+    """Does what a line of the page says."""
+    words, environment = ["/bin/sh", "-euc", line], cluster.environment
+    if line.startswith("apt-get"):
+        return
+    if "firmd" in line or "firm-slurm run" in line:
+        command = f"exec {line}" + (f" --firm {firm}" if "firmd" in line else "")
+        served.append(subprocess.Popen([*words[:2], command], cwd=folder, env=environment, stderr=subprocess.DEVNULL))
+        if "firmd" in line:
+            wait(lambda: (folder / "state/view").exists(), "firmd")
+        return
+    done = subprocess.run(words, cwd=folder, env=environment, capture_output=True, text=True)
+    require(done.returncode == 0, f"{line}: {done}")
+    if "check" in line:
+        cluster.start()
+
+
+CHECKS: dict[str, Callable[[str], None]] = {
+    "large": large,
+    "decided": decided,
+    "moved": moved,
+    "put off": put_off,
+    "taken over": taken_over,
+    "holds": holds,
+    "orders": orders,
+    "rivals": rivals,
+    "several": several,
+    "shown": shown,
+    "refusals": refusals,
+    "changes": changes,
+    "page": page,
+}
+
+
+def main() -> int:
+    parser = argparse.ArgumentParser(description=(__doc__ or "").splitlines()[0])
+    parser.add_argument("--program", type=program.program_file, default=str(program.BUILT), help="(default: the built)")
+    parser.add_argument("--only", nargs="*", metavar="WORD", help="checks whose names begin so")
+    parser.add_argument("--chaos", type=int, default=0, metavar="RUNS", help="of random events too")
+    parser.add_argument("--seed", type=int, default=1, metavar="N", help="of the first")
+    options = parser.parse_args()
+    guard()
+    found: dict[str, Check] = {name: partial(check, options.program) for name, check in CHECKS.items()}
+    for seed in range(options.seed, options.seed + options.chaos):
+        found[f"chaos, seed {seed}"] = partial(chaos, seed, options.program)
+    if options.only is not None:
+        found = {name: check for name, check in found.items() if name.startswith(tuple(options.only))}
+    ends = [passes("large", found.pop("large"))] if "large" in found else []  # alone, as its time is measured
+    with ThreadPoolExecutor(AT_A_TIME) as workers:
+        ends += workers.map(lambda name: passes(name, found[name]), found)
+    return count_ends(ends)
+
+
+if __name__ == "__main__":
+    run_script(main)

@@ -1,0 +1,360 @@
+#!/usr/bin/env python3
+"""Tables of firm-slurm's pure rules: what Slurm's words mean, what firm is said, what Slurm is to do, what differs.
+
+usage: tests/slurm_tables.py
+No Slurm, no firm and no clock is asked. Each check has a line; the last line is 'N passed, M failed', and the exit
+status is 1 where one failed.
+"""
+
+from __future__ import annotations
+
+import argparse
+import tempfile
+from pathlib import Path
+from typing import Any
+
+from harness.checks import Check, count_ends, passes, require, run_script
+from harness.deployed import Book, TableError, books, roster, slurm
+
+reading = slurm.reading
+NOW = 1_000_000.0
+Use, State, Hold = reading.Use, reading.State, reading.Hold
+OPEN, UNCLEAR, CLOSED, GONE = Use.OPEN, Use.UNCLEAR, Use.CLOSED, Use.GONE
+PENDING, RUNNING, LEAVING = State.PENDING, State.RUNNING, State.LEAVING
+RELEASED, HELD, OTHER, MISSED = Hold.NONE, Hold.FIRM, Hold.OTHER, Hold.MISSED
+
+# The state of a node, as sinfo prints it, and its use.
+USES = {
+    "idle": OPEN,
+    "mixed+completing": OPEN,
+    "allocated": OPEN,
+    "idle+drain": CLOSED,
+    "mixed+drain+not_responding": CLOSED,
+    "idle+maintenance": CLOSED,
+    "idle+not_responding": UNCLEAR,
+    "allocated+not_responding": UNCLEAR,
+    "unknown": UNCLEAR,
+    "unknown+not_responding": UNCLEAR,
+    "down+drain": GONE,
+    "down+not_responding": GONE,
+}
+# A line of squeue behind its partition and number, and what differs from a job that the hook holds.
+HELD_ROW = "PENDING|0|JobHeldUser|light|(null)|(null)|||N/A|N/A|N/A|(null)"
+JOBS: list[tuple[str, dict[str, Any]]] = [
+    (HELD_ROW, {}),
+    (HELD_ROW.replace("light|(null)", "(null)|high"), {"account": "", "qos": "high"}),
+    (HELD_ROW.replace("JobHeldUser", "JobHeldAdmin"), {"hold": OTHER}),
+    (HELD_ROW.replace("JobHeldUser", "BadConstraints"), {"hold": OTHER}),
+    (HELD_ROW.replace("JobHeldUser", "job requeued in held state"), {}),
+    (HELD_ROW[:-6] + "near=a firm:held", {"hold": OTHER, "near": ("a",)}),
+    (HELD_ROW[:-6] + "firm:held-not near=a,b,a,c,d,e", {"near": ("a", "b", "c", "d")}),
+    (HELD_ROW[:-6] + "firm:most=3", {"most": 3}),
+    (HELD_ROW[:-6] + "bear=a", {}),
+    (HELD_ROW[:-6] + "a\u2028b\x85c\x0bd\re near=m1", {"near": ("m1",)}),
+    (HELD_ROW[:-6] + "a|b| near=m1", {"near": ("m1",)}),
+    (HELD_ROW.replace("|(null)|||", "|afterok:2(unfulfilled)|||"), {"has_needs": True}),
+    (HELD_ROW.replace("PENDING", "SPECIAL_EXIT"), {"hold": OTHER}),
+    (HELD_ROW.replace("PENDING", "RESV_DEL_HOLD"), {"hold": OTHER}),
+    (
+        "PENDING|42|Resources|light|(null)|(null)|m1||500|560|N/A|(null)",
+        {"hold": RELEASED, "pinned": "m1", "eligible": 500.0, "evaluated": 560.0},
+    ),
+    (
+        "PENDING|42|Resources|light|(null)|(null)|m1||500|560|N/A|firm:held",
+        {"hold": MISSED, "pinned": "m1", "eligible": 500.0, "evaluated": 560.0},
+    ),
+    (
+        "RUNNING|42|None|light|(null)|(null)|m1|m1|500|501|501|(null)",
+        {
+            **{"hold": RELEASED, "state": RUNNING, "node": "m1", "pinned": "m1"},
+            **{"eligible": 500.0, "evaluated": 501.0, "started": 501.0},
+        },
+    ),
+    (
+        "COMPLETING|0|JobHeldUser|light|(null)|(null)||m1|N/A|N/A|501|(null)",
+        {"hold": RELEASED, "state": LEAVING, "node": "m1", "started": 501.0},
+    ),
+]
+JOB = reading.Job("1", "light", "", (), None, PENDING, HELD, False, None, None, None, None, None)
+
+
+def job(name: str = "1", **fields: Any) -> reading.Job:
+    return JOB._replace(name=name, **fields)
+
+
+def running(name: str, node: str, **fields: Any) -> reading.Job:
+    return job(name, state=RUNNING, hold=RELEASED, node=node, pinned=node, started=NOW - 9, **fields)
+
+
+def pinned(name: str, node: str, seconds: float = 1.0, **fields: Any) -> reading.Job:
+    """A job that was released for a node so many seconds before Slurm last looked at it."""
+    fields = {"hold": RELEASED, "eligible": NOW - 100, "evaluated": NOW - 100 + seconds, **fields}
+    return job(name, pinned=node, **fields)
+
+
+def node(name: str, use: Any = OPEN, allocated: int = 0) -> reading.Node:
+    return reading.Node(name, 4, allocated, use)
+
+
+def book_of(machines: str = "", tasks: str = "", limits: str = "") -> Book:
+    """Rows like `m1 m2` and `1:m1 2:- light/3:m2`: a task with its machine, of the job j where no other is named."""
+    numbers = [int(word) for word in (limits or "30,300,1000,0,9,5").split(",")]
+    book = Book(roster.Limits("alpha", *numbers))
+    book.machines = dict.fromkeys(machines.split(), 4)
+    for word in tasks.split():
+        name, _, machine = word.partition(":")
+        group, _, name = name.rpartition("/")
+        book.jobs[group or "light"] = 10
+        place = None if machine == "-" else machine
+        book.tasks[name] = books.Task(group or "light", len(book.tasks), (), 0, NOW - 5, place)
+        book.waiting += place is None
+    return book
+
+
+def partition(**fields: Any) -> slurm.table.Partition:
+    row: dict[str, Any] = {"socket": "lines", "weights": {"heavy": 1_000}, **fields}
+    return slurm.table.partition_of("batch", row)
+
+
+# What firm has, nodes, jobs, fields of the partition, and what firm is said.
+NEWS: list[tuple[str, Book, list[reading.Node], list[reading.Job], dict[str, Any], list[str]]] = [
+    ("a node", book_of(), [node("m1")], [], {}, ["machine m1 4"]),
+    ("slots of a table", book_of(), [node("m1")], [], {"slots": 2}, ["machine m1 2"]),
+    ("a slot of two processors", book_of(), [node("m1")], [], {"cpus": 2}, ["machine m1 2"]),
+    ("no name of firm", book_of(), [node("Rack_1")], [], {}, []),
+    ("a node that is unclear", book_of(), [node("m1", UNCLEAR)], [], {}, []),
+    ("a machine that is unclear", book_of("m1", "1:m1"), [node("m1", UNCLEAR)], [running("1", "m1")], {}, []),
+    ("a node with others' jobs", book_of(), [node("m1", OPEN, 2)], [], {}, []),
+    ("a drain, finish", book_of("m1", "1:m1 2:m1"), [node("m1", CLOSED)], [running("1", "m1"), pinned("2", "m1")],
+     {}, ["done 1", "drain m1"]),
+    ("a drain, move", book_of("m1", "1:m1"), [node("m1", CLOSED)], [running("1", "m1")], {"drain": "move"},
+     ["drain m1"]),
+    ("a node that is down", book_of("m1", "1:m1"), [node("m1", GONE)], [job("1")], {}, ["drain m1"]),
+    ("a node that is no more", book_of("m1", "1:m1"), [], [job("1")], {}, ["drain m1"]),
+    ("a new job", book_of(), [], [job()], {}, ["job light 10", "task light 1"]),
+    ("a job of a known account", book_of("", "2:-"), [], [job("1"), job("2")], {}, ["task light 1"]),
+    ("a weight", book_of(), [], [job(account="heavy")], {}, ["job heavy 1000", "task heavy 1"]),
+    ("a weight of a QOS", book_of(), [], [job(qos="heavy")], {"weigh": "qos"}, ["job heavy 1000", "task heavy 1"]),
+    ("an account that is no name", book_of(), [], [job(account="Ab_c")], {}, ["job ab-c-8e73 10",
+     "task ab-c-8e73 1"]),
+    ("no account", book_of(), [], [job(account="")], {"default": 7}, ["job default 7", "task default 1"]),
+    ("heavy jobs first", book_of("", "7:- heavy/8:-"), [], [job("1"), job("2", account="heavy"), job("7"),
+     job("8")], {}, ["task heavy 2", "task light 1"]),
+    ("a job near machines", book_of("m1 m3", "9:-"), [node("m1"), node("m2"), node("m3", GONE)],
+     [job(near=("m1", "m2", "m3", "m4")), job("9")], {}, ["drain m3", "machine m2 4", "task light 1 m1 m2"]),
+    ("a job that needs others", book_of(), [], [job(has_needs=True)], {}, []),
+    ("a job of a later time", book_of(), [], [job(eligible=NOW + 1)], {}, []),
+    ("a job whose time has come", book_of("", "9:-"), [], [job(eligible=NOW), job("9")], {}, ["task light 1"]),
+    ("a job that its user holds", book_of(), [], [job(hold=OTHER)], {}, []),
+    ("a job that Slurm requeued itself", book_of("", "9:-"), [], [job(hold=RELEASED), job("9")], {},
+     ["task light 1"]),
+    ("a job that ended", book_of("m1", "1:m1 2:-"), [node("m1")], [job("2")], {}, ["done 1"]),
+    ("a job that leaves", book_of("m1", "1:m1"), [node("m1")], [job("1", state=LEAVING, node="m1")], {}, []),
+    ("a task that its user holds", book_of("m1", "1:m1 2:-"), [node("m1")], [job("1", hold=OTHER), job("2")], {},
+     ["done 1"]),
+    ("a hold while it is released", book_of("m1", "1:m1 2:-"), [node("m1")], [pinned("1", "m1", hold=MISSED), job("2")],
+     {}, ["done 1"]),
+    ("a hold while it runs", book_of("m1", "1:m1"), [node("m1")], [running("1", "m1")], {}, []),
+    ("a task that needs others now", book_of("m1", "1:-"), [node("m1")], [job("1", has_needs=True)], {}, ["done 1"]),
+    ("a task put off for long", book_of("m1", "1:-"), [node("m1")], [job("1", eligible=NOW + 301)], {}, ["done 1"]),
+    ("a task that was just requeued", book_of("m1", "1:-"), [node("m1")], [job("1", eligible=NOW + 120)], {}, []),
+    ("pinned for a minute", book_of("m1", "1:m1"), [node("m1")], [pinned("1", "m1", 60.0)], {}, ["done 1"]),
+    ("pinned for less", book_of("m1", "1:m1"), [node("m1")], [pinned("1", "m1", 59.0)], {}, []),
+    ("put off after a minute", book_of("m1", "2:-"), [node("m1")], [job("1", eligible=NOW + 299), job("2")], {}, []),
+    ("a stuck job that firm has not", book_of("m1", "2:-"), [node("m1")], [pinned("1", "m1", 90.0), job("2")], {},
+     []),
+    ("at most so many tasks", book_of("", "9:-"), [], [job("1"), job("2"), job("9")], {"most": 2}, ["task light 1"]),
+    ("two of an array at a time", book_of("m1", "5-1:m1"), [node("m1")], [running("5-1", "m1", most=2),
+     job("5-2", most=2), job("5-3", most=2)], {}, ["task light 5-2"]),
+    ("a full arena", book_of("", "9:-", "4,300,1000,0,9,5"), [], [job("1"), job("9")], {}, []),
+    ("room in the arena", book_of("", "9:-", "5,300,1000,0,9,5"), [], [job("1"), job("2"), job("9")], {},
+     ["task light 1"]),
+    ("an idle job", book_of("m1", "x/1:m1 2:-"), [node("m1")], [job("2")], {}, ["done 1"]),
+    ("jobs that run already", book_of(), [node("m1", OPEN, 2), node("m2")], [running("1", "m1"), running("2", "m1"),
+     job("3")], {}, ["machine m1 4", "job light 10", "task light 1 m1", "task light 2 m1", "round", "machine m2 4"]),
+    ("they run while another waits", book_of("m2", "9:-"), [node("m1", OPEN, 1), node("m2")], [running("1", "m1"),
+     job("9")], {}, []),
+    ("they run beside others", book_of(), [node("m1", OPEN, 2)], [running("1", "m1")], {}, []),
+    ("they run, and crowding is dearer", book_of("", "", "30,300,1000,9,9,5"), [node("m1", OPEN, 2)],
+     [running("1", "m1"), running("2", "m1")], {}, []),
+    ("a stranger leaves", book_of(), [node("m1", OPEN, 1)], [job("1", state=LEAVING, node="m1")], {}, []),
+]  # fmt: skip
+# What firm has, a job, and what Slurm is to do, phase by phase.
+PIN = "update JobId=1 ReqNodeList=m1 StartTime=now"
+DEEDS: list[tuple[str, str, list[reading.Job], list[list[str]]]] = [
+    ("runs in firm, held", "1:m1", [job()], [[PIN], ["release 1"]]),
+    ("runs in firm, pinned elsewhere", "1:m1", [pinned("1", "m2")], [["uhold 1"]]),
+    ("runs in firm, will start", "1:m1", [pinned("1", "m1")], []),
+    ("runs in firm, requeued by its user", "1:m1", [pinned("1", "m1", eligible=NOW + 120)],
+     [["update JobId=1 StartTime=now"]]),
+    ("runs in both", "1:m1", [running("1", "m1")], []),
+    ("runs elsewhere", "1:m1", [running("1", "m2")], [["requeuehold Incomplete 1"]]),
+    ("leaves a node", "1:m1", [job("1", state=LEAVING, node="m2")], []),
+    ("waits in firm, runs", "1:-", [running("1", "m1")], [["requeuehold Incomplete 1"]]),
+    ("waits in firm, released", "1:-", [pinned("1", "m1")], [["uhold 1"]]),
+    ("waits in both", "1:-", [job()], []),
+    ("held by its user", "1:m1", [job(hold=OTHER)], []),
+    ("firm has it no more", "", [running("1", "m1")], []),
+    ("firm has it not, released", "", [pinned("1", "m1")], [["uhold 1"]]),
+    ("firm has it not, held", "", [job()], []),
+    ("held by its user while it was released", "", [pinned("1", "m1", hold=MISSED)], [["uhold 1"]]),
+    ("the same, before firm is told", "1:m1", [pinned("1", "m1", hold=MISSED)], []),
+    ("stuck", "", [pinned("1", "m1", 61.0)], [["uhold 1"], ["update JobId=1 StartTime=now+300"]]),
+    ("elements of an array", "5-1:m1 5-2:m2 6:m1", [job("5-1"), job("5-2"), job("6")], [
+        ["update JobId=5_1 ReqNodeList=m1 StartTime=now", "update JobId=5_2 ReqNodeList=m2 StartTime=now",
+         "update JobId=6 ReqNodeList=m1 StartTime=now"],
+        ["release 5_[1,2]", "release 6"],
+    ]),
+    ("requeues before starts", "1:m1 2:- 3:-", [job(), running("2", "m1"), pinned("3", "m1")], [
+        ["requeuehold Incomplete 2", "uhold 3"], [PIN], ["release 1"],
+    ]),
+]  # fmt: skip
+DIFFERENCES: list[tuple[str, list[reading.Job], list[tuple[str, str, str, float | None]]]] = [
+    ("1:m1 2:-", [running("1", "m1"), job("2")], []),
+    ("1:m1", [], [("1", "m1", "ended", None)]),
+    ("1:m1", [running("1", "m2")], [("1", "m1", "runs on m2", NOW - 5)]),
+    ("1:-", [running("1", "m2")], [("1", "waits", "runs on m2", NOW - 5)]),
+    ("1:m1", [job("1")], [("1", "m1", "held for firm", NOW - 5)]),
+    ("1:m1", [pinned("1", "m1")], [("1", "m1", "released, for m1", NOW - 5)]),
+    ("1:-", [pinned("1", "m1")], [("1", "waits", "released", NOW - 5)]),
+    ("1:-", [job("1", state=LEAVING, node="m1")], [("1", "waits", "leaves m1", NOW - 5)]),
+]
+FAULTY_TABLES = {
+    "view": "[partitions.a]\nsocket = 's'",
+    "no partition": "view = 'v'",
+    "unknown key 'wiew'": "wiew = 'v'",
+    "socket": "view = 'v'\n[partitions.a]",
+    "tenant is 'A'": "view = 'v'\n[partitions.A]\nsocket = 's'",
+    "of two": "view = 'v'\n[partitions.a]\nsocket = 's'\n[partitions.b]\nsocket = 's'\ntenant = 'a'",
+    "drain is 'stop'": "view = 'v'\n[partitions.a]\nsocket = 's'\ndrain = 'stop'",
+    "weigh is 'user'": "view = 'v'\n[partitions.a]\nsocket = 's'\nweigh = 'user'",
+    "x is 0": "view = 'v'\n[partitions.a]\nsocket = 's'\n[partitions.a.weights]\nx = 0",
+    "slots is 65": "view = 'v'\n[partitions.a]\nsocket = 's'\nslots = 65",
+    "no TOML": "view",
+}
+
+
+def by_name(rows: list[Any]) -> dict[str, Any]:
+    return {row.name: row for row in rows}
+
+
+def uses() -> None:
+    for state, use in USES.items():
+        found = reading.use_of(state)
+        require(found is use, f"{state}: {found} instead of {use}")
+
+
+def jobs() -> None:
+    for row, fields in JOBS:
+        (found,) = reading.read_jobs(f"batch|7_3|{row}|\n")["batch"].values()
+        wanted = job("7-3", **fields)
+        require(found == wanted, f"{row}: {found} instead of {wanted}")
+    text = "".join(f"a|{name}|{HELD_ROW}|\n" for name in ("10", "9_10", "9_2", "8_[1-3]", "7+1", "6|"))
+    require(list(reading.read_jobs(text)["a"]) == ["9-2", "9-10", "10"], "the order of jobs")
+
+
+def nodes() -> None:
+    found = reading.read_nodes("a|m1|1/3/0/4|mixed|\na|m2|0/4/0/4|idle+drain|\nb|m1|1/3/0/4|mixed|\n")
+    wanted = {"a": [node("m1", OPEN, 1), node("m2", CLOSED)], "b": [node("m1", OPEN, 1)]}
+    require({name: list(rows.values()) for name, rows in found.items()} == wanted, found)
+    alone = reading.without_shared(found, ["a", "b", "c"])
+    require({name: list(rows) for name, rows in alone.items()} == {"a": ["m1", "m2"], "b": [], "c": []}, alone)
+
+
+def said() -> None:
+    for name, book, nodes, rows, fields, wanted in NEWS:
+        found = slurm.said.news(
+            slurm.said.Seen(book, frozenset(book.tasks), by_name(nodes), by_name(rows), NOW), partition(**fields)
+        )
+        require(found.lines == wanted, f"{name}: {found.lines} instead of {wanted}")
+    seen = slurm.said.Seen(book_of("", "1:- 2:-"), frozenset({"1"}), {}, {}, NOW)
+    require(slurm.said.news(seen, partition()).lines == ["done 1"], "a task that came after the look")
+    seen = slurm.said.Seen(book_of(), frozenset(), {}, {"1": job()}, NOW)
+    require(slurm.said.news(seen, partition(), has_room=False).lines == [], "no room a moment ago")
+    idle = book_of("m1", "2:-")
+    idle.jobs["old"] = 3
+    seen = slurm.said.Seen(idle, frozenset({"2"}), {"m1": node("m1")}, {"2": job("2")}, NOW)
+    require(slurm.said.news(seen, partition()).lines == ["close old"], "a job without tasks")
+
+
+def strays() -> None:
+    book = book_of("m1 m2", "1:m1 2:m2 3:-")
+    found = slurm.said.strays(book, {"1": "m1", "2": "m1", "3": "m1", "4": "m1"})
+    require(found == ["done 2", "done 3"], found)
+
+
+def done() -> None:
+    for name, tasks, rows, wanted in DEEDS:
+        found = slurm.done.deeds(book_of("m1 m2", tasks), by_name(rows), NOW).phases()
+        require(found == wanted, f"{name}: {found} instead of {wanted}")
+    many = [job(f"5-{index}", hold=RELEASED) for index in range(250)]
+    (holds,) = slurm.done.deeds(book_of(), by_name(many), NOW).phases()
+    require([line.count(",") + 1 for line in holds] == [100, 100, 50], "elements of an array in a command")
+
+
+def settled() -> None:
+    """What the deeds lead to needs no further deed, and firm has nothing new to hear."""
+    for name, tasks, rows, _ in DEEDS:
+        book = book_of("m1 m2", tasks)
+        after = [follow(row, book) for row in rows]
+        again = slurm.done.deeds(book, by_name(after), NOW).phases()
+        require(again == [], f"{name}: then {again}")
+
+
+def follow(row: reading.Job, book: Book) -> reading.Job:
+    """The job once Slurm has obeyed."""
+    task = book.tasks.get(row.name)
+    machine = task.machine if task else None
+    if row.state is LEAVING or row.hold is OTHER or task is None and not row.is_pending:
+        return row
+    return running(row.name, machine) if machine else job(row.name)
+
+
+def differences() -> None:
+    for tasks, rows, wanted in DIFFERENCES:
+        found = slurm.differences.standing(book_of("m1 m2", tasks), by_name(rows), NOW).differences
+        require([tuple(one) for one in found] == wanted, f"{tasks}: {found}")
+    rows = [running("1", "m1"), job("2"), job("3", hold=OTHER), job("4", has_needs=True), job("5", eligible=NOW + 9)]
+    standing = slurm.differences.standing(
+        book_of("m1", "6:m1 7:-"), by_name([*rows, running("6", "m1"), job("7")]), NOW
+    )
+    counts = standing._replace(differences=[])
+    require(counts == slurm.differences.Standing(1, 1, 1, 1, 2, 1, []), counts)
+
+
+def tables() -> None:
+    with tempfile.TemporaryDirectory() as name:
+        path = Path(name) / "slurm.toml"
+        for fault, text in FAULTY_TABLES.items():
+            path.write_text(text)
+            try:
+                slurm.table.Table.read(path)
+            except TableError as error:
+                require(fault in str(error), f"{error} instead of {fault}")
+            else:
+                require(False, f"{fault}: it is taken")
+        path.write_text("view = 'v'\n[partitions.a]\nsocket = 's'\n[partitions.b]\nsocket = 't'\ntenant = 'c'\n")
+        found = slurm.table.Table.read(path)
+        require([(one.name, one.tenant) for one in found.partitions] == [("a", "a"), ("b", "c")], found)
+
+
+CHECKS: dict[str, Check] = {
+    "states of nodes": uses,
+    "jobs": jobs,
+    "nodes": nodes,
+    "what is said": said,
+    "what was not taken over": strays,
+    "what is done": done,
+    "what is done ends": settled,
+    "what differs": differences,
+    "faulty tables": tables,
+}
+
+
+def main() -> int:
+    argparse.ArgumentParser(description=(__doc__ or "").splitlines()[0]).parse_args()
+    return count_ends([passes(name, check) for name, check in CHECKS.items()])
+
+
+if __name__ == "__main__":
+    run_script(main)
