@@ -1,0 +1,222 @@
+"""`firmctl move`: a tenant goes to another shard, by the lines that give it the same rows there.
+
+Lines can't say where a task runs, for how long it has waited or how many commands there were: so all tasks wait again.
+`carry` is what a state that firm writes and reads would replace.
+"""
+
+from __future__ import annotations
+
+import argparse
+import csv
+import fcntl
+import socket
+import time
+from collections.abc import Callable
+from dataclasses import dataclass
+from pathlib import Path
+
+from ..command_line import NO_SERVICE, NOT_THERE, USAGE, Failure, show
+from ..files import replace_synced, sync_folder
+from ..tables import Row
+from .table import NOWHERE, Shard, Table, TableError
+from .writing import map_text, read_map
+
+ANSWER_SECONDS = 20.0
+MOST_QUIET_SECONDS = 15.0  # until no client is connected, and until the rows are as answered
+LOOK_SECONDS = 0.05
+UNKNOWN = "! unknown-tenant"  # firm's reply where a tenant is not there
+
+Lines = Callable[[str, str], Row]  # of a tenant, by the state folder of its firmd
+
+
+def ask(path: Path, lines: list[str]) -> list[str]:
+    """The replies of a socket of firmd, in turn."""
+    try:
+        with socket.socket(socket.AF_UNIX) as connected:
+            connected.settimeout(ANSWER_SECONDS)
+            connected.connect(str(path))
+            with connected.makefile("rwb", buffering=0) as stream:
+                replies = []
+                for line in lines:
+                    stream.write(line.encode() + b"\n")
+                    replies.append(stream.readline().decode(errors="replace").rstrip("\n"))
+    except OSError as error:
+        raise Failure(NO_SERVICE, f"no firmd answers at {path}: {error.strerror or error}") from error
+    if "" in replies:
+        raise Failure(NO_SERVICE, f"firmd at {path} has closed the connection")
+    return replies
+
+
+class Proxy:
+    """HAProxy of the door, by its own socket."""
+
+    def __init__(self, table: Table) -> None:
+        self._table = table
+
+    def shard_of(self, tenant: str) -> str:
+        for line in self._say(f"show map {self._table.map}").splitlines():
+            words = line.split()
+            if words[1:2] == [tenant]:
+                return words[2]
+        raise Failure(NOT_THERE, f"the door has no tenant {tenant}: write its configuration, and reload HAProxy")
+
+    def point(self, tenant: str, shard: str) -> None:
+        """Sends the tenant's new connections to a shard or nowhere, also after the door's next start."""
+        path = Path(self._table.map)
+        replace_synced(path, map_text(self._table, {**read_map(path), tenant: shard}).encode())
+        said = self._say(f"set map {self._table.map} {tenant} {shard}").strip()
+        if said:
+            raise Failure(NO_SERVICE, f"HAProxy: {said}")
+
+    def end_sessions(self, tenant: str, shard: Shard) -> None:
+        """Returns once nobody is connected, so nobody is answered any more."""
+        ends = time.monotonic() + MOST_QUIET_SECONDS
+        while self._sessions(tenant, shard):
+            if time.monotonic() > ends:
+                raise Failure(NO_SERVICE, f"clients of {tenant} are connected still, though HAProxy was to end them")
+            for replica in shard.replicas:
+                self._say(f"shutdown sessions server {shard.name}:{tenant}/{replica}")
+            time.sleep(LOOK_SECONDS)
+
+    def _sessions(self, tenant: str, shard: Shard) -> int:
+        told = self._say(f"show stat {shard.name}:{tenant} 2 -1").removeprefix("# ").splitlines()
+        return sum(int(row["scur"]) for row in csv.DictReader(line for line in told if line))
+
+    def _say(self, words: str) -> str:
+        try:
+            with socket.socket(socket.AF_UNIX) as admin:
+                admin.settimeout(ANSWER_SECONDS)
+                admin.connect(self._table.admin)
+                admin.sendall(words.encode() + b"\n")
+                with admin.makefile("rb") as answer:
+                    return answer.read().decode(errors="replace")
+        except OSError as error:
+            raise Failure(
+                NO_SERVICE, f"no HAProxy answers at {self._table.admin}: {error.strerror or error}"
+            ) from error
+
+
+class Record:
+    """A file beside the map that tells of a move from its beginning to its end, so that the next one ends it."""
+
+    def __init__(self, table: Table) -> None:
+        self._path = Path(f"{table.map}.move")
+        self._file = open(f"{table.map}.lock", "wb")
+        try:
+            fcntl.flock(self._file, fcntl.LOCK_EX | fcntl.LOCK_NB)
+        except BlockingIOError:
+            raise Failure(NO_SERVICE, "another move is under way") from None
+
+    def read(self) -> list[str]:
+        """The tenant of a move that did not end, the shard that has all its rows, and the other."""
+        return self._path.read_text().split() if self._path.exists() else []
+
+    def keep(self, *words: str) -> None:
+        replace_synced(self._path, " ".join(words).encode() + b"\n")
+
+    def drop(self) -> None:
+        self._path.unlink(missing_ok=True)
+        sync_folder(self._path.parent)
+
+
+@dataclass(frozen=True)
+class Move:
+    tenant: str
+    old: Shard
+    new: Shard
+
+    def operator(self, shard: Shard) -> Path:
+        if shard.operator is None:
+            raise Failure(USAGE, f"the table has no operator of the shard {shard.name}")
+        return shard.operator
+
+    def require_room(self) -> None:
+        """Asks that the new shard serves, and hasn't the tenant."""
+        (reply,) = ask(self.operator(self.new), [f"{self.tenant} show"])
+        if reply != UNKNOWN:
+            raise Failure(NOT_THERE, f"the shard {self.new.name} has a tenant {self.tenant} already: {reply}")
+        self.operator(self.old)
+        if self.old.state is None:
+            raise Failure(USAGE, f"the table has no state of the shard {self.old.name}")
+
+    def carry(self, lines: Lines) -> int:
+        """Gives the new shard the tenant's rows; how many lines they took. The old one has it still."""
+        found = self._settled(lines)
+        for line in (f"+ admit {found['row']}", *found["lines"]):
+            (reply,) = ask(self.operator(self.new), [line])
+            is_done = reply.endswith(" ok") or reply.startswith("+ ok admitted")
+            if not is_done:
+                raise Failure(NOT_THERE, f"the shard {self.new.name} replies {reply!r} to {line!r}")
+        return len(found["lines"])
+
+    def _settled(self, lines: Lines) -> Row:
+        """The lines of its rows, behind all that was answered: the reader of the rows may lag."""
+        ends = time.monotonic() + MOST_QUIET_SECONDS
+        while True:
+            number, found = self._number(), lines(str(self.old.state), self.tenant)
+            if found["number"] == number and self._number() <= number + 1:
+                return found
+            if time.monotonic() > ends:
+                raise Failure(NO_SERVICE, f"the rows of {self.tenant} change all the time: who else sends its lines?")
+            time.sleep(LOOK_SECONDS)
+
+    def _number(self) -> int:
+        """That of a reply to the tenant, one higher each time unless it is worn."""
+        (reply,) = ask(self.operator(self.old), [f"{self.tenant} show"])
+        words = reply.split()
+        if words[:1] != [self.tenant]:
+            raise Failure(NOT_THERE, f"the shard {self.old.name} has no tenant {self.tenant}: {reply}")
+        return int(words[1])
+
+
+def move(options: argparse.Namespace, lines: Lines) -> None:
+    try:
+        table = Table.read(options.door)
+        record = Record(table)
+    except TableError as error:
+        raise Failure(USAGE, str(error)) from error
+    except OSError as error:
+        raise Failure(USAGE, f"{error.filename}: {error.strerror}") from error
+    tenant, to, proxy = options.tenant, options.to, Proxy(table)
+    if to not in table.tenants.get(tenant, []):
+        raise Failure(NOT_THERE, f"{table.path}: the tenant {tenant} has no socket at a shard {to}")
+    finish(table, record, proxy)
+    now = proxy.shard_of(tenant)
+    if now not in table.shards:
+        raise Failure(NOT_THERE, f"the door sends {tenant} to {now}, and no move of it was begun")
+    if now == to:
+        return show(options, {"tenant": tenant, "shard": to, "lines": 0}, lambda _: f"{tenant} is at {to}\n")
+    moved = Move(tenant, table.shards[now], table.shards[to])
+    moved.require_room()
+    record.keep(tenant, now, to)
+    proxy.point(tenant, NOWHERE)
+    try:
+        proxy.end_sessions(tenant, moved.old)
+        count = moved.carry(lines)
+    except BaseException:
+        finish(table, record, proxy)
+        raise
+    record.keep(tenant, to, now)
+    finish(table, record, proxy)
+    answer = {"tenant": tenant, "shard": to, "lines": count}
+    show(options, answer, lambda _: f"{tenant} is at {to}, by {count:,} lines; all its tasks wait again\n")
+
+
+def finish(table: Table, record: Record, proxy: Proxy) -> None:
+    """Ends a move, however far it came: the tenant is at the shard that has all its rows, and not at the other."""
+    words = record.read()
+    if not words:
+        return
+    tenant, here, other = words
+    for shard in (here, other):
+        if shard not in table.shards:
+            raise Failure(NOT_THERE, f"{table.path} lacks the shard {shard}, where a move of {tenant} did not end")
+    moved = Move(tenant, table.shards[other], table.shards[here])
+    (reply,) = ask(moved.operator(moved.new), [f"{tenant} show"])
+    if reply == UNKNOWN:
+        raise Failure(NOT_THERE, f"the shard {here} has {tenant} no more, which was to have all its rows")
+    proxy.point(tenant, here)
+    _, reply = ask(moved.operator(moved.old), [f"+ retire {tenant}", f"{tenant} show"])
+    if reply != UNKNOWN:
+        raise Failure(NOT_THERE, f"the shard {other} still has {tenant}: {reply}")
+    record.drop()

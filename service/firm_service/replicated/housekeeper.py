@@ -1,0 +1,194 @@
+"""What a replica does beside its lines, each second: its disk is synced, and etcd has what is needed and no more."""
+
+from __future__ import annotations
+
+import secrets
+import time
+from collections.abc import Callable
+from dataclasses import dataclass, field
+from threading import Event, Thread
+from typing import NamedTuple
+
+from .. import logs
+from ..faults import Exit, Fault, say
+from .digests import Digest, Digests
+from .entries import Keys
+from .etcd import Condition, EtcdError, Put, after
+from .store import Store
+
+SECONDS = 1.0
+# After so long the key NAME of one that is alive has changed: a further one of its name waits that long to take it.
+NAME_SECONDS = 5.0
+AWAY_SECONDS = 86_400.0  # that etcd keeps lines for a replica that is away, and past half of the quota:
+AWAY_SECONDS_HALF_FULL = 60.0
+QUIET_SECONDS = 10.0  # without a change of its key that the leader saw, since clocks of hosts may differ
+COMPACT_SECONDS = 30.0
+RETAINED = 64 * 2**20
+LOOK_SECONDS = 10.0  # between looks at the quota
+
+
+class Kept(NamedTuple):
+    """How far a replica's disk has the lines."""
+
+    token: str  # of its process
+    size: int
+    time: float
+
+    def text(self) -> bytes:
+        return f"{self.token} {self.size} {self.time:.6f}".encode()
+
+    @classmethod
+    def read(cls, text: bytes) -> Kept:
+        token, size, at = text.decode().split()
+        return cls(token, int(size), float(at))
+
+
+class Seen(NamedTuple):
+    """The key of a replica, and when this one saw it change last."""
+
+    value: bytes
+    at: float
+
+
+@dataclass
+class Told:
+    """What the operator is shown of it."""
+
+    etcd_bytes: int = 0
+    quota_bytes: int = 0
+    kept: dict[str, int] = field(default_factory=dict)  # bytes, by replica
+
+
+@dataclass(frozen=True)
+class Journal:
+    """Of the replicated journal what this needs; called by this thread."""
+
+    size: Callable[[], int]
+    sync: Callable[[], None]
+    epoch: Callable[[], int]  # 0 while it follows
+
+
+class Housekeeper:
+    def __init__(self, store: Store, keys: Keys, name: str, journal: Journal, digests: Digests) -> None:
+        self._store, self._keys, self._journal, self._digests = store, keys, journal, digests
+        self._key, self.name, self.token = keys.kept + name.encode(), name, secrets.token_hex(4)
+        self.on_fault: Callable[[Fault], None] = lambda fault: None
+        self.retained = RETAINED  # bytes of lines that stay in etcd for a replica that comes late
+        self.quiet = QUIET_SECONDS
+        self.told = Told()
+        self._seen: dict[str, Seen] = {}
+        self._last: bytes | None = None  # value of the own key
+        self._began = self._looked = self._compacted = time.monotonic()
+        self._put = 0.0
+        self._cleared = b""  # entries before this key are removed
+        self._digest: Digest | None = None
+        self._is_warned = self._has_name = False
+        self._is_over = Event()
+        self._thread = Thread(target=self._run, daemon=True)
+
+    def start(self) -> None:
+        self._thread.start()
+
+    def end(self) -> None:
+        self._is_over.set()
+        if self._thread.is_alive():
+            self._thread.join(SECONDS)
+
+    def _run(self) -> None:
+        self._look_at_quota()
+        while not self._is_over.wait(SECONDS):
+            try:
+                self.keep()
+            except EtcdError:  # who appends meets it too, and tells of it
+                continue
+            except Fault as fault:
+                return self.on_fault(fault)
+            except Exception as error:
+                return self.on_fault(Fault(Exit.INTERNAL, f"keeping etcd in order failed: {error!r}"))
+
+    def keep(self) -> None:
+        size = self._journal.size()
+        self._journal.sync()
+        self._tell_kept(size)
+        if self._journal.epoch():
+            self._tell_digest()
+            self._tidy()
+        if time.monotonic() - self._looked > LOOK_SECONDS:
+            self._look_at_quota()
+
+    def _tell_kept(self, size: int) -> None:
+        """Sets the own key, which changes often while this replica lives: another's change is a replica of its name."""
+        now = time.monotonic()
+        if self._last is None:
+            self._read_own()
+        if not self._has_name and now - self._began < NAME_SECONDS:
+            return
+        is_old = now - self._put > NAME_SECONDS - 3 * SECONDS
+        if not (is_old or self._journal.epoch() or self._last and Kept.read(self._last).size != size):
+            return
+        value = Kept(self.token, size, time.time()).text()
+        there = Condition(self._key, value=self._last) if self._last else Condition(self._key, made=0)
+        if not self._store.transact([there], [Put(self._key, value)]).is_done:
+            self._read_own()
+            if self._last and Kept.read(self._last).token != self.token:
+                raise Fault(Exit.STATE, f"another firmd that is alive has the name {self.name}: each needs its own")
+            return  # an earlier one, without an answer, was done
+        self._last, self._put, self._has_name = value, now, True
+
+    def _read_own(self) -> None:
+        found = self._store.range(self._key).found
+        self._last = found[0].value if found else b""
+
+    def _tell_digest(self) -> None:
+        latest = self._digests.latest()
+        if latest is not None and latest != self._digest:
+            leads = Condition(self._keys.leader, made=self._journal.epoch())
+            self._store.transact([leads], [Put(self._keys.digest, latest.text())])
+            self._digest = latest
+
+    def _tidy(self) -> None:
+        """Removes from etcd what all have, but the last lines: one that comes late, or has a copied journal, needs
+        them."""
+        kept = self._present()
+        self.told.kept = {name: one.size for name, one in kept.items()}
+        least = min([self._journal.size() - self.retained, *self.told.kept.values()])
+        # The entry in which the slowest is, and all behind it, stay: so it is known where the lines end.
+        last = self._store.last_key(self._keys.lines, self._keys.entry(max(least, 0)) + b"\0")
+        if last is not None and last > self._cleared:
+            self._store.compact(self._store.delete(self._keys.lines, last))
+            self._cleared, self._compacted = last, time.monotonic()
+        elif time.monotonic() - self._compacted > COMPACT_SECONDS:
+            self._store.compact(self._store.range(self._key).revision)
+            self._compacted = time.monotonic()
+
+    def _present(self) -> dict[str, Kept]:
+        """All replicas but those that are away for too long."""
+        is_half_full = self.told.etcd_bytes > self.told.quota_bytes / 2
+        patience = AWAY_SECONDS_HALF_FULL if is_half_full else AWAY_SECONDS
+        found: dict[str, Kept] = {}
+        for row in self._store.range(self._keys.kept, after(self._keys.kept)).found:
+            name, kept = row.key[len(self._keys.kept) :].decode(), Kept.read(row.value)
+            if self._is_quiet(name, row.value) and time.time() - kept.time > patience:
+                say(f"the replica {name} is away for {patience:g} s: etcd keeps no lines for it any more")
+                self._store.delete(row.key, row.key + b"\0")
+            else:
+                found[name] = kept
+        return found
+
+    def _is_quiet(self, name: str, value: bytes) -> bool:
+        """Whether a replica doesn't change its key, as one that lives does each few seconds."""
+        now, seen = time.monotonic(), self._seen.get(name)
+        if seen is None or seen.value != value:
+            self._seen[name] = seen = Seen(value, now)
+        return now - seen.at >= self.quiet
+
+    def _look_at_quota(self) -> None:
+        self._looked = time.monotonic()
+        try:
+            used, quota = self._store.size()
+        except EtcdError as error:
+            return say(f"what etcd uses of its quota is not known: {error}", logs.INFO)
+        self.told.etcd_bytes, self.told.quota_bytes = used, quota
+        if used > quota / 2 and not self._is_warned:
+            say(f"warning: etcd uses {used:,} of the {quota:,} bytes of its quota; at the end firmd can't append")
+        self._is_warned = used > quota / 2

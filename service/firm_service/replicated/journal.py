@@ -1,0 +1,265 @@
+"""The journal of several firmd: lines stand in etcd before firm has them, and each replica has them in its own files.
+
+A follower is a firmd whose replay has no end yet: `pieces` gives what its disk has, then what comes from etcd, until it
+leads. The maker of the key `leader` appends, and only while that key is still the one it made.
+"""
+
+from __future__ import annotations
+
+import time
+from collections.abc import Callable, Iterator, Sequence
+from dataclasses import dataclass
+from pathlib import Path
+from threading import Event
+from zlib import crc32
+
+from .. import logs
+from ..faults import Exit, Fault, say
+from ..journal import Journal, milliseconds
+from ..pieces import Piece, Place
+from ..records import Batch, Block
+from ..recovery import Base
+from .digests import Digest, Digests
+from .entries import Agreed, Append, Entry, Keys, Position, another_history, parts_of
+from .etcd import Condition, Denied, EtcdError, Full, Put, Row, Unsure, after
+from .housekeeper import Housekeeper
+from .housekeeper import Journal as KeptJournal
+from .lease import Lease
+from .point import Point
+from .store import Store
+
+PATIENCE = 10.0  # seconds that a leader asks again where no member answers
+PAUSE = 0.05  # between two tries
+SILENT_SECONDS = 3.0  # without a change, as the leader makes one each second; then another member is asked
+ENTRIES = 8  # that are read at a time
+FULL = "etcd is full: raise its quota, or compact and defragment it, then `etcdctl alarm disarm`"
+
+
+@dataclass(frozen=True)
+class Link:
+    """How this replica reaches etcd, and who it is there."""
+
+    connect: Callable[[], Store]  # for one thread
+    keys: Keys
+    name: str
+    lease_seconds: int
+
+
+def position_of(own: Journal, begin: Position = Position()) -> Position:
+    """How far a journal's own files reach, whose pieces begin there."""
+    found = begin
+    for piece in own.pieces():
+        found = found.behind(piece.text)
+    return found
+
+
+class ReplicatedJournal:
+    """The replay's pieces come first, then lines are appended, all by one thread."""
+
+    def __init__(self, own: Journal, link: Link, agreed: Agreed, begin: Point | None = None) -> None:
+        begin = begin or Point()
+        self._own, self._link, self._agreed = own, link, agreed
+        self._store, self._keys = link.connect(), link.keys
+        self._lease: Lease | None = None
+        self._epoch = 0  # the revision that made the key `leader`, where this firmd made it
+        self._position = begin.position  # of its own files
+        self._revision = 0  # of etcd, up to which changes are known
+        self._is_stopping = Event()
+        self._told: str | None = None  # the last trouble
+        self.digests = Digests(self._fail, begin.chain)
+        kept = KeptJournal(lambda: own.found.size, own.sync, lambda: self._epoch)
+        self.housekeeper = Housekeeper(link.connect(), link.keys, link.name, kept, self.digests)
+        self.housekeeper.on_fault = self._fail
+        self.on_fault: Callable[[Fault], None] = lambda fault: None  # called by any thread
+        self.on_following: Callable[[], None] = lambda: None  # all that etcd had is here
+
+    @property
+    def base(self) -> Base:
+        return self._own.base
+
+    @property
+    def is_following(self) -> bool:
+        """Whether lines come from etcd."""
+        return self._revision > 0 and not self._epoch
+
+    # As a follower.
+
+    def pieces(self) -> Iterator[Piece]:
+        """What the disk has, then what comes from etcd, until this firmd leads and has all of it."""
+        self.housekeeper.start()  # before a long replay, so that etcd keeps what comes behind it
+        for piece in self._own.pieces():
+            self._position = self._position.behind(piece.text)
+            yield piece
+        while not self._is_stopping.is_set():
+            try:
+                yield from self._catch_up()
+                if self._epoch:
+                    say(f"leads from byte {self._position.size:,} of the lines on", logs.INFO)
+                    return
+                if not self._campaign():
+                    yield from self._follow()
+            except Denied as denied:
+                raise Fault(Exit.STATE, f"etcd: {denied}") from denied
+            except EtcdError as error:
+                self._trouble(error)
+
+    def stop(self) -> None:
+        """Has a follower's pieces end; called by another thread."""
+        self._is_stopping.set()
+        self._store.end_watch()
+
+    def _catch_up(self) -> Iterator[Piece]:
+        """All entries that are there by now."""
+        keys, size = self._keys, self._position.size
+        known = self._store.range(keys.digest)
+        before = self._store.range(keys.lines, keys.entry(size) + b"\0", limit=1, is_last_first=True)
+        if before.found:
+            yield from self._take(before.found[0])
+        else:
+            self._require_begin()
+        while True:
+            rows = self._store.range(keys.entry(self._position.size), after(keys.lines), limit=ENTRIES)
+            for row in rows.found:
+                yield from self._take(row)
+            if not rows.found:
+                break
+        for row in known.found:
+            self.digests.compare(Digest.read(row.value))
+        if not self._revision:
+            self.on_following()
+        self._revision, self._told = rows.revision, None
+
+    def _require_begin(self) -> None:
+        """Asks of a journal before which etcd has no entry that it ends where the entries began, or lacks lines."""
+        begin, own = self._agreed.begin, self._position
+        if own.size > begin.size or own.size == begin.size and own.chain != begin.chain:
+            raise another_history(f"its lines end at byte {begin.size:,} in etcd, and at {own.size:,} here")
+        if own.size < begin.size:
+            Entry(0, begin.size, begin.chain, 0, []).left(own)
+
+    def _take(self, row: Row) -> Iterator[Piece]:
+        """An entry, or what is left of it, into the own files."""
+        entry = Entry.read(self._keys.offset(row.key), row.value)
+        batches = entry.left(self._position)
+        if batches:
+            text = b"".join([batch.text for batch in batches])
+            place = self._own.append(batches, copied=entry.time)
+            self._position = self._position.behind(text)
+            yield Piece(text, text.count(b"\n"), place, None, frozenset(), frozenset())
+
+    def _follow(self) -> Iterator[Piece]:
+        """Entries as they come, until the leader's key goes."""
+        keys = self._keys
+        for changes in self._store.watch(keys.all, after(keys.all), self._revision + 1, SILENT_SECONDS):
+            for key, value in changes:
+                if key == keys.leader and value is None:
+                    return
+                if value is not None and key.startswith(keys.lines):
+                    yield from self._take(Row(key, value, 0))
+                elif value is not None and key == keys.digest:
+                    self.digests.compare(Digest.read(value))
+            if self._is_stopping.is_set():
+                return
+
+    def _campaign(self) -> bool:
+        """Tries to become the leader."""
+        leader = self._keys.leader
+        if self._store.range(leader).found:
+            return False
+        lease = Lease(self._link.connect(), self._link.lease_seconds, self._lose)
+        try:
+            done = self._store.transact([Condition(leader, made=0)], [Put(leader, self._mark(lease), lease.id)])
+            made = done.revision if done.is_done else self._made(lease)
+        except EtcdError:
+            lease.end()
+            raise
+        if not made:
+            lease.end()
+            return False
+        self._lease, self._epoch = lease, made
+        return True
+
+    def _mark(self, lease: Lease) -> bytes:
+        return f"{self._link.name} {lease.id:x}".encode()
+
+    def _made(self, lease: Lease) -> int:
+        """The revision that made the key, where a request did it whose answer was lost."""
+        return next(
+            (row.made for row in self._store.range(self._keys.leader).found if row.value == self._mark(lease)), 0
+        )
+
+    def _trouble(self, error: EtcdError) -> None:
+        """A follower waits until etcd is well again."""
+        text = FULL if isinstance(error, Full) else str(error)
+        if text != self._told and not self._is_stopping.is_set() and not is_idle(error):
+            say(f"etcd does not serve this replica: {text}")
+            self._told = text
+        self._is_stopping.wait(PAUSE)
+
+    # As the leader.
+
+    def append(self, batches: Sequence[Batch]) -> Place:
+        """Returns once most members of etcd have the lines on their disks, and the own file has them too."""
+        now, first = milliseconds(), 0
+        for part in parts_of(batches):
+            self._commit(Entry(self._epoch, self._position.size, self._position.chain, now, part))
+            place = self._own.append(part, copied=now)
+            first = first or place.number
+            self._position = Position(
+                self._position.lines + sum([batch.lines for batch in part]),
+                place.end,
+                crc32(b"".join([batch.text for batch in part]), self._position.chain),
+            )
+        return Place(first, self._position.size)
+
+    def _commit(self, entry: Entry) -> None:
+        append = Append.of(self._keys, entry, self._position.lines)
+        ends = time.monotonic() + PATIENCE
+        while True:
+            try:
+                done = self._store.transact(append.conditions, [append.put])
+                found = None if done.is_done else next(iter(self._store.range(append.put.key).found), None)
+                break
+            except Full as full:
+                raise Fault(Exit.STATE, FULL) from full
+            except Denied as denied:
+                raise Fault(Exit.STATE, f"etcd: {denied}") from denied
+            except EtcdError as error:
+                if time.monotonic() > ends:
+                    raise Fault(Exit.STATE, f"etcd does not answer: {error}") from error
+                time.sleep(PAUSE)
+        if not append.is_there(done, found):
+            raise Fault(Exit.STATE, "another firmd leads by now: what is not answered was not taken by this one")
+
+    def keep(self, block: Block) -> None:
+        self._own.keep(block)
+
+    def keep_refused(self, numbers: list[int]) -> None:
+        """Others may have had the memory, and would answer otherwise: so nothing is answered here."""
+        raise Fault(Exit.FIRM, f"memory was refused to line {numbers[0]}: another replica answers what follows")
+
+    def place_of(self, number: int) -> tuple[Path, int]:
+        return self._own.place_of(number)
+
+    def close(self) -> None:
+        self.leave()
+        self._own.close()
+
+    def leave(self) -> None:
+        """Lets another one lead at once."""
+        self._is_stopping.set()
+        lease, self._lease = self._lease, None
+        if lease is not None:
+            lease.end()
+        self.housekeeper.end()
+
+    def _lose(self) -> None:
+        self._fail(Fault(Exit.STATE, "the lease was lost: another firmd may lead by now"))
+
+    def _fail(self, fault: Fault) -> None:
+        self.on_fault(fault)
+
+
+def is_idle(error: EtcdError) -> bool:
+    """Whether nothing was heard, as where nobody leads."""
+    return isinstance(error, Unsure) and isinstance(error.__cause__, TimeoutError)

@@ -1,0 +1,49 @@
+"""Where a replica goes on from: how far its lines and their replies reached there, as a snapshot keeps it."""
+
+from __future__ import annotations
+
+import json
+from collections.abc import Sequence
+from typing import Any
+
+from ..recovery import Base
+from ..snapshots import Snapshot
+from .digests import Chain, Digest
+from .entries import Position
+
+KEY = "replica"  # in what a snapshot has beside the state
+
+
+class Point:
+    """Takes in lines with their replies."""
+
+    def __init__(self, position: Position = Position(), last: Digest = Digest(0, ""), replies: Sequence[bytes] = ()):
+        self.position, self.chain = position, Chain(last, replies)
+        self._replies = list(replies)  # since the last digest
+
+    def add(self, text: bytes, replies: Sequence[bytes]) -> None:
+        self.position = self.position.behind(text)
+        self._replies += replies
+        for _ in self.chain.add(replies):
+            pass
+        self._replies = self._replies[len(self._replies) - (self.chain.lines - self.chain.last.lines) :]
+
+    def kept(self) -> dict[str, Any]:
+        """As JSON has it: the CRC-32 of all lines, the last digest, and the replies since."""
+        replies = [reply.decode("ascii") for reply in self._replies]
+        return {KEY: {"chain": self.position.chain, "digest": self.chain.last.digest, "replies": replies}}
+
+
+def point_of(snapshot: Snapshot) -> Point | None:
+    """That behind a snapshot; None where it was made of a service that was alone."""
+    kept = json.loads(snapshot.books).get(KEY)
+    if kept is None:
+        return None
+    base: Base = snapshot.base
+    replies = [reply.encode("ascii") for reply in kept["replies"]]
+    last = Digest(base.lines - len(replies), kept["digest"])
+    return Point(Position(base.lines, base.size, kept["chain"]), last, replies)
+
+
+def has_point(snapshot: Snapshot) -> bool:
+    return point_of(snapshot) is not None

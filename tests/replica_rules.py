@@ -1,0 +1,603 @@
+"""Checks of replicas without engines: what stands in etcd, what is done with its answers, and who may append."""
+
+from __future__ import annotations
+
+import argparse
+import http.server
+import json
+import random
+import socket
+import subprocess
+import sys
+import tempfile
+import threading
+import time
+from collections.abc import Callable, Iterator
+from contextlib import contextmanager
+from pathlib import Path
+
+from etcd_kit import memory, until
+from harness.checks import require
+from stand_in_etcd import Connection, Memory
+
+from firm_service.faults import Exit, Fault
+from firm_service.journal import Journal, Room
+from firm_service.records import Batch
+from firm_service.replicated import journal as replicated_journal
+from firm_service.recovery import Base
+from firm_service.replicated.digests import EVERY_LINES, Chain, Digest, Digests
+from firm_service.replicated.entries import Agreed, Entry, Keys, Position, cut_off, parts_of
+from firm_service.replicated.etcd import Access, Denied, Etcd, Full, Member, Put, Size, Unfit, Unsure
+from firm_service.replicated.housekeeper import Housekeeper, Kept
+from firm_service.replicated.housekeeper import Journal as KeptJournal
+from firm_service.replicated.journal import Link, ReplicatedJournal, position_of
+from firm_service.replicated.options import agree, warnings_of
+
+from firm_service.replicated.point import Point, point_of
+from firm_service.snapshots import Snapshot
+from firm_service.state import State
+
+replicated_journal.PAUSE = 0.001  # so that a request is asked again at once
+ROSTER = b"tenant,nodes,arcs,life,spread,churn\nalpha,30,300,1000,1,2\n"
+KEYS = Keys("/firm")
+ID = "0123456789abcdefabcd"
+
+
+def refused(call: Callable[[], object], kind: type[Exception], *texts: str) -> Exception:
+    """What it raises."""
+    try:
+        found = call()
+    except kind as error:
+        require(all(text in str(error) for text in texts), f"{texts}: {error}")
+        return error
+    require(False, f"{call} was not refused, but gave {found!r}")
+    raise AssertionError
+
+
+def batch(*lines: bytes, sender: bytes = b"alpha") -> Batch:
+    return Batch(sender, b"".join(line + b"\n" for line in lines), len(lines))
+
+
+# What stands in etcd.
+
+
+def entries() -> None:
+    """An entry is read as it was written; one that isn't whole is told by its byte."""
+    written = Entry(7, 1234, 99, 1_700_000_000_000, [batch(b"alpha show"), batch(b"alpha round", sender=b"firmd")])
+    text = written.text(41)
+    require(Entry.read(1234, text) == written, text)
+    require(written.end == 1234 + len(b"alpha show\nalpha round\n"), written.end)
+    for broken in (text[:-1], text.replace(b"show", b"shot"), b"7\n" + text, text.split(b"\n")[0], b""):
+        fault = refused(lambda: Entry.read(1234, broken), Fault, "the entry of byte 1,234", "damaged")
+        require(isinstance(fault, Fault) and fault.status == Exit.JOURNAL, fault)
+
+
+def cuts() -> None:
+    """Lines are cut into entries between lines, in their order, with their senders; long batches too."""
+    draw = random.Random(1)
+    for _ in range(50):
+        batches = [
+            batch(*[b"x" * draw.randint(1, 30) for _ in range(draw.randint(1, 9))], sender=b"%d" % number)
+            for number in range(draw.randint(1, 6))
+        ]
+        most = draw.randint(31, 120)
+        parts = list(parts_of(batches, most))
+        whole = [(one.sender, line) for one in batches for line in one.text.splitlines()]
+        cut = [(one.sender, line) for part in parts for one in part for line in one.text.splitlines()]
+        require(cut == whole and all(one.text.endswith(b"\n") for part in parts for one in part), parts)
+        require(all(sum(len(one.text) for one in part) <= most for part in parts), (most, parts))
+        require(all(one.lines == one.text.count(b"\n") for part in parts for one in part), parts)
+
+
+def histories() -> None:
+    """What a journal lacks of an entry; one that is late, ahead or of another history is told so."""
+    begin = Position().behind(b"alpha job j 10\n")
+    entry = Entry(3, begin.size, begin.chain, 5, [batch(b"alpha show"), batch(b"beta show", b"beta round")])
+    text = b"alpha show\nbeta show\nbeta round\n"
+    for size in (0, len(b"alpha show\n"), len(b"alpha show\nbeta show\n"), len(text)):
+        left = entry.left(begin.behind(text[:size]))
+        require(b"".join(one.text for one in left) == text[size:], (size, left))
+    require(list(cut_off(entry.batches, len(text))) == [], "nothing is left")
+    for position, words in (
+        (Position(), "late: bytes 0 to 15"),
+        (begin.behind(text + b"alpha round\n"), "another history: its lines end at byte 47 in etcd, and at 59 here"),
+        (Position().behind(b"alpha job j 20\n"), "another history: the lines before byte 15 are others"),
+        (begin.behind(b"alpha shot\n"), "another history: the lines before byte 26 are others"),
+    ):
+        fault = refused(lambda: entry.left(position), Fault, words)
+        require(isinstance(fault, Fault) and fault.status == Exit.JOURNAL, fault)
+
+
+def agreements() -> None:
+    """Of two states that begin at a time, the first is that of both."""
+    memory = Memory()
+    mine, other = Agreed(ID, ROSTER, Position()), Agreed(ID[::-1], b"other", Position(2, 30, 77))
+    require(agree(Connection(memory), KEYS, mine) == mine, "the first")
+    require(agree(Connection(memory), KEYS, other) == mine, "the second")
+    memory.rows.clear()
+    require(agree(Connection(memory), KEYS, other) == other, "one that goes on from a journal")
+    memory.set(Put(KEYS.state, b"what"))
+    refused(lambda: agree(Connection(memory), KEYS, mine), Fault, "no state of firmd")
+
+
+# Who may append.
+
+
+class Case:
+    """Replicas over an etcd in memory."""
+
+    def __init__(self, folder: Path) -> None:
+        self.folder, self.memory = folder, Memory()
+        self.agreed = agree(Connection(self.memory), KEYS, Agreed(ID, ROSTER, Position()))
+        self.opened: list[ReplicatedJournal] = []
+        self.states: list[State] = []
+
+    def open(self, name: str) -> tuple[ReplicatedJournal, list[Connection]]:
+        """A replica, and its connections: of the appends first."""
+        state = State(self.folder / name)
+        state.id_to_take = ID
+        (self.folder / name / "roster.csv").write_bytes(ROSTER)
+        connections: list[Connection] = []
+
+        def connect() -> Connection:
+            connections.append(Connection(self.memory))
+            return connections[-1]
+
+        journal = ReplicatedJournal(Journal(state, Room(4096)), Link(connect, KEYS, name, 60), self.agreed)
+        self.opened.append(journal)
+        self.states.append(state)
+        return journal, connections
+
+    def leads(self, journal: ReplicatedJournal) -> bytes:
+        """Has nobody lead but this one; the lines that its replay gives until then."""
+        row = self.memory.rows.get(KEYS.leader)
+        if row is not None:
+            self.memory.end_lease(row[1])
+        return b"".join(piece.text for piece in journal.pieces())
+
+    def lines(self) -> bytes:
+        """All lines of etcd."""
+        rows = sorted(key for key in self.memory.rows if key.startswith(KEYS.lines))
+        found = b""
+        for key in rows:
+            require(KEYS.offset(key) == len(found), f"{key!r} begins not at byte {len(found)}")
+            value = self.memory.value(key) or b""
+            found += b"".join(one.text for one in Entry.read(len(found), value).batches)
+        return found
+
+
+@contextmanager
+def case() -> Iterator[Case]:
+    with tempfile.TemporaryDirectory(prefix="firm-", dir=memory()) as name:
+        found = Case(Path(name))
+        try:
+            yield found
+        finally:
+            for journal in found.opened:
+                journal.leave()
+
+
+def one_leader() -> None:
+    """A leader appends; once another leads, its appends are refused and change nothing."""
+    with case() as here:
+        first, _ = here.open("a")
+        second, _ = here.open("b")
+        require(here.leads(first) == b"", "no lines yet")
+        place = first.append([batch(b"alpha show"), batch(b"alpha round", sender=b"firmd")])
+        require((place.number, place.end) == (1, 23), place)
+        require(here.leads(second) == b"alpha show\nalpha round\n", "the second has them")
+        before = here.lines()
+        for _ in range(2):
+            refused(lambda: first.append([batch(b"alpha costs")]), Fault, "another firmd leads by now")
+        require(here.lines() == before, "nothing was changed")
+        place = second.append([batch(b"beta show")])
+        require((place.number, place.end) == (3, 33), place)
+        require(here.lines() == b"alpha show\nalpha round\nbeta show\n", here.lines())
+
+
+def lost_answers() -> None:
+    """A request without an answer is asked again: it is done once, and known to be, also where another leads then."""
+    with case() as here:
+        first, connections = here.open("a")
+        here.leads(first)
+        appends = connections[0]
+        for faults in (["done"], ["lost"], ["lost", "done"], ["done", "done", "lost"], ["again"], ["lost", "again"]):
+            appends.faults = list(faults)
+            first.append([batch(b"alpha " + faults[0].encode())])
+        lines = b"alpha done\nalpha lost\nalpha lost\nalpha done\nalpha again\nalpha lost\n"
+        require(here.lines() == lines, here.lines())
+        # The request is done, its answer is lost, and before it is asked again another one leads.
+        second, _ = here.open("b")
+        appends.faults = ["done"]
+
+        def take_over() -> None:
+            if not appends.faults:
+                appends.on_transaction = lambda: None
+                require(here.leads(second) == lines + b"alpha last\n", "the second has it")
+
+        appends.on_transaction = take_over
+        first.append([batch(b"alpha last")])
+        require(here.lines() == lines + b"alpha last\n", here.lines())
+        refused(lambda: first.append([batch(b"alpha more")]), Fault, "another firmd leads by now")
+
+
+def random_leaders() -> None:
+    """Replicas lead in turn, asleep or not, with requests and answers that are lost: what was acknowledged stands in
+    etcd once, in order, and in each replica's files."""
+    for seed in range(6):
+        draw = random.Random(seed)
+        with case() as here:
+            replicas = [here.open(name) for name in "abc"]
+            acknowledged: list[bytes] = []
+            has_led: list[ReplicatedJournal] = []
+            for count in range(40):
+                journal, connections = draw.choice(replicas)
+                if draw.random() < 0.2 and journal not in has_led:
+                    here.leads(journal)
+                    has_led.append(journal)
+                if journal not in has_led:
+                    continue
+                line = b"alpha task j t%d" % count
+                connections[0].faults = draw.choice([[], [], ["lost"], ["done"], ["again"], ["done", "lost"]])
+                try:
+                    journal.append([batch(line)])
+                    acknowledged.append(line)
+                except Fault:
+                    require(journal is not has_led[-1], f"seed {seed}: the leader was refused")
+            lines = here.lines().splitlines()
+            require(lines == acknowledged and lines, f"seed {seed}: {lines} {acknowledged}")
+            for journal, _ in replicas:
+                own = b"".join(piece.text for piece in journal._own.pieces())
+                require(here.lines().startswith(own), f"seed {seed}: {own!r}")
+
+
+def full_and_away() -> None:
+    """An etcd that is full, or doesn't answer, is named; a late replica is, and one with lines that etcd has lost."""
+    with case() as here:
+        first, connections = here.open("a")
+        here.leads(first)
+        first.append([batch(b"alpha show")])
+        connections[0].faults = ["full"]
+        fault = refused(lambda: first.append([batch(b"alpha show")]), Fault, "etcd is full", "alarm disarm")
+        require(isinstance(fault, Fault) and fault.status == Exit.STATE, fault)
+        first.append([batch(b"alpha costs")])
+        here.memory.remove(KEYS.entry(0))
+        late, _ = here.open("b")
+        refused(lambda: here.leads(late), Fault, "late: bytes 0 to 11", "copy the state's folder")
+        here.memory.remove(KEYS.entry(11))
+        first.close()
+        own = Journal(first._own.state, Room(4096))
+        again = ReplicatedJournal(own, Link(lambda: Connection(here.memory), KEYS, "a", 60), here.agreed)
+        refused(lambda: here.leads(again), Fault, "another history: its lines end at byte 0 in etcd, and at 23 here")
+        require(position_of(own).size == 23, "its files are as they were")
+
+
+# Digests, and what is kept in order.
+
+
+def digests() -> None:
+    """Whatever pieces replies come in, all replicas have the same digests; another one is told, early or late."""
+    draw = random.Random(3)
+    replies = [b"alpha %d ok" % number for number in range(3 * EVERY_LINES + 10)]
+    faults: list[Fault] = []
+
+    def summed(texts: list[bytes]) -> Digests:
+        found = Digests(faults.append)
+        at = 0
+        while at < len(texts):
+            count = draw.randint(1, 400)
+            found.replied_all(texts[at : at + count], texts[at : at + count], None)
+            at += count
+        return found
+
+    latest = summed(replies).latest()
+    require(latest is not None and latest == summed(replies).latest(), latest)
+    told = latest or Digest(0, "")
+    require(told.lines == 3 * EVERY_LINES and Digest.read(told.text()) == told, told)
+    summed(replies).compare(told)
+    early = Digests(faults.append)
+    early.compare(told)
+    early.replied_all(replies, replies, None)
+    require(not faults, faults)
+    for number in (0, 100, 3 * EVERY_LINES - 1):
+        others = [*replies[:number], b"alpha no", *replies[number + 1 :]]
+        summed(others).compare(told)
+        early = Digests(faults.append)
+        early.compare(told)
+        early.replied_all(others, others, None)
+    require(len(faults) == 6 and all(fault.status == Exit.JOURNAL for fault in faults), faults)
+    require("the replies to the first 768 lines are others than the leader's" in str(faults[0]), faults[0])
+
+
+def points() -> None:
+    """What a snapshot keeps of lines and replies is where a replica goes on from, whatever pieces these come in."""
+    draw = random.Random(5)
+    replies = [b"alpha %d ok" % number for number in range(5 * EVERY_LINES)]
+    whole = Chain()
+    wanted = list(whole.add(replies))
+    for size in (0, 1, EVERY_LINES - 1, EVERY_LINES, EVERY_LINES + 1, draw.randrange(len(replies)), len(replies)):
+        point, at = Point(), 0
+        while at < size:
+            count = min(draw.randint(1, 400), size - at)
+            point.add(b"alpha show\n" * count, replies[at : at + count])
+            at += count
+        base = Base(7, size, size * len(b"alpha show\n"), 0)
+        books = json.dumps({"refusals": {}, "tenants": {}, **point.kept()}).encode()
+        found = point_of(Snapshot(ID, 0, base, 0, books, b""))
+        require(found is not None and found.position == Position().behind(b"alpha show\n" * size), found)
+        rest = list((found or Point()).chain.add(replies[size:]))
+        require(rest == [digest for digest in wanted if digest.lines > size], f"{size}: {rest}")
+    require(point_of(Snapshot(ID, 0, base, 0, b'{"refusals":{},"tenants":{}}', b"")) is None, "a lone firmd's")
+
+
+def housekeeper_of(memory: Memory, name: str, size: int, epoch: int) -> Housekeeper:
+    found = Housekeeper(
+        Connection(memory), KEYS, name, KeptJournal(lambda: size, lambda: None, lambda: epoch), Digests(print)
+    )
+    found._began = time.monotonic() - 60  # its name may be taken
+    return found
+
+
+def order() -> None:
+    """The leader removes what all replicas have, but the last lines, and what is of replicas that are away too long."""
+    memory = Memory()
+    memory.set(Put(KEYS.leader, b"a"))
+    epoch = memory.rows[KEYS.leader][0].made
+    for offset in range(0, 1000, 100):
+        memory.set(Put(KEYS.entry(offset), b""))
+
+    def offsets() -> list[int]:
+        return [KEYS.offset(key) for key in sorted(memory.rows) if key.startswith(KEYS.lines)]
+
+    housekeeper_of(memory, "b", 450, 0).keep()
+    leader = housekeeper_of(memory, "a", 1000, epoch)
+    leader.retained = 800
+    leader.keep()
+    require(offsets() == list(range(200, 1000, 100)) and memory.compacted, offsets())
+    leader.retained = 0
+    leader.keep()
+    require(offsets() == list(range(400, 1000, 100)), offsets())
+    require(leader.told.kept == {"a": 1000, "b": 450}, leader.told)
+    memory.set(Put(KEYS.kept + b"b", Kept("x", 450, time.time() - 100).text()))
+    leader.keep()
+    require(offsets()[0] == 400, "one that is away for a while is waited for")
+    leader.told.etcd_bytes, leader.told.quota_bytes = 6, 10
+    for count in range(3):  # it lives: its host's clock is slow
+        memory.set(Put(KEYS.kept + b"b", Kept("x", 450, time.time() - 100 + count).text()))
+        leader.keep()
+        require(offsets()[0] == 400, "one that lives is waited for, whatever its clock says")
+    leader.quiet = 0.0
+    leader.keep()
+    require(offsets() == [900] and leader.told.kept == {"a": 1000}, "but not where etcd gets full")
+
+
+def early_names() -> None:
+    """A replica that has much to replay tells etcd at once how far its disk reaches."""
+    with case() as here:
+        first, _ = here.open("a")
+        here.leads(first)
+        for number in range(3):
+            first.append([batch(b"alpha where x%d" % number)])
+        first.close()
+        own = Journal(first._own.state, Room(4096))
+        again = ReplicatedJournal(own, Link(lambda: Connection(here.memory), KEYS, "a", 60), here.agreed)
+        here.opened.append(again)
+        pieces = again.pieces()
+        next(pieces)
+        again.housekeeper._began -= 60
+        again.housekeeper.keep()
+        found = here.memory.value(KEYS.kept + b"a")
+        require(found is not None and Kept.read(found).size == len(b"alpha where x0\n") * 3, found)
+        require(again.housekeeper._thread.is_alive(), "and goes on to tell it")
+
+
+def secrets() -> None:
+    """Files of secrets that all users may read are told, and a password that goes over the network as it is."""
+    with tempfile.TemporaryDirectory(prefix="firm-") as name:
+        password, key = Path(name) / "password", Path(name) / "key"
+        for path in (password, key):
+            path.write_text("firm:secret\n")
+            path.chmod(0o644)
+        options = argparse.Namespace(etcd_password=password, etcd_key=None, etcd_cert=key, etcd=(Member(True, "a", 1),))
+        told = list(warnings_of(options))
+        require(len(told) == 2 and str(password) in told[0] and str(key) in told[1], told)
+        for path in (password, key):
+            path.chmod(0o640)
+        require(not list(warnings_of(options)), "files of an owner and a group")
+        options.etcd += (Member(False, "b", 1),)
+        told = list(warnings_of(options))
+        require(len(told) == 1 and "goes over the network as it is" in told[0], told)
+        options.etcd_password = None
+        require(not list(warnings_of(options)), "no password")
+        password.write_bytes(b"firm:\xff\n")
+        refused(Access((), None, password).login, Denied, "is no text in UTF-8")
+
+
+def names() -> None:
+    """A replica whose name another one has that is alive is told so; after a restart it has its own."""
+    memory = Memory()
+    first = housekeeper_of(memory, "a", 10, 1)
+    first.keep()
+    first.keep()
+    second = housekeeper_of(memory, "a", 10, 0)
+    second._began = time.monotonic()
+    second.keep()
+    first.keep()
+    second._began -= 60
+    fault = refused(second.keep, Fault, "another firmd that is alive has the name a")
+    require(isinstance(fault, Fault) and fault.status == Exit.STATE, fault)
+    first.keep()
+    housekeeper_of(memory, "a", 10, 1).keep()
+
+
+def warnings() -> None:
+    """What etcd uses of its quota is told."""
+    memory = Memory(size=Size(600, 1000))
+    housekeeper = housekeeper_of(memory, "a", 10, 1)
+    housekeeper._look_at_quota()
+    require(
+        (housekeeper.told.etcd_bytes, housekeeper.told.quota_bytes, housekeeper._is_warned) == (600, 1000, True),
+        housekeeper.told,
+    )
+    memory.size = Size(400, 1000)
+    housekeeper._look_at_quota()
+    require(not housekeeper._is_warned, "it is well again")
+
+
+# What a test leaves behind.
+
+GUARDED = """\
+import subprocess, sys
+sys.path.insert(0, {folder!r})
+from harness.guard import guard
+guard()
+daemon = subprocess.Popen(["sh", "-c", "sleep 600 & wait"], start_new_session=True)
+print(daemon.pid, flush=True)
+daemon.wait()
+"""
+
+
+def killed_test() -> None:
+    """Where a test is killed, all that it has started is too, in whatever session that is."""
+    script = GUARDED.format(folder=str(Path(__file__).parent))
+    with subprocess.Popen([sys.executable, "-c", script], stdout=subprocess.PIPE) as test:
+        try:
+            daemon = int((test.stdout or sys.stdin.buffer).readline())
+            until(lambda: bool(children_of(daemon)), "the daemon has a child")
+            started = [daemon, *children_of(daemon)]
+        finally:
+            test.kill()
+    until(lambda: not any(Path(f"/proc/{process}").exists() for process in started), "all are gone")
+
+
+def children_of(process: int) -> list[int]:
+    return list(map(int, Path(f"/proc/{process}/task/{process}/children").read_text().split()))
+
+
+# What an etcd may say.
+
+
+class Answers(http.server.BaseHTTPRequestHandler):
+    """A server in the place of etcd."""
+
+    protocol_version = "HTTP/1.1"
+    given: dict[str, tuple[int, object]] = {}
+    tokens: list[str] = []  # with which it was asked
+
+    def do_GET(self) -> None:
+        self._give()
+
+    def do_POST(self) -> None:
+        self.rfile.read(int(self.headers.get("Content-Length", 0)))
+        self.tokens.append(self.headers.get("Authorization", ""))
+        self._give()
+
+    def _give(self) -> None:
+        status, answer = self.given.get(self.path, (404, {"error": "Not Found", "code": 5}))
+        if self.path == "/v3/kv/range" and self.tokens[-1] == "old":
+            status, answer = 401, {"error": "etcdserver: invalid auth token", "code": 16}
+        text = json.dumps(answer).encode()
+        self.send_response(status)
+        self.send_header("Content-Length", str(len(text)))
+        self.end_headers()
+        self.wfile.write(text)
+
+    def log_message(self, format: str, *arguments: object) -> None:
+        pass
+
+
+@contextmanager
+def answering(given: dict[str, tuple[int, object]]) -> Iterator[Etcd]:
+    Answers.given, Answers.tokens = given, []
+    with http.server.ThreadingHTTPServer(("127.0.0.1", 0), Answers) as server, tempfile.NamedTemporaryFile() as file:
+        file.write(b"firm:secret\n")
+        file.flush()
+        threading.Thread(target=server.serve_forever, args=(0.01,), daemon=True).start()
+        member = Member(False, "127.0.0.1", server.server_address[1])
+        etcd = Etcd(Access((member,), None, Path(file.name)))
+        try:
+            yield etcd
+        finally:
+            etcd.close()
+            server.shutdown()
+
+
+def versions() -> None:
+    """An etcd of another version, and what is no etcd, are named; one that isn't there is."""
+    for answer, words in (
+        ((200, {"etcdcluster": "3.3.0"}), "is etcd 3.3.0: 3.4, or a later one"),
+        ((200, {"etcdcluster": "4.0.0"}), "is etcd 4.0.0"),
+        ((200, {"hello": "you"}), "is no etcd"),
+        ((404, {}), "status 404"),
+    ):
+        with answering({"/version": answer}) as etcd:
+            refused(etcd.require_version, Unfit, words)
+    with answering({"/version": (200, {"etcdcluster": "3.5.9"})}) as etcd:
+        etcd.require_version()
+        refused(lambda: etcd.range(b"k"), Denied, "refuses the user firm")
+    refused(Etcd(Access((Member(False, "127.0.0.1", 9),))).require_version, Unsure, "http://127.0.0.1:9", "refused")
+
+
+def refusals() -> None:
+    """What etcd refuses is named; a token that it has forgotten is asked for anew."""
+    rows = {"header": {"revision": "5"}, "kvs": [{"key": "aw==", "value": "dg==", "create_revision": "3"}]}
+    given: dict[str, tuple[int, object]] = {
+        "/v3/auth/authenticate": (200, {"token": "new"}),
+        "/v3/kv/range": (200, rows),
+        "/v3/kv/txn": (429, {"error": "etcdserver: mvcc: database space exceeded", "code": 8}),
+        "/v3/lease/grant": (403, {"error": "etcdserver: permission denied", "code": 7}),
+        "/v3/kv/deleterange": (503, {"error": "etcdserver: no leader", "code": 14}),
+        "/v3/kv/compaction": (400, {"error": "required revision has been compacted", "code": 11}),
+    }
+    with answering(given) as etcd:
+        etcd._token = "old"
+        found = etcd.range(b"k")
+        require((found.revision, found.found[0].value, found.found[0].made) == (5, b"v", 3), found)
+        require(Answers.tokens == ["old", "", "new"], Answers.tokens)
+        refused(lambda: etcd.transact([], []), Full, "space exceeded")
+        refused(lambda: etcd.grant(3), Denied, "permission denied")
+        refused(lambda: etcd.delete(b"a", b"b"), Unsure, "no leader")
+        etcd.compact(4)
+
+
+def cut_answers() -> None:
+    """An answer that is cut off anywhere is none: the next member is asked, and nothing is taken for what it is not."""
+    body = b'{"header": {"revision": "5"}, "succeeded": true}'
+    answer = b"HTTP/1.1 200 OK\r\nContent-Type: application/json\r\nContent-Length: %d\r\n\r\n" % len(body) + body
+    with socket.create_server(("127.0.0.1", 0)) as listening:
+        cuts = iter([*range(0, len(answer), 3), len(answer)])
+
+        def serve() -> None:
+            for cut in cuts:
+                near, _ = listening.accept()
+                with near:
+                    near.recv(65536)
+                    near.sendall(answer[:cut])
+
+        threading.Thread(target=serve, daemon=True).start()
+        etcd = Etcd(Access((Member(False, "127.0.0.1", listening.getsockname()[1]),)))
+        asked = 0
+        while True:
+            try:
+                done = etcd.transact([], [])
+                break
+            except Unsure:
+                asked += 1
+        require(done.is_done and done.revision == 5 and next(cuts, None) is None and asked > 15, (done, asked))
+
+
+RULES: list[Callable[[], None]] = [entries, cuts, histories, agreements, one_leader, lost_answers, random_leaders]
+RULES += [
+    full_and_away,
+    digests,
+    points,
+    order,
+    early_names,
+    names,
+    secrets,
+    warnings,
+    versions,
+    refusals,
+    cut_answers,
+    killed_test,
+]

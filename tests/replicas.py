@@ -1,0 +1,632 @@
+#!/usr/bin/env python3
+"""Asks firmd replicas of a journal in etcd, and kills, stops and cuts off what there is, over three real members.
+
+usage: tests/replicas.py [--quick] [--program FILE] [--only WORDS] [--seconds N] [--seed N]
+--quick looks at the rules alone, without engines. The rest needs Debian's etcd-server, and openssl for certificates; a
+check that can't be done here says so and is skipped. Each check has a line; the last line is 'N passed, M failed', and
+the exit status is 1 where one failed.
+"""
+
+from __future__ import annotations
+
+import argparse
+import os
+import random
+import shutil
+import signal
+import socket
+import subprocess
+import sys
+import tempfile
+import threading
+import time
+from collections.abc import Callable, Iterator
+from concurrent.futures import ThreadPoolExecutor
+from contextlib import contextmanager, suppress
+from dataclasses import dataclass
+from functools import partial
+from pathlib import Path
+
+ROOT = Path(__file__).resolve().parents[1]
+sys.path.insert(0, str(ROOT / "service"))
+
+import replica_chaos  # noqa: E402
+import replica_rules  # noqa: E402
+from etcd_kit import (  # noqa: E402
+    NAMES,
+    Authority,
+    Members,
+    Replicas,
+    cluster,
+    free_ports,
+    memory,
+    require_programs,
+    until,
+)
+from firmctl import missing_of, samples_of
+from firmd import Client, Gone, stand_in  # noqa: E402
+from harness.checks import Check, Skipped, count_ends, passes, print_skipped, require, run_script  # noqa: E402
+from harness.guard import guard  # noqa: E402
+from harness.program import Roster, add_program, run  # noqa: E402
+from firm_service.programs import program_of  # noqa: E402
+from replica_chaos import KILLED, KINDS, ROSTER, STOPPED, Chaos, latencies  # noqa: E402
+
+CHECKS_AT_A_TIME = 3
+CHAOS_SNAPSHOT_LINES, SNAPSHOT_LINES = 1_000, 300  # between snapshots
+KILL_SECONDS, STOP_SECONDS = 5.0, 0.5  # the longest silences behind a kill of the leader, and a stop
+# What has the loopback of a network's namespace drop packets, each way; the first that the host has is taken.
+LOSSES = {
+    "2% of packets, 1 ms late": "tc qdisc add dev lo root netem loss 2% delay 1ms 1ms",
+    "2% of packets, by nft": "nft add table ip firm"
+    " && nft add chain ip firm lost '{ type filter hook input priority 0; }'"
+    " && nft add rule ip firm lost numgen random mod 100 '<' 2 drop",
+    "2% of packets, by iptables": "iptables -A INPUT -m statistic --mode random --probability 0.02 -j DROP",
+}
+# firmd without the fence: it appends whoever leads, and over what stands there.
+UNFENCED = """\
+import sys
+sys.path.insert(0, {service!r})
+from firm_service.replicated import entries
+from firm_service import daemon
+fenced = entries.Append.of
+entries.Append.of = lambda *words: entries.Append((), fenced(*words).put)
+sys.exit(daemon.main())
+"""
+# A firm that replies otherwise than the others, from its 300th line on.
+OTHER_FIRM = """\
+#!{python}
+import subprocess, sys
+firm = subprocess.Popen([{firm!r}, *sys.argv[1:]], stdout=subprocess.PIPE)
+for number, reply in enumerate(firm.stdout, 1):
+    if number > 300:
+        reply = reply.replace(b"no 10 no-such-task", b"no 8 no-such-job").replace(b"no 2 bad-command", b"no 3 bad-name")
+    sys.stdout.buffer.write(reply)
+    sys.stdout.buffer.flush()
+"""
+
+
+@dataclass(frozen=True)
+class Setup:
+    program: str
+    seconds: float
+    seed: int
+
+    @contextmanager
+    def cluster(self, *options: str, members: tuple[str, ...] = ()) -> Iterator[tuple[Members, Replicas]]:
+        with cluster(self.program, ROSTER, *options, members=members) as found:
+            yield found
+
+
+def ask(replicas: Replicas, *lines: bytes) -> list[bytes]:
+    """The replies of the leader."""
+    with Client(replicas.socket(replicas.leads())) as client:
+        return [client.ask(line) for line in lines]
+
+
+def fill(replicas: Replicas, count: int) -> None:
+    """Has the leader take so many lines."""
+    ask(replicas, *[b"t0 where nobody-%d" % number for number in range(count)])
+
+
+def are_equal(replicas: Replicas, *names: str) -> bool:
+    return len({replicas.journal(name) for name in names or NAMES}) == 1
+
+
+# What is lost.
+
+
+def chaos(setup: Setup) -> None:
+    """Leaders, followers and members of etcd are killed, stopped or asleep at random: no answer is lost or twice."""
+    with setup.cluster("--snapshot-lines", str(CHAOS_SNAPSHOT_LINES)) as (members, replicas):
+        run = Chaos(members, replicas, setup.seed)
+        verdict = run.run(setup.seconds, [*KINDS, "stop"])
+        print(f"  seed {setup.seed}: {verdict}; p50 and p99 of an answer %.1f and %.1f ms" % latencies(run.clients))
+        require(verdict.answered > 100 and len(verdict.events) > 3, f"too little: {verdict}")
+        require(not verdict.lost and not verdict.twice and verdict.are_equal, f"{verdict}: {verdict.lost[:3]}")
+
+
+def control(setup: Setup) -> None:
+    """Without the fence, a leader that wakes up loses answers: so the judge of the other checks would see it."""
+    with setup.cluster() as (members, replicas):
+        script = replicas.folder / "unfenced.py"
+        script.write_text(UNFENCED.format(service=str(ROOT / "service")))
+        replicas.firmd = [sys.executable, str(script)]
+        for _ in range(3):
+            verdict = Chaos(members, replicas, setup.seed).run(20, ["sleep"])
+            print(f"  without the fence: {verdict}")
+            if verdict.lost or verdict.twice:
+                return
+        require(False, "without the fence nothing was lost")
+
+
+def silence(setup: Setup) -> None:
+    """Behind a kill of the leader clients are answered within 5 s, behind SIGTERM within half a second."""
+    with setup.cluster() as (members, replicas):
+        verdict = Chaos(members, replicas, setup.seed).run(30, ["leader", "stop"])
+        for what, most in ((KILLED, KILL_SECONDS), (STOPPED, STOP_SECONDS)):
+            found = sorted(event.silence for event in verdict.events if event.what == what)
+            print(f"  {what}: silent for {', '.join(f'{seconds:.2f}' for seconds in found)} s")
+            # One of them may have met a host that was busy with something else.
+            require(found and found[(len(found) - 1) // 2] <= most, f"{what}: {found}")
+        require(not verdict.lost and not verdict.twice, verdict)
+
+
+class Cutter:
+    """A way to a member of etcd on which bytes get lost: connections stand still, and are cut at any byte."""
+
+    def __init__(self, port: int, seed: int) -> None:
+        self._to, self._draw = port, random.Random(seed)
+        self._listening = socket.create_server(("127.0.0.1", 0))
+        self.url = f"http://127.0.0.1:{self._listening.getsockname()[1]}"
+        self.is_cutting = threading.Event()
+        threading.Thread(target=self._accept, daemon=True).start()
+
+    def close(self) -> None:
+        self._listening.close()
+
+    def _accept(self) -> None:
+        with suppress(OSError):
+            while True:
+                near, _ = self._listening.accept()
+                try:
+                    far = socket.create_connection(("127.0.0.1", self._to), 2)
+                except OSError:
+                    near.close()
+                    continue
+                for one, other in ((near, far), (far, near)):
+                    threading.Thread(target=self._carry, args=(one, other), daemon=True).start()
+
+    def _carry(self, source: socket.socket, target: socket.socket) -> None:
+        with suppress(OSError):
+            while data := source.recv(65536):
+                chance = self._draw.random() if self.is_cutting.is_set() else 1.0
+                if chance < 0.02:
+                    time.sleep(1.5)  # longer than firmd waits for an answer
+                if chance < 0.05:
+                    target.sendall(data[: self._draw.randrange(len(data) + 1)])
+                    break
+                target.sendall(data)
+        for one in (source, target):
+            with suppress(OSError):
+                one.shutdown(socket.SHUT_RDWR)
+
+
+def begin_cutting(cutters: list[Cutter]) -> None:
+    for cutter in cutters:
+        cutter.is_cutting.set()
+
+
+def cut_connections(setup: Setup) -> None:
+    """Connections to etcd are cut in the middle of requests and answers: no answer is lost or twice."""
+    with setup.cluster() as (members, replicas):
+        cutters = [Cutter(int(members.url(number).rpartition(":")[2]), setup.seed + number) for number in range(3)]
+        replicas.urls = ",".join(cutter.url for cutter in cutters)
+        run = Chaos(members, replicas, setup.seed)
+        started = threading.Timer(4, begin_cutting, (cutters,))
+        started.start()
+        try:
+            verdict = run.run(setup.seconds / 2, ["leader", "follower", "stop"])
+        finally:
+            started.cancel()
+            for cutter in cutters:
+                cutter.close()
+        print(f"  with cut connections: {verdict}")
+        require(verdict.answered > 100 and verdict.events, f"too little: {verdict}")
+        require(not verdict.lost and not verdict.twice and verdict.are_equal, f"{verdict}: {verdict.lost[:3]}")
+
+
+def dropped_packets(setup: Setup) -> None:
+    """The same chaos where the network drops packets, in a namespace of its own."""
+    for what, command in LOSSES.items():
+        script = f"ip link set lo up && {command}"
+        if (
+            not os.geteuid()
+            and not subprocess.run(["unshare", "-n", "sh", "-c", script], capture_output=True).returncode
+        ):
+            break
+    else:
+        raise Skipped("it needs root, and a kernel and a program that drop packets: tc with netem, nft or iptables")
+    words = [sys.executable, str(Path(__file__)), "--program", setup.program, "--only", "chaos"]
+    more = ["--seconds", f"{setup.seconds:g}", "--seed", str(setup.seed)]
+    with subprocess.Popen(
+        ["unshare", "-n", "sh", "-c", f'{script} && exec "$@"', "sh", *words, *more],
+        stdout=subprocess.PIPE,
+        stderr=subprocess.STDOUT,
+        text=True,
+    ) as inside:
+        said, _ = inside.communicate()
+    require(inside.returncode == 0, said)
+    print(f"  without {what}:", next((line for line in said.splitlines() if "seed" in line), "").strip())
+
+
+# Who may come, and go on.
+
+
+def late_replica(setup: Setup) -> None:
+    """A replica that comes late is refused until it has a copied journal; then it goes on where all others are gone."""
+    with setup.cluster("--etcd-retain", "0") as (_, replicas):
+        replicas.start("a", "b")
+        fill(replicas, 600)
+        until(lambda: are_equal(replicas, "a", "b"), "both have the lines")
+        time.sleep(2.5)  # until the leader has removed them from etcd
+        ask(replicas, b"t0 show")
+        replicas.refuses("c", 5, "late: bytes 0 to", "copy the state's folder of another replica")
+        follower = replicas.follower()
+        replicas.processes[follower].terminate()
+        require(replicas.processes[follower].wait(20) == 0, "the follower stops")
+        shutil.rmtree(replicas.folder / "c")
+        shutil.copytree(
+            replicas.folder / follower, replicas.folder / "c", ignore=shutil.ignore_patterns("lock", "view")
+        )
+        replicas.log("c").unlink()
+        replicas.start("c", follower)
+        until(lambda: are_equal(replicas), "all have the lines")
+        replicas.kill("a")
+        replicas.kill("b")
+        (reply,) = ask(replicas, b"t0 show")
+        require(replicas.leader() == "c" and reply.startswith(b"t0 6"), reply)
+
+
+def other_firm(setup: Setup) -> None:
+    """A follower whose firm replies otherwise than the leader's ends with 5, and the others go on."""
+    with setup.cluster() as (_, replicas):
+        replicas.start("a")
+        firm, replicas.firm = replicas.firm, stand_in(
+            replicas.folder, OTHER_FIRM.format(python=sys.executable, firm=replicas.firm)
+        )
+        replicas.spawn("b")
+        replicas.firm = firm
+        replicas.start("c")
+        with Client(replicas.socket("a")) as client:
+            for number in range(900):
+                client.ask(b"t0 done nobody-%d" % number)
+        require(replicas.processes["b"].wait(20) == 5, replicas.said("b"))
+        require("are others than the leader's: has it another firm?" in replicas.said("b"), replicas.said("b"))
+        require(replicas.leader() == "a" and not replicas.has_ended("c"), "the others go on")
+
+
+def work(replicas: Replicas, first: int, count: int) -> list[bytes]:
+    """Has tasks come and go, and rounds; the replies."""
+    lines = [b"t0 machine m%d 2" % first, b"t0 job j%d 10" % first]
+    for number in range(first, first + count):
+        lines += [b"t0 task j%d x%d" % (first, number), b"t0 round", b"t0 where x%d" % number]
+        lines += [b"t0 done x%d" % (number - 2)] * (number > first + 2)
+    return ask(replicas, *lines)
+
+
+def goes_on_from_snapshot(replicas: Replicas, name: str) -> bool:
+    """Whether the firm of a replica began with a snapshot's state."""
+    process = replicas.processes[name].pid
+    children = Path(f"/proc/{process}/task/{process}/children").read_text().split()
+    return any(f"--state\0{replicas.folder / name}/snapshots/".encode() in cmdline_of(child) for child in children)
+
+
+def cmdline_of(process: str) -> bytes:
+    with suppress(OSError):
+        return Path(f"/proc/{process}/cmdline").read_bytes()
+    return b""
+
+
+def has_snapshots(replicas: Replicas, name: str, count: int = 1) -> bool:
+    return len(list((replicas.folder / name / "snapshots").glob("*.snapshot"))) >= count
+
+
+def snapshots(setup: Setup) -> None:
+    """A replica goes on from its own snapshot, a late one from that of another whose folder it was given; they reply
+    as firm alone does to the whole journal, and one with another firm is told still."""
+    require_state_program()
+    with setup.cluster("--snapshot-lines", str(SNAPSHOT_LINES), "--etcd-retain", "0") as (_, replicas):
+        replicas.start("a", "b")
+        replies = work(replicas, 0, 300)
+        until(lambda: all(has_snapshots(replicas, name, 2) for name in "ab"), "both have snapshots")
+        follower = replicas.follower()
+        replicas.processes[follower].terminate()
+        require(replicas.processes[follower].wait(20) == 0, "the follower stops")
+        copy = shutil.ignore_patterns("lock", "view")
+        shutil.copytree(replicas.folder / follower, replicas.folder / "c", ignore=copy)
+        replicas.start("c", follower)
+        for name in ("c", follower):
+            until(partial(goes_on_from_snapshot, replicas, name), f"{name} goes on from a snapshot")
+        replies += work(replicas, 1_000, 300)
+        until(lambda: are_equal(replicas), "all have the lines")
+        for name in [name for name in NAMES if name != "c"]:
+            replicas.kill(name)
+        until(lambda: replicas.leader() == "c", "the late one leads alone")
+        replies += work(replicas, 2_000, 50)
+        with Roster(ROSTER) as path:
+            alone = run([replicas.firm], path, replicas.journal("c")).output.splitlines()
+        others = [reply for reply in alone if b" ok machines " not in reply]  # asked to know who leads
+        wanted = [reply for reply in replies if b" ok machines " not in reply]
+        require(others == wanted, [pair for pair in zip(others, wanted) if pair[0] != pair[1]][:3])
+        firm, replicas.firm = replicas.firm, stand_in(
+            replicas.folder, OTHER_FIRM.format(python=sys.executable, firm=replicas.firm)
+        )
+        replicas.spawn("a", "--firm-timeout", "600")
+        replicas.firm = firm
+        until(lambda: "follows" in replicas.said("a"), "it follows")
+        fill(replicas, 1_200)
+        require(replicas.processes["a"].wait(60) == 5, replicas.said("a"))
+        require("are others than the leader's" in replicas.said("a"), replicas.said("a"))
+
+
+def require_state_program() -> None:
+    if not program_of("firm_state").exists():
+        raise Skipped("firm_state is not built, which writes states")
+
+
+def sleeping_leader(setup: Setup) -> None:
+    """A leader that sleeps past its lease ends when it wakes up, and says that another leads; its appends change
+    nothing."""
+    with setup.cluster() as (_, replicas):
+        replicas.start(*NAMES)
+        first = replicas.leads()
+        with Client(replicas.socket(first)) as client:
+            client.ask(b"t0 show")
+            os.kill(replicas.processes[first].pid, signal.SIGSTOP)
+            client.send(b"t0 machine m1 2\n")
+            until(lambda: replicas.leader() not in (None, first), "another leads")
+            before = ask(replicas, b"t0 show")
+            os.kill(replicas.processes[first].pid, signal.SIGCONT)
+            require(replicas.processes[first].wait(20) == 4, replicas.said(first))
+            answers = [line for line in client.rest().splitlines() if not line.startswith(b"?")]
+            require(not answers, f"it answered {answers}")
+        require(
+            "may lead by now" in replicas.said(first) or "leads by now" in replicas.said(first), replicas.said(first)
+        )
+        require(b"machines 0" in before[0] and b"machines 0" in ask(replicas, b"t0 show")[0], before)
+
+
+def from_one_host(setup: Setup) -> None:
+    """A firmd that was alone goes on with replicas, which begin from copies of its state."""
+    with setup.cluster() as (_, replicas):
+        words = [*replicas.firmd, "--firm", setup.program, "--state", str(replicas.folder / "a")]
+        words += ["--socket", str(replicas.socket("a")), "--roster", str(replicas.folder / "roster.csv")]
+        with subprocess.Popen(words, stderr=subprocess.DEVNULL) as alone:
+            until(replicas.socket("a").exists, "it serves")
+            with Client(replicas.socket("a")) as client:
+                replies = [client.ask(b"t0 machine m%d 2" % number) for number in range(20)]
+            alone.terminate()
+        for name in ("b", "c"):
+            shutil.copytree(
+                replicas.folder / "a", replicas.folder / name, ignore=shutil.ignore_patterns("lock", "view")
+            )
+        replicas.spawn("a", "--etcd-begin")
+        until(lambda: replicas.leader() == "a", "it leads")
+        replicas.start("b", "c")
+        (reply,) = ask(replicas, b"t0 show")
+        require(replies[-1] == b"t0 20 ok" and b"ok machines 20" in reply, reply)
+        until(lambda: are_equal(replicas), "all have the lines")
+        replicas.kill("a")
+        done = subprocess.run(words, stderr=subprocess.PIPE, text=True)
+        require(done.returncode == 4 and "is a replica's: name --etcd" in done.stderr, done)
+        shutil.rmtree(replicas.folder / "a")
+        replicas.refuses("a", 5, "late: bytes 0 to")
+
+
+def histories(setup: Setup) -> None:
+    """A state of another journal is refused, also where etcd was emptied or the roster is another one."""
+    with setup.cluster() as (members, replicas):
+        replicas.start("a", "b")
+        fill(replicas, 5)
+        until(lambda: are_equal(replicas, "a", "b"), "both have the lines")
+        (replicas.folder / "roster.csv").write_bytes(ROSTER.replace(b",500", b",400"))
+        replicas.refuses("c", 3, "changed-roster")
+        (replicas.folder / "roster.csv").write_bytes(ROSTER)
+        other = Replicas(replicas.folder, replicas.urls, setup.program, ["--etcd-prefix", "/other"])
+        other.start("c")
+        other.stop()
+        replicas.refuses("c", 5, "another history", "is the state")
+        replicas.stop()
+        members.stop()
+        for number in range(3):
+            shutil.rmtree(members.folder / f"m{number}")
+        members.start_all()
+        replicas.refuses("a", 5, "lines, and etcd none of them: --etcd-begin")
+        replicas.spawn("a", "--etcd-begin")
+        fill(replicas, 3)
+        replicas.start("b")
+        until(lambda: are_equal(replicas, "a", "b"), "both have the lines")
+        require(replicas.journal("a").count(b"nobody") == 8, replicas.journal("a"))
+
+
+def one_name(setup: Setup) -> None:
+    """Of two replicas of one name the later one ends, and says why."""
+    with setup.cluster() as (_, replicas):
+        replicas.start("a")
+        fill(replicas, 5)
+        time.sleep(6)  # until the first has told its name
+        second = Replicas(replicas.folder / "other", replicas.urls, setup.program)
+        second.folder.mkdir()
+        (second.folder / "roster.csv").write_bytes(ROSTER)
+        second.refuses("a", 4, "another firmd that is alive has the name a")
+        fill(replicas, 5)
+
+
+# What etcd asks and lacks.
+
+
+def certificates(setup: Setup) -> None:
+    """etcd is reached by TLS with a certificate, and with a password; without these firmd says what is refused."""
+    require_programs("openssl", "etcdctl")
+    with tempfile.TemporaryDirectory(prefix="firm-", dir=memory()) as name:
+        ours, others = Authority(Path(name) / "ours"), Authority(Path(name) / "others")
+        server, client = ours.certificate("etcd"), ours.certificate("firmd")
+        words = ("--cert-file", str(server), "--key-file", str(server), "--client-cert-auth")
+        members = Members(Path(name) / "etcd", (*words, "--trusted-ca-file", str(ours.path)), "https").start_all()
+        replicas = Replicas(Path(name), members.urls, setup.program)
+        (replicas.folder / "roster.csv").write_bytes(ROSTER)
+        password = Path(name) / "password"
+        password.write_text("firm:secret\n")
+        nameless = ours.certificate("nameless", "/O=firm")
+        shown = ["--etcd-cert", str(nameless)]
+        try:
+            add_user(members, ours, client)
+            replicas.options = ["--etcd-ca", str(others.path), *shown]
+            replicas.refuses("a", 4, "certificate")
+            replicas.options = ["--etcd-ca", str(ours.path), *shown]
+            replicas.refuses("a", 4, "etcd: etcdserver: ")  # which says so in one of two ways
+            replicas.options += ["--etcd-password", str(password)]
+            replicas.refuses("a", 4, "a client certificate without a CN", options=("--etcd-cert", str(client)))
+            password.write_text("firm:wrong\n")
+            replicas.refuses("a", 4, "refuses the user firm", "authentication failed")
+            password.write_text("firm:secret\n")
+            replicas.start("a", "b")
+            fill(replicas, 100)
+            members.kill(1)  # which forgets who has logged in
+            members.start(1)
+            replicas.kill(replicas.leads())
+            fill(replicas, 100)
+            replicas.revive()
+            until(lambda: are_equal(replicas, "a", "b"), "both have the lines")
+        finally:
+            replicas.stop()
+            members.stop()
+
+
+def add_user(members: Members, authority: Authority, client: Path) -> None:
+    """Has etcd ask for a user, `firm`, that may use the keys below /firm/ alone."""
+    etcdctl = ["etcdctl", "--endpoints", members.urls, "--cacert", str(authority.path), "--cert", str(client)]
+    etcdctl += ["--key", str(client), "--dial-timeout=20s", "--command-timeout=20s"]
+    for words in (
+        "user add root:root",
+        "user grant-role root root",
+        "role add firm",
+        "role grant-permission firm readwrite --prefix=true /firm/",
+        "user add firm:secret",
+        "user grant-role firm firm",
+        "auth enable",
+    ):
+        environment = {**os.environ, "ETCDCTL_API": "3"}
+        done = subprocess.run([*etcdctl, *words.split()], capture_output=True, text=True, env=environment)
+        require(done.returncode == 0 or "already exists" in done.stderr, f"{words}: {done.stderr}")
+
+
+def full_etcd(setup: Setup) -> None:
+    """Where etcd is full, firmd ends with a status and words for it, and nothing is lost; followers wait."""
+    with setup.cluster("--etcd-retain", str(2**32), members=("--quota-backend-bytes", str(8 << 20))) as (_, replicas):
+        replicas.start("a", "b")
+        leader = replicas.leads()
+        line = b"t0 where " + b"x" * 200
+        answered = 0
+        with Client(replicas.socket(leader)) as client:
+            with suppress(Gone):
+                while not replicas.has_ended(leader):
+                    client.send(b"".join([line + b"\n"] * 500))
+                    for _ in range(500):
+                        answered += client.reply().startswith(b"t0 ")
+        require(replicas.processes[leader].wait(20) == 4, replicas.said(leader))
+        require("etcd is full: raise its quota" in replicas.said(leader), replicas.said(leader))
+        other = "b" if leader == "a" else "a"
+        until(lambda: "etcd is full" in replicas.said(other), "the other one says so too")
+        require(not replicas.has_ended(other), "it waits until there is room")
+        count = replicas.journal(leader).count(b"\n")
+        require(replicas.journal(leader) == replicas.journal(other) and count >= answered, (count, answered))
+
+
+def half_full(setup: Setup) -> None:
+    """Once etcd uses half of its quota, firmd warns; firmctl and the metrics show how much it is, and who is behind."""
+    quota = 24 << 20
+    options, (port,) = ["--etcd-retain", str(2**32)], free_ports(1)
+    has_http = not missing_of(["aiohttp", "prometheus_client"])
+    if has_http:
+        options += ["--http", str(port)]
+    with setup.cluster(*options, members=("--quota-backend-bytes", str(quota))) as (_, replicas):
+        replicas.start("a")
+        with Client(replicas.socket("a")) as client:
+            for _ in range(120):
+                client.send((b"t0 where " + b"x" * 200 + b"\n") * 600)
+                for _ in range(600):
+                    client.reply()
+        until(lambda: "of its quota; at the end firmd can't append" in replicas.said("a"), "it warns")
+        words = [sys.executable, str(ROOT / "service" / "firmctl"), "--state", str(replicas.folder / "a"), "status"]
+        shown = subprocess.run(words, capture_output=True, text=True).stdout
+        require(f" of {quota:,} bytes" in shown and "bytes behind: a " in shown, shown)
+        if not has_http:
+            return print_skipped("metrics of etcd", "aiohttp or prometheus_client is not there")
+        samples = samples_of(port)
+        require(samples["firm_etcd_quota_bytes", ""] == quota, samples)
+        require(samples["firm_etcd_bytes", ""] > quota / 2, samples)
+        require(samples["firm_replica_bytes", "replica=a"] > 1_000_000, samples)
+
+
+def wiped_member(setup: Setup) -> None:
+    """A member that has lost its disk is refused by etcd; another takes its place, and has all, with nothing lost."""
+    require_programs("etcdctl")
+    with setup.cluster() as (members, replicas):
+        replicas.start("a", "b")
+        fill(replicas, 100)
+        members.kill(1)
+        shutil.rmtree(members.folder / "m1")
+        members.start(1)
+        require(members.processes[1].wait(60) != 0, "etcd takes a member that has lost its disk")
+        fill(replicas, 100)
+        environment = {**os.environ, "ETCDCTL_API": "3"}
+
+        def etcdctl(*words: str) -> str:
+            """What it prints; nothing where it fails, as while etcd is not sure that its other members are well."""
+            command = ["etcdctl", "--endpoints", members.url(0), "--command-timeout=30s", *words]
+            done = subprocess.run(command, capture_output=True, text=True, env=environment)
+            return done.stdout if done.returncode == 0 else ""
+
+        (lost,) = [line.split(",")[0] for line in etcdctl("member", "list").splitlines() if " m1," in line]
+        until(lambda: "removed" in etcdctl("member", "remove", lost), "the lost member is removed")
+        until(lambda: "added" in etcdctl("member", "add", "m1", f"--peer-urls={members.peers[1]}"), "another is added")
+        members.start(1, "--initial-cluster-state", "existing")
+        until(lambda: etcdctl("member", "list").count("started") == 3, "three members")
+        members.kill(0)
+        replicas.revive()
+        fill(replicas, 100)
+        until(lambda: are_equal(replicas, "a", "b"), "both have the lines")
+        require(replicas.journal("a").count(b"nobody") == 300, "lines are lost")
+
+
+def unreachable(setup: Setup) -> None:
+    """A firmd that reaches no member ends at its start and says so; one that follows waits for etcd."""
+    with setup.cluster() as (members, replicas):
+        replicas.start("a", "b")
+        for number in range(3):
+            members.kill(number)
+        replicas.refuses("c", 4, "etcd is not reached: http://127.0.0.1")
+        until(
+            lambda: any(
+                "does not answer" in replicas.said(name) or "lease was lost" in replicas.said(name) for name in "ab"
+            ),
+            "it ends",
+        )
+        members.start_all()
+        replicas.revive()
+        fill(replicas, 3)
+
+
+CHECKS: list[Callable[[Setup], None]] = [chaos, control, cut_connections, dropped_packets]
+CHECKS += [late_replica, snapshots, other_firm, sleeping_leader, from_one_host, histories, one_name]
+CHECKS += [certificates, full_etcd, half_full, wiped_member, unreachable]
+
+
+def main() -> int:
+    parser = argparse.ArgumentParser(description=(__doc__ or "").splitlines()[0])
+    add_program(parser)
+    parser.add_argument("--quick", action="store_true", help="the rules alone, without engines")
+    parser.add_argument("--only", default="", metavar="WORDS", help="only checks whose names have these words")
+    parser.add_argument("--seconds", type=float, default=60, metavar="N", help="of chaos (default: %(default)g)")
+    parser.add_argument("--seed", type=int, default=random.randrange(10**6), metavar="N")
+    options = parser.parse_args()
+    guard()
+    setup = Setup(options.program, options.seconds, options.seed)
+    alone: dict[str, Check] = {f"rules, {name_of(rule)}": rule for rule in replica_rules.RULES}
+    beside: dict[str, Check] = {}
+    if not options.quick:
+        alone[name_of(silence)] = partial(silence, setup)
+        beside = {name_of(check): partial(check, setup) for check in CHECKS}
+    ends = [passes(name, check) for name, check in alone.items() if options.only in name]
+    chosen = {name: check for name, check in beside.items() if options.only in name}
+    with ThreadPoolExecutor(CHECKS_AT_A_TIME) as pool:
+        return count_ends([*ends, *pool.map(passes, chosen.keys(), chosen.values())])
+
+
+def name_of(check: Callable[..., None]) -> str:
+    return check.__name__.replace("_", " ")
+
+
+if __name__ == "__main__":
+    run_script(main)

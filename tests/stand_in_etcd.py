@@ -1,0 +1,122 @@
+"""Stands in for etcd in memory: keys with revisions and leases, answers that are lost, and a quota that is full."""
+
+from __future__ import annotations
+
+from collections.abc import Callable, Iterator, Sequence
+from dataclasses import dataclass, field
+from threading import RLock
+
+from firm_service.replicated.etcd import Change, Condition, Done, Full, Put, Row, Rows, Size, Unsure
+
+
+@dataclass
+class Memory:
+    """What all connections share."""
+
+    rows: dict[bytes, tuple[Row, int]] = field(default_factory=dict)  # each with its lease
+    leases: set[int] = field(default_factory=set)
+    history: list[tuple[int, Change]] = field(default_factory=list)
+    revision: int = 1
+    compacted: int = 0
+    size: Size = Size(0, 1 << 30)
+    lock: RLock = field(default_factory=RLock)
+
+    def set(self, put: Put) -> None:
+        before = self.rows.get(put.key)
+        made = before[0].made if before else self.revision
+        self.rows[put.key] = Row(put.key, put.value, made), put.lease
+        self.history.append((self.revision, Change(put.key, put.value)))
+
+    def remove(self, key: bytes) -> None:
+        del self.rows[key]
+        self.history.append((self.revision, Change(key, None)))
+
+    def end_lease(self, lease: int) -> None:
+        """As its end does, or its loss."""
+        with self.lock:
+            self.leases.discard(lease)
+            self.revision += 1
+            for key in [key for key, (_, other) in self.rows.items() if other == lease]:
+                self.remove(key)
+
+    def value(self, key: bytes) -> bytes | None:
+        return self.rows[key][0].value if key in self.rows else None
+
+
+class Connection:
+    """A store of one thread; its next transactions may go wrong."""
+
+    def __init__(self, memory: Memory) -> None:
+        self.memory = memory
+        self.faults: list[str] = []  # of the next transactions: `done` or `lost` without an answer, `again`, or `full`
+        self.on_transaction: Callable[[], None] = lambda: None
+
+    def range(self, key: bytes, end: bytes | None = None, limit: int = 0, is_last_first: bool = False) -> Rows:
+        with self.memory.lock:
+            last = key + b"\0" if end is None else end
+            keys = sorted(found for found in self.memory.rows if key <= found < last)
+            keys = keys[::-1] if is_last_first else keys
+            return Rows(self.memory.revision, [self.memory.rows[found][0] for found in keys[: limit or None]])
+
+    def last_key(self, key: bytes, end: bytes) -> bytes | None:
+        found = self.range(key, end, 1, True).found
+        return found[0].key if found else None
+
+    def transact(self, conditions: Sequence[Condition], puts: Sequence[Put]) -> Done:
+        with self.memory.lock:
+            self.on_transaction()
+            fault = self.faults.pop(0) if self.faults else ""
+            if fault == "lost":
+                raise Unsure("the request was lost")
+            if fault == "full":
+                raise Full("database space exceeded")
+            holds = all(map(self._holds, conditions))
+            if holds:
+                self.memory.revision += 1
+                for put in puts:
+                    self.memory.set(put)
+            if fault == "done":
+                raise Unsure("the answer was lost")
+            # The client itself asks a further member where an answer is lost; this is the answer of the second.
+            return Done(holds and fault != "again", self.memory.revision)
+
+    def _holds(self, condition: Condition) -> bool:
+        found = self.memory.rows.get(condition.key)
+        if condition.value is not None:
+            return found is not None and found[0].value == condition.value
+        return (found[0].made if found else 0) == condition.made
+
+    def delete(self, key: bytes, end: bytes) -> int:
+        with self.memory.lock:
+            self.memory.revision += 1
+            for found in [found for found in self.memory.rows if key <= found < end]:
+                self.memory.remove(found)
+            return self.memory.revision
+
+    def compact(self, revision: int) -> None:
+        self.memory.compacted = max(self.memory.compacted, revision)
+
+    def grant(self, seconds: int) -> int:
+        with self.memory.lock:
+            self.memory.revision += 1
+            self.memory.leases.add(self.memory.revision)
+            return self.memory.revision
+
+    def keep_alive(self, lease: int) -> float:
+        return 60.0 if lease in self.memory.leases else 0.0
+
+    def revoke(self, lease: int) -> None:
+        self.memory.end_lease(lease)
+
+    def size(self) -> Size:
+        return self.memory.size
+
+    def watch(self, key: bytes, end: bytes, revision: int, seconds: float) -> Iterator[list[Change]]:
+        with self.memory.lock:
+            changes = [change for at, change in self.memory.history if at >= revision and key <= change.key < end]
+        if changes:
+            yield changes
+        raise Unsure("nothing was heard")
+
+    def end_watch(self) -> None:
+        pass
