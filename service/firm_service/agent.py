@@ -9,20 +9,22 @@ import argparse
 import asyncio
 import contextlib
 import json
-import secrets
 import shlex
 import signal
 import sys
 from collections import Counter, defaultdict
-from dataclasses import asdict, dataclass
+from dataclasses import dataclass
 from enum import IntEnum
 from pathlib import Path
-from typing import Any
 
 from . import timeline
+from .agent_machines import read_machines
+from .agent_queue import QueueSource
+from .agent_source import LONGEST_FIRMD_PAUSE, LONGEST_PAUSE, Source, TableSource
 from .agent_state import EVENTS, Event, Key, Run, State, StateError, Tally
 from .agent_table import Machine, Table, TableError, Work
 from .books import Book, Books, Task
+from .lines import is_name
 from .logs import ERROR, INFO, WARNING, add_form, begin, tell
 from .roster import Limits
 from .supervisor import RUN_FIRST_LINE, group_trouble
@@ -34,16 +36,15 @@ PYTHON = ["-I", "-S", "-c"]
 IMPORT = "import sys; sys.path.insert(0, sys.argv[1]); import supervisor; supervisor.main()"
 SSH = ["ssh", "-o", "BatchMode=yes", "-o", "ConnectTimeout=15", "-o", "ServerAliveInterval=15"]
 BEGUN_AT_A_TIME = 8  # supervisors on each machine: sshd takes 10 connections that are not authenticated yet
-LONGEST_PAUSE = 60.0  # seconds between two tries
-LONGEST_FIRMD_PAUSE = 2.0
 LONGEST_ANSWER = 1 << 26  # bytes of a line of the view
-TABLE_SECONDS = 1.0  # between two looks at the table
+LONGEST_EVENT = 1 << 20  # of a line of a supervisor
+OVER = {None: "", "timeout": ", as its time was over", "lease": ", as the agent's lease was over"}
 EXITS = """\
 exit statuses:
   0  stopped, or --until-empty and the tenant has no tasks
   1  the same with --until-empty, and a task was given up
   2  the command line
-  3  the table can't be read or is faulty; standard error names the key
+  3  the table, or the list of machines, can't be read or is faulty; standard error names the key
   4  the agent's own folder can't be read or written, or another agent has it"""
 
 
@@ -58,29 +59,13 @@ class Exit(IntEnum):
 
 @dataclass(frozen=True)
 class Options:
-    table: Path
     view: Path
-    socket: Path
     state: Path
     until_empty: bool
 
 
 class Stop(Exception):
     """The agent is to end; what it has started goes on."""
-
-
-def tell_of(run: Run, text: str, level: int = INFO) -> None:
-    """Tells the operator of a run."""
-    tell(level, f"{run}{text}", run=run.number, task=run.key.task, job=run.job, machine=run.machine)
-
-
-def stamp(path: Path) -> tuple[int, int, int] | None:
-    """What changes when a file does; None where it can't be looked at."""
-    try:
-        found = path.stat()
-    except OSError:
-        return None
-    return found.st_mtime_ns, found.st_size, found.st_ino
 
 
 def books_of(tenant: str, rows: Event | None) -> Books:
@@ -98,51 +83,23 @@ def books_of(tenant: str, rows: Event | None) -> Books:
     return books
 
 
-class Client:
-    """A client of firmd: one line and its reply at a time."""
-
-    def __init__(self, path: Path) -> None:
-        self.path, self.lock = path, asyncio.Lock()
-        self.streams: tuple[asyncio.StreamReader, asyncio.StreamWriter] | None = None
-
-    async def ask(self, line: str) -> str:
-        """Raises OSError where firmd can't be reached."""
-        async with self.lock:
-            try:
-                if self.streams is None:
-                    self.streams = await asyncio.open_unix_connection(self.path)
-                reader, writer = self.streams
-                writer.write(line.encode() + b"\n")
-                reply = await reader.readline()
-                if reply.startswith(b"?") or not reply.endswith(b"\n"):  # a word of firmd's own, or its end
-                    writer.close()
-                    raise ConnectionError(reply.decode().strip() or "firmd has closed the connection")
-                return reply.decode().rstrip()
-            except OSError:
-                self.streams = None
-                raise
-
-
 class Agent:
-    def __init__(self, options: Options, table: Table, state: State) -> None:
-        self.options, self.table, self.state, self.history = options, table, state, state.history
-        self.client = Client(options.socket)
+    def __init__(self, options: Options, source: Source, state: State) -> None:
+        self.options, self.source, self.state, self.history = options, source, state, state.history
+        self.tenant = ""  # until the source has told of it
         self.books: Books | None = None  # None until the view has told of them
         self.firmd_state = ""  # the id of firmd's state that the books are of
         self.is_watching = asyncio.Event()  # set while the books follow firmd
         self.machines: dict[str, int] = {}  # as last recorded
         self.controls: dict[int, asyncio.StreamWriter] = {}  # of the supervisors, by run
         self.gates: defaultdict[str, asyncio.Semaphore] = defaultdict(lambda: asyncio.Semaphore(BEGUN_AT_A_TIME))
-        self.finishing: dict[Key, asyncio.Task[None]] = {}
-        self.due: dict[Key, float] = {}  # when a task may run again
-        self.held: dict[Key, str] = {}  # why a task is not run, as last told
         self.changed, self.stop = asyncio.Event(), asyncio.Event()
         self.told_unkept: set[str] = set()  # hosts
         self.failed = 0
 
     @property
     def book(self) -> Book | None:
-        return self.books.tenants.get(self.table.tenant) if self.books else None
+        return self.books.tenants.get(self.tenant) if self.books else None
 
     async def serve(self) -> int:
         """Until it is told to stop, or the tenant is empty where that is asked for; the exit status."""
@@ -157,9 +114,10 @@ class Agent:
                 for run in self.history.runs.values():
                     is_lacking = run in self.state.regained
                     lacking = f", and {EVENTS} lacks it" if is_lacking else ""
-                    tell_of(run, f" was open when the agent ended{lacking}", WARNING if is_lacking else INFO)
+                    run.tell(f" was open when the agent ended{lacking}", WARNING if is_lacking else INFO)
                     self.group.create_task(self.drive(run, None))
-                for work in (self.look_for_groups(), self.watch(), self.reread(), self.reconcile_for_ever()):
+                own = (self.look_for_groups(), self.watch(), self.reconcile_for_ever())
+                for work in (*own, *self.source.begin(self)):
                     self.group.create_task(work)
                 await self.stop.wait()
                 raise Stop
@@ -171,7 +129,8 @@ class Agent:
 
     async def watch(self) -> None:
         """Keeps the books as the view tells, through restarts of firmd."""
-        request = json.dumps({"ask": "watch", "tenant": self.table.tenant}).encode() + b"\n"
+        self.tenant = await self.source.tenant()
+        request = json.dumps({"ask": "watch", "tenant": self.tenant}).encode() + b"\n"
         pause, told = 0.1, ""
         while True:
             why = "closed by firmd"
@@ -193,34 +152,16 @@ class Agent:
 
     def hear(self, event: Event) -> None:
         if "book" in event:
-            self.books = books_of(self.table.tenant, event["book"])
+            self.books = books_of(self.tenant, event["book"])
             self.firmd_state = event["state"]
             self.is_watching.set()
-            self.finishing = {key: task for key, task in self.finishing.items() if not task.done()}
+            self.source.follows()
         elif "reply" in event and self.books is not None:
             self.books.lines = event["number"] - 1
             self.books.replied(event["line"].encode(), event["reply"].encode(), None)
         else:
             raise ValueError(event.get("text", event))
         self.changed.set()
-
-    async def reread(self) -> None:
-        """Takes in the table whenever its file has changed."""
-        seen = stamp(self.options.table)
-        while True:
-            await asyncio.sleep(TABLE_SECONDS)
-            if (now := stamp(self.options.table)) == seen:
-                continue
-            seen = now
-            try:
-                table = Table.read(self.options.table)
-                if table.tenant != self.table.tenant:
-                    raise TableError(f"tenant is {table.tenant} now; this agent runs the tasks of {self.table.tenant}")
-                self.table = table
-                tell(INFO, f"{self.options.table}: read again")
-                self.changed.set()
-            except (OSError, TableError) as error:
-                tell(WARNING, f"{self.options.table}: {error}; the table as it was stands")
 
     # What is done about it
 
@@ -245,10 +186,10 @@ class Agent:
         open_names = {run.key.task for run in self.history.runs.values()}
         for name, task in tasks.items():
             key = self.key(name, task)
-            if self.tally(key).finished:
-                self.finish(key)
-            elif task.machine is not None and name not in open_names and loads[task.machine] < machines[task.machine]:
-                loads[task.machine] += self.try_start(key, task)
+            if self.tally(key).finished and self.source.finish(key):
+                continue
+            if task.machine is not None and name not in open_names and loads[task.machine] < machines[task.machine]:
+                loads[task.machine] += self.source.try_start(key, task)
         self.forget({self.key(name, task) for name, task in tasks.items()})
         if self.options.until_empty and not tasks and not self.history.runs:
             self.stop.set()
@@ -259,10 +200,17 @@ class Agent:
     def tally(self, key: Key) -> Tally:
         return self.history.tallies.get(key) or Tally()
 
+    def has(self, key: Key) -> bool:
+        """Whether firm has a task."""
+        task = self.book.tasks.get(key.task) if self.book else None
+        return task is not None and self.key(key.task, task) == key
+
     def why_end(self, run: Run) -> str | None:
         """Why firm wants a run no longer, None where it does."""
         book = self.book
         task = book.tasks.get(run.key.task) if book else None
+        if run.is_kept:
+            return None
         if book is None or task is None or self.key(run.key.task, task) != run.key:
             return "removed"
         if task.machine == run.machine:
@@ -273,72 +221,30 @@ class Agent:
 
     def end(self, run: Run, why: str) -> None:
         self.state.record("end", run=run.number, why=why)
-        tell_of(run, f" is ended: {why}")
+        run.tell(f" is ended: {why}")
+        self.control(run, b"end\n")
+        self.source.is_ending(run)
+
+    def control(self, run: Run, line: bytes) -> None:
+        """Tells a run's supervisor, where it can be told now."""
         if run.number in self.controls:
-            self.controls[run.number].write(b"end\n")
+            self.controls[run.number].write(line)
 
-    def try_start(self, key: Key, task: Task) -> bool:
-        """Starts a task if it can be started; reports a reason against it once."""
-        machine, work = self.table.machine(task.machine or ""), self.table.work(task.job, key.task)
-        if machine is None or machine.gone:
-            why = f"the table {'has no machine' if machine is None else 'gives up the machine'} {task.machine}"
-        elif work.command is None:
-            why = f"the table has no command for it, nor for the job {task.job}"
-        elif self.due.get(key, 0) > asyncio.get_running_loop().time():
-            return False
-        else:
-            self.held.pop(key, None)
-            self.start(key, task, work)
-            return True
-        if self.held.get(key) != why:
-            self.held[key] = why
-            told = f"{key.task} is not started on {task.machine}: {why}"
-            tell(WARNING, told, task=key.task, job=task.job, machine=task.machine)
-        return False
+    def record_start(self, key: Key, task: Task) -> Run:
+        """A new run of a task that firm has placed."""
+        weight = self.book.jobs[task.job] if self.book else None
+        return self.state.start(key, {"job": task.job, "weight": weight, "machine": task.machine})
 
-    def start(self, key: Key, task: Task, work: Work) -> None:
-        """Records the start, then makes it, so that no restart can make it twice."""
-        number, weight = self.history.last_run + 1, self.book.jobs[task.job] if self.book else None
-        row = {"job": task.job, "weight": weight, "machine": task.machine}
-        place = {"folder": f"{self.history.name}/{key.task}.{number}", "token": secrets.token_hex(4)}
-        self.state.record("start", run=number, **asdict(key), **row, **place)
-        self.group.create_task(self.drive(self.history.runs[number], work))
+    def start(self, run: Run, work: Work) -> None:
+        """Makes a start that is recorded."""
+        self.group.create_task(self.drive(run, work))
 
     def forget(self, keys: set[Key]) -> None:
         """Drops what is known of tasks that firm no longer has."""
         keys = keys | {run.key for run in self.history.runs.values()}
-        known: tuple[dict[Key, Any], ...] = (self.history.tallies, self.finishing, self.due, self.held)
-        for kept in known:
-            for key in [key for key in kept if key not in keys]:
-                del kept[key]
-
-    def finish(self, key: Key) -> None:
-        if key not in self.finishing:
-            self.finishing[key] = self.group.create_task(self.say_done(key))
-
-    async def say_done(self, key: Key) -> None:
-        """Has firm forget the task; asked again until firm has.
-
-        Nothing is asked while the books don't follow firmd: it may begin another state, with a task of this name.
-        """
-        pause, told = 0.1, ""
-        while True:
-            await self.is_watching.wait()
-            task = self.book.tasks.get(key.task) if self.book else None
-            if task is None or self.key(key.task, task) != key:
-                return
-            try:
-                reply = await self.client.ask(f"{self.table.tenant} done {key.task}")
-                if reply.split()[2:] in (["ok"], ["no", "10", "no-such-task"]):
-                    return
-                why = f"{key.task}: done was refused: {reply}"
-            except OSError as error:
-                why = f"{self.options.socket}: {error}; done {key.task} waits"
-            if why != told:
-                told = why
-                tell(WARNING, why)
-            await asyncio.sleep(pause)
-            pause = min(2 * pause, LONGEST_FIRMD_PAUSE)
+        for key in [key for key in self.history.tallies if key not in keys]:
+            del self.history.tallies[key]
+        self.source.forget(keys)
 
     # A run
 
@@ -346,7 +252,7 @@ class Agent:
         """Sees a run to its end through lost connections; with work it is begun first."""
         pause = 1.0
         while True:
-            machine = self.table.machine(run.machine)
+            machine = self.source.machine(run.machine)
             if machine is not None and machine.gone:
                 return self.ended(run, {"event": "lost"})
             outcome = await self.attend(run, machine, work) if machine is not None else None
@@ -354,7 +260,7 @@ class Agent:
                 return self.ended(run, outcome)
             work = None  # whether it was begun is found out first
             known = f": nothing is known of it until {run.machine} answers; tried again in {pause:g} s"
-            tell_of(run, known, WARNING)
+            run.tell(known, WARNING)
             await asyncio.sleep(pause)
             pause = min(2 * pause, LONGEST_PAUSE)
 
@@ -369,25 +275,36 @@ class Agent:
         async with self.gates[run.machine]:
             try:
                 supervisor = await asyncio.create_subprocess_exec(
-                    *words, stdin=pipe, stdout=pipe, start_new_session=True
+                    *words, stdin=pipe, stdout=pipe, start_new_session=True, limit=LONGEST_EVENT
                 )
             except OSError as error:
-                tell_of(run, f": {words[0]}: {error}", WARNING)
+                run.tell(f": {words[0]}: {error}", WARNING)
                 return None
             if supervisor.stdin is None or supervisor.stdout is None:
                 raise RuntimeError("a process without the pipes that it was given")
             request = self.request(run, machine, None if run.ends else work)
             supervisor.stdin.write(first + json.dumps(request).encode() + (b"\nend\n" if run.ends else b"\n"))
             self.controls[run.number] = supervisor.stdin
-            line = await supervisor.stdout.readline()
+            line = await self.next_line(run, supervisor, supervisor.stdout)
         outcome = None
         while line:
             outcome = self.heard_of(run, line, work is None) or outcome
-            line = await supervisor.stdout.readline()
+            line = await self.next_line(run, supervisor, supervisor.stdout)
         del self.controls[run.number]
         supervisor.stdin.close()
         await supervisor.wait()
         return outcome
+
+    @staticmethod
+    async def next_line(run: Run, supervisor: asyncio.subprocess.Process, output: asyncio.StreamReader) -> bytes:
+        """What is said of a run next. Where that is no line, it is asked for again, by another process."""
+        try:
+            return await output.readline()
+        except ValueError:
+            run.tell(f": {run.machine} said more than {LONGEST_EVENT:,} bytes without an end", WARNING)
+            with contextlib.suppress(ProcessLookupError):
+                supervisor.kill()
+            return b""
 
     def heard_of(self, run: Run, line: bytes, is_old: bool) -> Event | None:
         """Takes in a line of a supervisor; how the run ended, where it says so."""
@@ -397,22 +314,32 @@ class Agent:
             event = None
         match event:
             case {"event": "running", "pid": int(pid)}:
-                self.state.record("running", run=run.number, pid=pid)
-                tell_of(run, f" {'still runs' if is_old else 'runs'}, process {pid}")
+                self.state.record("running", run=run.number, pid=pid, **self.place(run, event))
+                run.tell(f" {'still runs' if is_old else 'runs'}, process {pid}")
                 if event.get("unkept") is not None:
-                    machine = self.table.machine(run.machine)
-                    self.tell_unkept(machine.ssh if machine is not None else None, event["unkept"])
+                    self.tell_unkept(self.host(run), event["unkept"])
             case {"event": "foreign", "run": str(other), "pid": int(pid)}:
-                tell_of(run, f": {other}, process {pid}, runs too and is unknown here: it is ended first", WARNING)
+                run.tell(f": {other}, process {pid}, runs too and is unknown here: it is ended first", WARNING)
+            case {"event": "clock", "now": float(now), "asks": bool(asks)}:
+                self.source.clock(run, now, asks)
             case {"event": "ended", "status": int(), "asked": bool()} | {"event": "lost" | "void"}:
-                return {**event}
+                return {**event, **self.place(run, event)}
             case _:
-                tell_of(run, f": {run.machine} said {line!r}", WARNING)
+                run.tell(f": {run.machine} said {line!r}", WARNING)
         return None
+
+    def host(self, run: Run) -> str | None:
+        """Where a run is, as ssh takes it; None: here."""
+        machine = self.source.machine(run.machine)
+        return machine.ssh if machine is not None else None
+
+    def place(self, run: Run, event: Event) -> Event:
+        """Where the output of a leased run is, as its supervisor says it."""
+        return {"output": event["output"], "host": self.host(run)} if event.get("output") is not None else {}
 
     async def look_for_groups(self) -> None:
         """Finds out whether runs on this host will have cgroups."""
-        if self.table.has_here and (why := await asyncio.to_thread(group_trouble)) is not None:
+        if self.source.has_here and (why := await asyncio.to_thread(group_trouble)) is not None:
             self.tell_unkept(None, why)
 
     def tell_unkept(self, ssh: str | None, why: str) -> None:
@@ -429,49 +356,38 @@ class Agent:
         runs = self.state.folder / "runs" if is_here else Path(machine.runs)
         folder = run.folder or (run.name if is_here else f"{self.history.name}/{run.name}")
         request: Event = {"folder": str(runs / folder), "token": run.token}
+        if self.source.is_leased:
+            request["is_leased"] = True
         if work is not None:
-            names = {"TENANT": self.table.tenant, "JOB": run.job, "TASK": run.key.task, "MACHINE": run.machine}
+            names = {"TENANT": self.tenant, "JOB": run.job, "TASK": run.key.task, "MACHINE": run.machine}
             request["command"], request["grace"] = work.command, work.grace
             request["own"] = str(runs if is_here else runs / self.history.name)
-            request["directory"] = str(self.table.folder / machine.directory) if is_here else machine.directory
-            request["environment"] = {f"FIRM_{name}": value for name, value in names.items()}
+            request["directory"] = work.directory
+            request["environment"] = work.environment | {f"FIRM_{name}": value for name, value in names.items()}
+            request |= work.bounds
         return request
 
     def ended(self, run: Run, outcome: Event) -> None:
-        """Takes in how a run ended: it is done, or tried again, or tried too often."""
+        """Takes in how a run ended."""
         self.state.record(run=run.number, **outcome)
-        tally, work = self.tally(run.key), self.table.work(run.job, run.key.task)
         self.changed.set()
         if outcome["event"] == "void":
-            return tell_of(run, " was never begun", WARNING)
+            return run.tell(" was never begun", WARNING)
         if outcome["event"] == "ended" and (outcome["asked"] or outcome["status"] == 0):
-            return tell_of(run, f" {'was ended' if outcome['asked'] else 'is done'}, status {outcome['status']}")
+            how = f"was ended{OVER[outcome.get('over')]}" if outcome["asked"] else "is done"
+            return run.tell(f" {how}, status {outcome['status']}")
         why = (
             outcome.get("fault") or f"status {outcome['status']}"
             if outcome["event"] == "ended"
             else "its supervisor was lost"
         )
-        if tally.failures > work.retries:
-            self.failed += 1
-            self.state.record("failed", **asdict(run.key))
-            return tell_of(run, f" failed, {why}; given up after {tally.failures} failures", WARNING)
-        pause = min(work.pause * 2 ** min(tally.failures + tally.lost - 1, 10), LONGEST_PAUSE)
-        loop = asyncio.get_running_loop()
-        self.due[run.key] = loop.time() + pause
-        loop.call_later(pause, self.changed.set)
-        again = f"failures {tally.failures} of {work.retries + 1}, tried again in {pause:g} s"
-        tell_of(run, f" failed, {why}; {again}", WARNING)
+        self.source.failed(run, why)
 
 
-def run(options: Options) -> int:
+def run(options: Options, source: Source, state: State) -> int:
     try:
-        table = Table.read(options.table)
-    except (OSError, TableError) as error:
-        tell(ERROR, f"{options.table}: {error}")
-        return Exit.TABLE
-    try:
-        return asyncio.run(Agent(options, table, State(options.state, table.tenant)).serve())
-    except (OSError, StateError) as error:
+        return asyncio.run(Agent(options, source, state).serve())
+    except OSError as error:
         fault: Exception = error
     except ExceptionGroup as group:  # of the state's file alone: all other faults of devices are met where they occur
         faults, others = group.split(OSError)
@@ -482,30 +398,75 @@ def run(options: Options) -> int:
     return Exit.STATE
 
 
-def main(words: list[str]) -> int:
-    parser = argparse.ArgumentParser(prog="firm-agent", description=(__doc__ or "").splitlines()[0])
-    commands = parser.add_subparsers(dest="verb", required=True)
+def run_by_table(options: Options, path: Path, socket: Path) -> int:
+    try:
+        table = Table.read(path)
+    except (OSError, TableError) as error:
+        tell(ERROR, f"{path}: {error}")
+        return Exit.TABLE
+    try:
+        state = State(options.state, table.tenant)
+    except (OSError, StateError) as error:
+        tell(ERROR, f"{options.state}: {error}; what runs goes on")
+        return Exit.STATE
+    return run(options, TableSource(path, table, socket), state)
+
+
+def run_by_queue(options: Options, queue: Path, name: str, machines: str) -> int:
+    try:
+        source = QueueSource(queue, name, read_machines(machines), options.state)
+    except (OSError, TableError) as error:
+        tell(ERROR, f"{machines}: {error}")
+        return Exit.TABLE
+    try:
+        state = State(options.state, name, is_patient=True, observer=source.events.heard)
+    except (OSError, StateError) as error:
+        tell(ERROR, f"{options.state}: {error}; what runs goes on")
+        return Exit.STATE
+    return run(options, source, state)
+
+
+def add_run(commands: argparse._SubParsersAction[argparse.ArgumentParser]) -> argparse.ArgumentParser:
     raw = argparse.RawDescriptionHelpFormatter
     one = commands.add_parser("run", help="run the tasks of a tenant", epilog=EXITS, formatter_class=raw)
-    one.add_argument(
-        "--table", type=Path, required=True, metavar="FILE", help="machines, and the tasks' command lines (TOML)"
-    )
+    where = one.add_mutually_exclusive_group(required=True)
+    where.add_argument("--table", type=Path, metavar="FILE", help="machines, and the tasks' command lines (TOML)")
+    where.add_argument("--queue", type=Path, metavar="PATH", help="the socket of firm-queue, which has the tasks' work")
+    one.add_argument("--name", metavar="NAME", help="with --queue: this agent's, which no other of the tenant has")
+    listed = "with --queue: this agent's machines with slots, as m1=4,m2=8, or a file of them (TOML)"
+    one.add_argument("--machines", metavar="LIST", help=listed)
     one.add_argument(
         "--view", type=Path, required=True, metavar="PATH", help="firmd's view socket: `view` in its state folder"
     )
     one.add_argument(
-        "--socket", type=Path, required=True, metavar="PATH", help="a client socket of firmd for the tenant"
+        "--socket", type=Path, metavar="PATH", help="with --table: a client socket of firmd for the tenant"
     )
     one.add_argument(
         "--state", type=Path, required=True, metavar="DIR", help="the agent's own folder: events, and each run's output"
     )
     one.add_argument("--until-empty", action="store_true", help="end once the tenant has no tasks")
+    return one
+
+
+def main() -> int:
+    parser = argparse.ArgumentParser(prog="firm-agent", description=(__doc__ or "").splitlines()[0])
+    commands = parser.add_subparsers(dest="verb", required=True)
+    one = add_run(commands)
     two = commands.add_parser("timeline", help="write what ran where and when, as SVG, to standard output")
     two.add_argument("state", type=Path, metavar="DIR", help="an agent's state folder")
     for command in (one, two):
         add_form(command)
-    given = parser.parse_args(words)
+    given = parser.parse_args()
     begin("firm-agent", given.log_format)
     if given.verb == "timeline":
         return timeline.main(given.state)
-    return run(Options(given.table, given.view, given.socket, given.state, given.until_empty))
+    options = Options(given.view, given.state, given.until_empty)
+    if given.table is not None:
+        if given.socket is None or given.name is not None or given.machines is not None:
+            one.error("--table needs --socket, and takes neither --name nor --machines")
+        return run_by_table(options, given.table, given.socket)
+    if given.name is None or given.machines is None or given.socket is not None:
+        one.error("--queue needs --name and --machines, and takes no --socket")
+    if not is_name(given.name.encode()):
+        one.error(f"--name {given.name!r} is no name; names have 1 to 16 of a to z, 0 to 9 and -")
+    return run_by_queue(options, given.queue, given.name, given.machines)

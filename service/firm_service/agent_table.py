@@ -3,7 +3,7 @@
 from __future__ import annotations
 
 import tomllib
-from dataclasses import dataclass
+from dataclasses import dataclass, field
 from pathlib import Path
 from typing import Any
 
@@ -28,10 +28,13 @@ class Machine:
 class Work:
     """How a task is run."""
 
-    command: str | None = None  # for the shell
+    command: str | list[str] | None = None  # for the shell, or a program and its words
     retries: int = 0  # further runs after failures
     pause: float = 1.0  # seconds before the first of them; doubled for each further one, up to a minute
     grace: float = 5.0  # seconds from SIGTERM to SIGKILL
+    directory: str = "."  # as its machine has it
+    environment: dict[str, str] = field(default_factory=dict)
+    bounds: dict[str, Any] = field(default_factory=dict)  # of a queue's, as a supervisor is asked for them
 
 
 Section = dict[str, Any]
@@ -58,6 +61,14 @@ def checked(where: str, section: Any, keys: Keys) -> Section:
     return section
 
 
+def read_toml(path: Path, keys: Keys) -> Section:
+    """The table of a file, where it has only such keys; raises `TableError`, and OSError where it can't be read."""
+    try:
+        return checked("the table", tomllib.loads(path.read_text()), keys)
+    except ValueError as error:
+        raise TableError(f"no TOML: {error}") from None
+
+
 def sections(table: Section, name: str, keys: Keys) -> dict[str, Section]:
     """The sections [name.x] by x."""
     found = table.get(name, {})
@@ -65,6 +76,13 @@ def sections(table: Section, name: str, keys: Keys) -> dict[str, Section]:
         if not is_name(key.encode()):
             raise TableError(f"{name}: {key!r} is no name; names have 1 to 16 of a to z, 0 to 9 and -")
     return {key: checked(f"{name}.{key}", section, keys) for key, section in found.items()}
+
+
+def machine_of(name: str, row: Section) -> Machine:
+    machine = Machine(**row)
+    if machine.ssh is not None and (not machine.ssh or machine.ssh.startswith("-")):
+        raise TableError(f"machines.{name}: ssh is {machine.ssh!r}; it must be a destination")
+    return machine
 
 
 @dataclass(frozen=True)
@@ -79,16 +97,10 @@ class Table:
     @classmethod
     def read(cls, path: Path) -> Table:
         """Raises `TableError`, and OSError where the file can't be read."""
-        try:
-            table = checked("the table", tomllib.loads(path.read_text()), TABLE_KEYS)
-        except ValueError as error:
-            raise TableError(f"no TOML: {error}") from None
+        table = read_toml(path, TABLE_KEYS)
         if not is_name(table.get("tenant", "").encode()):
             raise TableError("the table: tenant must be the name of the tenant whose tasks are run")
-        machines = {name: Machine(**row) for name, row in sections(table, "machines", MACHINE_KEYS).items()}
-        for name, machine in machines.items():
-            if machine.ssh is not None and (not machine.ssh or machine.ssh.startswith("-")):
-                raise TableError(f"machines.{name}: ssh is {machine.ssh!r}; it must be a destination")
+        machines = {name: machine_of(name, row) for name, row in sections(table, "machines", MACHINE_KEYS).items()}
         common = {key: table[key] for key in WORK_KEYS if key in table}
         jobs, tasks = (sections(table, name, WORK_KEYS) for name in ("jobs", "tasks"))
         return cls(table["tenant"], path.absolute().parent, machines, common, jobs, tasks)

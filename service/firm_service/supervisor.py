@@ -1,13 +1,17 @@
 """Runs one command and outlives the agent that asked for it.
 
 It stands alone: ssh carries it to machines that have only Python 3.9. On standard input comes one line, a request; each
-further line asks for the end of the run, and the end of input leaves it alone. On standard output each event of the run
-is a line of JSON: `running`, and one of `ended`, `lost` (the supervisor was killed, and what it had started is ended
-now) and `void` (the run was never begun, and never will be). Before them come `foreign`, one for each run of this task
-that the agent does not know, as where its events were put back from a copy: it is ended before anything else is done.
+further line asks for the end of the run, but `lease T` extends its lease, and the end of input leaves it alone. On
+standard output each event of the run is a line of JSON: `running`, and one of `ended`, `lost` (the supervisor was
+killed, and what it had started is ended now) and `void` (the run was never begun, and never will be). Before them come
+`foreign`, one for each run of this task that the agent does not know, as where its events were put back from a copy: it
+is ended before anything else is done.
 
-The run's folder has `output`, `process` (the process that has claimed the run, or null) and, once no process is left,
-`status`.
+A run with a lease ends by itself at the time T, by this machine's CLOCK_BOOTTIME, and is not begun before it has one.
+`clock` says that clock: at first, which asks for a lease, and after each one.
+
+The run's folder has `output`, `process` (the process that has claimed the run, or null), `lease` (a named pipe, so that
+neither a full disk nor one that hangs lets a run outlive its lease) and, once no process is left, `status`.
 
 Where a cgroup v2 can be written, the command and all that it starts are in one of their own, so that nothing of it
 outlives a killed supervisor unseen. It is made below the supervisor's own cgroup; where that is not this user's to
@@ -18,6 +22,7 @@ from __future__ import annotations
 
 import contextlib
 import ctypes
+import errno
 import json
 import os
 import select
@@ -36,11 +41,19 @@ SYSTEMD = Path("/run/systemd/system")  # is there where systemd runs
 SCOPE_SECONDS = 20.0  # for an answer of systemd
 PROCESSES, EVENTS, TYPE, FREEZE = "cgroup.procs", "cgroup.events", "cgroup.type", "cgroup.freeze"
 KILL = "cgroup.kill"  # since Linux 5.14
+CONTROL = "cgroup.subtree_control"
+PERIOD = 100_000  # microseconds, of which processors are given a share
 SIGNALS = (signal.SIGCHLD, signal.SIGTERM)
-PR_SET_CHILD_SUBREAPER = 36
+PR_SET_PDEATHSIG, PR_SET_CHILD_SUBREAPER = 1, 36
 LOOK_SECONDS = 0.02  # between two looks at processes that are being ended
+SPAWN_SECONDS = 0.2  # between two looks whether a command that is being started is to end
+LEASE_SECONDS = 1.0  # between two looks at a lease and a limit: a sleep of the machine would make a longer wait late
 FULL_SECONDS = 1.0  # between two tries to write a status on a full disk
-NOT_STARTED = 127  # the shell's own status for a command that it can't run
+NOT_STARTED = 127  # the shell's own status for a command that is not there
+CANNOT_START = 126  # and for one that is there and can't be run
+LEASE = "lease"
+SHOWN_LETTERS = 200  # of a word in a message
+SHARED = ("PATH", "LANG", "LC_ALL", "TZ")  # variables of this process that another user's command has too
 
 
 class Request(NamedTuple):
@@ -49,11 +62,32 @@ class Request(NamedTuple):
         None  # the folder of all runs of this agent alone: those in it, and in the histories' folders there
     )
     token: str | None = None  # that this run alone has; None: of an older agent
-    command: str | None = None  # for the shell; None: whatever was begun is followed, and nothing new
+    command: str | list[str] | None = None  # for the shell, or words; None: what was begun is followed, nothing new
     directory: str = "."
     environment: dict[str, str] | None = None  # beside this process's own
     grace: float = 5.0  # seconds from SIGTERM to SIGKILL
     is_in_scope: bool = False  # of systemd: the run is only begun here
+    is_leased: bool = False
+    until: float = 0.0  # the lease's end
+    output: str | None = None  # a file to which the command's output is appended, in place of the run's own
+    limit: float | None = None  # seconds that it may take
+    memory: int | None = None  # bytes
+    processors: float | None = None
+    user: int | None = None  # whose process the command is
+
+    def limits(self) -> dict[str, str]:
+        """Files of a cgroup, and what they must hold."""
+        found = {}
+        if self.memory is not None:
+            found["memory.max"] = str(self.memory)
+            found["memory.oom.group"] = "1"
+        if self.processors is not None:
+            found["cpu.max"] = f"{max(1000, round(self.processors * PERIOD))} {PERIOD}"
+        return found
+
+
+def clock() -> float:
+    return time.clock_gettime(time.CLOCK_BOOTTIME)
 
 
 class Process(NamedTuple):
@@ -86,6 +120,35 @@ class Outcome(NamedTuple):
     status: int  # of the command; minus the signal's number where a signal ended it
     asked: bool  # whether it was still running when its end was asked for
     fault: str | None = None  # why the command could not be started
+    over: str | None = None  # what has ended it: its `lease`, its limit of time (`timeout`) or of `memory`
+    seconds: float | None = None  # that it took, of a leased run
+
+    def text(self) -> str:
+        """As JSON; what only leased runs have is left out for others."""
+        return json.dumps(
+            {name: value for name, value in self._asdict().items() if value is not None or name == "fault"}
+        )
+
+
+class NotStarted(Exception):
+    """Why a command can't be started."""
+
+    def __init__(self, status: int, text: str) -> None:
+        super().__init__(text)
+        self.status = status
+
+
+class Over(Exception):
+    """A run is to end before its command has begun."""
+
+    def __init__(self, why: str | None) -> None:
+        super().__init__(why)
+        self.why = why
+
+
+def short(word: str) -> str:
+    """A word for a message, which is kept with each attempt."""
+    return word if len(word) <= SHOWN_LETTERS else f"{word[:SHOWN_LETTERS]} .."
 
 
 def write_whole(path: Path, text: str) -> None:
@@ -105,6 +168,7 @@ class Claim(NamedTuple):
     token: str | None = None  # of the run that it was claimed for
     group: str | None = None  # the cgroup of what was started
     unkept: str | None = None  # why there is none
+    output: str | None = None  # of a leased run: where its output goes
 
     @staticmethod
     def of(folder: Path) -> Claim:
@@ -112,13 +176,15 @@ class Claim(NamedTuple):
         held = json.loads((folder / "process").read_text())
         if held is None:
             return Claim(None)
-        words = [held.get(name) for name in ("token", "group", "unkept")]
+        words = [held.get(name) for name in ("token", "group", "unkept", "output")]
         return Claim(Process(held["pid"], held["start"], held["boot"]), *words)
 
     def take(self, folder: Path) -> bool:
         """Takes the run; of many that try only one succeeds."""
         draft = folder / f"claim.{os.getpid()}"
         more = {"token": self.token, "group": self.group, "unkept": self.unkept}
+        if self.output is not None:
+            more["output"] = self.output
         write_whole(draft, json.dumps(self.process and {**self.process._asdict(), **more}))
         try:
             os.link(draft, folder / "process")
@@ -163,21 +229,46 @@ def is_delegated(path: Path) -> bool:
         return False
 
 
+def place_with(home: Path, limits: dict[str, str]) -> Path:
+    """The cgroup below which others may have limits: this one, or the one above it, as a cgroup that gives out limits
+    has no processes of its own."""
+    controllers = sorted({name.partition(".")[0] for name in limits})
+    why = ""
+    for place in (home, home.parent):
+        try:
+            given = (place / CONTROL).read_text().split()
+            if lacking := [name for name in controllers if name not in given]:
+                put(place / CONTROL, " ".join(f"+{name}" for name in lacking))
+            return place
+        except OSError as error:
+            why = why or f"{place} can't limit {', '.join(controllers)}: {error.strerror}"
+    raise NoGroup(why)
+
+
+def limit(group: Path, limits: dict[str, str]) -> None:
+    """Writes limits; raises OSError where one can't be kept."""
+    for name, value in limits.items():
+        put(group / name, value)
+
+
 class Group:
     """The cgroup of a run's processes: whatever they do to their environment, sessions and parents, they stay in it."""
 
-    def __init__(self, path: Path) -> None:
-        self.path = path
+    def __init__(self, path: Path, home: Path | None = None) -> None:
+        self.path, self.home = path, home or path.parent
 
     @staticmethod
-    def make(name: str) -> Group:
-        """A new one; raises NoGroup where there can be none."""
-        group = Group(own_group() / f"{name}-{os.urandom(4).hex()}")
+    def make(name: str, limits: dict[str, str] | None = None) -> Group:
+        """A new one; raises NoGroup where there can be none, or none with such limits."""
+        home = own_group()
+        place = place_with(home, limits) if limits else home
+        group = Group(place / f"{name}-{os.urandom(4).hex()}", home)
         try:
             group.path.mkdir()
             if (group.path / TYPE).read_text() != "domain\n":
                 group.end()
                 raise NoGroup(f"{group.path.parent} has threads alone")
+            limit(group.path, limits or {})
         except OSError as error:
             raise NoGroup(f"{group.path.parent}: {error.strerror}") from None
         return group
@@ -189,7 +280,13 @@ class Group:
         try:
             yield
         finally:
-            put(self.path.parent / PROCESSES, "0")
+            put(self.home / PROCESSES, "0")
+
+    def has_run_out_of_memory(self) -> bool:
+        with contextlib.suppress(OSError):
+            rows = (self.path / "memory.events").read_text().splitlines()
+            return any(row.startswith("oom_kill ") and row != "oom_kill 0" for row in rows)
+        return False
 
     def kill(self) -> None:
         """Kills all that is in it, those too that are started meanwhile."""
@@ -230,36 +327,77 @@ class Group:
                 os.close(descriptor)
 
 
+class Bounds:
+    """When a run must end by itself."""
+
+    def __init__(self, request: Request) -> None:
+        """Raises OSError where a lease can't be heard of."""
+        self.until = request.until if request.is_leased else float("inf")
+        self.limit = clock() + request.limit if request.limit is not None else float("inf")
+        self.pipe: int | None = None
+        self.path = Path(request.folder, LEASE)
+        if request.is_leased:
+            os.mkfifo(self.path, 0o600)
+            self.pipe = os.open(self.path, os.O_RDWR | os.O_NONBLOCK)  # writing too: so it has no end
+
+    def are_there(self) -> bool:
+        return self.pipe is not None or self.limit < float("inf")
+
+    def over(self) -> str | None:
+        """What ends the run now."""
+        if self.pipe is not None:
+            with contextlib.suppress(BlockingIOError):
+                self.until = max(self.until, *map(float, os.read(self.pipe, 65536).split()))
+        now = clock()
+        return "lease" if now >= self.until else "timeout" if now >= self.limit else None
+
+    def pause(self) -> float:
+        return max(0.0, min(LEASE_SECONDS, min(self.until, self.limit) - clock()))
+
+    def close(self) -> None:
+        if self.pipe is not None:
+            with contextlib.suppress(OSError):
+                self.path.unlink()
+
+
 class Supervisor:
     """The parent of all processes of a run, those too whose own parent has ended."""
 
-    def __init__(self, command: str, environment: dict[str, str], grace: float, group: Group | None) -> None:
-        """Starts the command; raises OSError where it can't be started."""
-        self.grace, self.group = grace, group
+    def __init__(self, request: Request, command: str | list[str], group: Group | None, bounds: Bounds) -> None:
+        """Starts the command; raises NotStarted and OSError where it can't be started."""
+        self.grace, self.group, self.bounds = request.grace, group, bounds
+        self.began = clock()
         self.asked = False
+        self.over: str | None = None
         self.kill_at: float | None = None
         self.status: int | None = None
         ctypes.CDLL(None).prctl(PR_SET_CHILD_SUBREAPER, 1, 0, 0, 0)
-        ignored = (signal.SIGPIPE, signal.SIGXFSZ)  # by Python itself; the command has the usual ones
-        words = ["/bin/sh", "-c", command]
         with group.joined() if group else contextlib.nullcontext():
-            self.child = os.posix_spawn(words[0], words, environment, setpgroup=0, setsigmask=(), setsigdef=ignored)
+            self.child = spawn(request, command, bounds)
 
     def wait(self) -> Outcome:
         """Returns once no process of the run is left."""
         while self._reap():
-            if self._next_signal() == signal.SIGTERM and self._reap() and self.status is None:
-                self.asked = True
+            is_asked = self._next_signal() == signal.SIGTERM
+            over = self.bounds.over() if self.kill_at is None and not is_asked else None
+            if (is_asked or over is not None) and self._reap() and self.status is None:
+                self.asked, self.over = True, self.over or over
                 self._begin_end()
         if self.status is None:
             raise ChildProcessError("another process has taken the command's status")
-        return Outcome(self.status, self.asked)
+        if self.group is not None and self.over is None and self.status and self.group.has_run_out_of_memory():
+            self.over = "memory"
+        seconds = round(clock() - self.began, 3) if self.bounds.are_there() else None
+        return Outcome(self.status, self.asked, None, self.over, seconds)
 
     def _next_signal(self) -> int:
         """The signal that comes next, 0 for none in a short while; once the grace is over, what is left is killed."""
         if self.kill_at is None:
-            return signal.sigwaitinfo(SIGNALS).si_signo
-        if time.monotonic() >= self.kill_at:
+            if not self.bounds.are_there():
+                return signal.sigwaitinfo(SIGNALS).si_signo
+            got = signal.sigtimedwait(SIGNALS, self.bounds.pause())
+            return got.si_signo if got else 0
+        if clock() >= self.kill_at:
             if self.group is not None:
                 self.group.kill()
             self._send(signal.SIGKILL)
@@ -281,7 +419,7 @@ class Supervisor:
 
     def _begin_end(self) -> None:
         if self.kill_at is None:
-            self.kill_at = time.monotonic() + self.grace
+            self.kill_at = clock() + self.grace
             self._send(signal.SIGTERM)
 
     def _send(self, number: signal.Signals) -> None:
@@ -294,6 +432,107 @@ class Supervisor:
                     os.killpg(pid, number)
                 elif os.getpgid(pid) != group:
                     os.kill(pid, number)
+
+
+def spawn(request: Request, command: str | list[str], bounds: Bounds) -> int:
+    """Starts the command in a process group of its own; raises NotStarted and Over."""
+    reading, writing = os.pipe()
+    supervisor = os.getpid()
+    child = os.fork()
+    if child == 0:
+        try:
+            become(request, command, supervisor)
+        except NotStarted as fault:
+            os.write(writing, json.dumps([fault.status, str(fault)]).encode())
+        except BaseException as fault:
+            os.write(writing, json.dumps([CANNOT_START, str(fault)]).encode())
+        finally:
+            os._exit(NOT_STARTED)
+    os.close(writing)
+    with open(reading, "rb") as told:
+        while bounds.are_there() and not select.select([told], [], [], SPAWN_SECONDS)[0]:
+            over = bounds.over()
+            if over is not None or signal.SIGTERM in signal.sigpending():
+                os.kill(
+                    child, signal.SIGKILL
+                )  # it waits for a disk, as of its folder; nothing of it runs any more then
+                os.waitpid(child, 0)
+                raise Over(over)
+        why = told.read()
+    if why:
+        os.waitpid(child, 0)
+        raise NotStarted(*json.loads(why))
+    return child
+
+
+def become(request: Request, command: str | list[str], supervisor: int) -> None:
+    """Makes this process the command; raises NotStarted."""
+    os.setpgid(0, 0)
+    signal.pthread_sigmask(signal.SIG_SETMASK, ())
+    for number in (signal.SIGPIPE, signal.SIGXFSZ):  # ignored by Python itself; the command has the usual ones
+        signal.signal(number, signal.SIG_DFL)
+    environment = {**own_environment(request.user), **(request.environment or {}), "FIRM_RUN": request.folder}
+    if request.is_leased:
+        if request.user is not None:
+            become_user(request.user)
+        ctypes.CDLL(None).prctl(PR_SET_PDEATHSIG, signal.SIGKILL, 0, 0, 0)  # nobody else keeps it within its lease
+        if os.getppid() != supervisor:
+            raise NotStarted(CANNOT_START, "its supervisor was killed")
+        enter(request)
+    words = ["/bin/sh", "-c", command] if isinstance(command, str) else command
+    try:
+        os.execvpe(words[0], words, environment)
+    except FileNotFoundError:
+        if "/" in words[0] and os.path.exists(words[0]):
+            raise NotStarted(CANNOT_START, f"{short(words[0])}: its interpreter is not there") from None
+        raise NotStarted(NOT_STARTED, f"no such command: {short(words[0])}") from None
+    except OSError as error:
+        raise NotStarted(CANNOT_START, f"{short(words[0])}: {error.strerror}") from None
+
+
+def own_environment(user: int | None) -> dict[str, str]:
+    """This process's own, or as much of it as is another user's too, and what a login gives that."""
+    if user is None:
+        return {**os.environ}
+    import pwd
+
+    try:
+        row = pwd.getpwuid(user)
+    except KeyError:
+        raise NotStarted(CANNOT_START, f"no user has the number {user} here") from None
+    names = {"HOME": row.pw_dir, "USER": row.pw_name, "LOGNAME": row.pw_name, "SHELL": row.pw_shell or "/bin/sh"}
+    return {**{name: os.environ[name] for name in SHARED if name in os.environ}, **names}
+
+
+def become_user(user: int) -> None:
+    import pwd
+
+    row = pwd.getpwuid(user)
+    try:
+        os.initgroups(row.pw_name, row.pw_gid)
+        os.setgid(row.pw_gid)
+        os.setuid(user)
+    except OSError as error:
+        raise NotStarted(CANNOT_START, f"can't become the user {row.pw_name}: {error.strerror}") from None
+
+
+def enter(request: Request) -> None:
+    """Opens the output and enters the folder, with no other rights than the command has."""
+    path = request.directory
+    try:
+        os.chdir(path)
+        if request.output is not None:
+            path = request.output
+            # A named pipe without a reader is refused: it would hold the run up where no lease and no limit ends it.
+            flags = os.O_WRONLY | os.O_CREAT | os.O_APPEND | os.O_NOCTTY | os.O_NONBLOCK
+            output = os.open(path, flags, 0o644)
+            os.set_blocking(output, True)
+            os.dup2(output, 1)
+            os.dup2(output, 2)
+    except OSError as error:
+        missing = error.errno == errno.ENOENT and path == request.directory
+        told = f"no such folder: {short(path)}" if missing else f"{short(path)}: {error.strerror}"
+        raise NotStarted(CANNOT_START, told) from None
 
 
 def group_trouble() -> str | None:
@@ -318,7 +557,7 @@ def in_scope(name: str, words: list[str], text: str) -> str | None:
     return f"systemd-run: {done.stderr.strip() or done.returncode}" if done.returncode else None
 
 
-def begin(request: Request, command: str) -> None:
+def begin(request: Request, command: str | list[str]) -> None:
     """Begins the run, in a cgroup where there can be one; returns once the run is claimed, by it or before it."""
     unkept = None
     try:
@@ -335,7 +574,7 @@ def begin(request: Request, command: str) -> None:
     fork(request, command, unkept)
 
 
-def fork(request: Request, command: str, unkept: str | None) -> None:
+def fork(request: Request, command: str | list[str], unkept: str | None) -> None:
     """Forks the supervisor; returns once the run is claimed."""
     reading, writing = os.pipe()
     if os.fork():
@@ -350,7 +589,8 @@ def fork(request: Request, command: str, unkept: str | None) -> None:
         signal.pthread_sigmask(signal.SIG_BLOCK, SIGNALS)
         group, unkept = group_of(request, unkept)
         path = str(group.path) if group is not None else None
-        claim = Claim(Process.of(os.getpid()), request.token, path, unkept)
+        output = (request.output or f"{request.folder}/output") if request.is_leased else None
+        claim = Claim(Process.of(os.getpid()), request.token, path, unkept, output)
         if claim.take(Path(request.folder)):
             keep(request, command, group, writing)
         elif group is not None:
@@ -365,32 +605,44 @@ def group_of(request: Request, unkept: str | None) -> tuple[Group | None, str | 
     """The cgroup of a run, or why there is none."""
     if unkept is None:
         try:
-            return Group.make(f"firm-{Path(request.folder).name}"), None
+            return Group.make(f"firm-{Path(request.folder).name}", request.limits()), None
         except NoGroup as reason:
             unkept = str(reason)
     return None, unkept
 
 
-def keep(request: Request, command: str, group: Group | None, writing: int) -> None:
+def keep(request: Request, command: str | list[str], group: Group | None, writing: int) -> None:
     """Runs the command of a run that is claimed, and writes how it ended; the descriptor is closed before it starts."""
     folder = Path(request.folder)
+    bounds: Bounds | None = None
     try:
         output = os.open(folder / "output", os.O_WRONLY | os.O_CREAT | os.O_APPEND, 0o644)
+        if request.user is not None:
+            os.fchown(output, request.user, -1)
         for source, target in ((os.open(os.devnull, os.O_RDONLY), 0), (output, 1), (output, 2)):
             os.dup2(source, target)
+        bounds = Bounds(request)
         os.close(writing)
-        os.chdir(request.directory)
-        environment = {**os.environ, **(request.environment or {}), "FIRM_RUN": request.folder}
-        supervisor = Supervisor(command, environment, request.grace, group)
+        if not request.is_leased:
+            os.chdir(request.directory)
+        if group is None and request.limits():
+            raise NotStarted(CANNOT_START, f"no limits can be kept here: {Claim.of(folder).unkept}")
+        supervisor = Supervisor(request, command, group, bounds)
+    except NotStarted as fault:
+        outcome = Outcome(fault.status, False, str(fault))
+    except Over as end:
+        outcome = Outcome(-signal.SIGKILL, True, None, end.why)
     except OSError as error:
         outcome = Outcome(NOT_STARTED, False, str(error))
     else:
         outcome = supervisor.wait()
     if group is not None:
         group.end()
+    if bounds is not None:
+        bounds.close()
     while True:
         try:
-            return write_whole(folder / "status", json.dumps(outcome._asdict()))
+            return write_whole(folder / "status", outcome.text())
         except FileNotFoundError:  # the folder was removed
             return
         except OSError:  # the disk is full: the work is done and must not be done again
@@ -455,30 +707,83 @@ def end_rivals(folder: Path, own: Path) -> None:
                     end_foreign(run, claim.process, claim.group)
 
 
-def follow(folder: Path, token: str | None) -> None:
+def extend(folder: Path, until: float) -> None:
+    """Tells a run's supervisor that its lease goes on, where there is one."""
+    with contextlib.suppress(OSError):
+        pipe = os.open(folder / LEASE, os.O_WRONLY | os.O_NONBLOCK)
+        try:
+            os.write(pipe, b"%.3f\n" % until)
+        finally:
+            os.close(pipe)
+    say("clock", now=clock(), asks=False)
+
+
+class Orders:
+    """Lines of standard input."""
+
+    def __init__(self) -> None:
+        self._text = b""
+
+    def take(self) -> list[bytes]:
+        """The lines that are there, once one is; none at the end of input."""
+        while b"\n" not in self._text:
+            text = os.read(0, 65536)
+            if not text:
+                return []
+            self._text += text
+        *lines, self._text = self._text.split(b"\n")
+        return lines
+
+
+def lease_of(line: bytes) -> float | None:
+    """The time of a line that extends a lease; None for one that asks for the end."""
+    return float(line[len(LEASE) :]) if line.startswith(LEASE.encode()) else None
+
+
+def first_lease(orders: Orders) -> float:
+    """When the first lease ends; 0 where the run is not to be begun any more."""
+    for line in orders.take():
+        until = lease_of(line)
+        if until is None or until <= clock():
+            return 0.0
+        return until
+    return 0.0
+
+
+def follow(folder: Path, request: Request, orders: Orders) -> None:
     """Tells of a run that is claimed, until it ends or nobody asks any more."""
     claim = Claim.of(folder)
     process = claim.process
     # Another run's token: the agent's events were put back to an older state, and its numbers come again.
-    if process is not None and token is not None and claim.token != token:
+    if process is not None and request.token is not None and claim.token != request.token:
         end_foreign(folder, process, claim.group)
         process = None
     if process is None:
         return say("void")
+    place = {"output": claim.output} if request.is_leased else {}
     descriptor = process.open()
     if descriptor is not None:
-        say("running", pid=process.pid, start=process.start, unkept=claim.unkept)
+        say("running", pid=process.pid, start=process.start, unkept=claim.unkept, **place)
         while descriptor not in (ready := select.select([0, descriptor], [], [])[0]):
-            if not os.read(0, 4096):
+            lines = orders.take()
+            if not lines:
                 return
-            with contextlib.suppress(ProcessLookupError):
-                signal.pidfd_send_signal(descriptor, signal.SIGTERM)
+            for line in lines:
+                obey(line, folder, descriptor)
     try:
         outcome = json.loads((folder / "status").read_text())
     except FileNotFoundError:
         end_left(folder, claim.group)
         return say("lost")
-    say("ended", **outcome)
+    say("ended", **outcome, **place)
+
+
+def obey(line: bytes, folder: Path, supervisor: int) -> None:
+    until = lease_of(line)
+    if until is not None:
+        return extend(folder, until)
+    with contextlib.suppress(ProcessLookupError):
+        signal.pidfd_send_signal(supervisor, signal.SIGTERM)
 
 
 def main() -> None:
@@ -486,17 +791,21 @@ def main() -> None:
         asked = json.loads(requests.readline())
     folder = Path(asked.pop("folder")).absolute()
     folder.mkdir(parents=True, exist_ok=True)
-    request = Request(str(folder), **asked)
-    if request.command is None:
+    request, orders = Request(str(folder), **asked), Orders()
+    if request.is_in_scope and request.command is not None:
+        return begin(request, request.command)
+    if request.is_leased:
+        say("clock", now=clock(), asks=True)
+        if request.command is not None:
+            request = request._replace(until=first_lease(orders))
+    if request.command is None or request.is_leased and request.until <= clock():
         if Claim(None).take(folder):
             return say("void")
-    elif request.is_in_scope:
-        return begin(request, request.command)
     else:
         if request.own is not None:
             end_rivals(folder, Path(request.own).absolute())
         begin(request, request.command)
-    follow(folder, request.token)
+    follow(folder, request, orders)
 
 
 if __name__ == "__main__":

@@ -1,0 +1,89 @@
+"""The events of runs that the queue has not acknowledged yet: a cursor in the agent's state says how far it has."""
+
+from __future__ import annotations
+
+import asyncio
+import json
+from collections import deque
+from contextlib import suppress
+from itertools import islice
+from pathlib import Path
+
+from .agent_state import ENDS, Event, Key, Run
+
+CURSOR = "told"  # a file with the history's name, and how many of its events are acknowledged
+MOST_AT_A_TIME = 500
+TOLD = ENDS | {"running"}
+
+
+def status_of_shell(status: int) -> int:
+    """An exit status as a shell has it: 128 and the number of the signal that ended it."""
+    return 128 - status if status < 0 else status
+
+
+class Events:
+    """Hears all events of a history, from its first, and keeps those that are to be told."""
+
+    def __init__(self, folder: Path) -> None:
+        self._path, self._count, self._name = folder / CURSOR, 0, ""
+        self._cursor: tuple[str, int] = ("", 0)
+        with suppress(OSError, ValueError, TypeError, KeyError):  # without one all is told again, which does no harm
+            found = json.loads(self._path.read_text())
+            self._cursor = (str(found["name"]), int(found["count"]))
+        self.untold: deque[tuple[int, Event, Run]] = deque()
+        self.are_there = asyncio.Event()
+        self.began: set[int] = set()  # open runs that are known to run
+
+    def heard(self, event: Event, run: Run | None) -> None:
+        self._count += 1
+        kind = event["event"]
+        if kind == "state":
+            self._name = event["name"]
+        if run is None or kind not in TOLD:
+            return
+        (self.began.add if kind == "running" else self.began.discard)(run.number)
+        if self._cursor[0] != self._name or self._cursor[1] < self._count:
+            self.untold.append((self._count, told_of(event, run), run))
+            self.are_there.set()
+
+    def check(self) -> None:
+        """A cursor behind the end of the events is of others, that were put back: it counts for nothing."""
+        if self._cursor[0] == self._name and self._cursor[1] > self._count:
+            self._cursor = (self._name, 0)
+
+    def first(self) -> list[Event]:
+        return [event for _, event, _ in islice(self.untold, MOST_AT_A_TIME)]
+
+    def acknowledged(self, count: int) -> None:
+        """The queue has written that many."""
+        for _ in range(min(count, len(self.untold))):
+            self._cursor = (self._name, self.untold.popleft()[0])
+        if not self.untold:
+            self.are_there.clear()
+        with suppress(OSError):  # a full disk: they are told again after a restart
+            draft = self._path.with_name(f"{CURSOR}.new")
+            draft.write_text(json.dumps({"name": self._cursor[0], "count": self._cursor[1]}))
+            draft.replace(self._path)
+
+    def runs(self) -> list[Run]:
+        """Those of which something is not acknowledged."""
+        return list({run.number: run for _, _, run in self.untold}.values())
+
+    def has_end_of(self, key: Key) -> bool:
+        """Whether an end of a task's run is not acknowledged."""
+        return any(run.key == key and event["event"] in ENDS for _, event, run in self.untold)
+
+
+def told_of(event: Event, run: Run) -> Event:
+    """An event as the queue takes it."""
+    kind = event["event"]
+    told: Event = {"token": run.token, "time": event["time"], "event": kind}
+    if kind == "running":
+        told |= {"pid": event["pid"], "output": event.get("output"), "host": event.get("host")}
+    elif kind == "ended":
+        asked = bool(event["asked"])
+        why = event.get("over") or (run.ends if asked else None)
+        told |= {"status": status_of_shell(event["status"]), "asked": asked, "why": why}
+        told |= {"fault": event.get("fault"), "seconds": event.get("seconds")}
+        told |= {"output": event.get("output"), "host": event.get("host")}
+    return told

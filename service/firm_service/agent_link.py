@@ -1,0 +1,80 @@
+"""A connection to the queue: requests, and their answers in the same order."""
+
+from __future__ import annotations
+
+import asyncio
+import json
+import socket
+import struct
+from collections import deque
+from collections.abc import Callable
+from pathlib import Path
+
+from .agent_state import Event
+
+LONGEST_LINE = 1 << 23  # bytes, as the queue takes them
+PEER = struct.Struct("3i")  # process, user and group
+
+
+class Refusal(Exception):
+    """The queue refuses a request."""
+
+    def __init__(self, answer: Event) -> None:
+        super().__init__(f"{answer['error']}: {answer.get('text', '')}")
+        self.name, self.answer = str(answer["error"]), answer
+
+
+class Link:
+    """One connection; it can't be used again once it is lost."""
+
+    def __init__(self, reader: asyncio.StreamReader, writer: asyncio.StreamWriter) -> None:
+        self._reader, self._writer = reader, writer
+        self._asked: deque[asyncio.Future[Event]] = deque()
+        self._is_lost = False
+        found = writer.get_extra_info("socket").getsockopt(socket.SOL_SOCKET, socket.SO_PEERCRED, PEER.size)
+        self.owner = int(PEER.unpack(found)[1])  # the user at the other end
+
+    @classmethod
+    async def open(cls, path: Path) -> Link:
+        return cls(*await asyncio.open_unix_connection(path, limit=LONGEST_LINE))
+
+    async def ask(self, ask: str, **more: object) -> Event:
+        """Raises `Refusal`, and ConnectionError where the connection is lost before the answer."""
+        if self._is_lost:
+            raise ConnectionError("the connection is lost")
+        answered: asyncio.Future[Event] = asyncio.get_running_loop().create_future()
+        self._asked.append(answered)
+        self._writer.write(json.dumps({"ask": ask, **more}).encode() + b"\n")
+        answer = await answered
+        if "error" in answer:
+            raise Refusal(answer)
+        return answer
+
+    async def hear(self, told: Callable[[Event], None]) -> None:
+        """Takes in what comes, until the connection is lost; that raises OSError or ValueError."""
+        try:
+            while line := await self._reader.readline():
+                answer = json.loads(line)
+                if "tell" in answer:
+                    told(answer)
+                elif self._asked:
+                    self._answer(self._asked.popleft(), answer)
+                elif "error" in answer:
+                    raise ConnectionError(str(Refusal(answer)))
+            raise ConnectionError("closed by the queue")
+        finally:
+            self.close()
+
+    @staticmethod
+    def _answer(asked: asyncio.Future[Event], answer: Event) -> None:
+        if not asked.done():  # who asked has not left
+            asked.set_result(answer)
+
+    def close(self) -> None:
+        self._is_lost = True
+        self._writer.close()
+        while self._asked:
+            asked = self._asked.popleft()
+            if not asked.done():
+                asked.set_exception(ConnectionError("the connection is lost"))
+                asked.exception()  # nobody may wait for it any more

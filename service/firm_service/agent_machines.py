@@ -1,0 +1,57 @@
+"""The machines of an agent that gets its work from a queue: where each is, and how many slots it has."""
+
+from __future__ import annotations
+
+import tomllib
+from dataclasses import dataclass
+from pathlib import Path
+
+from .agent_table import MACHINE_KEYS, Machine, TableError, checked, machine_of, sections
+from .lines import is_name
+
+SLOTS = range(1, 65)  # as firm has them
+
+
+@dataclass(frozen=True)
+class Machines:
+    """Those of one agent."""
+
+    rows: dict[str, Machine]
+    slots: dict[str, int]
+
+    def add(self, name: str, machine: Machine, slots: int) -> None:
+        if slots not in SLOTS:
+            raise TableError(f"machines.{name}: slots is {slots!r}; it must be {SLOTS[0]} to {SLOTS[-1]}")
+        self.rows[name], self.slots[name] = machine, slots
+
+
+def read_machines(text: str) -> Machines:
+    """Of a list as m1=4,m2=8, or of a file; raises `TableError`, and OSError where the file can't be read."""
+    return listed(text) if "=" in text and not Path(text).exists() else read_file(Path(text))
+
+
+def listed(text: str) -> Machines:
+    found = Machines({}, {})
+    for word in text.split(","):
+        name, _, slots = word.partition("=")
+        if not is_name(name.encode()) or not slots.isdecimal():
+            raise TableError(f"{word!r} is no machine with its slots, as m1=4")
+        if name in found.slots:
+            raise TableError(f"{name} is there twice")
+        found.add(name, Machine(), int(slots))
+    return found
+
+
+def read_file(path: Path) -> Machines:
+    try:
+        table = checked("the file", tomllib.loads(path.read_text()), {"machines": (dict,)})
+    except ValueError as error:
+        raise TableError(f"no TOML: {error}") from None
+    found = Machines({}, {})
+    for name, row in sections(table, "machines", {**MACHINE_KEYS, "slots": (int,)}).items():
+        if "slots" not in row:
+            raise TableError(f"machines.{name}: it has no slots")
+        found.add(name, machine_of(name, {key: value for key, value in row.items() if key != "slots"}), row["slots"])
+    if not found.slots:
+        raise TableError("machines: there are none")
+    return found

@@ -1,0 +1,335 @@
+"""The queue as the place where an agent's work comes from: registration, beats, claims, and what became of them."""
+
+from __future__ import annotations
+
+import asyncio
+import os
+from collections.abc import Coroutine
+from pathlib import Path
+from typing import TYPE_CHECKING, Any
+
+from .agent_events import Events
+from .agent_lease import Lease, clock
+from .agent_link import Link, Refusal
+from .agent_machines import Machines
+from .agent_state import Event, Key, Run
+from .agent_table import Machine, Work
+from .books import Task
+from .logs import INFO, WARNING, tell
+
+if TYPE_CHECKING:
+    from .agent import Agent
+
+SHORTEST_PAUSE, LONGEST_PAUSE = 0.1, 2.0  # seconds between two tries to reach the queue
+REGISTER_SECONDS = 2.0  # between two tries to register
+DONE_SECONDS = 2.0  # for which firm may still have a task that has done its work
+ROOM_SECONDS = 1.0  # between two looks whether the disk has room again
+BOUNDS = {"output": "output", "time": "limit", "memory": "memory", "processors": "processors", "user": "user"}
+
+
+def work_of(answer: Event, owner: int, is_here: bool) -> Work:
+    """Work as the queue says it. An agent of root runs it as its user; of a queue that names none, as its owner."""
+    answer = {**answer, "user": answer.get("user", owner) if os.geteuid() == 0 and is_here else None}
+    if answer["user"] == 0:
+        if owner != 0:
+            raise NotAllowed("a queue that is not root's gives no work of root's to an agent of root")
+        answer["user"] = None
+    bounds = {name: answer[field] for field, name in BOUNDS.items() if answer.get(field) is not None}
+    environment = {**(answer.get("env") or {})}
+    return Work(answer["command"], 0, 0.0, answer["grace"], answer["dir"], environment, bounds)
+
+
+def first_of(faults: BaseExceptionGroup[BaseException]) -> BaseException:
+    """The first fault of a group, and of groups in it."""
+    first = faults.exceptions[0]
+    return first_of(first) if isinstance(first, BaseExceptionGroup) else first
+
+
+class NotAllowed(Exception):
+    """Work that this agent doesn't do."""
+
+
+class QueueSource:
+    is_leased = True
+
+    def __init__(self, path: Path, name: str, machines: Machines, folder: Path) -> None:
+        self.path, self.name, self.machines = path, name, machines
+        self.events, self.lease = Events(folder), Lease()
+        self._tenant: asyncio.Future[str] | None = None
+        self._link: Link | None = None  # while the agent is registered
+        self._news = asyncio.Event()  # of claims; another one after each
+        self._claiming: set[int] = set()  # runs
+        self._refused: dict[Key, str] = {}  # the machine on which a task is never to be run
+        self._finished: dict[Key, float] = {}  # since when tasks have done their work and firm still has them
+        self._told = ""  # why the queue can't be used, as last told
+
+    @property
+    def has_here(self) -> bool:
+        return any(machine.ssh is None for machine in self.machines.rows.values())
+
+    def machine(self, name: str) -> Machine | None:
+        """One that is no longer among them has runs of an earlier start, here if all are."""
+        is_only_here = all(machine.ssh is None for machine in self.machines.rows.values())
+        return self.machines.rows.get(name) or (Machine() if is_only_here else None)
+
+    async def tenant(self) -> str:
+        if self._tenant is None:
+            self._tenant = asyncio.get_running_loop().create_future()
+        return await asyncio.shield(self._tenant)
+
+    def begin(self, agent: Agent) -> list[Coroutine[Any, Any, None]]:
+        self.agent = agent
+        self.events.check()
+        return [self._serve(), self._find_room()]
+
+    # The connection
+
+    async def _serve(self) -> None:
+        """Keeps the agent registered, through restarts of the queue."""
+        pause = SHORTEST_PAUSE
+        while True:
+            try:
+                link = await Link.open(self.path)
+                async with asyncio.TaskGroup() as group:
+                    group.create_task(link.hear(self._hear))
+                    group.create_task(self._converse(link))
+            except OSError as error:
+                self._tell_once(f"{self.path}: {error}")
+            except ExceptionGroup as errors:
+                faults, others = errors.split((OSError, ValueError, Refusal))
+                if others is not None or faults is None:
+                    raise
+                if self._link is not None:
+                    pause = SHORTEST_PAUSE
+                self._tell_once(f"{self.path}: {first_of(faults)}")
+            self._link = None
+            await asyncio.sleep(pause)
+            pause = min(2 * pause, LONGEST_PAUSE)
+
+    def _tell_once(self, why: str) -> None:
+        if why != self._told:
+            self._told = why
+            tell(WARNING, f"{why}; what runs goes on until the lease is over")
+
+    async def _converse(self, link: Link) -> None:
+        tenant = str((await link.ask("status"))["status"]["tenant"])
+        if self._tenant is None:
+            self._tenant = asyncio.get_running_loop().create_future()
+        if not self._tenant.done():
+            self._tenant.set_result(tenant)
+        if tenant != self._tenant.result():
+            raise ValueError(f"it is the queue of {tenant} now; this agent runs the tasks of {self._tenant.result()}")
+        beat = await self._register(link)
+        async with asyncio.TaskGroup() as group:
+            group.create_task(self._beat(link, beat))
+            group.create_task(self._tell_events(link))
+
+    async def _register(self, link: Link) -> float:
+        """Tries until the queue takes the agent; the seconds between two beats."""
+        while True:
+            asked = clock()
+            history = self.agent.history
+            rows: dict[str, object] = {"id": history.name, "machines": self.machines.slots, "runs": self._runs()}
+            try:
+                answer = (await link.ask("register", agent=self.name, **rows))["register"]
+                break
+            except Refusal as refusal:
+                self._tell_once(f"the queue does not take this agent: {refusal}")
+            await asyncio.sleep(REGISTER_SECONDS)
+        self._told = ""
+        tell(INFO, f"registered as {self.name} with {', '.join(self.machines.slots)}")
+        self._extend(asked, answer["lease"])
+        self._link = link
+        self._end(answer["end"])
+        self._keep(answer["keep"])
+        self._wake()
+        self.agent.changed.set()
+        return float(answer["beat"])
+
+    def _runs(self) -> list[Event]:
+        """The runs that are open, and those whose end is not acknowledged."""
+        rows = []
+        for run in self.agent.history.runs.values():
+            state = "running" if run.number in self.events.began else "starting"
+            rows.append(self._row(run, "claiming" if run.number in self._claiming else state))
+        ended = [run for run in self.events.runs() if run.number not in self.agent.history.runs]
+        return rows + [self._row(run, "ended") for run in ended]
+
+    @staticmethod
+    def _row(run: Run, state: str) -> Event:
+        row = {"token": run.token, "task": run.key.task, "run": run.number, "machine": run.machine}
+        return {**row, "state": state}
+
+    async def _beat(self, link: Link, seconds: float) -> None:
+        while True:
+            await asyncio.sleep(seconds)
+            asked = clock()
+            answer = await link.ask("beat", runs=[run.token for run in self.agent.history.runs.values()])
+            self._extend(asked, answer["beat"]["lease"])
+
+    def _extend(self, asked: float, seconds: float) -> None:
+        self.lease.extend(asked, seconds)
+        self.lease.keep(self.agent.history.runs)
+        for run in self.agent.history.runs.values():
+            self._grant(run)
+
+    def _grant(self, run: Run) -> None:
+        line = self.lease.line(run.number)
+        if line is not None:
+            self.agent.control(run, line)
+
+    async def _tell_events(self, link: Link) -> None:
+        while True:
+            await self.events.are_there.wait()
+            events = self.events.first()
+            told = (await link.ask("told", events=events))["told"]
+            self.events.acknowledged(min(int(told), len(events)))
+            self.agent.changed.set()
+
+    async def _find_room(self) -> None:
+        """Writes what waits for room on the disk."""
+        while True:
+            await asyncio.sleep(ROOM_SECONDS)
+            if self.agent.state.unwritten:
+                try:
+                    self.agent.state.write_waiting()
+                    self.agent.changed.set()
+                except OSError:
+                    continue
+
+    # What the queue tells of itself
+
+    def _hear(self, event: Event) -> None:
+        match event:
+            case {"tell": "again"}:
+                self._wake()
+                self.agent.changed.set()
+            case {"tell": "end", "tokens": tokens}:
+                self._end(tokens)
+            case {"tell": "keep", "tokens": tokens}:
+                self._keep(tokens)
+
+    def _runs_of(self, tokens: list[str]) -> list[Run]:
+        wanted = set(tokens)
+        return [run for run in self.agent.history.runs.values() if run.token in wanted]
+
+    def _end(self, tokens: list[str]) -> None:
+        for run in self._runs_of(tokens):
+            if run.ends is None:
+                self.agent.end(run, "told")
+
+    def _keep(self, tokens: list[str]) -> None:
+        """Records it before the queue takes the runs' rows away."""
+        kept = []
+        for run in self._runs_of(tokens):
+            try:
+                if not run.is_kept:
+                    self.agent.state.record("keep", run=run.number)
+                kept.append(run.token)
+            except OSError as error:
+                self._tell_once(f"{self.agent.state.folder}: {error}")
+        if kept and self._link is not None:
+            self.agent.group.create_task(self._say_kept(self._link, kept))
+
+    async def _say_kept(self, link: Link, tokens: list[str | None]) -> None:
+        try:
+            await link.ask("kept", tokens=tokens)
+        except (OSError, Refusal) as error:
+            self._tell_once(f"{self.path}: {error}")
+
+    # Runs
+
+    def try_start(self, key: Key, task: Task) -> bool:
+        if task.machine not in self.machines.rows or self._link is None or not self.lease.holds:
+            return False
+        if self._refused.get(key) == task.machine or self.agent.state.unwritten or self.events.has_end_of(key):
+            return False
+        try:
+            run = self.agent.record_start(key, task)
+        except OSError as error:
+            self._tell_once(f"{self.agent.state.folder}: {error}; {key.task} is not started")
+            asyncio.get_running_loop().call_later(ROOM_SECONDS, self.agent.changed.set)
+            for run in [run for run in self.agent.history.runs.values() if run.key == key]:  # it has no note
+                self.agent.ended(run, {"event": "void"})
+            return False
+        self._claiming.add(run.number)
+        self.agent.group.create_task(self._claim_and_start(run))
+        return True
+
+    async def _claim_and_start(self, run: Run) -> None:
+        try:
+            work = await self._claim(run)
+        except NotAllowed as why:
+            return self.agent.ended(run, {"event": "ended", "status": 126, "asked": False, "fault": str(why)})
+        finally:
+            self._claiming.discard(run.number)
+        if work is None:  # as where it has just ended, and firm has its row for a moment yet
+            self.agent.state.record("void", run=run.number)
+            self.agent.changed.set()
+        else:
+            self.agent.start(run, work)
+
+    async def _claim(self, run: Run) -> Work | None:
+        """The work of a run once the queue gives it, None where there is none any more."""
+        row: Event = {"token": run.token, "task": run.key.task, "line": run.key.line, "state": run.key.state}
+        row |= {"machine": run.machine, "run": run.number}
+        while run.ends is None:
+            news, seconds = self._news, None
+            try:
+                if self._link is not None:
+                    answer = (await self._link.ask("claim", **row))["claim"]
+                    if "work" in answer:
+                        machine = self.machine(run.machine)
+                        return work_of(answer["work"], self._link.owner, machine is not None and machine.ssh is None)
+                    if "void" in answer:
+                        self._refused[run.key] = run.machine
+                        return None
+                    seconds = float(answer["seconds"])
+            except OSError:
+                pass  # it is asked again once the agent is registered
+            except Refusal as refusal:
+                seconds = REGISTER_SECONDS
+                self._tell_once(f"{run} is not started: {refusal}")
+            if run.ends is None:
+                await self._wait(news, seconds)
+        return None
+
+    @staticmethod
+    async def _wait(news: asyncio.Event, seconds: float | None) -> None:
+        try:
+            async with asyncio.timeout(seconds):
+                await news.wait()
+        except TimeoutError:
+            pass
+
+    def _wake(self) -> None:
+        self._news.set()
+        self._news = asyncio.Event()
+
+    def is_ending(self, run: Run) -> None:
+        if run.number in self._claiming:
+            self._wake()
+
+    def follows(self) -> None:
+        self._wake()
+
+    def clock(self, run: Run, now: float, asks: bool) -> None:
+        self.lease.hear(run.number, now)
+        if asks:
+            self._grant(run)
+
+    def finish(self, key: Key) -> bool:
+        """The queue itself says so to firm, and soon, unless it has taken the run for lost."""
+        if key not in self._finished:
+            self._finished[key] = clock()
+            asyncio.get_running_loop().call_later(DONE_SECONDS, self.agent.changed.set)
+        return clock() < self._finished[key] + DONE_SECONDS
+
+    def failed(self, run: Run, why: str) -> None:
+        run.tell(f" failed, {why}", WARNING)
+
+    def forget(self, keys: set[Key]) -> None:
+        known: tuple[dict[Key, Any], ...] = (self._refused, self._finished)
+        for kept in known:
+            for key in [key for key in kept if key not in keys]:
+                del kept[key]

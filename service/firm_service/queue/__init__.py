@@ -1,0 +1,1 @@
+"""firm-queue: users of a cluster submit work to firm, and agents run it."""

@@ -1,0 +1,506 @@
+"""Agents as the queue knows them: their machines, leases, and the attempts that they run."""
+
+from __future__ import annotations
+
+import asyncio
+import time
+from collections import Counter
+from collections.abc import Iterable
+from contextlib import suppress
+from dataclasses import dataclass, field
+from typing import Protocol
+
+from ..logs import INFO, WARNING, tell
+from ..sight import ROOT
+from .core import Core, boot_time
+from .fields import Fields, Json, Refused, bad
+from .giving import Machines
+from .reports import Claim, Told, claim_of, machines_of, runs_of, told_of, tokens_of, work_of
+from .rows import Attempt, Name, Task
+from .states import End
+from .store import NotWritten
+from .users import User
+
+LOOK_SECONDS = 0.5  # between two looks at the leases
+LAG_SECONDS = 1.0  # for which a claim waits until the queue has heard what its agent has heard
+ASK_AGAIN_SECONDS = 1.0
+BEATS = 3  # in a lease
+SILENT_BEATS = 1.5  # without one for this long an agent is called silent
+CORDONED, DRAINED, GONE = "cordoned", "drained", "gone"  # marks of machines; gone: no agent names it any more
+
+
+@dataclass(frozen=True, slots=True)
+class Terms:
+    """How long an agent may be silent."""
+
+    lease: float = 60.0
+    margin: float = 10.0  # until its runs are taken for lost, after the lease and the longest grace
+
+    @property
+    def beat(self) -> float:
+        return self.lease / BEATS
+
+
+class Session(Protocol):
+    """A connection of an agent, with the user at its other end."""
+
+    user: User
+
+    def tell(self, words: Json) -> None:
+        """Says what is no answer."""
+
+    def end(self) -> None:
+        """Closes it."""
+
+    def is_gone(self) -> bool:
+        """Whether nobody is there any more to be answered."""
+
+
+@dataclass(slots=True, eq=False)
+class Agent:
+    name: str
+    id: str
+    machines: dict[str, int]
+    answered: float  # by CLOCK_BOOTTIME; at a start, when the queue began
+    session: Session | None = None
+    user: int | None = None  # since it has registered
+    is_known: bool = False  # it has registered since the queue began
+    is_lost: bool = False
+    is_waiting: bool = False  # with a claim
+    runs: frozenset[str] | None = None  # what its last beat said that it has
+    since: float | None = None  # when it registered
+
+    @property
+    def silence(self) -> float:
+        return boot_time() - self.answered
+
+
+@dataclass
+class Agents:
+    core: Core
+    terms: Terms
+    agents: dict[str, Agent] = field(default_factory=dict)
+    _unknown: dict[str, float] = field(default_factory=dict)  # until when attempts may run that their agents don't know
+
+    # Memory
+
+    def load(self, kept: dict[str, tuple[str, dict[str, int]]]) -> None:
+        """Takes in what the database says, and keeps what only memory knows."""
+        before, self.agents = self.agents, {}
+        for name, (agent_id, machines) in kept.items():
+            known = before.get(name)
+            if known is not None and known.id == agent_id:
+                known.machines = machines
+                self.agents[name] = known
+            else:
+                self.agents[name] = Agent(name, agent_id, machines, boot_time())
+        for name, agent in before.items():
+            if self.agents.get(name) is not agent and agent.session is not None:
+                agent.session.end()
+
+    def of_session(self, session: Session) -> Agent:
+        """The agent that has registered on a connection."""
+        for agent in self.agents.values():
+            if agent.session is session and not agent.is_lost:
+                return agent
+        raise Refused("not-registered", "register first")
+
+    def of_machine(self, machine: str) -> Agent | None:
+        """The agent that has a machine; one that is not lost before others."""
+        found = [agent for agent in self.agents.values() if machine in agent.machines]
+        return next((agent for agent in found if not agent.is_lost), found[0] if found else None)
+
+    def attempts_of(self, agent: Agent) -> list[Attempt]:
+        """Its attempts that are open."""
+        return [attempt for attempt in self.core.rows.open.values() if attempt.agent == agent.name]
+
+    def open_on(self, machine: str) -> list[Attempt]:
+        return [attempt for attempt in self.core.rows.open.values() if attempt.machine == machine]
+
+    def machines(self) -> Machines:
+        """What firm should have of machines."""
+        wanted: dict[str, int] = {}
+        unwanted = {machine for machine, mark in self.core.marks.items() if mark in (DRAINED, GONE)}
+        unwanted |= {machine for agent in self.agents.values() if agent.is_lost for machine in agent.machines}
+        loads = Counter(attempt.machine for attempt in self.core.rows.open.values() if not attempt.is_kept)
+        # Firm has no rows of the runs that a cordon has kept, and would give their slots to others.
+        kept = Counter(attempt.machine for attempt in self.core.rows.open.values() if attempt.is_kept)
+        for agent in self.agents.values():
+            for machine, slots in agent.machines.items() if agent.is_known and not agent.is_lost else ():
+                mark = self.core.marks.get(machine)
+                if mark is None and not kept[machine]:
+                    wanted[machine] = slots
+                elif mark == CORDONED and not loads[machine]:
+                    unwanted.add(machine)
+        return Machines(wanted, unwanted - wanted.keys())
+
+    # Registrations and leases
+
+    async def register(self, session: Session, given: Json) -> Json:
+        fields = Fields(given, ["ask", "agent", "id", "machines", "runs"])
+        name, agent_id = fields.name("agent"), fields.text("id", 128)
+        if name is None or not agent_id:
+            raise bad("agent" if name is None else "id", "it is needed")
+        machines, runs = machines_of(given), runs_of(given)
+        self._require_single(session, name, agent_id)
+        self._require_free(name, agent_id, machines)
+        agent = self._enter(name, agent_id, machines)
+        present = {run.token for run in runs}
+        over = self.over_at(agent)
+        for attempt in self.attempts_of(agent):
+            if attempt.token in present:
+                self._unknown.pop(attempt.token, None)
+            else:  # it may run all the same, as where the agent's state was put back from a copy
+                self._unknown.setdefault(attempt.token, over)
+        if agent.session is not None and agent.session is not session:
+            agent.session.end()
+        agent.session, agent.user = session, session.user.number
+        agent.is_known, agent.is_lost, agent.since = True, False, time.time()
+        agent.runs = frozenset(present)
+        self.core.firm.changed.set()
+        await self.core.store.settled()
+        told = f"{name}: registered with {', '.join(machines) or 'no machines'}, {len(runs)} runs"
+        tell(INFO, told, agent=name)
+        agent.answered = boot_time()
+        ending = [run.token for run in runs if run.is_there and self._must_end(run.token)]
+        keep = [attempt.token for attempt in self.attempts_of(agent) if self._is_to_keep(attempt)]
+        state = self.core.firm.state
+        return {**self._granted(), "beat": self.terms.beat, "end": ending, "keep": keep, "state": state}
+
+    def _require_single(self, session: Session, name: str, agent_id: str) -> None:
+        """Raises `Refused` where an agent with a copy of this one's state is there: each would take the other's runs
+        for its own that never began. A connection that only seems to be there is silent soon."""
+        known = self.agents.get(name)
+        if known is None or known.id != agent_id or known.session in (None, session) or known.is_lost:
+            return
+        if known.session is not None and not known.session.is_gone() and self.state_of(known) == "up":
+            told = f"another agent with the name {name} and a copy of its state is there"
+            raise Refused("agent-taken", f"{told}; each needs a state folder of its own", seconds=self.terms.beat)
+
+    def _require_free(self, name: str, agent_id: str, machines: dict[str, int]) -> None:
+        """Raises `Refused` where another one has the name or a machine."""
+        known, book = self.agents.get(name), self.core.firm.book
+        if known is not None and known.id != agent_id and self._has_hold(known, self.attempts_of(known)):
+            left = max(0.0, self.over_at(known) - boot_time())
+            raise Refused("agent-taken", f"another agent has the name {name}, for {left:.0f} s", seconds=left)
+        for machine, slots in machines.items():
+            other = self.of_machine(machine)
+            if other is not None and other.name != name and self._has_hold(other, self.open_on(machine)):
+                told = f"the agent {other.name} has the machine {machine}"
+                raise Refused("machine-taken", told, machine=machine, agent=other.name)
+            present = book.machines.get(machine) if book is not None else None
+            if present not in (None, slots) and self.open_on(machine):
+                told = f"firm has {machine} with {present} slots, and something runs there"
+                raise Refused("other-slots", told, machine=machine, slots=present)
+
+    @staticmethod
+    def _has_hold(agent: Agent, attempts: list[Attempt]) -> bool:
+        """Whether another one can't take its place."""
+        return not agent.is_lost and (agent.session is not None or bool(attempts))
+
+    def _enter(self, name: str, agent_id: str, machines: dict[str, int]) -> Agent:
+        """The agent with these machines, as it is written."""
+        agent = self.agents.get(name)
+        if agent is None or agent.id != agent_id:
+            if agent is not None and agent.session is not None:
+                agent.session.end()
+            dropped = set(agent.machines) - machines.keys() if agent is not None else set()
+            agent = self.agents[name] = Agent(name, agent_id, machines, boot_time())
+            self.core.store.save_agent(name, agent_id, machines)
+        else:
+            dropped = agent.machines.keys() - machines.keys()
+            if agent.machines != machines:
+                agent.machines = machines
+                self.core.store.save_agent(name, agent_id, machines)
+        for machine in dropped:
+            self._mark(machine, GONE)
+        for machine in machines:
+            if self.core.marks.get(machine) == GONE:
+                self._mark(machine, None)
+            self._take_from_others(agent, machine)
+        return agent
+
+    def _take_from_others(self, agent: Agent, machine: str) -> None:
+        for other in list(self.agents.values()):
+            if other is not agent and machine in other.machines:
+                other.machines = {name: slots for name, slots in other.machines.items() if name != machine}
+                self.core.store.save_agent(other.name, other.id, other.machines)
+                if not other.machines and other.session is None:
+                    del self.agents[other.name]
+                    self.core.store.forget_agent(other.name)
+
+    def _must_end(self, token: str) -> bool:
+        attempt = self.core.rows.open.get(token)
+        task = self.core.rows.task(attempt.name) if attempt is not None else None
+        return attempt is None or task is None or attempt.is_kept and task.is_cancelled
+
+    def _is_to_keep(self, attempt: Attempt) -> bool:
+        return attempt.is_kept or self.core.marks.get(attempt.machine) == CORDONED
+
+    def _granted(self) -> Json:
+        return {"lease": self.terms.lease}
+
+    def beat(self, session: Session, given: Json) -> Json:
+        Fields(given, ["ask", "runs"])
+        agent = self.of_session(session)
+        if given.get("runs") is not None:
+            agent.runs = frozenset(tokens_of(given, "runs"))
+        agent.answered = boot_time()
+        return self._granted()
+
+    def leave(self, session: Session) -> None:
+        """Takes in that a connection has ended."""
+        for agent in self.agents.values():
+            if agent.session is session:
+                agent.session = None
+                tell(WARNING, f"{agent.name}: its connection has ended; its runs go on for the lease", agent=agent.name)
+
+    def over_at(self, agent: Agent) -> float:
+        """When nothing of what it has begun runs any more, if it stays silent; by CLOCK_BOOTTIME."""
+        tasks = [self.core.rows.task(attempt.name) for attempt in self.attempts_of(agent)]
+        grace = max((task.submission.spec.grace for task in tasks if task is not None), default=0.0)
+        return agent.answered + self.terms.lease + grace + self.terms.margin
+
+    async def expire_for_ever(self) -> None:
+        """Gives up agents whose leases are over."""
+        while True:
+            await asyncio.sleep(LOOK_SECONDS)
+            self._lose_unknown()
+            for agent in list(self.agents.values()):
+                is_over = boot_time() > self.over_at(agent) and not self.core.store.why_bad
+                if is_over and (not agent.is_lost or self.attempts_of(agent)):
+                    with suppress(NotWritten):  # the rows are read anew then, and it is found again
+                        self._lose(agent)
+
+    def _lose_unknown(self) -> None:
+        """Takes for lost what its own agent does not know, once it can't run any more."""
+        now = boot_time()
+        for token in [token for token, over in self._unknown.items() if over < now]:
+            attempt = self.core.rows.open.get(token)
+            if attempt is not None:
+                if self.core.store.why_bad:
+                    continue
+                tell(WARNING, f"{attempt.name}: attempt {attempt.number} is unknown to its agent {attempt.agent}: lost")
+                self.core.end_attempt(attempt, End("lost"))
+            del self._unknown[token]
+
+    def _lose(self, agent: Agent) -> None:
+        attempts = self.attempts_of(agent)
+        told = f"{agent.name}: silent for {agent.silence:.0f} s; {len(attempts)} runs are taken for lost"
+        tell(WARNING, f"{told}, {', '.join(agent.machines) or 'no machines'} drained", agent=agent.name)
+        agent.is_lost = True
+        if agent.session is not None:
+            agent.session.end()
+            agent.session = None
+        for attempt in attempts:
+            self.core.end_attempt(attempt, End("lost"))
+        self.core.firm.changed.set()
+
+    # Attempts
+
+    async def claim(self, session: Session, given: Json) -> Json:
+        """Whether a run may begin: once no other attempt of its task is open."""
+        claim, loop = claim_of(given), asyncio.get_running_loop()
+        ends = loop.time() + LAG_SECONDS
+        while True:
+            agent, news = self.of_session(session), self.core.news
+            found = self._try_claim(agent, claim)
+            if found is not None or loop.time() >= ends:
+                break
+            try:
+                async with asyncio.timeout(ends - loop.time()):
+                    await news.wait()
+            except TimeoutError:
+                pass
+        if found is None:
+            found = {"wait": "the queue sees another row of firm's", "seconds": ASK_AGAIN_SECONDS}
+        agent.is_waiting |= "wait" in found
+        await self.core.store.settled()
+        return found
+
+    def _try_claim(self, agent: Agent, claim: Claim) -> Json | None:
+        """What is answered to a claim; None where the queue and the agent see firm's rows differently."""
+        attempt, task = self.core.rows.open.get(claim.token), self.core.rows.task(claim.name)
+        if attempt is not None and task is not None and (attempt.agent, attempt.name) == (agent.name, claim.name):
+            return {"work": work_of(task, attempt)}
+        if task is None or task.outcome is not None or task.is_cancelled:
+            return {"void": "no task of the queue's" if task is None else task.outcome or "it is cancelled"}
+        self.core.store.require_good()
+        if claim.machine not in agent.machines:
+            raise bad("machine", f"{claim.machine} is none of {agent.name}'s")
+        book = self.core.firm.book
+        row = book.tasks.get(claim.task) if book is not None else None
+        if row is None or (row.line, self.core.firm.state, row.machine) != (claim.line, claim.state, claim.machine):
+            return None
+        return self._hindrance(task, claim) or {"work": self._begin(agent, task, claim)}
+
+    def _hindrance(self, task: Task, claim: Claim) -> Json | None:
+        """Why a task that is placed can't begin yet."""
+        wait = ASK_AGAIN_SECONDS
+        mark, other = self.core.marks.get(claim.machine), task.open_attempt
+        if other is not None:
+            task.told = f"attempt {other.number} on {other.machine} has not ended"
+        elif mark is not None:
+            task.told = f"{claim.machine} is {mark}"
+        elif task.is_held:
+            task.told = "it is held"
+        elif claim.task in self.core.leaving:
+            task.told = "it makes room for a heavier one"
+        elif (left := task.due - boot_time()) > 0:
+            task.told, wait = f"tried again in {left:.1f} s", left
+        else:
+            return None
+        return {"wait": task.told, "seconds": round(wait, 3)}
+
+    def _begin(self, agent: Agent, task: Task, claim: Claim) -> Json:
+        number = task.attempts + 1
+        place = (agent.name, agent.id, claim.machine, claim.run, claim.token)
+        attempt = Attempt(task.name, number, *place, time.time())
+        attempt.runs_as = task.submission.user if agent.user == ROOT else agent.user
+        self.core.begin_attempt(task, attempt)
+        return work_of(task, attempt)
+
+    async def told(self, session: Session, given: Json) -> int:
+        """Takes in what an agent has seen; how many events they were, once they are written."""
+        agent, events = self.of_session(session), told_of(given)
+        self.core.store.require_good()
+        for event in events:
+            attempt = self.core.rows.open.get(event.token)
+            if attempt is not None and attempt.agent_id == agent.id:
+                self._hear(attempt, event)
+        await self.core.store.settled()
+        return len(events)
+
+    def _hear(self, attempt: Attempt, event: Told) -> None:
+        if event.end is None:
+            attempt.began, attempt.output, attempt.host = event.time, event.output, event.host
+            self.core.store.save_attempt(attempt)
+            return
+        if attempt.began is None and event.seconds is not None:
+            attempt.began = event.time - event.seconds
+        if attempt.output is None:  # it ended before it was seen to run
+            attempt.output, attempt.host = event.output, event.host
+        pause = self.core.end_attempt(attempt, event.end, event.seconds)
+        asyncio.get_running_loop().call_later(pause, self.tell_again)
+
+    def tell_again(self) -> None:
+        """Tells agents whose claims were told to wait that they may ask again."""
+        for agent in self.agents.values():
+            if agent.is_waiting and agent.session is not None:
+                agent.is_waiting = False
+                agent.session.tell({"tell": "again"})
+
+    async def kept(self, session: Session, given: Json) -> int:
+        """Takes in that an agent goes on with runs although firm will have no rows of them."""
+        Fields(given, ["ask", "tokens"])
+        agent, count = self.of_session(session), 0
+        for token in tokens_of(given, "tokens"):
+            attempt = self.core.rows.open.get(token)
+            if attempt is not None and attempt.agent_id == agent.id and self._is_to_keep(attempt):
+                attempt.is_kept = True
+                self.core.store.save_attempt(attempt)
+                self.core.look_at([attempt.name])
+                count += 1
+        await self.core.store.settled()
+        return count
+
+    def end_kept(self, tasks: Iterable[Task]) -> None:
+        """Has agents end runs of cancelled tasks of which firm has no rows."""
+        kept = [attempt for task in tasks if (attempt := task.open_attempt) is not None and attempt.is_kept]
+        self._tell_tokens(kept, {"tell": "end", "why": "cancelled"})
+
+    def _tell_tokens(self, attempts: Iterable[Attempt], words: Json) -> None:
+        by_agent: dict[str, list[str]] = {}
+        for attempt in attempts:
+            by_agent.setdefault(attempt.agent, []).append(attempt.token)
+        for name, tokens in by_agent.items():
+            session = self.agents[name].session if name in self.agents else None
+            if session is not None:
+                session.tell({**words, "tokens": tokens})
+
+    # Marks
+
+    async def set_mark(self, machines: list[str], mark: str | None) -> tuple[list[str], dict[str, str]]:
+        """Cordons or drains machines, or takes that back; those that it changed, and why the others were left."""
+        book = self.core.firm.rows
+        for machine in machines:
+            is_there = book is not None and machine in book.machines
+            if not is_there and machine not in self.core.marks and self.of_machine(machine) is None:
+                raise Refused("no-such-machine", f"{machine}: no such machine")
+        changed, unchanged = [], {}
+        for machine in dict.fromkeys(machines):
+            if self.core.marks.get(machine) == mark:
+                unchanged[machine] = f"is {mark}" if mark else "is neither cordoned nor drained"
+            else:
+                self._mark(machine, mark)
+                changed.append(machine)
+        self.core.firm.changed.set()
+        await self.core.store.settled()
+        if mark == CORDONED:
+            there = [attempt for machine in changed for attempt in self.open_on(machine) if not attempt.is_kept]
+            self._tell_tokens(there, {"tell": "keep"})
+        return changed, unchanged
+
+    def _mark(self, machine: str, mark: str | None) -> None:
+        self.core.store.mark(machine, mark)
+        if mark is None:
+            self.core.marks.pop(machine, None)
+        else:
+            self.core.marks[machine] = mark
+
+    # What is shown
+
+    def why_not_begun(self, task: Task, machine: str) -> str:
+        """Why a task that is placed has no process."""
+        agent = self.of_machine(machine)
+        if agent is None:
+            return f"no agent has the machine {machine}"
+        state = self.state_of(agent)
+        if state == "up":
+            return task.told
+        return f"the agent {agent.name} is {state} for {agent.silence:.0f} s"
+
+    def state_of(self, agent: Agent) -> str:
+        if agent.is_lost:
+            return "lost"
+        if agent.silence > SILENT_BEATS * self.terms.beat:
+            return "silent"
+        return "up" if agent.session is not None else "away"
+
+    def machine_states(self) -> dict[str, tuple[str, str]]:
+        """The state of each machine that firm or an agent has, with the reason."""
+        book, found = self.core.firm.rows, {}
+        names = dict.fromkeys(book.machines if book is not None else ())
+        names.update(dict.fromkeys(machine for agent in self.agents.values() for machine in agent.machines))
+        for machine in names:
+            found[machine] = self._machine_state(machine, book is not None and machine in book.machines)
+        return found
+
+    def _machine_state(self, machine: str, is_there: bool) -> tuple[str, str]:
+        agent, mark = self.of_machine(machine), self.core.marks.get(machine)
+        if mark in (CORDONED, DRAINED):
+            return str(mark), ""
+        if agent is None:
+            return "no-agent", f"no agent has the machine {machine}"
+        state = self.state_of(agent)
+        if state != "up":
+            return "silent", f"the agent {agent.name} is {state} for {agent.silence:.0f} s"
+        return ("up", "") if is_there else ("adding", "firm does not have it yet")
+
+    def differences(self) -> list[str]:
+        """Where firm's rows and what agents say differ."""
+        found = []
+        for machine, (state, reason) in self.machine_states().items():
+            if state in ("no-agent", "silent", "adding"):
+                found.append(f"{machine}: {reason}")
+        for agent in self.agents.values():
+            late = time.time() - 2 * self.terms.beat
+            for attempt in self.attempts_of(agent) if agent.runs is not None else []:
+                if attempt.claimed < late and attempt.token not in (agent.runs or ()):
+                    told = f"{attempt.name}: attempt {attempt.number} on {attempt.machine} is open"
+                    found.append(f"{told}, and the agent {agent.name} does not have it")
+        rows = self.core.firm.rows
+        foreign = [row for row in rows.tasks if self.core.rows.task(Name.of_firm(row)) is None] if rows else []
+        if foreign:
+            found.append(f"{len(foreign)} tasks in firm are not the queue's, as {foreign[0]}")
+        return found

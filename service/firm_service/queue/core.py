@@ -1,0 +1,470 @@
+"""What the queue knows and decides: submissions, their ends, and what firm should have.
+
+All is decided at once, from rows in memory, and written. What follows from it outside, as answers, lines to firm and
+words to agents, waits until the writes are on the disk.
+"""
+
+from __future__ import annotations
+
+import asyncio
+import time
+from collections import Counter
+from collections.abc import Iterable, Sequence
+from dataclasses import dataclass
+
+from . import queries, states
+from .backlog import Backlog
+from .fields import Json, Refused, Submit
+from .firm import Firm, Heard
+from .rows import MOST_NUMBER, SINGLE, WORD_BYTES, Attempt, Job, Name, Need, Rows, Submission, Task
+from .spending import ATTEMPT_BYTES, NEED_BYTES, Spending, rows_bytes
+from .states import Change, End, Facts, Judgement, Needed, Past, State
+from .store import Store, text_of
+from .users import User, job_of
+
+MOST_ENDED = 20_000  # tasks that have ended and are kept in memory
+MOST_ENDED_BYTES = 2**26  # that their words take
+MOST_ANSWERS = 100_000  # submissions of requests with keys, whose answers are kept in memory
+MOST_BYTES_OF_USER, MOST_BYTES = 2**26, 2**29  # of memory, that the words of tasks take which have not ended
+ANSWER_BYTES = 100  # of the disk, for a submission of a request with a key
+DEFAULT_WEIGHT = 10
+
+
+@dataclass(frozen=True, slots=True)
+class Bounds:
+    """How much there may be."""
+
+    of_user: int  # tasks of one user, operators excepted, that have not ended
+    in_all: int
+    array: int  # tasks of one array
+    budget: int = 2**30  # bytes of the disk that a user, operators excepted, may take, and again in each week
+
+
+def boot_time() -> float:
+    """Seconds by a clock that nobody sets, and that counts while the host sleeps."""
+    return time.clock_gettime(time.CLOCK_BOOTTIME)
+
+
+class Core:
+    def __init__(self, store: Store, firm: Firm, bounds: Bounds) -> None:
+        self.store, self.firm, self.bounds = store, firm, bounds
+        self.rows = Rows()
+        self.backlog = Backlog()
+        self.unwanted: set[str] = set()  # rows of firm's that are to go
+        self.leaving: set[str] = set()  # rows that firm was told to drop: none of them is begun meanwhile
+        self.own_jobs: set[str] = set()  # of the queue's making, in firm
+        self.strangers: set[Name] = set()  # rows of firm's with such names that memory does not have
+        self.marks: dict[str, str] = {}  # machines that are cordoned or drained
+        self.answers: dict[tuple[int, str], list[Json]] = {}  # to requests with keys, lately
+        self._answered = 0  # submissions that they name
+        self.spending = Spending(bounds.budget, boot_time)
+        self.ends = Ends()
+        self.ended_attempts: Counter[str] = Counter()  # since the start, by outcome
+        self.news = asyncio.Event()  # set once more is heard of firm; there is another one then
+        self._dirty: set[Name] = set()  # tasks of which it is to be looked whether firm should have them
+
+    # Memory
+
+    async def load(self) -> queries.Kept:
+        """Has memory say what the database says."""
+        kept = await self.store.read(queries.load)
+        last = self.rows.last_number
+        self.rows, self.marks = kept.rows, kept.marks
+        self.rows.last_number = max(self.rows.last_number, last)
+        self.spending.load(kept.spent)
+        self.answers.clear()
+        self._answered = 0
+        self._begin_needs([submission for submission in self.rows.submissions.values() if submission.live])
+        self.look_at_all()
+        self.ends.tell_all()
+        return kept
+
+    async def find(self, number: int) -> Submission | None:
+        """A submission, from the database where memory has it no more."""
+        found = self.rows.submissions.get(number)
+        if found is None and 0 < number <= self.rows.last_number:
+            read = await self.store.read(lambda connection: queries.submissions(connection, [number]))
+            found = self.rows.submissions.get(number) or (read[0] if read else None)
+        return found
+
+    def has_ended(self, name: Name) -> bool:
+        """Whether a task has, or all of a submission; what memory has no more has ended."""
+        submission = self.rows.submissions.get(name.number)
+        if submission is None or name.index == SINGLE:
+            return submission is None or not submission.live
+        return not submission.tasks[name.index].is_live
+
+    def facts(self, task: Task) -> Facts:
+        """What the task's state follows from, by what is known of firm now."""
+        rows = self.firm.rows
+        row = rows.tasks.get(task.name.firm) if rows is not None and task.outcome is None else None
+        attempt = task.open_attempt
+        return Facts(
+            task.outcome,
+            task.is_held,
+            task.submission.is_blocked,
+            task.is_cancelled,
+            row is not None,
+            row.machine if row is not None else None,
+            attempt.machine if attempt is not None else None,
+            attempt is not None and attempt.began is not None,
+            attempt is not None and attempt.is_kept,
+        )
+
+    # Submissions
+
+    def submit(self, user: User, asked: Sequence[Submit], key: str | None) -> list[Submission]:
+        """Makes submissions, all or none; those that they wait for are in memory."""
+        self.store.require_good()
+        texts = [text_of(one.spec) for one in asked]
+        size = self._require_room(user, asked, texts) + len(key or "")
+        jobs: dict[str, Job] = {}
+        numbers = {one.label: self.rows.last_number + 1 + at for at, one in enumerate(asked) if one.label is not None}
+        made = []
+        for at, one in enumerate(asked):
+            try:
+                made.append(self._made(user, one, jobs, numbers))
+            except Refused as refusal:
+                refusal.more["at"] = at
+                raise
+        now = time.time()
+        for text, submission in zip(texts, made):
+            submission.number, submission.sent = self.rows.last_number + 1, now
+            submission.measure(text)
+            self.rows.add(submission)
+            self.store.add(submission, text)
+            self._dirty.update(task.name for task in submission.tasks.values())
+        self._begin_needs(made)
+        self._spend(user.number, size)
+        self.rows.forget(MOST_ENDED, MOST_ENDED_BYTES)
+        if key is not None:
+            self._keep_answer(user, key, [submission.answer() for submission in made])
+        self.firm.changed.set()
+        return made
+
+    def _keep_answer(self, user: User, key: str, answer: list[Json]) -> None:
+        self.answers[user.number, key] = answer
+        self.store.keep_answer(user.number, key, answer)
+        self._answered += len(answer)
+        while self._answered > MOST_ANSWERS:
+            self._answered -= len(self.answers.pop(next(iter(self.answers))))
+
+    def _spend(self, user: int, size: int) -> None:
+        self.store.spend(user, self.spending.spend(user, size))
+
+    def _require_room(self, user: User, asked: Sequence[Submit], texts: Sequence[str]) -> int:
+        """The bytes of the disk that submissions take; raises `Refused` where they may not."""
+        bounds = self.bounds
+        count = sum(one.count for one in asked)
+        if self.rows.last_number + len(asked) > MOST_NUMBER:
+            raise Refused("queue-full", f"the numbers up to {MOST_NUMBER:,} are used up: begin a new state")
+        for at, one in enumerate(asked):
+            if one.count > bounds.array:
+                told = f"{one.count:,} tasks; an array may have {bounds.array:,}"
+                raise Refused("array-too-large", told, at=at)
+        live = self.rows.live_of_user.get(user.number, 0)
+        if not user.is_operator and live + count > bounds.of_user:
+            told = f"{live:,} tasks of yours have not ended, {count:,} more would pass {bounds.of_user:,}"
+            raise Refused("quota", told)
+        if self.rows.live + count > bounds.in_all:
+            raise Refused("queue-full", f"{self.rows.live:,} tasks have not ended; there may be {bounds.in_all:,}")
+        needs = sum(len(one.after) + len(one.after_any) for one in asked)
+        words = sum(len(one.spec.command) + len(one.spec.env) for one in asked) + needs
+        self._require_memory(user, sum(map(len, texts)) + WORD_BYTES * words)
+        answers = ANSWER_BYTES * len(asked)
+        size = (
+            sum(rows_bytes(len(text), 0, one.count) for text, one in zip(texts, asked)) + NEED_BYTES * needs + answers
+        )
+        if not user.is_operator:
+            self.spending.require(user.number, size)
+        return size
+
+    def _require_memory(self, user: User, size: int) -> None:
+        """Raises `Refused` where the words of what has not ended would take too much."""
+        held, told = self.rows.bytes_of_user.get(user.number, 0), f"{size:,} more would pass"
+        if not user.is_operator and held + size > MOST_BYTES_OF_USER:
+            what = f"the words of your tasks that have not ended take {held:,} bytes"
+            raise Refused("quota", f"{what}, {told} {MOST_BYTES_OF_USER:,}")
+        if self.rows.bytes + size > MOST_BYTES:
+            what = f"the words of all tasks that have not ended take {self.rows.bytes:,} bytes"
+            raise Refused("queue-full", f"{what}, {told} {MOST_BYTES:,}")
+
+    def _made(self, user: User, one: Submit, jobs: dict[str, Job], numbers: dict[str, int]) -> Submission:
+        """A submission without number; `jobs` are those of the same request, `numbers` those of its labels."""
+        name, job = self._job(user, one, jobs)
+        jobs[name] = job
+        first, last = one.array if one.array is not None else (None, None)
+        needs = [self._need(user, text, numbers, True) for text in one.after]
+        needs += [self._need(user, text, numbers, False) for text in one.after_any]
+        made = Submission(0, user.number, name, job.weight, one.spec, first, last, 0.0, tuple(dict.fromkeys(needs)))
+        made.add_tasks(one.is_held)
+        return made
+
+    def _job(self, user: User, one: Submit, jobs: dict[str, Job]) -> tuple[str, Job]:
+        """The job of a submission, and its name."""
+        name = one.job or job_of(user.number)
+        found = jobs.get(name) or self.rows.jobs.get(name)
+        if found is not None and found.user != user.number and one.job is None:
+            name = f"u{user.number}"
+            found = jobs.get(name) or self.rows.jobs.get(name)
+        if found is None:
+            return name, Job(user.number, one.weight or DEFAULT_WEIGHT)
+        if found.user != user.number:
+            raise Refused("not-yours", f"the job {name} is another user's")
+        if one.weight not in (None, found.weight):
+            raise Refused("job-has-weight", f"the job {name} has the weight {found.weight}")
+        return name, found
+
+    def _need(self, user: User, text: str, numbers: dict[str, int], is_ok: bool) -> Need:
+        if text.startswith("@"):
+            if text[1:] not in numbers:
+                raise Refused("no-such-label", f"{text}: no submission of the list has this label")
+            return Need(numbers[text[1:]], None, is_ok)
+        name = Name.read(text)
+        submission = self.rows.submissions.get(name.number) if name is not None else None
+        if name is None or submission is None or not user.may_see(submission.user):
+            raise Refused("no-such-task", f"{text}: no such task")
+        if name.index == SINGLE:
+            return Need(name.number, None, is_ok)
+        if name.index not in submission.tasks:
+            raise Refused("no-such-task", f"{text}: no such task")
+        return Need(name.number, name.index, is_ok)
+
+    def _begin_needs(self, submissions: Sequence[Submission]) -> None:
+        """Looks what these wait for; from then on each end is counted once. Ends what never may begin."""
+        for submission in submissions:
+            submission.open_needs = sum(self.needed(need).live > 0 for need in submission.needs)
+        for submission in submissions:
+            judgement = states.judge(self.needed(need) for need in submission.needs)
+            if judgement == Judgement.UNMET and submission.live:
+                self._follow(self._end_unmet(submission))
+
+    def _end_unmet(self, submission: Submission) -> list[Task]:
+        """Ends what never may begin."""
+        unmet = next(need for need in submission.needs if need.is_ok and self.needed(need).failed)
+        idle = [task for task in self.rows.live_of([submission]) if task.open_attempt is None]
+        for task in idle:
+            self._finish(task, State.UNMET, f"{unmet} did not end with done")
+        return idle
+
+    def needed(self, need: Need) -> Needed:
+        submission = self.rows.submissions.get(need.number)
+        if submission is None:  # it ended long ago, as it should: what waited for it would have ended otherwise
+            return Needed(need.is_ok, 0, 0)
+        if need.index is None:
+            return Needed(need.is_ok, submission.live, submission.failed)
+        task = submission.tasks[need.index]
+        return Needed(need.is_ok, int(task.is_live), int(task.outcome not in (None, State.DONE)))
+
+    # Changes
+
+    def change(self, change: Change, tasks: Iterable[Task]) -> tuple[list[Task], dict[Name, str]]:
+        """Cancels, holds or releases tasks; those that it changed, and why the others were left."""
+        self.store.require_good()
+        changed, unchanged = [], {}
+        for task in tasks:
+            why = states.refusal(change, self.facts(task))
+            if why is not None:
+                unchanged[task.name] = why
+                continue
+            changed.append(task)
+            if change != Change.CANCEL:
+                task.is_held = change == Change.HOLD
+            elif task.open_attempt is None:
+                self.end(task, State.CANCELLED)
+            else:
+                task.is_cancelled = True
+        self.store.save(task for task in changed if task.is_live)
+        self.look_at(task.name for task in changed)
+        return changed, unchanged
+
+    def end(self, task: Task, outcome: str, reason: str = "", status: int | None = None) -> None:
+        """Ends a task, and what can't begin any more without it."""
+        self._finish(task, outcome, reason, status)
+        self._follow([task])
+        self.rows.forget(MOST_ENDED, MOST_ENDED_BYTES)
+        self.firm.changed.set()
+
+    def _finish(self, task: Task, outcome: str, reason: str, status: int | None = None) -> None:
+        task.outcome, task.reason, task.status, task.ended = outcome, reason, status, time.time()
+        self.rows.ended(task)
+        self.store.save([task])
+        self._dirty.add(task.name)
+        self.ends.tell(task.submission.number)
+
+    def _follow(self, ended: list[Task]) -> None:
+        """Looks at what waits for tasks that have ended, and at what waits for that."""
+        while ended:
+            task = ended.pop()
+            for number, is_lost in self.rows.waiting_for(task):
+                waiter = self.rows.submissions[number]
+                if is_lost:
+                    ended += self._end_unmet(waiter)
+                    continue
+                waiter.open_needs -= 1
+                if not waiter.is_blocked:
+                    self._dirty.update(one.name for one in self.rows.live_of([waiter]))
+
+    # Attempts
+
+    def begin_attempt(self, task: Task, attempt: Attempt) -> None:
+        task.attempts, task.attempt, task.told = attempt.number, attempt, ""
+        self.rows.open[attempt.token] = attempt
+        self.store.save_attempt(attempt)
+        self.store.save([task])
+        self._spend(task.submission.user, ATTEMPT_BYTES)
+
+    def end_attempt(self, attempt: Attempt, end: End, seconds: float | None = None) -> float:
+        """Ends an attempt, and its task where that follows; the seconds until the task may be tried again."""
+        task = self.rows.task(attempt.name)
+        if task is None:
+            raise RuntimeError(f"{attempt.name}: an open attempt without its task")
+        past = Past(task.submission.spec.retries, task.failures, task.lost, task.is_cancelled)
+        verdict = states.after(end, past)
+        has_status = end.kind == "ended"
+        attempt.outcome, attempt.reason, attempt.ended = verdict.attempt, verdict.reason, time.time()
+        self.ended_attempts[verdict.attempt] += 1
+        attempt.status = end.status if has_status else None
+        if seconds is None and attempt.began is not None:
+            seconds = max(0.0, attempt.ended - attempt.began)  # by clocks that may have been set
+        attempt.seconds = seconds
+        del self.rows.open[attempt.token]
+        task.failures, task.lost = verdict.failures, verdict.lost
+        self.store.save_attempt(attempt)
+        if verdict.task is not None:
+            self.end(task, verdict.task, verdict.reason, attempt.status)
+        else:
+            task.due = boot_time() + verdict.pause
+            task.told = f"{verdict.reason}; tried again in {verdict.pause:g} s" if verdict.pause else ""
+            self.store.save([task])
+        self.look_at([task.name])
+        return verdict.pause
+
+    # What firm should have
+
+    def look_at(self, names: Iterable[Name]) -> None:
+        """Has it looked at soon whether firm should have these tasks."""
+        self._dirty.update(names)
+        self.firm.changed.set()
+
+    def look_at_all(self) -> None:
+        self.backlog, self.strangers = Backlog(), set()
+        self.unwanted.clear()
+        self._dirty = {task.name for task in self.rows.live_tasks()}
+        for row in self.firm.rows.tasks if self.firm.rows is not None else ():
+            if (name := Name.of_firm(row)) is not None:
+                self._dirty.add(name)
+                self._skip(name)
+        self.firm.changed.set()
+
+    def hear(self, heard: Heard) -> None:
+        """Takes in what firm has obeyed."""
+        self.news.set()
+        self.news = asyncio.Event()
+        if not heard.words:
+            self.leaving.clear()
+            self.look_at_all()
+        elif heard.words[0] in ("task", "done"):
+            row = heard.words[2] if heard.words[0] == "task" else heard.words[1]
+            self.leaving.discard(row)
+            name = Name.of_firm(row)
+            if name is not None:
+                self._dirty.add(name)
+                self._skip(name)
+        elif heard.words[0] == "close":
+            self.own_jobs.discard(heard.words[1])
+
+    def sort(self) -> None:
+        """Looks at the tasks that changed: what is to go into firm, and what is to leave it."""
+        book = self.firm.book
+        if book is None:
+            return
+        names, self._dirty = self._dirty, set()
+        for name in names:
+            task, row = self.rows.task(name), book.tasks.get(name.firm)
+            if task is None:
+                if row is not None:
+                    self.strangers.add(name)
+                continue
+            is_ours = row is not None and row.job == task.submission.job
+            if states.is_wanted(self.facts(task)) and (row is None or is_ours):
+                self.unwanted.discard(name.firm)
+                if row is None:
+                    self.backlog.put(task)
+                else:
+                    self.backlog.drop(task)
+                continue
+            self.backlog.drop(task)
+            if row is not None:
+                self.unwanted.add(name.firm)
+            else:
+                self.unwanted.discard(name.firm)
+
+    def _skip(self, name: Name) -> None:
+        """Gives no name that firm has from others, as from a queue whose database was lost."""
+        self.rows.last_number = max(self.rows.last_number, name.number)
+
+    async def know_strangers(self) -> None:
+        """Finds out whether rows that memory does not have are those of tasks that ended."""
+        numbers = {name.number for name in self.strangers if name.number <= self.rows.last_number}
+        found = await self.store.read(lambda connection: queries.submissions(connection, numbers)) if numbers else []
+        for submission in found:
+            if submission.number not in self.rows.submissions and not submission.live:
+                self.rows.add(submission)
+                self._dirty.update(task.name for task in submission.tasks.values())
+        self.strangers.clear()
+
+    def idle_jobs(self) -> frozenset[str]:
+        """Jobs of the queue's own in firm that have no tasks, or another weight than they should."""
+        book = self.firm.book
+        if book is None:
+            return frozenset()
+        return frozenset(
+            job
+            for job in self.own_jobs
+            if job in book.jobs and (job not in self.rows.jobs or self.rows.jobs[job].weight != book.jobs[job])
+        )
+
+    async def know_jobs(self) -> None:
+        """Finds out which jobs in firm are of the queue's own."""
+        book = self.firm.book
+        if book is not None:
+            unknown = [job for job in book.jobs if job not in self.own_jobs]
+            self.own_jobs |= await self.store.read(lambda connection: queries.own_jobs(connection, unknown))
+
+    def counts(self, tasks: Iterable[Task]) -> Counter[str]:
+        return Counter(states.state_of(self.facts(task)).value for task in tasks)
+
+    def ages(self) -> tuple[Counter[str], dict[str, float]]:
+        """How many tasks are in each state, and when the oldest of them was submitted."""
+        counts, oldest = Counter[str](), dict[str, float]()
+        for task in self.rows.live_tasks():
+            state = states.state_of(self.facts(task)).value
+            counts[state] += 1
+            oldest[state] = min(oldest.get(state, task.submission.sent), task.submission.sent)
+        return counts, oldest
+
+
+class Ends:
+    """Those that wait for tasks to end."""
+
+    def __init__(self) -> None:
+        self._waiting: dict[int, set[asyncio.Event]] = {}
+
+    def add(self, numbers: Iterable[int], event: asyncio.Event) -> None:
+        for number in numbers:
+            self._waiting.setdefault(number, set()).add(event)
+
+    def drop(self, numbers: Iterable[int], event: asyncio.Event) -> None:
+        for number in numbers:
+            self._waiting.get(number, set()).discard(event)
+            if not self._waiting.get(number):
+                self._waiting.pop(number, None)
+
+    def tell(self, number: int) -> None:
+        for event in self._waiting.get(number, ()):
+            event.set()
+
+    def tell_all(self) -> None:
+        for number in self._waiting:
+            self.tell(number)

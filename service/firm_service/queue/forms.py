@@ -1,0 +1,96 @@
+"""Times, sizes and arrays, as people write them."""
+
+from __future__ import annotations
+
+import re
+import time
+
+SECONDS = {"": 1, "s": 1, "m": 60, "h": 3_600, "d": 86_400}
+UNITS = {"": 0, "K": 1, "M": 2, "G": 3, "T": 4}
+_CLOCK = re.compile(r"(?:(\d+)-)?(\d+)(?::(\d{1,2}))?(?::(\d{1,2}))?")
+_PARTS = re.compile(r"(?:\d+(?:\.\d+)?[smhd])+")
+_PART = re.compile(r"(\d+(?:\.\d+)?)([smhd])")
+_SIZE = re.compile(r"(\d+(?:\.\d+)?)([KMGT]?)(?:i?B)?", re.IGNORECASE)
+_ARRAY = re.compile(r"(\d{1,7})(?:-(\d{1,7}))?")
+_TASK = re.compile(r"[1-9]\d*(?:_\d+)?")
+FORMS = ("%Y-%m-%d", "%Y-%m-%dT%H:%M", "%Y-%m-%d %H:%M", "%Y-%m-%dT%H:%M:%S", "%Y-%m-%d %H:%M:%S")
+
+
+def seconds_of(text: str) -> float:
+    """90 or 90s, 2h, 1h30m, 1.5d, and as squeue writes it: 1:30 (minutes), 2:00:00, 1-12, 1-12:00:00."""
+    text = text.strip()
+    if re.fullmatch(r"\d+(?:\.\d+)?", text):
+        return float(text)
+    if _PARTS.fullmatch(text):
+        return sum(float(number) * SECONDS[unit] for number, unit in _PART.findall(text))
+    clock = _CLOCK.fullmatch(text)
+    if clock is None:
+        raise ValueError(f"{text!r} is no time; write 90, 90s, 30m, 2h, 1d, 1:30:00 or 1-12:00:00")
+    days, *rest = clock.groups()
+    parts = [int(part) for part in rest if part is not None]
+    if any(part > 59 for part in parts[1:]):
+        raise ValueError(f"{text!r} has more than 59 minutes or seconds")
+    # behind days hours come first; without them seconds come last
+    hours, minutes, seconds = (parts + [0, 0])[:3] if days is not None else ([0, 0] + parts)[-3:]
+    return float(((int(days or 0) * 24 + hours) * 60 + minutes) * 60 + seconds)
+
+
+def whole_of(text: str) -> int:
+    if re.fullmatch(r"\d+", text.strip(), re.ASCII) is None:
+        raise ValueError(f"{text!r} is no whole number")
+    return int(text)
+
+
+def number_of(text: str) -> float:
+    if re.fullmatch(r"\d+(?:\.\d+)?", text.strip(), re.ASCII) is None:
+        raise ValueError(f"{text!r} is no number")
+    return float(text)
+
+
+def bytes_of(text: str) -> int:
+    """2G, 512M, 1.5T or bytes; K is 1,024."""
+    size = _SIZE.fullmatch(text.strip())
+    if size is None:
+        raise ValueError(f"{text!r} is no size; write 512M, 2G or bytes")
+    return int(float(size[1]) * 1_024 ** UNITS[size[2].upper()])
+
+
+def array_of(text: str) -> tuple[int, int]:
+    """1-500, or a single index."""
+    array = _ARRAY.fullmatch(text.strip())
+    if array is None:
+        raise ValueError(f"{text!r} is no array; write 1-500")
+    first, last = int(array[1]), int(array[2] or array[1])
+    if last < first:
+        raise ValueError(f"{text!r} ends before it begins")
+    return first, last
+
+
+def instant_of(text: str, now: float | None = None) -> float:
+    """A day or a minute (2026-11-26, 2026-11-26T09:00), 09:00 of today, or a time ago (2h)."""
+    from datetime import datetime, timedelta  # here, as its import takes as long as all of this module
+
+    text, moment = text.strip(), datetime.fromtimestamp(time.time() if now is None else now)
+    for form in FORMS:
+        try:
+            return datetime.strptime(text, form).timestamp()
+        except ValueError:
+            pass
+    if re.fullmatch(r"\d{1,2}:\d{2}", text):
+        try:
+            return datetime.combine(moment.date(), datetime.strptime(text, "%H:%M").time()).timestamp()
+        except ValueError:
+            pass
+    elif _PARTS.fullmatch(text):
+        return (moment - timedelta(seconds=seconds_of(text))).timestamp()
+    raise ValueError(f"{text!r} is no moment; write 2026-11-26, 2026-11-26T09:00, 09:00 or 2h (ago)")
+
+
+def names_of(text: str) -> tuple[str, ...]:
+    """Names behind one another, with commas between them."""
+    return tuple(name for name in text.split(",") if name)
+
+
+def is_task(text: str) -> bool:
+    """Whether it names a task or a submission rather than a job."""
+    return _TASK.fullmatch(text) is not None

@@ -1,0 +1,339 @@
+"""Takes connections to the queue's socket: requests in, answers out, in order."""
+
+from __future__ import annotations
+
+import asyncio
+import json
+import select
+import socket
+from collections import Counter
+from collections.abc import AsyncIterator, Callable
+from contextlib import suppress
+from functools import partial
+from typing import NamedTuple
+
+from ..faults import Faults
+from ..relief import Held
+from .agents import Agents
+from .fields import Json, Refused
+from .requests import Requests
+from .shares import BOUNDS, Share, Shares
+from .store import NotWritten
+from .users import Operators, User
+
+LONGEST_REQUEST = 8 * 2**20  # bytes
+PIECE_BYTES = 2**16  # of a request that are in a reader's own memory
+MOST_UNANSWERED = 256  # requests of a connection
+MOST_CLIENTS, MOST_OF_USERS, MOST_OF_USER = 1_024, 768, 128  # connections: in all, of others than operators, of each
+IDLE_SECONDS = 600.0  # without a request, and nothing to be answered
+REQUEST_SECONDS = 60.0  # for the rest of a long request
+REFUSAL_SECONDS = 1.0  # for the rest of a request that is too long
+PATIENCE_SECONDS = 30.0  # for a client to read
+MOST_TOLD = 4 * 2**20  # bytes that an agent may leave unread
+ROWS_AT_ONCE = 500  # of an answer, that are written as JSON in a turn of the loop
+# Their answers may be large. As `wait` and `log` each is begun once the answers before it are read: it changes nothing.
+LISTS = {"tasks", "ps", "task", "history", "machines", "agents", "jobs", "status"}
+TOO_MANY = Refused("too-many-clients", "close a connection first")
+CROWDED = "users have left too much unread, or unsent: the connection of the fullest that has most is closed"
+
+
+class Front:
+    """All connections."""
+
+    def __init__(self, requests: Requests, agents: Agents, operators: Operators, faults: Faults) -> None:
+        self.requests, self.agents, self.faults = requests, agents, faults
+        self.shares = Shares(BOUNDS, self._relieve)
+        self._operators = operators
+        self._users: Counter[int] = Counter()  # others than operators
+        self._connections: dict[Connection, None] = {}  # the newest last
+        self._tasks: set[asyncio.Task[None]] = set()
+
+    def protocol(self) -> asyncio.StreamReaderProtocol:
+        return asyncio.StreamReaderProtocol(asyncio.StreamReader(limit=PIECE_BYTES), self._begin)
+
+    def _begin(self, reader: asyncio.StreamReader, writer: asyncio.StreamWriter) -> None:
+        task = asyncio.get_running_loop().create_task(self.serve(reader, writer))
+        self._tasks.add(task)
+        task.add_done_callback(self._tasks.discard)
+
+    async def serve(self, reader: asyncio.StreamReader, writer: asyncio.StreamWriter) -> None:
+        """One client, until it leaves."""
+        connection = None
+        try:
+            user = self._operators.user_of(writer.get_extra_info("socket"))
+            if self._is_too_many(user):
+                writer.write(encode(TOO_MANY.answer()))
+            else:
+                connection = self._enter(user, reader, writer)
+                await connection.serve()
+            writer.close()
+            async with asyncio.timeout(PATIENCE_SECONDS):
+                await writer.wait_closed()
+        except* OSError:  # it is gone or slow
+            pass
+        except* asyncio.CancelledError:  # the service ends
+            pass
+        except* Exception as error:
+            self.faults.note("client", error)
+        finally:
+            if connection is not None:
+                self._leave(connection)
+            writer.transport.abort()
+
+    async def close(self) -> None:
+        """Ends all connections; nothing is asked of the queue any more then."""
+        for task in self._tasks:
+            task.cancel()
+        await asyncio.gather(*self._tasks, return_exceptions=True)
+
+    def held(self) -> Held:
+        """Connections by their users."""
+        found: Held = {}
+        for connection in self._connections:
+            found.setdefault(connection.user.name, []).append(connection.transport)
+        return found
+
+    def _enter(self, user: User, reader: asyncio.StreamReader, writer: asyncio.StreamWriter) -> Connection:
+        connection = Connection(self, user, reader, writer)
+        self._connections[connection] = None
+        self._users[user.number] += not user.is_operator
+        return connection
+
+    def _leave(self, connection: Connection) -> None:
+        del self._connections[connection]
+        self._users[connection.user.number] -= not connection.user.is_operator
+        self.shares.add(connection.share, -connection.share.held)
+        self.agents.leave(connection)
+
+    def _is_too_many(self, user: User) -> bool:
+        if len(self._connections) >= MOST_CLIENTS:
+            return True
+        return not user.is_operator and (
+            self._users[user.number] >= MOST_OF_USER or self._users.total() >= MOST_OF_USERS
+        )
+
+    def _relieve(self, key: bytes) -> None:
+        """Closes the connection that holds most, of those of a user."""
+        self.faults.count("client", CROWDED)
+        of_user = (connection for connection in self._connections if connection.share.key == key)
+        max(of_user, key=lambda connection: connection.share.held).end()
+
+
+def request_of(line: bytes) -> Json:
+    """A request. One that waits for its turn waits as text: what JSON makes of it may take twenty times as much."""
+    try:
+        given = json.loads(line)
+    except (ValueError, RecursionError) as error:
+        raise Refused("bad-request", f"no JSON: {error}") from None
+    if not isinstance(given, dict):
+        raise Refused("bad-request", "a request is an object")
+    return given
+
+
+def encode(answer: Json) -> bytes:
+    return json.dumps(answer).encode() + b"\n"
+
+
+async def encode_in_turns(answer: Json) -> bytes:
+    """The same of an answer that may be large: other requests have their turns meanwhile."""
+    parts = []
+    for name, value in answer.items():
+        if isinstance(value, list):
+            slices = [value[at : at + ROWS_AT_ONCE] for at in range(0, len(value), ROWS_AT_ONCE)]
+            rows = []
+            for some in slices:
+                rows.append(json.dumps(some)[1:-1])
+                await asyncio.sleep(0)
+            parts.append(f"{json.dumps(name)}: [{', '.join(rows)}]")
+        else:
+            parts.append(f"{json.dumps(name)}: {json.dumps(value)}")
+    return f"{{{', '.join(parts)}}}\n".encode()
+
+
+Answer = asyncio.Task[bytes] | Callable[[], AsyncIterator[bytes]]
+
+
+class Asked(NamedTuple):
+    """A request that is not answered yet."""
+
+    answer: Answer
+    size: int  # of the request
+
+
+class Connection:
+    """A client of the queue."""
+
+    def __init__(self, front: Front, user: User, reader: asyncio.StreamReader, writer: asyncio.StreamWriter) -> None:
+        self.user = user
+        key = f"operator {id(self)}" if user.is_operator else f"user {user.number}"
+        self.share = Share(key.encode(), not user.is_operator)
+        self._front, self._reader, self._writer = front, reader, writer
+        self._asked: asyncio.Queue[Asked | None] = asyncio.Queue(MOST_UNANSWERED)
+        self._is_answering = False
+
+    @property
+    def transport(self) -> asyncio.WriteTransport:
+        return self._writer.transport
+
+    async def serve(self) -> None:
+        async with asyncio.TaskGroup() as group:
+            writing = group.create_task(self._write_answers())
+            with suppress(EndOfRequests):
+                while not writing.done():
+                    line = await self._next()
+                    await self._front.shares.turn(self.share)
+                    self._require_there()
+                    await self._asked.put(Asked(self._begin(line, group), len(line)))
+            await self._asked.put(None)
+
+    def tell(self, words: Json) -> None:
+        if self._writer.transport.get_write_buffer_size() > MOST_TOLD:
+            self.end()
+        else:
+            self._writer.write(encode(words))
+
+    def end(self) -> None:
+        self._writer.transport.abort()
+
+    def is_gone(self) -> bool:
+        """Whether the other end is closed as a whole; half of it may be, by who wants an answer still."""
+        connection: socket.socket = self._writer.get_extra_info("socket")
+        if connection.fileno() < 0 or self._writer.transport.is_closing():
+            return True
+        poll = select.poll()
+        poll.register(connection.fileno(), 0)
+        return any(events & select.POLLHUP for _, events in poll.poll(0))
+
+    def _require_there(self) -> None:
+        """Raises ConnectionResetError where nobody would read an answer; what is not begun yet need not be."""
+        if self.is_gone():
+            raise ConnectionResetError
+
+    async def _next(self) -> bytes:
+        """The next request; raises `EndOfRequests`."""
+        pieces: list[bytes] = []
+        size, ends = 0, None
+        while not pieces or not pieces[-1].endswith(b"\n"):
+            try:
+                async with asyncio.timeout_at(ends) if ends is not None else asyncio.timeout(IDLE_SECONDS):
+                    piece = await self._piece()
+            except TimeoutError:
+                if not pieces and self._is_busy():
+                    continue
+                raise EndOfRequests from None
+            ends = ends or asyncio.get_running_loop().time() + REQUEST_SECONDS
+            pieces.append(piece)
+            size += len(piece)
+            self._front.shares.add(self.share, len(piece))
+            if not piece.endswith(b"\n"):
+                await self._front.shares.turn(self.share)
+            if size > LONGEST_REQUEST:
+                await self._refuse_long()
+        return b"".join(pieces)
+
+    async def _piece(self) -> bytes:
+        """What has come of a request, up to its end."""
+        try:
+            return await self._reader.readuntil()
+        except asyncio.LimitOverrunError as error:
+            return await self._reader.readexactly(error.consumed)
+        except (asyncio.IncompleteReadError, OSError):
+            raise EndOfRequests from None
+
+    async def _refuse_long(self) -> None:
+        """Has a client send the rest of its request, for a moment: it could not read the refusal otherwise."""
+        refusal = Refused("too-long", f"a request has at most {LONGEST_REQUEST:,} bytes")
+        await self._asked.put(Asked(partial(self._refused, refusal), 0))
+        with suppress(TimeoutError, OSError):
+            async with asyncio.timeout(REFUSAL_SECONDS):
+                while await self._reader.read(2**20):
+                    pass
+        raise EndOfRequests
+
+    def _is_busy(self) -> bool:
+        """Whether it has something to wait for, or is an agent's."""
+        is_agent = any(agent.session is self for agent in self._front.agents.agents.values())
+        return self._is_answering or not self._asked.empty() or is_agent
+
+    def _begin(self, line: bytes, group: asyncio.TaskGroup) -> Answer:
+        """Begins to answer a request."""
+        try:
+            given = request_of(line)
+        except Refused as refusal:
+            return partial(self._refused, refusal)
+        ask = given.get("ask")
+        if ask == "log":
+            return partial(self._logged, line)
+        if ask == "wait":
+            return partial(self._waited, line)
+        if isinstance(ask, str) and ask in LISTS:
+            return partial(self._listed, line)
+        return group.create_task(self._changed(given))
+
+    async def _changed(self, given: Json) -> bytes:
+        return self._held(encode(await self._answered(given)))
+
+    async def _waited(self, line: bytes) -> AsyncIterator[bytes]:
+        yield self._held(encode(await self._answered(request_of(line))))
+
+    async def _listed(self, line: bytes) -> AsyncIterator[bytes]:
+        async with self._front.shares.alone(self.share):
+            await self._front.shares.turn(self.share)
+            text = self._held(await encode_in_turns(await self._answered(request_of(line))))
+        yield text
+
+    async def turn(self) -> None:
+        await self._front.shares.turn(self.share)
+
+    async def _logged(self, line: bytes) -> AsyncIterator[bytes]:
+        try:
+            async for answer in self._front.requests.log(self, request_of(line)):
+                yield self._held(encode(answer))
+        except OSError:
+            raise
+        except Exception as error:
+            yield self._held(encode(self._refusal(error)))
+
+    async def _refused(self, refusal: Refused) -> AsyncIterator[bytes]:
+        yield self._held(encode(refusal.answer()))
+
+    def _held(self, text: bytes) -> bytes:
+        self._front.shares.add(self.share, len(text))
+        return text
+
+    async def _answered(self, given: Json) -> Json:
+        try:
+            return await self._front.requests.answer(self, given)
+        except Exception as error:
+            return self._refusal(error)
+
+    def _refusal(self, error: Exception) -> Json:
+        if isinstance(error, Refused):
+            return error.answer()
+        if isinstance(error, NotWritten):
+            return Refused("not-written", str(error)).answer()
+        self._front.faults.note("request", error)
+        return Refused("internal", f"an error of firm-queue's: {error!r}").answer()
+
+    async def _write_answers(self) -> None:
+        while (asked := await self._asked.get()) is not None:
+            self._is_answering = True
+            if isinstance(asked.answer, asyncio.Task):
+                await self._write(await asked.answer)
+            else:
+                self._require_there()
+                async for text in asked.answer():
+                    await self._write(text)
+            self._front.shares.add(self.share, -asked.size)
+            self._is_answering = False
+
+    async def _write(self, text: bytes) -> None:
+        """Writes what is held, and gives its bytes back once it is read."""
+        self._writer.write(text)
+        async with asyncio.timeout(PATIENCE_SECONDS):
+            await self._writer.drain()
+        self._front.shares.add(self.share, -len(text))
+
+
+class EndOfRequests(Exception):
+    """No further request comes."""

@@ -1,0 +1,145 @@
+"""Brings firm's rows to what the queue wants, again and again, whatever was missed or lost meanwhile."""
+
+from __future__ import annotations
+
+import asyncio
+import time
+from collections.abc import Callable
+from dataclasses import dataclass
+
+from ..logs import WARNING, tell
+from .backlog import Kind, Line, Wishes, plan
+from .core import Core
+from .firm import Away, Reply
+from .store import NotWritten
+
+AWAY_SECONDS = 0.2  # until firmd is tried again
+FULL_SECONDS = 1.0  # until a task is given again after firm had no room for it
+WORN_SECONDS = 10.0
+# A round is asked for this multiple of the duration of the one before it after that, and at most this long.
+ROUND_SHARE, LONGEST_ROUND_PAUSE = 2, 0.2
+NO_ROOM = {"arena-nodes", "arena-arcs", "memory"}
+WAITING_FOR_ROOM = "the arena is full"
+
+
+@dataclass(frozen=True, slots=True)
+class Machines:
+    """What the agents want of firm: machines with their slots, and those that should not be there."""
+
+    wanted: dict[str, int]
+    unwanted: set[str]
+
+
+@dataclass(frozen=True, slots=True)
+class Giving:
+    """How tasks are given."""
+
+    most: int | None = None  # tasks in firm
+    asks_rounds: bool = True
+
+
+class Giver:
+    def __init__(self, core: Core, machines: Callable[[], Machines], giving: Giving) -> None:
+        self._core, self._machines, self._giving = core, machines, giving
+        self._loop = asyncio.get_running_loop()
+        self._is_round_due = False
+        self._next_round = 0.0  # by the loop's clock
+        self._next_tasks = 0.0
+        self._told = ""
+
+    async def serve(self) -> None:
+        """For ever."""
+        changed = self._core.firm.changed
+        while True:
+            await changed.wait()
+            changed.clear()
+            try:
+                await self._step()
+                self._told = ""
+            except NotWritten:
+                pass  # the rows are read anew then
+            except Away as error:
+                self._tell(str(error))
+                self._core.leaving.clear()
+                self._core.look_at_all()
+                self._again(AWAY_SECONDS)
+                await asyncio.sleep(AWAY_SECONDS)
+
+    async def _step(self) -> None:
+        core = self._core
+        if not core.firm.is_current or core.store.why_bad:
+            return
+        if core.strangers:
+            await core.know_strangers()
+        core.sort()
+        lines = self._plan()
+        if not lines:
+            return
+        rows = core.rows
+        core.leaving.update(line.words for line in lines if line.kind == Kind.DONE)
+        try:
+            await core.store.settled()
+            began = time.monotonic()
+            replies = await core.firm.say([str(line) for line in lines])
+        finally:
+            if core.rows is rows:
+                core.look_at(line.task.name for line in lines if line.task is not None)
+        if lines[-1].kind == Kind.ROUND:
+            pause = min(ROUND_SHARE * (time.monotonic() - began), LONGEST_ROUND_PAUSE)
+            self._is_round_due, self._next_round = False, self._loop.time() + pause
+        for line, reply in zip(lines, replies):
+            self._hear(line, reply)
+
+    def _plan(self) -> list[Line]:
+        core, book = self._core, self._core.firm.book
+        if book is None:
+            return []
+        machines, is_full = self._machines(), self._loop.time() < self._next_tasks
+        jobs = frozenset(core.rows.jobs)
+        most = 0 if is_full else self._giving.most
+        wishes = Wishes(machines.wanted, machines.unwanted, jobs, core.idle_jobs(), list(core.unwanted), most)
+        lines = plan(book, wishes, core.backlog, core.rows.task)
+        kinds = {line.kind for line in lines}
+        self._is_round_due |= bool(kinds & {Kind.TASK, Kind.DONE, Kind.MACHINE, Kind.DRAIN})
+        may_wait = book.waiting or kinds & {Kind.TASK, Kind.DRAIN}
+        if self._giving.asks_rounds and self._is_round_due and may_wait and not is_closed(lines):
+            if self._loop.time() >= self._next_round:
+                lines.append(Line(Kind.ROUND, ""))
+            else:
+                self._again(self._next_round - self._loop.time())
+        return lines
+
+    def _hear(self, line: Line, reply: Reply) -> None:
+        """Takes in a reply; rows that changed are heard of by the view."""
+        core = self._core
+        if reply.is_ok:
+            if line.kind == Kind.JOB:
+                core.own_jobs.add(line.words.split()[0])
+            if line.task is not None:
+                line.task.told = ""
+        elif line.kind == Kind.DONE:
+            core.leaving.discard(line.words)
+        elif reply.outcome == "worn":
+            self._tell("the tenant's life is used up: firm takes nothing from it any more")
+            self._pause(WORN_SECONDS)
+        elif line.kind in (Kind.TASK, Kind.JOB, Kind.MACHINE) and reply.outcome in NO_ROOM:
+            if line.task is not None:
+                line.task.told = WAITING_FOR_ROOM
+            self._pause(FULL_SECONDS)
+
+    def _pause(self, seconds: float) -> None:
+        self._next_tasks = self._loop.time() + seconds
+        self._again(seconds)
+
+    def _again(self, seconds: float) -> None:
+        self._loop.call_later(seconds, self._core.firm.changed.set)
+
+    def _tell(self, why: str) -> None:
+        if why != self._told:
+            self._told = why
+            tell(WARNING, f"{why}; what waits is given later")
+
+
+def is_closed(lines: list[Line]) -> bool:
+    """Whether the lines only close jobs."""
+    return bool(lines) and all(line.kind == Kind.CLOSE for line in lines)

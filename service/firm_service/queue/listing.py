@@ -1,0 +1,174 @@
+"""What is shown of tasks, attempts and jobs, as JSON."""
+
+from __future__ import annotations
+
+import time
+from collections import Counter
+from collections.abc import Iterable
+from dataclasses import asdict
+from itertools import islice
+from typing import Any
+
+from . import states
+from .agents import Agents
+from .backlog import used
+from .core import Core
+from .fields import Json
+from .rows import SINGLE, Attempt, Name, Submission, Task
+from .states import State
+from .users import name_of
+
+VERSION = 1  # of the protocol
+MOST_SHOWN, MOST_LOOKED_AT = 4, 16  # needs that a reason names, and among which they are looked for
+
+
+class Lists:
+    """Rows, as of now."""
+
+    def __init__(self, core: Core, agents: Agents) -> None:
+        self._core, self._agents = core, agents
+
+    def state_of(self, task: Task) -> State:
+        return states.state_of(self._core.facts(task))
+
+    def row(self, task: Task) -> Json:
+        """A task, as `tasks` shows it."""
+        submission, attempt, facts = task.submission, task.attempt, self._core.facts(task)
+        state, name, is_open = states.state_of(facts), task.name, facts.attempt_machine is not None
+        return {
+            "task": str(name),
+            "firm": name.firm,
+            "number": submission.number,
+            "index": None if task.index == SINGLE else task.index,
+            "user": name_of(submission.user),
+            "job": submission.job,
+            "weight": submission.weight,
+            "state": state.value,
+            "reason": "" if state is State.RUNNING else self._reason(task, state, facts.machine),
+            "machine": facts.attempt_machine if is_open else facts.machine or last_machine(task),
+            "agent": attempt.agent if attempt is not None else None,
+            "attempt": task.attempts,
+            "submitted": submission.sent,
+            "began": attempt.began if attempt is not None else None,
+            "ended": task.ended,
+            "seconds": seconds_of(attempt),
+            "status": task.status,
+            "time": submission.spec.time,
+            "command": submission.spec.command,
+        }
+
+    def _reason(self, task: Task, state: State, machine: str | None) -> str:
+        if task.outcome is not None:
+            return task.reason
+        if state == State.BLOCKED:
+            return f"waits for {self._waited_for(task.submission)}"
+        if state == State.STARTING and machine is not None and task.open_attempt is None:
+            return self._agents.why_not_begun(task, machine)
+        if state in (State.QUEUED, State.WAITING) and (trouble := self._core.firm.trouble):
+            return trouble
+        if state == State.ENDING and not task.is_cancelled:
+            return "firm has taken its place"
+        return task.told if state in (State.QUEUED, State.WAITING) else ""
+
+    def _waited_for(self, submission: Submission) -> str:
+        """The first needs that have not ended, and how many there are besides."""
+        needs, place = submission.needs, submission.first_need
+        while place < len(needs) and not self._core.needed(needs[place]).live:
+            place += 1
+        submission.first_need = place  # what is before it has ended for ever
+        live = (need for need in needs[place : place + MOST_LOOKED_AT] if self._core.needed(need).live)
+        shown = list(map(str, islice(live, MOST_SHOWN)))
+        more = submission.open_needs - len(shown)
+        return ", ".join(shown) + (f" and {more:,} more" if more > 0 else "")
+
+    def foreign(self) -> Iterable[Json]:
+        """Tasks in firm that the queue has not submitted."""
+        rows = self._core.firm.rows
+        for name, row in rows.tasks.items() if rows is not None else ():
+            if self._core.rows.task(Name.of_firm(name)) is None:
+                empty = dict.fromkeys(("number", "index", "user", "agent", "submitted", "began", "ended", "seconds"))
+                shown = {"task": name, "firm": name, **empty, "job": row.job, "weight": None, "state": "foreign"}
+                rest = {"status": None, "time": None, "command": None, "attempt": 0, "reason": ""}
+                yield {**shown, "machine": row.machine, **rest}
+
+    def detail(self, task: Task, attempts: list[Attempt]) -> Json:
+        submission = task.submission
+        spec = asdict(submission.spec)
+        spec["array"] = None if submission.first is None else [submission.first, submission.last]
+        spec["after"] = [str(need) for need in submission.needs if need.is_ok]
+        spec["after_any"] = [str(need) for need in submission.needs if not need.is_ok]
+        return {**self.row(task), "spec": spec, "attempts": [attempt_row(attempt) for attempt in attempts]}
+
+    def machines(self, may_see: Iterable[Task]) -> list[Json]:
+        """Machines with those tasks that are there."""
+        tasks: dict[str, list[str]] = {}
+        for task in may_see:
+            facts = self._core.facts(task)
+            machine = facts.attempt_machine or facts.machine
+            if machine is not None:
+                tasks.setdefault(machine, []).append(str(task.name))
+        rows, found = self._core.firm.rows, []
+        processes = Counter(attempt.machine for attempt in self._core.rows.open.values())
+        for machine, (state, reason) in self._agents.machine_states().items():
+            agent = self._agents.of_machine(machine)
+            slots = rows.machines.get(machine) if rows is not None else None
+            if slots is None and agent is not None:
+                slots = agent.machines[machine]
+            row: Json = {"machine": machine, "slots": slots, "agent": agent.name if agent is not None else None}
+            row |= {"state": state, "reason": reason, "tasks": tasks.get(machine, [])}
+            found.append({**row, "open": processes[machine]})
+        return found
+
+    def agents(self) -> list[Json]:
+        processes = Counter(attempt.agent for attempt in self._core.rows.open.values())
+        return [
+            {
+                "agent": agent.name,
+                "state": self._agents.state_of(agent),
+                "silent": round(agent.silence, 3),
+                "machines": list(agent.machines),
+                "open": processes[agent.name],
+                "since": agent.since,
+            }
+            for agent in self._agents.agents.values()
+        ]
+
+    def jobs(self, may_see: Iterable[Task]) -> list[Json]:
+        """Jobs with the states of those tasks."""
+        by_job: dict[str, list[Task]] = {}
+        for task in may_see:
+            by_job.setdefault(task.submission.job, []).append(task)
+        found = []
+        for job, tasks in by_job.items():
+            first = tasks[0].submission
+            row: Json = {"job": job, "user": name_of(first.user), "weight": first.weight}
+            found.append({**row, "states": dict(self._core.counts(tasks))})
+        return found
+
+    def firm(self) -> Json:
+        firm, rows = self._core.firm, self._core.firm.rows
+        nodes, arcs = used(rows) if rows is not None else (0, 0)
+        limits = (rows.limits.nodes, rows.limits.arcs) if rows is not None else (0, 0)
+        there = {"is_there": not firm.trouble, "reason": firm.trouble, "state": firm.state}
+        tasks = len(rows.tasks) if rows is not None else 0
+        return {**there, "tasks": tasks, "nodes": [nodes, limits[0]], "arcs": [arcs, limits[1]]}
+
+
+def last_machine(task: Task) -> str | None:
+    """Where the last attempt of a task that has ended was."""
+    return task.attempt.machine if task.attempt is not None and task.outcome is not None else None
+
+
+def seconds_of(attempt: Attempt | None) -> float | None:
+    if attempt is None or attempt.began is None:
+        return None
+    if attempt.is_open:
+        return round(max(0.0, time.time() - attempt.began), 3)
+    return attempt.seconds if attempt.seconds is not None else round(max(0.0, (attempt.ended or 0) - attempt.began), 3)
+
+
+def attempt_row(attempt: Attempt) -> Json:
+    shown: dict[str, Any] = {"attempt": attempt.number, "agent": attempt.agent, "machine": attempt.machine}
+    shown |= {"run": attempt.run, "began": attempt.began, "ended": attempt.ended, "seconds": seconds_of(attempt)}
+    shown |= {"outcome": attempt.outcome, "status": attempt.status, "reason": attempt.reason}
+    return {**shown, "output": attempt.output, "host": attempt.host}

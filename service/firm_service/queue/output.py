@@ -1,0 +1,96 @@
+"""What a task has written, as it comes."""
+
+from __future__ import annotations
+
+import asyncio
+import os
+import stat
+from collections.abc import AsyncIterator
+from dataclasses import dataclass
+from typing import Protocol
+
+from ..faults import reason
+from .fields import Refused
+
+PIECE_BYTES = 48 * 1024
+LOOK_SECONDS = 0.1  # between two looks at a file that is followed
+HIDDEN = (FileNotFoundError, NotADirectoryError, PermissionError)
+
+
+@dataclass(frozen=True, slots=True)
+class Output:
+    """A file that a task writes to."""
+
+    path: str
+    owners: frozenset[int]  # the task's user, and the one whose process it is: whose files may be shown
+    is_chosen: bool  # by the user, rather than the run's own
+
+    def open(self) -> int:
+        """The file. The queue may read what the task's user perhaps may not, as by a link, so a file of others is
+        refused like one that is not there. Nothing else is opened: a terminal would become the queue's own, a device
+        may start something. Raises OSError."""
+        place = os.open(self.path, os.O_PATH | os.O_CLOEXEC | (0 if self.is_chosen else os.O_NOFOLLOW))
+        try:
+            found = os.fstat(place)
+            if not stat.S_ISREG(found.st_mode) or found.st_uid not in self.owners:
+                raise PermissionError
+            return os.open(f"/proc/self/fd/{place}", os.O_RDONLY | os.O_CLOEXEC | os.O_NOCTTY)
+        finally:
+            os.close(place)
+
+    def refusal(self, error: OSError) -> Refused:
+        """Says of what is another's as little as of what is not there."""
+        if isinstance(error, HIDDEN):
+            return Refused("no-output", f"{self.path} is no file of the task's user that the queue can read")
+        return Refused("no-output", f"{self.path}: {reason(error)}")
+
+
+def piece_of(output: Output, start: int) -> bytes:
+    """What a file has from an offset on, at most a piece; raises OSError."""
+    file = output.open()
+    try:
+        return os.pread(file, PIECE_BYTES, start)
+    finally:
+        os.close(file)
+
+
+def tail_of(output: Output, most: int) -> tuple[int, bytes]:
+    """A file's size, and its end; raises OSError."""
+    file = output.open()
+    try:
+        size = os.fstat(file).st_size
+        return size, os.pread(file, most, max(0, size - most))
+    finally:
+        os.close(file)
+
+
+class Reading(Protocol):
+    """Who reads an output."""
+
+    async def turn(self) -> None:
+        """Returns once a further piece may be read, after those of others."""
+
+    def goes_on(self) -> bool:
+        """Whether more may be written that is wanted."""
+
+
+async def pieces(output: Output, start: int, reading: Reading) -> AsyncIterator[tuple[int, bytes]]:
+    """A file from an offset on, in pieces with their offsets; once it is read, what is added, while it goes on."""
+    at = start
+    while True:
+        await reading.turn()
+        is_last = not reading.goes_on()  # asked before the file is read, so that all which was written till then is
+        try:
+            piece = await asyncio.to_thread(piece_of, output, at)
+        except OSError as error:
+            if at > start or not is_last:
+                piece = b""
+            else:
+                raise output.refusal(error) from error
+        if piece:
+            yield at, piece
+            at += len(piece)
+        elif is_last:
+            return
+        else:
+            await asyncio.sleep(LOOK_SECONDS)

@@ -1,0 +1,118 @@
+"""What each user may have of the queue: turns of its time, and bytes of its memory, so that no other has to wait."""
+
+from __future__ import annotations
+
+import asyncio
+import time
+from collections import deque
+from collections.abc import AsyncIterator, Callable
+from contextlib import asynccontextmanager
+from dataclasses import dataclass
+
+from ..bounds import MEBIBYTE, Account, Bounds
+
+BOUNDS = Bounds(64 * MEBIBYTE, 256 * MEBIBYTE)  # of a user, and of all but operators
+# A user whose requests take more of a processor in a turn of the loop rests for a multiple of that turn.
+# A turn that is long only as other programs have the processors does not count.
+LONG_SECONDS, PAUSES = 0.005, 4
+
+
+@dataclass(slots=True, eq=False)
+class Share:
+    """A connection's part of what its user has; an operator's connection has turns of its own, and no bound."""
+
+    key: bytes
+    is_bounded: bool
+    held: int = 0  # bytes of requests that are not answered, and of answers that are not read
+
+
+class Shares:
+    """All that have connections."""
+
+    def __init__(self, bounds: Bounds, relieve: Callable[[bytes], None]) -> None:
+        self._account, self._relieve = Account(bounds), relieve
+        self._waiting: dict[bytes, deque[asyncio.Future[None]]] = {}  # for a turn
+        self._begun: deque[set[bytes]] = deque([set(), set()], 2)  # users in the last two turns: a request takes two
+        self._rests: dict[bytes, float] = {}  # until when users have no further turn, by the loop's clock
+        self._at: float | None = None  # when the last turn began; None where nobody has one
+        self._used = 0.0  # of a processor, by the loop's thread, until then
+        self._locks: dict[bytes, asyncio.Lock] = {}
+        self._freed = asyncio.Event()  # another one after each time that bytes are given back
+
+    def add(self, share: Share, size: int) -> None:
+        """Takes in that a connection holds more, or less. Where that is too much, one of the fullest user is closed."""
+        share.held += size
+        if not share.is_bounded:
+            return
+        self._account.add(share.key, size)
+        if size <= 0:
+            self._freed.set()
+            self._freed = asyncio.Event()
+        elif (fullest := self._account.fullest()) is not None:
+            self._relieve(fullest)
+
+    async def turn(self, share: Share) -> None:
+        """Returns once a further request may begin: one of each user in a turn of the loop."""
+        await self._room(share)
+        loop = asyncio.get_running_loop()
+        future = loop.create_future()
+        if self._at is None:
+            self._at, self._used = loop.time(), time.thread_time()
+            loop.call_soon(self._begin)
+        self._waiting.setdefault(share.key, deque()).append(future)
+        await future
+
+    @asynccontextmanager
+    async def alone(self, share: Share) -> AsyncIterator[None]:
+        """No other answer that takes some time is made for this user meanwhile."""
+        lock = self._locks.setdefault(share.key, asyncio.Lock())
+        try:
+            async with lock:
+                await self._room(share)
+                yield
+        finally:
+            if not lock.locked() and self._locks.get(share.key) is lock:
+                del self._locks[share.key]
+
+    async def _room(self, share: Share) -> None:
+        """Returns once the user has no more than half of what it may."""
+        while share.is_bounded and self._account.bytes[share.key] > self._account.bounds.of_socket // 2:
+            await self._freed.wait()
+
+    def _begin(self) -> None:
+        """Begins a turn of the loop."""
+        loop = asyncio.get_running_loop()
+        now, used = loop.time(), time.thread_time()
+        if used - self._used > LONG_SECONDS:
+            self._charge(now, now - (self._at or now))
+        self._rests = {key: until for key, until in self._rests.items() if until > now}
+        self._used = used
+        begun = {key for key in list(self._waiting) if self._rests.get(key, 0.0) <= now and self._let(key)}
+        self._begun.append(begun)
+        if any(self._begun) or self._waiting.keys() - self._rests.keys():
+            self._at = now
+            loop.call_soon(self._begin)
+        elif self._waiting:
+            self._at = now
+            loop.call_at(min(self._rests[key] for key in self._waiting), self._begin)
+        else:
+            self._at = None
+
+    def _charge(self, now: float, seconds: float) -> None:
+        """Has those rest whose requests have made the last turn a long one."""
+        users = set().union(*self._begun)
+        for key in users:
+            self._rests[key] = now + PAUSES * seconds / len(users)
+
+    def _let(self, key: bytes) -> bool:
+        """Lets the next request of a user begin; whether there was one."""
+        waiting = self._waiting[key]
+        future = waiting.popleft()
+        while future.done() and waiting:  # its connection has gone
+            future = waiting.popleft()
+        if not waiting:
+            del self._waiting[key]
+        if future.done():
+            return False
+        future.set_result(None)
+        return True

@@ -1,0 +1,58 @@
+"""What each user's submissions take of the disk, against a budget that comes back evenly over a week."""
+
+from __future__ import annotations
+
+import time
+from collections.abc import Callable, Mapping
+
+from .fields import Refused
+
+WEEK_SECONDS = 7 * 86_400.0
+# Bytes of the database, with its indexes, beside the words.
+SUBMISSION_BYTES, NEED_BYTES, TASK_BYTES, ATTEMPT_BYTES = 250, 30, 150, 350
+Kept = Mapping[int, tuple[float, float]]  # bytes, and when that was so by the Unix clock, by user
+
+
+class Spending:
+    def __init__(self, most: float, clock: Callable[[], float]) -> None:
+        self.most, self._clock = most, clock
+        self._spent: dict[int, tuple[float, float]] = {}  # bytes, and when that was so by the clock that nobody sets
+
+    def load(self, kept: Kept) -> None:
+        """Takes in what was written. A clock that was set back gives nothing back, one set ahead at most all."""
+        now, clock = time.time(), self._clock()
+        self._spent = {
+            user: (self._left_of(spent, max(0.0, now - at)), clock) for user, (spent, at) in kept.items() if spent
+        }
+
+    def of(self, user: int) -> float:
+        """Bytes that a user has spent and not got back."""
+        spent, at = self._spent.get(user, (0.0, 0.0))
+        return self._left_of(spent, self._clock() - at)
+
+    def require(self, user: int, size: int) -> None:
+        """Raises `Refused` where a user may not spend so much."""
+        spent = self.of(user)
+        if (over := spent + size - self.most) <= 0:
+            return
+        told = (
+            f"your submissions of late take {spent:,.0f} bytes of the disk, {size:,} more would pass {self.most:,.0f}"
+        )
+        if size > self.most:
+            raise Refused("budget", told)
+        seconds = over * WEEK_SECONDS / self.most
+        raise Refused("budget", f"{told}; there is room for them in {seconds / 3_600:,.1f} h", seconds=seconds)
+
+    def spend(self, user: int, size: int) -> float:
+        """Takes in that a user's rows grow; what is spent with that."""
+        spent = self.of(user) + size
+        self._spent[user] = spent, self._clock()
+        return spent
+
+    def _left_of(self, spent: float, seconds: float) -> float:
+        return max(0.0, spent - seconds * self.most / WEEK_SECONDS)
+
+
+def rows_bytes(words: int, needs: int, tasks: int) -> int:
+    """What a submission takes, by the letters of its words."""
+    return SUBMISSION_BYTES + words + NEED_BYTES * needs + TASK_BYTES * tasks

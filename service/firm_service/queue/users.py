@@ -1,0 +1,68 @@
+"""Who asks: the user at the other end of a socket, as the system knows it, and what that user may do."""
+
+from __future__ import annotations
+
+import os
+import pwd
+import re
+import socket
+from dataclasses import dataclass
+from functools import lru_cache
+
+from ..sight import ROOT, Peer
+
+MOST_NAME = 16  # letters, of a job in firm
+
+
+@dataclass(frozen=True, slots=True)
+class User:
+    number: int
+    is_operator: bool = False
+
+    @property
+    def name(self) -> str:
+        return name_of(self.number)
+
+    def may_see(self, other: int) -> bool:
+        """Whether this user is shown what is another's, and may change it."""
+        return self.is_operator or self.number == other
+
+
+@dataclass(frozen=True, slots=True)
+class Operators:
+    """Root, the queue's own user, and a group."""
+
+    group: int | None = None
+
+    def user_of(self, connection: socket.socket) -> User:
+        peer = Peer.of(connection)
+        return User(peer.user, self.user(peer.user).is_operator or self.group in peer.groups)
+
+    def user(self, number: int) -> User:
+        """A user of whom no groups are known."""
+        return User(number, number in (ROOT, os.geteuid()))
+
+
+@lru_cache(maxsize=4_096)
+def name_of(number: int) -> str:
+    """A user's login name, or the number where there is none."""
+    try:
+        return pwd.getpwuid(number).pw_name
+    except KeyError:
+        return str(number)
+
+
+def number_of(name: str) -> int | None:
+    """A user by login name, or by number; None where there is none."""
+    try:
+        return pwd.getpwnam(name).pw_uid
+    except KeyError:
+        return int(name) if re.fullmatch(r"[0-9]{1,10}", name) else None
+
+
+def job_of(number: int) -> str:
+    """The name of a user's job, where none is asked for."""
+    name = name_of(number)
+    if re.fullmatch(rf"[a-z0-9-]{{1,{MOST_NAME}}}", name) and not name.isdigit():
+        return name
+    return f"u{number}"

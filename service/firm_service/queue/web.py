@@ -1,0 +1,208 @@
+"""The queue's page and metrics. Each user of the host is shown what the queue's socket would show, and no more."""
+
+from __future__ import annotations
+
+import asyncio
+import re
+import time
+from collections.abc import AsyncIterator, Iterator
+from contextlib import asynccontextmanager
+from dataclasses import asdict, dataclass
+from pathlib import Path
+
+from aiohttp import web
+from prometheus_client import CollectorRegistry, ProcessCollector, generate_latest
+from prometheus_client.core import CounterMetricFamily, GaugeMetricFamily, Metric
+from prometheus_client.exposition import CONTENT_TYPE_LATEST
+from prometheus_client.registry import Collector
+
+from ..address import Address
+from ..faults import Faults
+from ..web import PAGE, Pages, Route
+from .agents import Agents
+from .core import Core
+from .day import Day, day_of
+from .fields import Json, Refused
+from .listing import Lists
+from .requests import Requests
+from .rows import Submission
+from .shares import Share, Shares
+from .states import ENDED, State
+from .users import Operators, User
+
+MOST_SUBMISSIONS, MOST_TASKS, TAIL_BYTES = 100, 200, 8_192
+DAY_AGE_SECONDS = 10.0  # for which a day that was read is shown
+TEMPLATE = Path(__file__).parents[1] / "queue.html"
+CONNECTIONS = Path("/proc/net/tcp")
+
+
+def page_text() -> str:
+    """The page, with the style and the helpers of firmd's."""
+    text, own = TEMPLATE.read_text("utf-8"), PAGE.read_text("utf-8")
+    for mark, pattern in (("{{style}}", r"<style>\n(.*?)</style>"), ("{{helpers}}", r"// Helpers\.\n(.*?)// End of")):
+        (part,) = re.findall(pattern, own, re.S)
+        text = text.replace(mark, part)
+    return text
+
+
+def owner_of(here: tuple[str, int], there: tuple[str, int]) -> int | None:
+    """The user of this host whose socket is the other end of a connection over the loopback; None where none is. One
+    that is closed already, and has no inode, is shown as root's."""
+    pair = [address_text(*there), address_text(*here)]
+    for row in CONNECTIONS.read_text().splitlines()[1:]:
+        words = row.split()
+        if words[1:3] == pair:
+            return int(words[7]) if words[9] != "0" else None
+    return None
+
+
+def address_text(host: str, port: int) -> str:
+    """An address as the system's list of connections has it, of a host whose words are little-endian."""
+    return f"{bytes(map(int, reversed(host.split('.')))).hex().upper()}:{port:04X}"
+
+
+@dataclass
+class Reader:
+    """Who asks over HTTP."""
+
+    user: User
+
+    def tell(self, words: Json) -> None:
+        """Nothing is told to a reader."""
+
+    def end(self) -> None:
+        """HTTP closes its connections itself."""
+
+    def is_gone(self) -> bool:
+        return False
+
+    async def turn(self) -> None:
+        """A request has one turn, which it waits for before."""
+
+
+class QueueCollector(Collector):
+    """Counts of the queue, at each scrape."""
+
+    def __init__(self, core: Core, agents: Agents, tenant: str) -> None:
+        self._core, self._agents, self._tenant = core, agents, tenant
+
+    def collect(self) -> Iterator[Metric]:
+        core, agents = self._core, self._agents.agents.values()
+        tasks = GaugeMetricFamily("firm_queue_tasks", "Tasks that have not ended.", labels=["tenant", "state"])
+        ages = GaugeMetricFamily(
+            "firm_queue_oldest_seconds", "Since the submission of the oldest such task.", labels=["tenant", "state"]
+        )
+        counts, oldest = core.ages()
+        for state in map(str, (each for each in State if each not in ENDED)):
+            tasks.add_metric([self._tenant, state], counts[state])
+            ages.add_metric([self._tenant, state], max(0.0, time.time() - oldest[state]) if state in oldest else 0.0)
+        yield from (tasks, ages)
+        ends = CounterMetricFamily(
+            "firm_queue_attempts", "Attempts that have ended since the start.", labels=["tenant", "outcome"]
+        )
+        for outcome, count in core.ended_attempts.items():
+            ends.add_metric([self._tenant, outcome], count)
+        yield ends
+        states = GaugeMetricFamily("firm_queue_agents", "Agents by their state.", labels=["tenant", "state"])
+        for name in ("up", "silent", "away", "lost"):
+            states.add_metric([self._tenant, name], sum(self._agents.state_of(agent) == name for agent in agents))
+        yield states
+        for series, told, value in (
+            ("firm_queue_processes", "Attempts that are open.", len(core.rows.open)),
+            ("firm_queue_given_tasks", "Tasks that firm has.", len(core.firm.rows.tasks) if core.firm.rows else 0),
+            ("firm_queue_firm_there", "Whether firm answers.", int(not core.firm.trouble)),
+            ("firm_queue_writes_good", "Whether the disk takes changes.", int(not core.store.why_bad)),
+        ):
+            family = GaugeMetricFamily(series, told, labels=["tenant"])
+            family.add_metric([self._tenant], value)
+            yield family
+
+
+@dataclass(frozen=True)
+class Parts:
+    """Of the queue, that are shown."""
+
+    core: Core
+    agents: Agents
+    requests: Requests
+    operators: Operators
+    shares: Shares
+    tenant: str
+
+
+class QueueSite(Pages):
+    server = "firm-queue"
+
+    def __init__(self, address: Address, parts: Parts, faults: Faults) -> None:
+        super().__init__(address, page_text(), faults, asyncio.Lock())
+        self._parts, self._lists = parts, Lists(parts.core, parts.agents)
+        self._registry = CollectorRegistry()
+        self._registry.register(QueueCollector(parts.core, parts.agents, parts.tenant))
+        ProcessCollector(namespace="firm_queue", registry=self._registry)
+        self._days: dict[int | None, tuple[float, Day]] = {}
+
+    def routes(self) -> dict[str, Route]:
+        return {"/metrics": self.prometheus, "/queue.json": self.queue, "/logs/{task}.json": self.log}
+
+    async def prometheus(self, _: web.Request) -> web.Response:
+        return web.Response(body=generate_latest(self._registry), headers={"Content-Type": CONTENT_TYPE_LATEST})
+
+    async def queue(self, request: web.Request) -> web.Response:
+        """All that the page shows of the queue."""
+        reader = self._reader(request)
+        found = await self._parts.requests.answer(reader, {"ask": "status"})
+        found |= await self._parts.requests.answer(reader, {"ask": "machines"})
+        states = [State.STARTING, State.RUNNING, State.ENDING, State.FAILED, State.TIMEOUT, State.LOST]
+        asked = {"ask": "tasks", "states": [*states], "limit": MOST_TASKS}
+        found |= await self._parts.requests.answer(reader, asked)
+        found["submissions"] = self._submissions(reader.user)
+        return web.json_response({**found, "day": asdict(await self._day(reader.user))})
+
+    async def log(self, request: web.Request) -> web.Response:
+        """The end of what a task has written."""
+        try:
+            size, text = await self._parts.requests.tail(self._reader(request), request.match_info["task"], TAIL_BYTES)
+        except Refused as refusal:
+            return web.json_response(refusal.answer())
+        return web.json_response({"size": size, "text": text.decode(errors="replace")})
+
+    def owner(self, transport: asyncio.Transport) -> int | None:
+        here, there = (transport.get_extra_info(name) for name in ("sockname", "peername"))
+        return owner_of(here, there) if here is not None and there is not None else None
+
+    def _reader(self, request: web.Request) -> Reader:
+        number = self.gates.owner(request.protocol) if self.gates is not None else None
+        if number is None:
+            raise web.HTTPForbidden
+        return Reader(self._parts.operators.user(number))
+
+    @asynccontextmanager
+    async def turn(self, request: web.Request) -> AsyncIterator[None]:
+        """A user's requests are answered one at a time, and begin in turn with those of others, as at the socket."""
+        user = self._reader(request).user
+        share = Share(f"http {user.number}".encode(), False)
+        async with self._parts.shares.alone(share):
+            await self._parts.shares.turn(share)
+            yield
+
+    def _submissions(self, user: User) -> list[Json]:
+        """The newest that have not ended."""
+        found: list[Json] = []
+        for submission in reversed(self._parts.core.rows.submissions.values()):
+            if submission.live and user.may_see(submission.user) and len(found) < MOST_SUBMISSIONS:
+                found.append(self._submission(submission))
+        return found
+
+    def _submission(self, submission: Submission) -> Json:
+        counts = self._parts.core.counts(submission.tasks.values())
+        row = {"number": submission.number, "user": User(submission.user).name, "job": submission.job}
+        return {**row, "command": submission.spec.command, "tasks": len(submission.tasks), "states": dict(counts)}
+
+    async def _day(self, user: User) -> Day:
+        owner, now = None if user.is_operator else user.number, time.time()
+        known = self._days.get(owner)
+        if known is None or not 0 <= now - known[0] < DAY_AGE_SECONDS:
+            day = await self._parts.core.store.read(lambda connection: day_of(connection, now, owner))
+            self._days = {name: one for name, one in self._days.items() if now - one[0] < DAY_AGE_SECONDS}
+            self._days[owner] = known = now, day
+        return known[1]

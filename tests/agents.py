@@ -1,0 +1,743 @@
+#!/usr/bin/env python3
+"""Asks firm-agent with work from a queue, beside stand-ins for the queue and firmd; processes are looked up in /proc.
+
+usage: tests/agents.py [--quick] [--only WORDS] [--agents N --tasks N]
+Each check has a line; the last line is 'N passed, M failed', and the exit status is 1 where one failed. --quick leaves
+out what takes longer. It needs Python 3; what needs root or limits by cgroup is skipped without. --agents with --tasks
+measures what a number of agents with tasks each take, in place of the checks.
+"""
+
+from __future__ import annotations
+
+import argparse
+import contextlib
+import json
+import os
+import random
+import resource
+import signal
+import subprocess
+import sys
+import time
+from concurrent.futures import ThreadPoolExecutor
+from functools import partial
+from pathlib import Path
+
+from agent_kit import AGENT, LIMIT_SECONDS, SOON_SECONDS, SSH, WAITS_FOR_GO, Case, is_there
+from harness.checks import Check, Missed, Skipped, count_ends, passes, print_skipped, require, run_script
+from harness.deployed import NotAllowed, supervisor, work_of
+from queue_stand_in import QueueStandIn, Row, clock
+
+AT_A_TIME = 8  # checks, which mostly wait
+LEASE_SECONDS = 3.0
+NOBODY = 65534
+ONCE = (  # the lock is that of all its processes, and gone with the last
+    "exec 9> $FIRM_TASK.lock; flock -n 9 || echo $FIRM_TASK >> doubled; "
+    "for i in 1 2 3 4 5 6; do sleep 0.05; done; echo end >> $FIRM_TASK.log"
+)
+# An agent whose wall clock goes a day forth and back with each look.
+JUMPS = """\
+import sys, time
+real, looks = time.time, [0]
+def jumping():
+    looks[0] += 1
+    return real() + 86400 * (-1) ** looks[0]
+time.time = jumping
+sys.path.insert(0, sys.argv[1])
+from firm_service import agent
+del sys.argv[1]
+sys.exit(agent.main())
+"""
+
+
+class Cluster(Case):
+    """Agents of one tenant, with a state each in a folder of their name, and the queue."""
+
+    def __init__(self, *tasks: str, lease: float = LEASE_SECONDS) -> None:
+        super().__init__("", machines="")
+        self.queue = QueueStandIn(self.folder, self.firmd, lease)
+        self.agents: dict[str, subprocess.Popen[str]] = {}
+        for task in tasks:
+            self.submit(task, ["/bin/sh", "-c", WAITS_FOR_GO])
+
+    def __enter__(self) -> Cluster:
+        return self
+
+    def __exit__(self, *_: object) -> None:
+        watching = [child for agent in self.agents.values() if agent.poll() is None for child in followers(agent.pid)]
+        for agent in self.agents.values():
+            agent.send_signal(signal.SIGCONT)
+            agent.kill()
+            agent.wait()
+        self.until(lambda: not any(map(is_there, watching)), "nobody makes a folder any more")
+        super().__exit__()
+        self.queue.close()
+        self.queue.loop.call_soon_threadsafe(self.queue.loop.stop)
+
+    def submit(self, task: str, command: list[str] | str, **more: object) -> None:
+        """A task that the queue has, and firm too."""
+        work = {"task": task, "job": "j", "attempt": 1, "command": command, "dir": str(self.folder), "env": {}}
+        work |= {"output": None, "time": None, "grace": 0.5, "memory": None, "processors": None}
+        self.queue.work[task] = {**work, **more}
+        self.firmd.say(f"task j {task}")
+
+    def start_agent(self, name: str = "a1", machines: str = "m1=4", before: list[str] | None = None) -> None:
+        files = {"queue": "queue", "view": "view", "state": name}
+        options = [f"--{option}={self.folder / file}" for option, file in files.items()]
+        path = {**os.environ, "PATH": f"{self.folder}:{os.environ['PATH']}"}
+        words = [*(before or AGENT), "run", *options, f"--name={name}", f"--machines={machines}"]
+        self.agents[name] = subprocess.Popen(words, stdin=subprocess.DEVNULL, stderr=self.log, env=path, text=True)
+
+    def start_registered(self, name: str = "a1", machines: str = "m1=4") -> None:
+        self.start_agent(name, machines)
+        self.until(lambda: name in self.queue.agents, f"{name} is registered")
+
+    def kill_agent(self, name: str) -> None:
+        self.agents[name].kill()
+        self.agents[name].wait()
+
+    def until_told(self, event: str, task: str) -> Row:
+        """Waits until the queue has heard of an event of a task; the last one."""
+        found: list[Row] = []
+
+        def is_told() -> bool:
+            found[:] = [
+                told
+                for attempt in self.queue.attempts.values()
+                if attempt.task == task
+                for told in attempt.events
+                if told["event"] == event
+            ]
+            return bool(found)
+
+        self.until(is_told, f"{event} of {task} is told")
+        return found[-1]
+
+    def until_silent(self, name: str) -> None:
+        """Waits until the queue takes for lost what ran at an agent."""
+
+        def is_lost() -> bool:
+            self.queue.lose_silent()
+            return name not in self.queue.agents
+
+        self.until(is_lost, f"{name} is silent for too long")
+
+
+def life() -> None:
+    """A claimed task runs as words, in its folder, with its variables, and its end is told; the agent says no done."""
+    with Cluster() as case:
+        (case.folder / "there").mkdir()
+        shows = "import os, sys; print(*sys.argv[1:], os.getcwd(), os.environ['COLOUR'])"
+        words = [sys.executable, "-c", shows, "a b", "$X"]
+        output = str(case.folder / "out")
+        case.submit("a", words, dir=str(case.folder / "there"), env={"COLOUR": "red", "FIRM_JOB": "x"}, output=output)
+        case.submit("b", "echo $FIRM_TENANT $FIRM_JOB $FIRM_TASK $FIRM_MACHINE; kill -9 $$")
+        case.start_registered()
+        case.firmd.round("start a m1 start b m1")
+        ended = case.until_told("ended", "a")
+        require((ended["status"], ended["asked"], ended["why"], ended["fault"]) == (0, False, None, None), ended)
+        require(case.text("out") == f"a b $X {case.folder}/there red\n", case.text("out"))
+        running = case.until_told("running", "a")
+        require(running["output"] == output and running["host"] is None, running)
+        ended = case.until_told("ended", "b")
+        require(ended["status"] == 128 + signal.SIGKILL and not ended["asked"] and ended["seconds"] < 30, ended)
+        told = Path(case.until_told("running", "b")["output"]).read_text()
+        require(told == "alpha j b m1\n", told)
+        require(case.firmd.asked == [], f"an agent said {case.firmd.asked}")
+        case.until(lambda: not list((case.folder / "a1/open").iterdir()), "no run is open")
+
+
+def not_started() -> None:
+    """A command that is not there, one that can't be run, a folder and an output that can't be had: each has words,
+    and few. A pipe that nobody reads holds no run up."""
+    with Cluster() as case:
+        (case.folder / "plain").write_text("no program")
+        (case.folder / "bare").write_text("#!/no/such/shell\n")
+        (case.folder / "bare").chmod(0o755)
+        case.submit("a", ["./absent", "7"])
+        case.submit("b", ["./plain"])
+        case.submit("c", ["true"], dir="/no/such/folder")
+        case.submit("d", ["true"], output="/no/such/folder/out")
+        case.submit("e", ["./bare"])
+        case.submit("f", ["no-such-program"])
+        os.mkfifo(case.folder / "pipe")
+        case.submit("g", ["true"], output=str(case.folder / "pipe"))
+        case.submit("h", ["x" * 100_000])
+        case.submit("i", ["true"], output=f"/{'y' * 100_000}")
+        case.start_registered(machines="m1=9")
+        case.firmd.round(" ".join(f"start {task} m1" for task in "abcdefghi"))
+        found = {task: case.until_told("ended", task) for task in "abcdefghi"}
+        told = {task: (event["status"], event["fault"]) for task, event in found.items()}
+        expected = {
+            "a": (127, "no such command: ./absent"),
+            "b": (126, "./plain: Permission denied"),
+            "c": (126, "no such folder: /no/such/folder"),
+            "d": (126, "/no/such/folder/out: No such file or directory"),
+            "e": (126, "./bare: its interpreter is not there"),
+            "f": (127, "no such command: no-such-program"),
+            "g": (126, f"{case.folder}/pipe: No such device or address"),
+            "h": (126, f"{'x' * 200} ..: File name too long"),
+            "i": (126, f"/{'y' * 199} ..: File name too long"),
+        }
+        require(told == expected, told)
+
+
+def held_up() -> None:
+    """A command whose folder's disk does not answer ends with its time, before it has begun."""
+    with Case("") as case:
+        request = supervisor.Request(str(case.folder), limit=0.5)
+        become, supervisor.become = supervisor.become, lambda *_: time.sleep(600)
+        try:
+            supervisor.spawn(request, "true", supervisor.Bounds(request))
+        except supervisor.Over as end:
+            return require(end.why == "timeout", end.why)
+        finally:
+            supervisor.become = become
+        raise Missed("it has begun")
+
+
+def not_claimed() -> None:
+    """A task that the queue doesn't know is left alone, and one of another agent's machine too."""
+    with Cluster("a") as case:
+        case.firmd.say("task j stranger")
+        case.start_registered()
+        case.firmd.say("machine m9 4")
+        case.firmd.round("start stranger m1 start a m9")
+        case.until(lambda: case.text("a1/events.jsonl").count('"void"') == 1, "it is not begun")
+        time.sleep(SOON_SECONDS)
+        require(not case.processes() and case.text("a1/events.jsonl").count('"start"') == 1, case.told())
+
+
+def moved_between_agents() -> None:
+    """A task that moves to another agent's machine begins there once its run here has ended."""
+    with Cluster() as case:
+        polite = "trap 'sleep 0.6; echo end >> a.log; exit 0' TERM; echo begin $FIRM_MACHINE >> a.log; "
+        polite += "while :; do sleep 0.05; done"
+        case.submit("a", polite, grace=5)
+        case.start_registered()
+        case.start_registered("a2", "m2=4")
+        case.firmd.round("start a m1")
+        case.until(lambda: "begin" in case.text("a.log"), "a begins")
+        case.firmd.round("move a m1 m2")
+        case.until(lambda: "begin m2" in case.text("a.log"), "a begins on m2")
+        require(case.text("a.log").split() == "begin m1 end begin m2".split(), case.text("a.log"))
+        ended = case.until_told("ended", "a")
+        require((ended["asked"], ended["why"]) == (True, "moved"), ended)
+
+
+def two_for_one_machine() -> None:
+    """A second agent for a machine is told so, tries again, and has the machine once the first is gone."""
+    with Cluster("a", lease=1.5) as case:
+        case.start_registered()
+        case.start_agent("a2")
+        taken = "the queue does not take this agent: machine-taken: the agent a1 has the machine m1"
+        case.until(lambda: taken in case.told(), "it is told")
+        case.firmd.round("start a m1")
+        case.until_runs("a")
+        time.sleep(SOON_SECONDS)
+        require(case.text("a.log") == "begin m1\n", "both have begun it")
+        case.kill_agent("a1")
+        case.until_silent("a1")
+        require(not case.processes(), "it runs though its lease is over")
+        case.until(lambda: "a2" in case.queue.agents, "the second is registered")
+        case.firmd.round("start a m1")
+        case.until(lambda: case.text("a.log").count("begin") == 2, "it begins again")
+        require(case.told().count(taken) == 1, case.told())
+
+
+def lease_over(is_deaf: bool) -> None:
+    """Without an agent runs end by themselves once the lease is over, deaf ones after their grace; it is told later."""
+    trap = "trap '' TERM; " if is_deaf else ""
+    with Cluster() as case:
+        case.submit("a", f"{trap}while :; do sleep 0.05; done", grace=1)
+        case.start_registered()
+        case.firmd.round("start a m1")
+        case.until_told("running", "a")
+        case.kill_agent("a1")
+        began = clock()
+        time.sleep(LEASE_SECONDS / 3)
+        require(case.processes().keys() == {"a"}, "it ended before the lease was over")
+        case.until_runs()
+        require(clock() - began < LEASE_SECONDS + 3.5, f"it ran for {clock() - began:.1f} s")
+        case.start_agent()
+        ended = case.until_told("ended", "a")
+        require((ended["asked"], ended["why"]) == (True, "lease"), ended)
+        require(ended["status"] == 128 + (signal.SIGKILL if is_deaf else signal.SIGTERM), ended)
+
+
+def stopped_for_long() -> None:
+    """An agent stands still for longer than its lease: its tasks start elsewhere, and run once when it goes on."""
+    with Cluster("a", "b") as case:
+        case.start_registered()
+        case.start_registered("a2", "m2=4")
+        case.firmd.round("start a m1 start b m1")
+        case.until_told("running", "b")
+        case.until_told("running", "a")
+        case.agents["a1"].send_signal(signal.SIGSTOP)
+        case.until_silent("a1")
+        require(not case.processes(), f"{case.processes()} though the lease is over")
+        case.firmd.round("start a m2 start b m2")
+        case.until_runs("a", "b")
+        old = case.processes()
+        case.agents["a1"].send_signal(signal.SIGCONT)
+        case.until(lambda: "a1" in case.queue.agents, "it is registered again")
+        time.sleep(1)
+        require({task: len(pids) for task, pids in case.processes().items()}.keys() == old.keys(), case.processes())
+        for task in "ab":
+            require(case.text(f"{task}.log") == "begin m1\nbegin m2\n", case.text(f"{task}.log"))
+        case.go("a", "b")
+        case.until_runs()
+
+
+def comes_back() -> None:
+    """An agent that is back within its lease keeps its runs, but for those that the queue wants no longer."""
+    with Cluster("a", "b", "c", lease=15) as case:
+        case.start_registered()
+        case.firmd.round("start a m1 start b m1 start c m1")
+        for task in "abc":
+            case.until_told("running", task)
+        before = case.processes()
+        case.kill_agent("a1")
+        case.go("b")
+        case.queue.attempts[case.queue.token("c")].is_open = False
+        case.start_agent()
+        require(case.until_told("ended", "b")["status"] == 0, "how b ended")
+        # firm still places c, so the next attempt at it may have begun at once
+        case.until(lambda: not set(before["c"]) & set(case.processes().get("c", ())), "that run of c is ended")
+        require(set(before["a"]) & set(case.processes()["a"]), "a was begun again")
+        time.sleep(SOON_SECONDS)
+        require(case.text("a.log") == "begin m1\n", case.text("a.log"))
+
+
+def lost_though_done() -> None:
+    """A run that did its work after the queue had lost its agent counts for nothing: the task is begun again there."""
+    with Cluster("a") as case:
+        case.start_registered()
+        case.firmd.round("start a m1")
+        case.until_told("running", "a")
+        case.kill_agent("a1")
+        case.go("a")
+        case.until_runs()
+        case.until_silent("a1")
+        case.start_registered()
+        case.firmd.round("start a m1")
+        case.until(lambda: case.text("a.log").count("begin") == 2, "it is begun again")
+
+
+def queue_away() -> None:
+    """While the queue is away what runs goes on; events are told until they are acknowledged, and then no more."""
+    with Cluster("a", "b", lease=6) as case:
+        case.start_registered()
+        case.firmd.round("start a m1 start b m1")
+        case.until_told("running", "a")
+        case.until_told("running", "b")
+        case.queue.is_deaf = True
+        case.go("a")
+        case.until_runs("b")
+        time.sleep(SOON_SECONDS)
+        case.queue.close()
+        case.kill_agent("a1")
+        case.start_agent()
+        case.until(lambda: "what runs goes on until the lease is over" in case.told(), "it is told")
+        case.queue.is_deaf = False
+        case.queue.open()
+        require(case.until_told("ended", "a")["status"] == 0, "how a ended")
+        case.go("b")
+        case.until_told("ended", "b")
+        time.sleep(SOON_SECONDS)  # in which the agent writes that it is acknowledged; else it would be told again
+        heard = len(case.queue.told)
+        case.kill_agent("a1")
+        case.queue.agents.clear()
+        case.start_registered()
+        time.sleep(SOON_SECONDS)
+        require(len(case.queue.told) == heard, case.queue.told[heard:])
+        require((case.text("a.log"), case.text("b.log")) == ("begin m1\nend\n", "begin m1\nend\n"), "each ran once")
+
+
+def time_limit() -> None:
+    """A run that is over its time gets SIGTERM, and after the grace SIGKILL; a day forth and back changes nothing."""
+    with Cluster() as case:
+        case.submit("a", ["sleep", "60"], time=1)
+        case.submit("b", "trap '' TERM; while :; do sleep 0.05; done", time=1, grace=1)
+        case.submit("c", WAITS_FOR_GO, time=60)
+        case.start_agent(before=[sys.executable, "-c", JUMPS, str(Path(AGENT[1]).parent)])
+        case.until(lambda: "a1" in case.queue.agents, "it is registered")
+        case.firmd.round("start a m1 start b m1 start c m1")
+        a, b = case.until_told("ended", "a"), case.until_told("ended", "b")
+        require((a["asked"], a["why"], a["status"]) == (True, "timeout", 128 + signal.SIGTERM), a)
+        require((b["asked"], b["why"], b["status"]) == (True, "timeout", 128 + signal.SIGKILL), b)
+        # By the agent, which hears of a start a little later than it is.
+        require(0.9 <= a["seconds"] < 1.9 and 1.9 <= b["seconds"] < 4, (a, b))
+        time.sleep(LEASE_SECONDS)
+        require(case.processes().keys() == {"c"}, "the clock has ended c")
+        case.kill_agent("a1")
+        began = clock()
+        case.until_runs()
+        require(clock() - began < LEASE_SECONDS + 3, "the clock has made the lease longer")
+
+
+def killed_supervisor() -> None:
+    """A killed supervisor takes its command with it, also while no agent is there; the run is told as lost."""
+    with Cluster("a") as case:
+        case.start_registered()
+        case.firmd.round("start a m1")
+        case.until_told("running", "a")
+        case.until(lambda: case.text("a.log"), "its command runs")
+        watching = followers(case.agents["a1"].pid)
+        case.kill_agent("a1")
+        case.until(lambda: not any(map(is_there, watching)), "nobody looks at it")
+        (claim,) = case.folder.glob("a1/runs/*/a.*/process")
+        os.kill(json.loads(claim.read_text())["pid"], signal.SIGKILL)
+        case.until(lambda: not any("sh" in words for words in commands(case)), "its command is gone")
+        case.start_agent()
+        case.until_told("lost", "a")
+        case.until(lambda: case.text("a.log").count("begin") == 2, "it begins again")
+
+
+def commands(case: Case) -> list[str]:
+    """The programs of all processes of runs."""
+    found = []
+    for pid in [pid for pids in case.processes().values() for pid in pids]:
+        with contextlib.suppress(OSError):
+            found.append(Path(f"/proc/{pid}/comm").read_text())
+    return found
+
+
+def told_by_the_queue() -> None:
+    """The queue ends a run, and keeps one of which firm has no row any more, also over a restart of the agent."""
+    with Cluster("a", "b") as case:
+        case.start_registered()
+        case.firmd.round("start a m1 start b m1")
+        case.until_told("running", "a")
+        case.until_told("running", "b")
+        case.queue.tell("a1", tell="end", tokens=[case.queue.token("b")], why="cancelled")
+        ended = case.until_told("ended", "b")
+        require((ended["asked"], ended["why"]) == (True, "told"), ended)
+        case.queue.tell("a1", tell="keep", tokens=[case.queue.token("a")])
+        case.until(lambda: case.queue.kept == [case.queue.token("a")], "it is kept")
+        case.firmd.say("done a")
+        case.firmd.say("done b")
+        case.firmd.say("drain m1", "ok evicted 0")
+        case.kill_agent("a1")
+        case.start_registered()
+        time.sleep(1)
+        require(case.processes().keys() == {"a"} and case.text("a.log") == "begin m1\n", case.told())
+        case.go("a")
+        require(case.until_told("ended", "a")["status"] == 0, "how a ended")
+
+
+def full_disk() -> None:
+    """An agent on a full disk keeps its lease and its runs, begins nothing, and tells of all once there is room."""
+    with Cluster("a", "b") as case:
+        case.start_registered()
+        case.firmd.round("start a m1")
+        case.until_told("running", "a")
+        agent = case.agents["a1"].pid
+        size = len(case.text("a1/events.jsonl")) + 40
+        limits = resource.prlimit(agent, resource.RLIMIT_FSIZE, (size, resource.RLIM_INFINITY))
+        case.firmd.round("start b m1")
+        case.until(lambda: "b is not started" in case.told(), "it is told")
+        time.sleep(LEASE_SECONDS + 1.5)
+        require(case.processes().keys() == {"a"} and is_there(agent), case.told())
+        case.go("a")
+        case.until_runs()
+        require(case.until_told("ended", "a")["status"] == 0, "how a ended")
+        resource.prlimit(agent, resource.RLIMIT_FSIZE, limits)
+        case.until_runs("b")
+        require((case.text("a.log"), case.text("b.log")) == ("begin m1\nend\n", "begin m1\n"), "each was run once")
+        require('"ended"' in case.text("a1/events.jsonl"), case.text("a1/events.jsonl"))
+
+
+def other_user() -> None:
+    """As root, a task is its user's process, with that user's rights, groups, home and output."""
+    if os.getuid() != 0:
+        raise Skipped("it needs root")
+    with Cluster() as case:
+        case.folder.chmod(0o755)
+        (case.folder / "secret").write_text("x")
+        (case.folder / "secret").chmod(0o600)
+        words = "id -u; id -g; echo $HOME $USER; cat secret 2>&1 || :; env | grep -c ^SUDO_SECRET || :"
+        case.submit("a", words, user=NOBODY)
+        case.submit("b", ["true"], user=NOBODY, output=str(case.folder / "out"))
+        case.submit("c", ["true"], user=123456)
+        (case.folder / "closed").mkdir(mode=0o700)
+        case.submit("d", ["true"], user=NOBODY, dir=str(case.folder / "closed"))
+        case.start_registered()
+        case.firmd.round("start a m1 start b m1 start c m1 start d m1")
+        require(case.until_told("ended", "a")["status"] == 0, case.told())
+        output = Path(case.until_told("running", "a")["output"])
+        lines = output.read_text().splitlines()
+        require(lines[:3] == [str(NOBODY), str(NOBODY), "/nonexistent nobody"], lines)
+        require(output.stat().st_uid == NOBODY and "Permission denied" in lines[3], lines)
+        b, c = case.until_told("ended", "b"), case.until_told("ended", "c")
+        require((b["status"], b["fault"]) == (126, f"{case.folder}/out: Permission denied"), b)
+        require((c["status"], c["fault"]) == (126, "no user has the number 123456 here"), c)
+        d = case.until_told("ended", "d")
+        require((d["status"], d["fault"]) == (126, f"{case.folder}/closed: Permission denied"), d)
+
+
+def whose_work() -> None:
+    """Work of a queue that is not root's is run by an agent of root as that queue's user, or another, never as root."""
+    if os.getuid() != 0:
+        raise Skipped("it needs root")
+    work: Row = {"command": ["true"], "grace": 5, "dir": "/"}
+    asked: list[Row] = [work, {**work, "user": 8}]
+    users = [work_of(row, 7, True).bounds.get("user") for row in asked]
+    require(users == [7, 8], users)
+    require(
+        work_of(work, 0, True).bounds == work_of({**work, "user": 8}, 7, False).bounds == {}, "root's, and over ssh"
+    )
+    try:
+        work_of({**work, "user": 0}, 7, True)
+    except NotAllowed:
+        return
+    raise Missed("work of root's is taken from a queue that is not root's")
+
+
+def can_limit() -> bool:
+    """Whether runs may have a limit of memory here."""
+    try:
+        supervisor.Group.make("firm-test", {"memory.max": "100000000"}).end()
+    except supervisor.NoGroup:
+        return False
+    return True
+
+
+def limits_refused() -> None:
+    """Where a limit can't be kept, the task is not begun, and is told why."""
+    if can_limit():
+        raise Skipped("limits can be kept here")
+    with Cluster() as case:
+        case.submit("a", ["touch", "begun"], memory=10_000_000)
+        case.submit("b", ["touch", "begun"], processors=0.5)
+        case.start_registered()
+        case.firmd.round("start a m1 start b m1")
+        a, b = case.until_told("ended", "a"), case.until_told("ended", "b")
+        require(a["status"] == 126 and a["fault"].startswith("no limits can be kept here: "), a)
+        require(b["status"] == 126 and b["fault"].startswith("no limits can be kept here: "), b)
+        require(not (case.folder / "begun").exists(), "it was begun")
+
+
+def limits_kept() -> None:
+    """Memory past the limit ends the run, and is told; the limits are in the cgroup's files."""
+    if not can_limit():
+        raise Skipped("no cgroup v2 with limits of memory can be made here")
+    with Cluster() as case:
+        case.submit("a", [sys.executable, "-c", "x = bytearray(300_000_000)"], memory=50_000_000)
+        case.start_registered()
+        case.firmd.round("start a m1")
+        ended = case.until_told("ended", "a")
+        require((ended["why"], ended["asked"]) == ("memory", False), ended)
+
+
+def limits_written() -> None:
+    """The limits of a request as a cgroup's files have them."""
+    asked = supervisor.Request("/x", memory=5_000, processors=1.5).limits()
+    require(asked == {"memory.max": "5000", "memory.oom.group": "1", "cpu.max": "150000 100000"}, asked)
+    with Case("") as case:
+        for name in (*asked, supervisor.CONTROL):
+            (case.folder / name).write_text("")
+        require(supervisor.place_with(case.folder, asked) == case.folder, "where it is")
+        require(case.text(supervisor.CONTROL) == "+cpu +memory", case.text(supervisor.CONTROL))
+        supervisor.limit(case.folder, asked)
+        require({name: case.text(name) for name in asked} == asked, "what was written")
+
+
+def over_ssh() -> None:
+    """Over ssh a run has its lease by the clock there, keeps it while the agent is there, and loses it without."""
+    with Cluster("a") as case:
+        ssh = case.folder / "ssh"
+        ssh.write_text(SSH.format(folder=case.folder))
+        ssh.chmod(0o755)
+        (case.folder / "host").mkdir()
+        (case.folder / "machines.toml").write_text('[machines.m1]\nslots = 4\nssh = "host"\n')
+        case.start_registered(machines=str(case.folder / "machines.toml"))
+        case.firmd.round("start a m1")
+        running = case.until_told("running", "a")
+        require(running["host"] == "host" and running["output"].startswith(f"{case.folder}/host/"), running)
+        time.sleep(LEASE_SECONDS + 2)
+        require(case.processes().keys() == {"a"}, "it has ended though its agent is there")
+        (case.folder / "host/down").touch()
+        case.kill_agent("a1")
+        case.until_runs()
+        case.start_agent(machines=str(case.folder / "machines.toml"))
+        (case.folder / "host/down").unlink()
+        require(case.until_told("ended", "a")["why"] == "lease", "why a ended")
+
+
+def faulty_command_lines() -> None:
+    """Faulty options and lists of machines are refused, and named."""
+    with Cluster() as case:
+        for machines, words in {
+            "m1": "No such file",
+            "m1=x": "'m1=x' is no machine with its slots, as m1=4",
+            "m1=1,m1=2": "m1 is there twice",
+            "m1=0": "machines.m1: slots is 0; it must be 1 to 64",
+        }.items():
+            case.start_agent(machines=machines)
+            require(case.agents["a1"].wait(LIMIT_SECONDS) == 3 and words in case.told(), f"{machines}: {case.told()}")
+        for wrong in (
+            ["--queue=q"],
+            ["--table=t"],
+            ["--table=t", "--socket=s", "--name=a"],
+            ["--queue=q", "--table=t"],
+        ):
+            done = subprocess.run([*AGENT, "run", "--view=v", "--state=s", *wrong], capture_output=True, timeout=60)
+            require(done.returncode == 2, f"{wrong}: {done}")
+
+
+def killed_at_any_moment(kills: int) -> None:
+    """Agents, supervisors, the queue and firmd are killed: no two processes of a task at a time, and each is done."""
+    names = [f"t{place}" for place in range(2 * kills)]
+    with Cluster(lease=2) as case:
+        chance = random.Random(kills)
+        for name in names:
+            case.submit(name, ONCE)
+        agents = {"a1": "m1=64", "a2": "m2=64"}
+        for agent, machines in agents.items():
+            case.start_registered(agent, machines)
+        for place in range(kills):
+            case.firmd.round(
+                " ".join(f"start {name} m{1 + chance.randrange(2)}" for name in names[2 * place : 2 * place + 2])
+            )
+            time.sleep(0.3 * chance.random())
+            disturb(case, chance, agents)
+        case.until(lambda: settled(case), "all are done")
+        require(not case.text("doubled"), f"two at a time: {case.text('doubled')}")
+        missed = [name for name in names if "end" not in case.text(f"{name}.log")]
+        require(not missed, f"not done: {missed}")
+
+
+def settled(case: Cluster) -> bool:
+    """Lets tasks of a drained machine start on the other; whether none is left."""
+    case.queue.lose_silent()
+    book = case.firmd.books.tenants["alpha"]
+    waiting = [name for name, task in book.tasks.items() if task.machine is None]
+    if waiting and book.machines:
+        case.firmd.round(" ".join(f"start {name} {min(book.machines)}" for name in waiting))
+    return not book.tasks
+
+
+def disturb(case: Cluster, chance: random.Random, agents: dict[str, str]) -> None:
+    kind, name = chance.randrange(4), chance.choice([*agents])
+    if kind == 0:
+        case.kill_agent(name)
+        case.start_agent(name, agents[name])
+    elif kind == 1:
+        claims = [json.loads(path.read_text()) for path in case.folder.glob("a?/runs/*/*/process")]
+        living = [claim["pid"] for claim in claims if claim and is_there(claim["pid"])]
+        if living:
+            with contextlib.suppress(ProcessLookupError):
+                os.kill(chance.choice(living), signal.SIGKILL)
+    elif kind == 2:
+        case.queue.close()
+        time.sleep(0.2)
+        case.queue.open()
+    else:
+        case.firmd.close()
+        time.sleep(0.2)
+        case.firmd.open()
+
+
+def measure(agents: int, tasks: int) -> None:
+    """What agents with many runs take."""
+    with Cluster(lease=60) as case:
+        numbers = range(agents)
+        machines = {agent: [f"m{agent}-{place}" for place in range(-(-tasks // 64))] for agent in numbers}
+        for agent in numbers:
+            case.start_registered(f"a{agent}", ",".join(f"{machine}=64" for machine in machines[agent]))
+        names = {f"t{agent}-{place}": machines[agent][place // 64] for agent in numbers for place in range(tasks)}
+        for name in names:
+            case.submit(name, ["sleep", "1000"])
+        began = clock()
+        case.firmd.round(" ".join(f"start {name} {machine}" for name, machine in names.items()))
+        case.until(lambda: sum(map(has_run, case.queue.attempts.values())) == len(names), "all are told to run")
+        print(f"{len(names)} tasks told to run after {clock() - began:.1f} s")
+        before = {agent: processor_of(case.agents[f"a{agent}"].pid) for agent in numbers}
+        supervisors = [json.loads(path.read_text())["pid"] for path in case.folder.glob("a*/runs/*/*/process")]
+        others = [child for agent in numbers for child in followers(case.agents[f"a{agent}"].pid)]
+        runs_before = sum(map(processor_of, supervisors + others))
+        time.sleep(60)
+        spent = sum(processor_of(case.agents[f"a{agent}"].pid) - before[agent] for agent in numbers)
+        ran = sum(map(processor_of, supervisors + others)) - runs_before
+        print(f"an agent: {spent / agents / 60:.2%} of a processor, {memory_of(case.agents['a0'].pid):.1f} MB")
+        print(
+            f"a run: {ran / len(names) / 60:.3%} of a processor, supervisor {memory_of(supervisors[0]):.1f} MB, "
+            f"follower {memory_of(others[0]):.1f} MB (proportional)"
+        )
+
+
+def has_run(attempt: object) -> bool:
+    return any(event["event"] == "running" for event in getattr(attempt, "events"))
+
+
+def followers(pid: int) -> list[int]:
+    return [int(child) for child in Path(f"/proc/{pid}/task/{pid}/children").read_text().split()]
+
+
+def processor_of(pid: int) -> float:
+    """Seconds of processor that a process has taken."""
+    fields = Path(f"/proc/{pid}/stat").read_text().rpartition(")")[2].split()
+    return (int(fields[11]) + int(fields[12])) / os.sysconf("SC_CLK_TCK")
+
+
+def memory_of(pid: int) -> float:
+    """A process's proportional share of memory, in MB."""
+    rows = Path(f"/proc/{pid}/smaps_rollup").read_text().splitlines()
+    return next(int(row.split()[1]) for row in rows if row.startswith("Pss:")) / 1000
+
+
+QUICK = [
+    stopped_for_long,
+    comes_back,
+    lost_though_done,
+    life,
+    not_started,
+    held_up,
+    moved_between_agents,
+    queue_away,
+    time_limit,
+    killed_supervisor,
+    told_by_the_queue,
+    other_user,
+    whose_work,
+    limits_refused,
+    limits_written,
+]
+LONG = [full_disk, two_for_one_machine, not_claimed, limits_kept, over_ssh, faulty_command_lines]
+
+
+def name_of(check: Check) -> str:
+    return str(getattr(check, "__name__")).replace("_", " ")
+
+
+def checks(is_quick: bool) -> dict[str, Check]:
+    """Each check's name, and the check."""
+    found: dict[str, Check] = {name_of(check): check for check in QUICK + ([] if is_quick else LONG)}
+    found["lease over"] = partial(lease_over, False)
+    if not is_quick:
+        found["lease over, deaf to SIGTERM"] = partial(lease_over, True)
+    kills = 4 if is_quick else 40
+    found[f"killed at any moment, {kills} times"] = partial(killed_at_any_moment, kills)
+    return found
+
+
+def main() -> int:
+    parser = argparse.ArgumentParser(description=(__doc__ or "").splitlines()[0])
+    parser.add_argument("--quick", action="store_true", help="the part that tests/quick runs")
+    parser.add_argument("--only", default="", help="nothing but the checks whose names have these words")
+    parser.add_argument("--agents", type=int, default=0, help="measure this number of agents")
+    parser.add_argument("--tasks", type=int, default=100, help="with this number of tasks each (default: %(default)s)")
+    options = parser.parse_args()
+    if options.agents:
+        measure(options.agents, options.tasks)
+        return 0
+    if options.quick:
+        print_skipped(", ".join(map(name_of, LONG)), "--quick leaves out what takes longer")
+    chosen = {name: check for name, check in checks(options.quick).items() if options.only in name}
+    with ThreadPoolExecutor(AT_A_TIME) as pool:
+        return count_ends(list(pool.map(passes, chosen.keys(), chosen.values())))
+
+
+if __name__ == "__main__":
+    run_script(main)

@@ -1,0 +1,224 @@
+"""Who may ask firm-queue what, what is no request, and which files are shown as the outputs of tasks."""
+
+from __future__ import annotations
+
+import os
+import sys
+import time
+from base64 import b64decode
+from collections.abc import Callable
+from functools import partial
+from typing import Any
+
+from harness.checks import Skipped, require
+from harness.deployed import SERVICE
+from queue_kit import ANN, BOB, FOREVER, Case, Client, Json, Setup, as_user, claim_place
+
+CAROL = 61_103  # a user without a name, of a queue
+# A queue of another user, who need not be able to read what it is imported from.
+# What is imported later may be in a folder that this user can't read.
+BY_USER = """\
+import encodings.ascii, os, sys
+sys.path.insert(0, sys.argv[1])
+from firm_service.queue import daemon
+user = int(sys.argv[2])
+os.setgroups([])
+os.setgid(user)
+os.setuid(user)
+sys.exit(daemon.main(sys.argv[3:]))
+"""
+
+
+def users(setup: Setup) -> None:
+    """Each user sees and changes what is his alone, and may have so many tasks; operators see and change all."""
+    if os.geteuid():
+        raise Skipped("it needs root, to be other users")
+    with setup.case("--most-of-user=10", "--socket-mode=666").start() as case, case.client() as root:
+        os.chmod(case.folder, 0o755)
+        submit: Json = {"ask": "submit", "command": ["forever"], "dir": "/tmp"}
+        ask = partial(as_user, path=case.socket)
+        answers = as_user(ANN, case.socket, [submit, {**submit, "array": [1, 9]}, submit, {"ask": "status"}])
+        require([answer.get("submit", {}).get("number") for answer in answers[:2]] == [1, 2], answers)
+        require(answers[0]["submit"]["job"] == f"u{ANN}", answers)
+        require(answers[2]["error"] == "quota", answers)
+        status = answers[3]["status"]
+        require((status["is_operator"], status["quota"], status["user"]) == (False, 10, str(ANN)), status)
+        bob: list[Json] = [{"ask": "tasks"}, {"ask": "cancel", "tasks": ["1"]}, {"ask": "task", "task": "1"}]
+        bob += [{"ask": "wait", "tasks": ["1"]}, {"ask": "log", "task": "1"}, {**submit, "after": ["1"]}]
+        bob += [{**submit, "job": f"u{ANN}"}, {"ask": "cordon", "machines": ["m1"]}, {"ask": "beat"}]
+        bob += [{"ask": "cancel", "jobs": [f"u{ANN}"]}, submit, {"ask": "tasks"}, {"ask": "history", "user": str(ANN)}]
+        found = ask(BOB, requests=bob)
+        require(found[0]["tasks"] == [], found[0])
+        names = [answer.get("error") for answer in found[1:10]]
+        others = ["not-yours", "operator-only", "operator-only", "no-such-job"]
+        require(names == ["no-such-task"] * 5 + others, names)
+        require([row["task"] for row in found[11]["tasks"]] == ["3"] and found[12]["history"] == [], found[11:])
+        require(len(root.ask("tasks")) == 11, root.ask("tasks"))
+        require({row["user"] for row in root.ask("tasks", user=str(ANN))} == {str(ANN)}, "the rows of a user")
+        require(root.ask("cancel", tasks=["1", "3"])["changed"] == ["1", "3"], "an operator may")
+        require("submit" in ask(ANN, requests=[submit])[0], "there is room again")
+
+
+def faulty(setup: Setup) -> None:
+    """Each faulty request is refused by name, and nothing is made of it."""
+    with setup.case().start() as case, case.client() as client:
+        good: Json = {"command": ["x"], "dir": "/"}
+        commands: list[Any] = [None, [], "x", [1], [""], ["a\0"], ["x" * 200_000], ["\ud800"]]
+        bad: list[Json] = [
+            *({**good, "command": value} for value in commands),
+            *({**good, "dir": value} for value in (None, "relative", 7, "/" + "x" * 5_000)),
+            *({**good, "array": value} for value in ([1], [2, 1], [-1, 2], ["1", "2"], [0, 10**7], 5)),
+            *({**good, "job": value} for value in ("", "Web", "x" * 17, 3)),
+            *({**good, "weight": value} for value in (0, 1_000_001, 1.5, True)),
+            *({**good, "time": value} for value in (0, -1, "5", 10**400, float("inf"), float("nan"))),
+            *({**good, "near": value} for value in (["m"] * 5, ["M"], "m1")),
+            *({**good, "env": value} for value in ([], {"1x": "a"}, {"A": 1}, {"A": "\0"})),
+            *({**good, "retries": value} for value in (-1, 101, 1.0)),
+            *({**good, "grace": value} for value in (-1, 3_601)),
+            *({**good, "memory": value} for value in (0, 1.5)),
+            *({**good, "processors": value} for value in (0, "2")),
+            *({**good, "output": value} for value in ("out", 1, "/" + "x" * 5_000)),
+            *({**good, "hold": value} for value in (1, "no")),
+            *({**good, "key": value} for value in ("", "k" * 129, 1)),
+            {**good, "unknown": 1},
+        ]
+        for request in bad:
+            answer = client.refused("bad-field", "submit", **request)
+            require(answer["text"].startswith(answer["field"]), (request, answer))
+        for text in (b"x", b"[]", b"7", b"{}", b'{"ask": 1}', b"\xff\xfe", b"[" * 100_000):
+            client.send_text(text + b"\n")
+            answer = client.answer()
+            require(answer["error"] == "bad-request", (text[:10], answer))
+        client.refused("bad-field", "tasks", states=["nowhere"])
+        client.refused("bad-field", "tasks", user="nobody-of-this-name")
+        client.refused("no-such-task", "wait", tasks=["x"])
+        client.refused("no-such-machine", "cordon", machines=["m9"])
+        require(client.ask("status")["last_number"] == 0 and client.ask("tasks") == [], "something was made")
+        with case.client() as other:
+            other.send_text(b"x" * (9 * 2**20))
+            require(other.answer()["error"] == "too-long", "a request that is too long")
+        require(client.submit() == 1, "it still serves")
+
+
+def logs(setup: Setup) -> None:
+    """What a task has written is read from any place, and followed until its attempt has ended."""
+    with setup.case().start() as case, case.client() as client, case.client() as agent:
+        agent.ask("register", agent="a1", id="x", machines={"m1": 1}, runs=[])
+        client.submit(*FOREVER)
+        client.refused("no-output", "log", task="1")
+        agent.ask("claim", token="aaaaaaaa", run=1, **claim_place(case))
+        path = case.folder / "output"
+        path.write_bytes(b"first\n" + bytes(range(256)) * 1_000)
+        running = {"token": "aaaaaaaa", "event": "running", "pid": 1, "time": time.time(), "host": None}
+        agent.ask("told", events=[{**running, "output": str(path)}])
+        text, end = log_of(client, task="1")
+        require(text == path.read_bytes() and end["state"] == "running", (len(text), end))
+        require(log_of(client, task="1", **{"from": 256_000})[0] == path.read_bytes()[256_000:], "from a place")
+        client.send({"ask": "log", "task": "1", "follow": True, "from": 256_006})
+        with open(path, "ab") as file:
+            file.write(b"more")
+        require(b64decode(client.answer()["log"]) == b"more", "what is added")
+        with open(path, "ab") as file:
+            file.write(b"last")
+        ended = {"token": "aaaaaaaa", "event": "ended", "status": 5, "asked": False}
+        agent.ask("told", events=[ended])
+        found = [client.answer(), client.answer()]
+        require(b64decode(found[0]["log"]) == b"last", found)
+        require(found[1] == {"end": {"at": 256_014, "state": "failed", "status": 5}}, found)
+        path.unlink()
+        client.refused("no-output", "log", task="1", attempt=1)
+        client.refused("no-such-attempt", "log", task="1", attempt=2)
+        os.mkfifo(path)
+        client.refused("no-output", "log", task="1")
+        client.submit(*FOREVER)
+        agent.ask("claim", token="bbbbbbbb", run=2, **claim_place(case, "2"))
+        (case.folder / "quick").write_text("quick")
+        output = {"output": str(case.folder / "quick"), "host": None}
+        agent.ask("told", events=[{**ended, **output, "token": "bbbbbbbb", "status": 0}])
+        require(log_of(client, task="2")[0] == b"quick", "the output of what ended before it was seen to run")
+
+
+def others_files(setup: Setup) -> None:
+    """The queue, root's here, reads no file for a user that is neither the user's nor the run's own."""
+    if os.geteuid():
+        raise Skipped("it needs root, to be other users")
+    with setup.case("--socket-mode=666").start() as case, case.client() as agent:
+        os.chmod(case.folder, 0o755)
+        agent.ask("register", agent="a1", id="x", machines={"m1": 1}, runs=[])
+        secret, path = case.folder / "secret", case.folder / "output"
+        secret.write_text("secret")
+        path.symlink_to(secret)
+        ask = partial(as_user, ANN, case.socket)
+        ask([{"ask": "submit", "command": FOREVER, "dir": "/tmp", "output": str(path)}])
+        agent.ask("claim", token="aaaaaaaa", run=1, **claim_place(case))
+        running = {"token": "aaaaaaaa", "event": "running", "pid": 1, "time": time.time(), "output": str(path)}
+        agent.ask("told", events=[running])
+        for owned, what in ((0, "a link to root's file"), (ANN, "the user's own file")):
+            os.chown(path, owned, owned)
+            found = ask([{"ask": "log", "task": "1"}])[0]
+            require((found.get("error") == "no-output") == (owned == 0), (what, found))
+
+
+def files_of_the_queue(setup: Setup) -> None:
+    """Where an agent of root runs a task as its user, no file of the queue's own user is shown; where the queue's own
+    agent runs it, its files are that user's. Both hold after a restart too."""
+    if os.geteuid():
+        raise Skipped("it needs root, to be other users")
+    with setup.case("--socket-mode=666", "--lease=600") as case:
+        case.words = [sys.executable, "-c", BY_USER, str(SERVICE), str(CAROL), "run"]
+        case.state.mkdir()
+        secret = case.folder / "secret"
+        secret.write_text("secret")
+        for owned in (case.folder, case.state, case.firmd.state, case.doors.view, case.doors.lines, secret):
+            os.chown(owned, CAROL, CAROL)
+        case.folder.chmod(0o755)
+        for name in ("linked-1", "linked-3"):
+            (case.folder / name).symlink_to(secret)
+        case.start()
+        begin(case, partial(as_user, 0, case.socket), "a1", {"1": "linked-1", "2": "absent"})
+        begin(case, partial(as_user, CAROL, case.socket), "a2", {"3": "linked-3"})
+        for _ in range(2):
+            found = as_user(ANN, case.socket, [{"ask": "log", "task": task} for task in "12"] + [{"ask": "status"}])
+            require([answer.get("error") for answer in found] == ["no-output", "no-output", None], found)
+            texts = [answer["text"].replace(name, "") for answer, name in zip(found, ("linked-1", "absent"))]
+            require(texts[0] == texts[1], f"a refusal tells what is there: {texts}")
+            found = as_user(ANN, case.socket, [{"ask": "log", "task": "3"}])
+            require(b64decode(found[0].get("log", "")) == b"secret", found)
+            case.kill()
+            case.start()
+
+
+def begin(case: Case, ask: Callable[[list[Json]], list[Json]], name: str, outputs: dict[str, str]) -> None:
+    """Has an agent, on a machine of its own, begin tasks of a user with these outputs, by their names."""
+    agent: Json = {"ask": "register", "agent": name, "id": name, "machines": {f"m{name}": len(outputs)}}
+    ask([{**agent, "runs": []}])
+    for task, output in outputs.items():
+        submit = {"ask": "submit", "command": FOREVER, "dir": "/tmp", "output": str(case.folder / output)}
+        (answer,) = as_user(ANN, case.socket, [submit])
+        require(str(answer["submit"]["number"]) == task, answer)
+    runs: list[Json] = []
+    for number, task in enumerate(outputs):
+        place = claim_place(case, task)
+        run: Json = {"token": f"{name}{number:06}", "task": task, "run": number, "machine": place["machine"]}
+        answers = ask([{**agent, "runs": runs}, {"ask": "claim", **run, **place}])
+        require("work" in answers[1].get("claim", {}), answers)
+        runs.append({**run, "state": "starting"})
+    events = [
+        {"token": run["token"], "event": "running", "output": str(case.folder / output)}
+        for run, output in zip(runs, outputs.values())
+    ]
+    answers = ask([{**agent, "runs": runs}, {"ask": "told", "events": events}])
+    require(answers[1] == {"told": len(events)}, answers)
+
+
+def log_of(client: Client, **fields: Any) -> tuple[bytes, Json]:
+    """The whole answer to a request for a log."""
+    client.send({"ask": "log", **fields})
+    text = b""
+    while "log" in (answer := client.answer()):
+        require(answer["at"] == len(text) + fields.get("from", 0), answer["at"])
+        text += b64decode(answer["log"])
+    return text, answer["end"]
+
+
+CHECKS = (users, faulty, logs, others_files, files_of_the_queue)

@@ -1,0 +1,322 @@
+"""What one user can make firm-queue hold, write, read and open: each has a bound that leaves all others theirs."""
+
+from __future__ import annotations
+
+import os
+import pty
+import socket
+import sqlite3
+import sys
+import threading
+import time
+from collections.abc import Callable, Iterator
+from contextlib import closing, contextmanager
+from functools import partial
+from pathlib import Path
+from typing import Any
+
+from firmd import memory_kilobytes
+from harness.checks import Skipped, require
+from harness.deployed import SERVICE
+from queue_kit import ANN, BOB, FOREVER, Case, Disk, Json, Setup, as_user, claim_place
+
+HELD: Json = {"ask": "submit", "command": FOREVER, "dir": "/tmp", "hold": True}
+BUSY_SECONDS = 8.0  # of the queue's processor time, for what takes a minute where each end is judged by all needs
+WORDS = 60_000  # letters of a command
+
+
+def processor_seconds(case: Case) -> float:
+    require(case.queue is not None, "it was started")
+    fields = Path(f"/proc/{case.queue.pid if case.queue else 0}/stat").read_text().rpartition(")")[2].split()
+    return (int(fields[11]) + int(fields[12])) / os.sysconf("SC_CLK_TCK")
+
+
+def memory(case: Case) -> int:
+    return memory_kilobytes(case.queue.pid) if case.queue is not None else 0
+
+
+def needs(setup: Setup) -> None:
+    """What waits for thousands of tasks one by one takes little time at their ends, and is told in few words."""
+    count = 3_000
+    with setup.case().start() as case, case.client() as client:
+        client.submit(*FOREVER, hold=True, array=[1, count])
+        names = [f"1_{index}" for index in range(1, count + 1)]
+        client.submit(*FOREVER, after_any=names, array=[1, count])
+        client.submit(*FOREVER, after_any=["1"], after=["2_1"])
+        before = processor_seconds(case)
+        rows = {row["task"]: row["reason"] for row in client.ask("tasks", tasks=["2"])}
+        require(len(rows) == count and len(rows["2_9"]) < 100, len(rows))
+        require(rows["2_9"].startswith("waits for 1_1, 1_2, ") and rows["2_9"].endswith(" and 2,996 more"), rows["2_9"])
+        client.ask("cancel", tasks=names[: count // 2])
+        require(client.state("2_9") == "blocked", "the half of them")
+        row = client.ask("task", task="2_9")
+        require(row["reason"].startswith("waits for 1_1501, "), row["reason"])
+        client.ask("cancel", tasks=names[count // 2 :])
+        case.until(lambda: client.state("2_9") in ("queued", "waiting"), "it waits for nothing any more")
+        require(client.ask("task", task="3")["reason"] == "waits for 2_1", client.ask("task", task="3"))
+        took = processor_seconds(case) - before
+        require(took < BUSY_SECONDS, f"it took {took:.1f} s of a processor")
+        case.kill()
+        case.start()
+        with case.client() as again:
+            require(again.ask("task", task="3")["reason"] == "waits for 2_1", "after a restart")
+            again.ask("cancel", tasks=["2_1"])
+            require(again.state("3") == "unmet", again.ask("task", task="3"))
+
+
+def words(setup: Setup) -> None:
+    """The words of a user's tasks that have not ended have a bound, beside their number."""
+    if os.geteuid():
+        raise Skipped("it needs root, to be other users")
+    with setup.case("--socket-mode=666").start() as case:
+        case.folder.chmod(0o755)
+        large = {"command": ["x"] * 10_000, "dir": "/", "hold": True}
+        requests: list[Json] = [{"ask": "submit-all", "submissions": [large] * count} for count in (2, 52)]
+        answers = as_user(ANN, case.socket, requests)
+        require("submit-all" in answers[0] and answers[1].get("error") == "quota", answers)
+        require("the words of your tasks" in answers[1]["text"], answers[1]["text"])
+        require("submit" in as_user(BOB, case.socket, [HELD])[0], "another has room")
+
+
+def budget(setup: Setup) -> None:
+    """What a user's work takes of the disk has a bound, also over restarts; others and operators have their own."""
+    if os.geteuid():
+        raise Skipped("it needs root, to be other users")
+    with setup.case("--budget=300K", "--socket-mode=666").start() as case, case.client() as root:
+        case.folder.chmod(0o755)
+        ask, large = partial(as_user, path=case.socket), {**HELD, "command": ["x" * 50_000]}
+        answers = ask(ANN, requests=[large] * 8 + [{"ask": "cancel", "jobs": [f"u{ANN}"]}, large, {"ask": "status"}])
+        made = sum("submit" in answer for answer in answers)
+        require(made == 6, f"{made} were made")
+        for answer in (answers[6], answers[9]):
+            require(answer["error"] == "budget" and " there is room for them in " in answer["text"], answer)
+            require(0 < answer["seconds"] < 7 * 86_400, answer)
+        spent = answers[10]["status"]["budget"]
+        require(spent["most"] == 300 * 1_024 and 250_000 < spent["spent"] < spent["most"], spent)
+        require("submit" in ask(BOB, requests=[large])[0], "another has one of his own")
+        require(root.ask("status")["budget"] is None, "an operator has none")
+        for _ in range(8):
+            root.submit("x" * 50_000, hold=True)
+        case.kill()
+        case.start()
+        require(ask(ANN, requests=[large])[0].get("error") == "budget", "it is forgotten")
+        require("submit" in ask(ANN, requests=[HELD])[0], "there is room for a small one")
+        require(ask(BOB, requests=[{**HELD, "array": [1, 3_000]}])[0]["error"] == "budget", "tasks are rows too")
+
+
+def waiting_requests(setup: Setup) -> None:
+    """Requests that wait for their turn take as much memory as their text, not what JSON makes of it."""
+    with setup.case().start() as case, case.client() as client, case.client() as hog:
+        client.submit(*FOREVER, hold=True)
+        before = memory(case)
+        text = b'{"ask": "wait", "tasks": ["1"], "x": [' + b"[]," * 600_000 + b"[]]}\n"
+        hog.send({"ask": "wait", "tasks": ["1"]})
+        for _ in range(6):
+            hog.send_text(text)
+        with case.client() as last:  # whose request begins behind those
+            last.ask("status")
+        case.until(lambda: memory(case) - before > 10_000, "they are there")
+        grown = memory(case) - before
+        require(grown < 160_000, f"the queue has grown by {grown:,} kB")
+
+
+def names_of_the_past(setup: Setup) -> None:
+    """However many tasks of an array that ended long ago are named, it is read once."""
+    count = 5_000
+    with setup.case().start() as case:
+        with case.client() as client:
+            client.submit(*FOREVER, hold=True, array=[1, count])
+            client.ask("cancel", tasks=["1"])
+        case.kill()
+        case.start()
+        with case.client() as client:
+            before = processor_seconds(case)
+            names = [f"1_{index}" for index in range(1, count + 1)]
+            found = client.ask("cancel", tasks=names)
+            require(found["unchanged"]["1_7"] == "has ended: cancelled" and len(found["unchanged"]) == count, "all")
+            found = client.ask("wait", tasks=names)
+            require(len(found) == count and found["1_7"]["state"] == "cancelled", "all")
+            took = processor_seconds(case) - before
+            require(took < BUSY_SECONDS, f"it took {took:.1f} s of a processor")
+
+
+@contextmanager
+def readers(path: Path) -> Iterator[None]:
+    """Somebody always reads the database: each begins before the last one ends."""
+    over = threading.Event()
+
+    def read() -> None:
+        opened: list[Any] = []
+        while not over.wait(0.2):
+            opened.append(sqlite3.connect(f"file:{path}?mode=ro", uri=True, timeout=10, isolation_level=None))
+            opened[-1].execute("BEGIN")
+            opened[-1].execute("SELECT COUNT(*) FROM submission").fetchall()
+            if len(opened) > 1:
+                opened.pop(0).close()
+        for one in opened:
+            one.close()
+
+    thread = threading.Thread(target=read)
+    thread.start()
+    try:
+        yield
+    finally:
+        over.set()
+        thread.join()
+
+
+def write_ahead_log(setup: Setup) -> None:
+    """While the database is read without a pause, its log stays bounded."""
+    with setup.case().start() as case, case.client() as client:
+        log = case.state / "queue.db-wal"
+        many = [{"command": ["x" * WORDS], "dir": "/", "hold": True}] * 120
+        with readers(case.state / "queue.db"):
+            for _ in range(10):
+                client.ask("submit-all", submissions=many)
+                client.ask("cancel", jobs=["root"])
+
+            def is_short() -> bool:
+                client.submit(*FOREVER, hold=True)
+                return log.stat().st_size < 2**26
+
+            case.until(is_short, f"the log is shortened from {log.stat().st_size:,} bytes", 40)
+
+
+def terminals(setup: Setup) -> None:
+    """An output that has become a terminal is not shown, and never the queue's own, by which a user could end it."""
+    with setup.case() as case:
+        case.words = ["setsid", *case.words]  # as a service begins
+        case.start()
+        master, slave = pty.openpty()
+        try:
+            show_as_output(case, Path(os.ttyname(slave)))
+            os.write(master, b"\x03")
+            with case.client() as client:
+                require(client.ask("status"), "it serves on")
+            require(case.queue is not None and case.queue.poll() is None, "it has ended")
+            fields = Path(f"/proc/{case.queue.pid if case.queue else 0}/stat").read_text().rpartition(")")[2].split()
+            require(fields[4] == "0", f"its terminal is {fields[4]}")
+        finally:
+            os.close(master)
+            os.close(slave)
+        case.stop()
+
+
+def show_as_output(case: Case, place: Path) -> None:
+    """Asks for the log of a task whose output is a link to a place."""
+    path = case.folder / "output"
+    path.symlink_to(place)
+    with case.client() as client, case.client() as agent:
+        agent.ask("register", agent="a1", id="x", machines={"m1": 1}, runs=[])
+        client.submit(*FOREVER, output=str(path))
+        agent.ask("claim", token="aaaaaaaa", run=1, **claim_place(case))
+        running = {"token": "aaaaaaaa", "event": "running", "pid": 1, "time": time.time(), "output": str(path)}
+        agent.ask("told", events=[running])
+        client.refused("no-output", "log", task="1")
+
+
+def twins(setup: Setup) -> None:
+    """An agent with a copy of another one's state is refused while that is there, and ends none of its runs."""
+    with setup.case("--lease=30").start() as case, case.client() as client:
+        first = case.agent("a1", m1=2)
+        client.submit(*FOREVER)
+        case.until_state(client, "1", "running")
+        twin = case.agent("a1", Disk(first.disk.id), m1=2)
+        case.until(lambda: twin.refusals or len(case.world.processes) > 1, "it is refused")
+        told = twin.refusals[0] if twin.refusals else {"error": None}
+        require(told["error"] == "agent-taken" and "a copy of its state" in told["text"], told)
+        require(client.state("1") == "running" and case.world.running() == {"1": 1}, case.world.running())
+        first.kill()
+        case.until(lambda: twin.lease == 30, "it takes the place of the first, as a restarted one does")
+        (attempt,) = client.ask("task", task="1")["attempts"]
+        require(attempt["outcome"] is None, f"what may run is taken for ended: {attempt}")
+
+
+def unknown_runs(setup: Setup) -> None:
+    """What an agent does not know any more counts as lost once its lease is over, and runs again then."""
+    with setup.case("--lease=1", "--margin=0.2").start() as case, case.client() as client, case.client() as agent:
+        agent.ask("register", agent="a1", id="x", machines={"m1": 1}, runs=[])
+        client.submit(*FOREVER, grace=0.1)
+        place = claim_place(case)
+        agent.ask("claim", token="aaaaaaaa", run=1, **place)
+        began = time.monotonic()
+        agent.ask("register", agent="a1", id="x", machines={"m1": 1}, runs=[])
+
+        def is_lost() -> bool:
+            agent.ask("beat")
+            return bool(client.ask("task", task="1")["attempts"][0]["outcome"] == "lost")
+
+        case.until(is_lost, "it is lost")
+        require(time.monotonic() - began > 1, "its lease was not over")
+
+
+def numbers(setup: Setup) -> None:
+    """Once the numbers of submissions are used up, what comes is refused, and what is there goes on."""
+    with setup.case().start() as case, case.client() as client:
+        client.submit(*FOREVER, hold=True)
+        with closing(socket.socket(socket.AF_UNIX)) as lines:
+            lines.connect(str(case.doors.lines))
+            lines.sendall(b"alpha job others 1\nalpha task others 99999998\n")
+            case.until(lambda: "99999998" in case.firm_tasks(), "it is in firm")
+            case.until(lambda: client.ask("status")["last_number"] == 99_999_998, "it is known")
+        require(client.submit(*FOREVER, hold=True) == 99_999_999, "the last one")
+        require("used up" in client.refused("queue-full", "submit", command=["x"], dir="/")["text"], "why")
+        require(client.ask("cancel", tasks=["99999999", "1"])["changed"] == ["99999999", "1"], "both are there")
+
+
+# A queue whose wall clock goes a day forth and back with each look.
+JUMPS = """\
+import sys, time
+real, looks = time.time, [0]
+def jumping():
+    looks[0] += 1
+    return real() + 86400 * (-1) ** looks[0]
+time.time = jumping
+sys.path.insert(0, sys.argv[1])
+from firm_service.queue import daemon
+sys.exit(daemon.main(sys.argv[2:]))
+"""
+
+
+def jumping_clock(setup: Setup) -> None:
+    """While the wall clock jumps each task runs once, a retry waits its second, a lease its own time, and no duration
+    is below 0."""
+    with setup.case("--lease=3", "--margin=1") as case:
+        case.words = [sys.executable, "-c", JUMPS, str(SERVICE), "run"]
+        case.start()
+        with case.client() as client:
+            agent = case.agent("a1", m1=4)
+            client.submit("0.2", array=[1, 6])
+            client.submit("0.1", "3", retries=1)
+            client.submit("0.1", after=["1"])
+            ends = client.ask("wait", tasks=["1", "2", "3"])
+            states = [end["state"] for end in ends.values()]
+            require(states == ["done"] * 6 + ["failed", "done"], ends)
+            gone = [process for process in case.world.processes if process.task == "2"]
+            require(len(gone) == 2 and gone[1].began - (gone[0].ended or 0) > 0.9, gone)
+            client.submit(*FOREVER)
+            case.until_state(client, "4", "running")
+            agent.kill()
+            silent = time.monotonic()
+            case.until(lambda: client.ask("agents")[0]["state"] == "lost", "its lease is over")
+            require(time.monotonic() - silent > 3, "the clock made the lease shorter")
+            past = client.ask("history")
+            require(len(past) == 10 and all((row["seconds"] or 0) >= 0 for row in past), past)
+            case.world.require_single()
+
+
+def modes(setup: Setup) -> None:
+    """Others can't read the database, whatever the mode of the folder that it was given."""
+    with setup.case() as case:
+        case.state.mkdir(mode=0o755)
+        case.start()
+        with case.client() as client:
+            client.submit(*FOREVER, env={"PASSWORD": "x"})
+        for path in case.state.glob("queue.db*"):
+            require(path.stat().st_mode & 0o077 == 0, f"{path}: {path.stat().st_mode:o}")
+
+
+CHECKS: tuple[Callable[[Setup], None], ...] = (
+    *(needs, words, budget, names_of_the_past, terminals, twins, unknown_runs, numbers, jumping_clock, modes),
+)
+LONG: tuple[Callable[[Setup], None], ...] = (waiting_requests, write_ahead_log)

@@ -1,0 +1,240 @@
+"""Does to firm-queue what hostile users, readers and a poor host can do, and looks whether all others are served."""
+
+from __future__ import annotations
+
+import json
+import os
+import random
+import selectors
+import signal
+import socket
+import time
+from collections.abc import Iterator, Sequence
+from contextlib import ExitStack, contextmanager, suppress
+from pathlib import Path
+from typing import NamedTuple, NoReturn
+
+from firmd import memory_kilobytes
+from harness.checks import Missed, Skipped, require
+from queue_kit import ANN, BOB, FOREVER, Case, Closed, Json, Setup, as_user
+
+SERVED_SECONDS = 20.0  # for another's request, on a busy host; without bounds it takes minutes
+MOST_KILOBYTES = 400_000  # of the queue's memory
+HELD: Json = {"ask": "submit", "command": FOREVER, "dir": "/tmp", "hold": True}
+
+
+def line(request: Json) -> bytes:
+    return json.dumps(request).encode() + b"\n"
+
+
+@contextmanager
+def hog(user: int, path: Path, texts: Sequence[bytes], reads: bool = False) -> Iterator[None]:
+    """Has a process of a user send each text over a connection of its own, as far as it is taken, and read or not."""
+    given, taken = os.pipe()
+    child = os.fork()
+    if child == 0:
+        os.setgroups([])
+        os.setgid(user)
+        os.setuid(user)
+        send_for_ever(path, texts, reads, taken)
+    os.close(taken)
+    try:
+        with open(given, "rb") as ready:
+            require(ready.read(1) == b".", "the hog has its connections")
+        yield
+    finally:
+        os.kill(child, signal.SIGKILL)
+        os.waitpid(child, 0)
+
+
+def send_for_ever(path: Path, texts: Sequence[bytes], reads: bool, ready: int) -> NoReturn:
+    poll, reading = selectors.DefaultSelector(), selectors.EVENT_READ if reads else 0
+    left: dict[socket.socket, memoryview] = {}
+    for text in texts:
+        connection = socket.socket(socket.AF_UNIX)
+        left[connection] = memoryview(text)
+        with suppress(OSError):  # the queue takes no more
+            connection.settimeout(1)
+            connection.connect(str(path))
+            connection.setblocking(False)
+            poll.register(connection, selectors.EVENT_WRITE | reading)
+    os.write(ready, b".")
+    while True:
+        for key, events in poll.select(0.1):
+            connection = key.fileobj  # type: ignore[assignment]
+            try:
+                if events & selectors.EVENT_READ and not connection.recv(1 << 20):
+                    raise ConnectionError
+                if events & selectors.EVENT_WRITE:
+                    left[connection] = left[connection][connection.send(left[connection][: 2**18]) :]
+                if not left[connection]:
+                    poll.unregister(connection)
+            except OSError:
+                poll.unregister(connection)
+
+
+def require_served(case: Case, *users: int, seconds: float = 1.0) -> None:
+    """Asks that users are answered, over new connections, for some time; one may be late by chance."""
+    ends, late = time.monotonic() + seconds, 0
+    while time.monotonic() < ends:
+        for user in users:
+            began = time.monotonic()
+            while "tasks" not in (answer := as_user(user, case.socket, [{"ask": "tasks", "tasks": []}])[0]):
+                is_early = "Resource temporarily unavailable" in answer["text"]  # many others wait to connect
+                require(is_early and time.monotonic() - began < SERVED_SECONDS, f"{user}: {answer}")
+                time.sleep(0.05)
+            took = time.monotonic() - began
+            late += took > SERVED_SECONDS
+            require(late < 2, f"a request of the user {user} took {took:.1f} s")
+        require_small(case)
+
+
+def require_small(case: Case) -> None:
+    require(case.queue is not None, "it was started")
+    size = memory_kilobytes(case.queue.pid) if case.queue is not None else 0
+    require(size < MOST_KILOBYTES, f"the queue has {size:,} kB in memory")
+
+
+def hostile_users(setup: Setup) -> None:
+    """A user who asks for all that may be asked, on many connections at a time, and reads none of it, or sends no
+    requests at all: operators and others are served as ever, and the queue's memory stays bounded."""
+    if os.geteuid():
+        raise Skipped("it needs root, to be other users")
+    with setup.case("--socket-mode=666", "--most-of-user=40000").start() as case:
+        case.folder.chmod(0o755)
+        array: Json = {**HELD, "array": [1, 20_000]}
+        jobs = [{**without_ask(HELD), "job": f"j{at}", "array": [1, 20]} for at in range(500)]
+        require_served(case, 0, ANN)  # the host itself is fast enough
+        made = as_user(BOB, case.socket, [array, {"ask": "submit-all", "submissions": jobs}])
+        require("submit" in made[0] and "submit-all" in made[1], made)
+        for what, hostile in hostile_texts().items():
+            with hog(BOB, case.socket, hostile.texts, hostile.reads):
+                try:
+                    require_served(case, 0, ANN)
+                except Missed as missed:
+                    raise Missed(f"{what}: {missed}") from None
+                if what == "waits":
+                    require_ends(case)
+        with ExitStack() as stack:
+            for user in range(BOB, BOB + 12):
+                stack.enter_context(hog(user, case.socket, [b""] * 128))
+            require_served(case, 0, seconds=0.1)
+
+
+class Hostile(NamedTuple):
+    """What is sent over each of some connections."""
+
+    texts: Sequence[bytes]
+    reads: bool = False
+
+
+def hostile_texts() -> dict[str, Hostile]:
+    lists: list[Json] = [{"ask": "tasks", "limit": 100_000}, {"ask": "hold", "tasks": ["1"]}, {"ask": "jobs"}]
+    names = [f"j{at % 500}" for at in range(100_000)]
+    return {
+        "lists": Hostile([b"".join(line(one) for one in lists * 80)] * 20),
+        "repeated names": Hostile([line({"ask": "hold", "jobs": names}) * 3] * 3, True),
+        "waits": Hostile([line({"ask": "wait", "tasks": ["1"]}) * 250] * 20),
+        "a crowd": Hostile([b""] * 1_500),
+        "halves of requests": Hostile([b'{"ask": "submit", "command": ["' + b"x" * 8_000_000] * 100),
+        "no requests": Hostile([b"\n" * 4_000_000, line({"ask": "status"}) * 200_000] * 10, True),
+    }
+
+
+def require_ends(case: Case) -> None:
+    """Asks that the end of a task for which thousands wait takes no time."""
+    with case.client() as client:
+        began = time.monotonic()
+        for index in range(1, 20):
+            client.ask("cancel", tasks=[f"1_{index}"])
+        took = time.monotonic() - began
+        require(took < 2 * SERVED_SECONDS, f"19 ends of tasks took {took:.1f} s")
+    require_small(case)
+
+
+def without_ask(request: Json) -> Json:
+    return {name: value for name, value in request.items() if name != "ask"}
+
+
+def garbage(setup: Setup) -> None:
+    """Whatever is in the place of a field is refused by name, and is no fault of the queue's."""
+    draw = random.Random(setup.seed)
+    words: list[object] = [None, True, -1, 1.5, 1e308, float("nan"), 10**30, "", "x", "\ud800", "a\0b", "99", "1_1"]
+    words += [[], ["1"], [None], ["\ud800"], [[]], {}, {"a": 1}, "x" * 300, ["web"] * 3, "root"]
+    asks = "submit submit-all tasks task cancel hold release wait history log machines agents jobs status cordon"
+    asks += " uncordon drain register beat claim told kept"
+    fields = "key job weight array after time near env output retries grace memory processors hold command dir user"
+    fields += " states tasks limit task jobs seconds since until attempt from follow machines agent id runs token line"
+    fields += " state machine run events tokens submissions label"
+    with setup.case().start() as case:
+        with case.client() as client:
+            for _ in range(300 if setup.is_quick else 3_000):
+                names = draw.sample(fields.split(), draw.choice([0, 1, 1, 2, 4]))
+                request: Json = {"ask": draw.choice(asks.split())}
+                request |= {name: draw.choice(words) for name in names}
+                if request["ask"] == "wait":
+                    request["seconds"] = 0
+                client.send(request)
+                answer = client.answer()
+                require(answer.get("error") != "internal", f"{request}: {answer}")
+                while "log" in answer and "end" not in answer:
+                    answer = client.answer()
+            require(client.ask("status")["writes"]["are_good"], "a write failed")
+        require("Traceback" not in case.said(), case.said())
+        case.stop()
+
+
+def stops(setup: Setup) -> None:
+    """SIGTERM in the middle of requests: what is acknowledged is there, and the rest is made once if asked again."""
+    draw = random.Random(setup.seed)
+    with setup.case().start() as case:
+        keys = [f"k{at}" for at in range(200)]
+        requests: list[Json] = [{**HELD, "key": key} for key in keys]
+        acknowledged: dict[str, int] = {}
+        for _ in range(1 if setup.is_quick else 5):
+            with case.client() as client:
+                with suppress(Closed):
+                    client.send_text(b"".join(line(request) for request in requests) + line(requests[0])[:20])
+                time.sleep(draw.random() * 0.1)
+                case.stop()
+                if not acknowledged:
+                    with suppress(Closed):
+                        for key in keys:
+                            acknowledged[key] = client.answer()["submit"]["number"]
+            case.start()
+        with case.client() as client:
+            client.send(*requests)
+            numbers = {key: client.answer()["submit"]["number"] for key in keys}
+        require(numbers.items() >= acknowledged.items(), f"{acknowledged} became {numbers}")
+        require(len(set(numbers.values())) == len(requests), "one number twice")
+        require(case.rows("SELECT COUNT(*) FROM submission") == [(len(requests),)], "made twice")
+
+
+def hung_firmd(setup: Setup) -> None:
+    """While firmd hangs requests are answered, and it is told; SIGTERM ends the queue. Then all goes on once."""
+    with setup.case().start() as case, case.client() as client:
+        case.agent("a1", m1=2)
+        client.submit("0.01")
+        case.until_state(client, "1", "done")
+        os.kill(case.firmd.running().pid, signal.SIGSTOP)
+        try:
+            client.submit("0.01", array=[1, 4])
+            case.until(lambda: "owed a reply" in client.ask("status")["firm"]["reason"], "it is told")
+            row = client.ask("task", task="2_1")
+            require(row["state"] == "queued" and "owed a reply" in row["reason"], row)
+            require("owed a reply" in case.said() and not client.ask("status")["firm"]["is_there"], case.said())
+            began = time.monotonic()
+            client.submit("0.01")
+            require(time.monotonic() - began < SERVED_SECONDS, "a submission took long")
+            case.stop()
+            case.start()
+        finally:
+            os.kill(case.firmd.running().pid, signal.SIGCONT)
+        with case.client() as again:
+            ends = again.ask("wait", tasks=["2", "3"])
+            require(all(end["state"] == "done" for end in ends.values()) and len(ends) == 5, ends)
+            require(again.ask("status")["firm"]["reason"] == "", again.ask("status"))
+        case.world.require_single()
+
+
+CHECKS = (hostile_users, garbage, stops, hung_firmd)

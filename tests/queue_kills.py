@@ -1,0 +1,164 @@
+"""Kills of queue, firmd and agents at random moments, and a judge that asks the database and what really ran alone."""
+
+from __future__ import annotations
+
+import random
+import threading
+import time
+from collections.abc import Callable
+from contextlib import suppress
+from dataclasses import dataclass
+
+from harness.checks import require
+from queue_kit import LIMIT_SECONDS, Case, Client, Closed, Json, Size, StandIn
+
+
+class Submitter:
+    """A client that submits until it is told to stop, and sends again what was not answered."""
+
+    pause = 0.03  # seconds between two submissions
+
+    def __init__(self, case: Case, seed: int) -> None:
+        self.case, self.draw = case, random.Random(seed)
+        self.answers: dict[str, Json] = {}  # by key
+        self.asked: dict[str, Json] = {}
+        self.is_over = threading.Event()
+
+    def serve(self) -> None:
+        while not self.is_over.is_set():
+            key = f"k{len(self.answers)}"
+            request = self._request(key)
+            self.asked[key] = request
+            while key not in self.answers:
+                with suppress(Closed):
+                    with self.case.client() as client:
+                        self._submit(client, key, request)
+                time.sleep(self.pause)
+
+    def _submit(self, client: Client, key: str, request: Json) -> None:
+        answer = client.try_ask("submit", **request)
+        if "submit" in answer:
+            self.answers[key] = answer["submit"]
+            return
+        require(answer["error"] in ("not-written", "stopping"), answer)
+
+    def command(self) -> list[str]:
+        """How long a task takes, and its status."""
+        return [str(self.draw.choice([0.01, 0.1, 0.4])), str(self.draw.choice([0, 0, 0, 7]))]
+
+    def _request(self, key: str) -> Json:
+        request: Json = {"key": key, "command": self.command(), "dir": "/tmp", "grace": 0}
+        if self.draw.random() < 0.3:
+            request["array"] = [1, self.draw.randint(1, 6)]
+        if self.draw.random() < 0.2:
+            request["retries"] = 1
+        if self.answers and self.draw.random() < 0.3:
+            kind = self.draw.choice(["after", "after_any"])
+            request[kind] = [str(self.draw.choice(list(self.answers.values()))["number"])]
+        return request
+
+
+@dataclass(frozen=True)
+class Plan:
+    seed: int
+    kills: int
+
+
+def kills(case_of: Callable[..., Case], plan: Plan) -> None:
+    """Queue, firmd and agents are killed at random moments: each submission is there once, runs once, and ends once."""
+    draw = random.Random(plan.seed)
+    with case_of("--lease=3", "--margin=0.5", size=Size(churn=200)).start() as case:
+        agents = [case.agent("a1", m1=4, m2=3), case.agent("a2", m3=4)]
+        submitter = Submitter(case, plan.seed)
+        thread = threading.Thread(target=submitter.serve)
+        thread.start()
+        try:
+            for _ in range(plan.kills):
+                time.sleep(draw.choice([0, 0.02, 0.1, 0.3]))
+                kill_one(case, agents, draw)
+        finally:
+            submitter.is_over.set()
+            thread.join(LIMIT_SECONDS)
+        with case.client() as client:
+            case.until(lambda: client.states() == {}, f"all have ended (seed {plan.seed})")
+            case.until(lambda: case.firm_tasks() == [], "firm has none of them")
+        case.until(lambda: not any(agent.disk.runs for agent in agents), "the agents have told all")
+        judge(case, submitter)
+
+
+def kill_one(case: Case, agents: list[StandIn], draw: random.Random) -> None:
+    """Kills one of them, perhaps in its start too, and starts it again."""
+    pause = draw.choice([0, 0.01, 0.2])
+    victim = draw.choice(["queue", "queue", "firmd", "agent"])
+    if victim == "queue":
+        case.kill()
+        time.sleep(pause)
+        if draw.random() < 0.3:
+            case.queue = case.spawn()
+            time.sleep(draw.random() * 0.4)
+            case.kill()
+        case.start()
+    elif victim == "firmd":
+        case.firmd.kill()
+        time.sleep(pause)
+        case.firmd.start()
+    else:
+        at = draw.randrange(len(agents))
+        agents[at].kill()
+        time.sleep(pause)
+        agents[at] = case.agent(agents[at].name, agents[at].disk, **agents[at].machines)
+
+
+@dataclass(frozen=True)
+class Record:
+    """What the database says of an attempt."""
+
+    task: str
+    number: int
+    token: str
+    outcome: str
+
+
+@dataclass(frozen=True)
+class Book:
+    """The same of all: outcomes by task, and attempts in order."""
+
+    tasks: dict[str, str]
+    attempts: dict[str, list[Record]]
+
+
+def judged_book(case: Case, submitter: Submitter, *others: str) -> Book:
+    """Asks, of the database alone, that each submission is there, and each task ended once, in one of the usual ways
+    or of some others."""
+    submissions = dict(case.rows("SELECT number, COALESCE(last - first + 1, 1) FROM submission"))
+    told = {answer["number"]: answer["count"] for answer in submitter.answers.values()}
+    require(len(told) == len(submitter.answers), "two have one number")
+    require(submissions == told, f"made {submissions}, acknowledged {told}")
+    tasks = dict(case.rows("SELECT number || IIF(idx < 0, '', '_' || idx), outcome FROM task"))
+    require(len(tasks) == sum(told.values()) and None not in tasks.values(), tasks)
+    attempts: dict[str, list[Record]] = {}
+    query = "SELECT number || IIF(idx < 0, '', '_' || idx), attempt, token, outcome FROM attempt"
+    for row in case.rows(f"{query} ORDER BY number, idx, attempt"):
+        record = Record(*row)
+        require(record.outcome is not None, f"an attempt of {record.task} is open")
+        attempts.setdefault(record.task, []).append(record)
+    for task, outcome in tasks.items():
+        done = [record.outcome for record in attempts.get(task, [])].count("done")
+        require(done == (outcome == "done"), f"{task} is {outcome}: {attempts.get(task)}")
+        require(outcome in ("done", "failed", "unmet", *others), f"{task} is {outcome}")
+    return Book(tasks, attempts)
+
+
+def judge(case: Case, submitter: Submitter) -> None:
+    """Asks, of the database and of what really ran alone, that each submission is there and ended, once."""
+    book = judged_book(case, submitter)
+    by_token = {record.token: record.outcome for records in book.attempts.values() for record in records}
+    case.world.require_single()
+    for process in case.world.processes:
+        outcome = by_token.get(process.token)
+        allowed = ("done", "lost") if process.status == 0 else ("failed", "lost")
+        require(process.is_asked or outcome in allowed, f"{process}: {outcome}")
+        require(not process.is_asked or outcome not in (None, "done", "failed"), f"{process}: {outcome}")
+    ran = {process.task for process in case.world.processes}
+    void = {task for task, records in book.attempts.items() if {record.outcome for record in records} == {"void"}}
+    require(ran == book.attempts.keys() - void, "tasks that ran")
