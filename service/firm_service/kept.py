@@ -6,12 +6,12 @@ from collections.abc import Iterator
 from contextlib import suppress
 from dataclasses import dataclass
 from pathlib import Path
-from zlib import crc32
 
+from .extent import Extent
 from .faults import Exit, Fault
 from .records import LINES, UNKNOWN, record_at
-from .recovery import Found, damaged, extent_path, find
-from .state import JOURNAL, StateFolder, read
+from .recovery import BEGINNING, Base, Found, damaged, extent_path, find, numbers_of, read_header, segment_path
+from .state import JOURNAL, StateFolder
 
 TRIES = 4  # as firmd may begin a segment meanwhile
 
@@ -26,26 +26,41 @@ class Kept:
     lines: list[bytes]  # without their ends
 
 
-def found_now(folder: Path) -> Found:
-    """What the journal has at this moment, compared as at a start; behind that, firmd may go on."""
+def found_now(folder: Path, base: Base | None = None) -> Found:
+    """What the journal has at this moment behind the base, compared as at a start; behind that, firmd may go on.
+
+    Without a base it is all that is there: what was archived or deleted is missing.
+    """
     if not (folder / JOURNAL).is_dir():
         raise Fault(Exit.STATE, f"{folder} is no state of firmd, or was never served")
     tries = 0
     while True:
-        before, tries = extent_now(folder), tries + 1
+        before, tries = reached_now(folder), tries + 1
         try:
             state = StateFolder(folder)
-            state.roster_sum = crc32(read(state.roster_path))
-            return find(state, state.journal_path)
+            state.read_opening()
+            return find(state, state.journal_path, first_base(folder) if base is None else base)
         except Fault:
-            if tries == TRIES or extent_now(folder) == before:
+            if tries == TRIES or reached_now(folder) == before:
                 raise
 
 
-def extent_now(folder: Path) -> bytes:
+def first_base(folder: Path) -> Base:
+    """What stands before the first segment that is there, as its header says."""
+    journal = folder / JOURNAL
+    first, extent = min(numbers_of(journal), default=1), Extent.read(extent_path(journal))
+    if first == 1 or extent is None or extent.since > first:
+        return BEGINNING
+    return Base.before(read_header(segment_path(journal, first)))
+
+
+def reached_now(folder: Path) -> tuple[bytes, list[str]]:
+    """What changes with each write, and with each segment that comes or goes."""
+    journal = folder / JOURNAL
+    names = sorted(path.name for path in journal.glob("*.lines"))
     with suppress(FileNotFoundError):
-        return extent_path(folder / JOURNAL).read_bytes()
-    return b""
+        return extent_path(journal).read_bytes(), names
+    return b"", names
 
 
 def kept_lines(found: Found) -> Iterator[Kept]:

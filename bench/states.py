@@ -1,0 +1,124 @@
+#!/usr/bin/env python3
+"""Measures how long the built firm_state takes to read a state and to write it again, and where that time goes.
+
+usage: bench/states.py [--state FILE] [--kind KIND] [--tasks N] [--machines N] [--tenants N,..] [--repeats N]
+A tenant of a kind of stream is brought to its first round, and its state is multiplied. Prints a table in Markdown of
+times in milliseconds, each the middle of some runs: `start` is that of a run without a state; `read` what a run takes
+beyond it to read and judge the text, as a text that is faulty in its last line tells; `tenants` what it takes beyond
+that to open the tenants and to write their state; `whole` is the whole run by the clock, `processor` its processor
+time. The exit status is 1 where a state is not written as it was read.
+"""
+
+from __future__ import annotations
+
+import argparse
+import resource
+import statistics
+import subprocess
+import tempfile
+import time
+from pathlib import Path
+from typing import NamedTuple, Sequence
+
+from shared import CannotRun, TENANT, built, kinds, program_file, require, run_script
+
+# The exit status for a faulty state.
+FAULTY = 3
+COLUMNS = ("tenants", "rows", "KiB", "start", "read", "tenants", "whole", "processor")
+
+
+class Timed(NamedTuple):
+    """The seconds of a run, by the clock and of the processor, and what it wrote."""
+
+    clock: float
+    processor: float
+    output: bytes
+
+
+class Middle(NamedTuple):
+    """The middle of some runs, in seconds."""
+
+    clock: float
+    processor: float
+
+
+def processor_seconds() -> float:
+    """What the ended programs took so far."""
+    used = resource.getrusage(resource.RUSAGE_CHILDREN)
+    return used.ru_utime + used.ru_stime
+
+
+def timed(words: Sequence[str], status: int = 0) -> Timed:
+    """One run with no input, which must end with the status."""
+    before, begun = processor_seconds(), time.perf_counter()
+    done = subprocess.run(words, stdin=subprocess.DEVNULL, capture_output=True)
+    ended = time.perf_counter()
+    require(done.returncode == status, f"{list(words)}: status {done.returncode}, {done.stderr!r}")
+    return Timed(ended - begun, processor_seconds() - before, done.stdout)
+
+
+def middle(words: Sequence[str], repeats: int, status: int = 0) -> Middle:
+    runs = [timed(words, status) for _ in range(repeats)]
+    return Middle(statistics.median(run.clock for run in runs), statistics.median(run.processor for run in runs))
+
+
+def rows_of_tenant(options: argparse.Namespace, folder: Path) -> list[str]:
+    """The rows of the place of one tenant after the first round of a stream."""
+    stream = kinds.make(options.kind, options.tasks, options.machines)
+    (folder / "roster.csv").write_text(stream.roster)
+    lines = "".join(f"{line}\n" for line in [*stream.parts[0], f"{TENANT} round"])
+    done = subprocess.run(
+        [options.state, "--roster", str(folder / "roster.csv")], input=lines.encode(), capture_output=True
+    )
+    if done.returncode:
+        raise CannotRun(f"no state of the stream: {done.stderr!r}")
+    return done.stdout.decode().splitlines()[1:-1]
+
+
+def state_of(rows: list[str], tenants: int) -> str:
+    """The state of tenants that differ in their names alone."""
+    heading = f"tenant {TENANT} "
+    many = [
+        row.replace(heading, f"tenant {TENANT}{number} ") if row.startswith(heading) else row
+        for number in range(tenants)
+        for row in rows
+    ]
+    return "".join(f"{row}\n" for row in ["firm state 1", *many, f"rows {len(many)}"])
+
+
+def cells(options: argparse.Namespace, text: str, tenants: int, folder: Path) -> list[str]:
+    """The cells of the table for a state."""
+    path, faulty = folder / "state", folder / "faulty"
+    path.write_text(text)
+    count = text.count("\n") - 2
+    faulty.write_text(text.replace(f"\nrows {count}\n", f"\nrows {count + 1}\n"))
+    words = [options.state, "--state"]
+    require(timed([*words, str(path)]).output == text.encode(), "a state is written as another")
+    start = middle([options.state, "--version"], options.repeats)
+    read = middle([*words, str(faulty)], options.repeats, FAULTY)
+    whole = middle([*words, str(path)], options.repeats)
+    steps = [start.clock, read.clock - start.clock, whole.clock - read.clock, whole.clock, whole.processor]
+    return [str(tenants), f"{count:,}", f"{len(text) / 1024:,.0f}", *(f"{step * 1000:,.1f}" for step in steps)]
+
+
+def main() -> int:
+    parser = argparse.ArgumentParser(description=(__doc__ or "").splitlines()[0])
+    parser.add_argument("--state", type=program_file, default=str(built("firm_state")), metavar="FILE")
+    parser.add_argument("--kind", choices=kinds.KINDS, default="fresh")
+    parser.add_argument("--tasks", type=int, default=3000)
+    parser.add_argument("--machines", type=int, default=1000)
+    parser.add_argument("--tenants", default="1,8,64", metavar="N,..")
+    parser.add_argument("--repeats", type=int, default=9)
+    options = parser.parse_args()
+    print("| " + " | ".join(COLUMNS) + " |\n|" + " --: |" * len(COLUMNS), flush=True)
+    with tempfile.TemporaryDirectory(prefix="firm-") as name:
+        folder = Path(name)
+        rows = rows_of_tenant(options, folder)
+        for tenants in map(int, options.tenants.split(",")):
+            found = cells(options, state_of(rows, tenants), tenants, folder)
+            print("| " + " | ".join(found) + " |", flush=True)
+    return 0
+
+
+if __name__ == "__main__":
+    run_script(main)

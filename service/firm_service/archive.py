@@ -1,0 +1,71 @@
+"""Segments of the journal that no start needs any more: they are kept, moved elsewhere or deleted."""
+
+from __future__ import annotations
+
+import shutil
+import time
+from dataclasses import dataclass
+from pathlib import Path
+
+from .extent import Extent
+from .faults import Exit, Fault
+from .files import PRIVATE, make_folder, replace_synced, sync_folder
+from .recovery import extent_path, numbers_of, read_file, read_header, segment_path
+
+DAY_SECONDS = 86_400
+
+
+@dataclass(frozen=True, slots=True)
+class Keeping:
+    """For how long segments are kept, and what becomes of them then."""
+
+    days: float | None = None  # None: all are kept
+    archive: Path | None = None  # None: they are deleted
+
+
+def clear(journal: Path, keeping: Keeping, needless: int) -> int:
+    """Takes away the oldest segments up to a needless one whose last line is older than is kept; how many."""
+    extent = Extent.read(extent_path(journal))
+    if keeping.days is None or extent is None or extent.since != 1:  # those of an older firmd are not cut
+        return 0
+    numbers, count = numbers_of(journal), 0
+    ends = ends_of(journal, numbers)
+    oldest = max(ends.values(), default=0.0) - keeping.days * DAY_SECONDS
+    for number in numbers:
+        if number > needless or ends[number] > oldest:
+            break
+        take_away(segment_path(journal, number), keeping.archive)
+        count += 1
+    return count
+
+
+def ends_of(journal: Path, numbers: list[int]) -> dict[int, float]:
+    """When the segments but the last ended, by the Unix clock: at the latest when any later one was begun.
+
+    So a clock that is ahead for a while keeps no segment for long, nor takes one away before it has begun another.
+    """
+    found, end = dict[int, float](), time.time()
+    for number in reversed(numbers[1:]):
+        end = min(end, read_header(segment_path(journal, number)).time / 1_000)
+        found[number - 1] = end
+    return found
+
+
+def take_away(path: Path, archive: Path | None) -> None:
+    """Deletes a segment, once it is on the disk of the archive, if there is one. The oldest go first, on the disk too:
+    no start finds a gap between two others."""
+    if archive is not None:
+        make_folder(archive, 0o700)
+        if archive.samefile(path.parent):
+            raise Fault(Exit.STATE, f"the archive {archive} is the journal itself: {path.name} stays there")
+        copy_into(archive, path)
+    path.unlink()
+    sync_folder(path.parent)
+
+
+def copy_into(archive: Path, path: Path) -> None:
+    copy, text = archive / path.name, read_file(path)
+    if copy.exists() and copy.read_bytes() != text:
+        raise Fault(Exit.STATE, f"{copy} is there, and is another segment than {path}: it stays where it is")
+    replace_synced(copy, text, PRIVATE)
+    shutil.copystat(path, copy)

@@ -1,0 +1,94 @@
+"""Books from the state of a service, and what is kept beside it: what firmd knows and firm doesn't."""
+
+from __future__ import annotations
+
+import json
+from collections import Counter, deque
+from typing import Any
+
+from .books import COSTS_KEPT, Book, Books, Task
+from .faults import Exit, Fault
+from .roster import RosterError
+from .states import Opening, TaskRow, TenantRows, tenants_of
+
+COSTS_OF_STATE = 8  # of a tenant's last rounds
+# Of a tenant that firmd knows nothing more of: where a service begins with the state of another.
+UNKNOWN: dict[str, Any] = {"rounds": 0, "refused": {}, "costs": None, "lines": None}
+
+
+def start_books(opening: Opening, text: bytes) -> Books:
+    """The books before any line."""
+    try:
+        if opening.is_state:
+            return read_books(text, None, 0)
+        books = Books()
+        books.start(text)
+        return books
+    except (RosterError, ValueError) as error:
+        raise Fault(Exit.ROSTER, f"{opening.path}: {error}") from error
+
+
+def books_text(books: Books, more: dict[str, Any] | None = None) -> bytes:
+    """What a state doesn't have: the rounds, refusals and further costs of each tenant, and the lines of its tasks."""
+    tenants = {
+        name: {
+            "rounds": book.rounds,
+            "refused": {reply.decode("ascii"): count for reply, count in book.refused.items()},
+            "costs": list(book.costs),
+            "lines": [task.line for task in book.tasks.values()],
+        }
+        for name, book in books.tenants.items()
+    }
+    kept = {"refusals": books.refusals, "tenants": tenants, **(more or {})}
+    return json.dumps(kept, separators=(",", ":")).encode()
+
+
+def read_books(state: bytes, text: bytes | None, lines: int) -> Books:
+    """The books behind these lines, by the state and what is kept beside it; raises `ValueError` unless they fit."""
+    kept = json.loads(text) if text is not None else {"refusals": {}, "tenants": {}}
+    books = Books()
+    books.lines, books.refusals = lines, Counter(kept["refusals"])
+    for rows in tenants_of(state):
+        books.put(book_of(rows, kept["tenants"].get(rows.limits.tenant, UNKNOWN)))
+    order = [name for name in kept["tenants"] if name in books.tenants]
+    if text is not None and len(order) != len(books.tenants):
+        raise ValueError("the state has other tenants than the books")
+    for name in order:  # in the order of admission, where a state has that of places
+        books.tenants[name] = books.tenants.pop(name)
+    return books
+
+
+def book_of(rows: TenantRows, kept: dict[str, Any]) -> Book:
+    rounds, lines = kept["rounds"], kept["lines"]
+    if lines is None:
+        lines = [0] * len(rows.tasks)  # none of this journal submitted them
+    tasks = {
+        row.name: Task(row.job, line, row.prefers, rounds - row.waits, None, row.machine)
+        for row, line in zip(rows.tasks, lines, strict=True)
+    }
+    waiting = sum(task.machine is None for task in tasks.values())
+    costs = deque(rows.costs if kept["costs"] is None else kept["costs"], maxlen=COSTS_KEPT)
+    refused = Counter({reply.encode(): count for reply, count in kept["refused"].items()})
+    number = b"%d" % rows.commands
+    return Book(rows.limits, rows.machines, rows.jobs, tasks, waiting, rounds, costs, refused, number)
+
+
+def difference(books: Books, state: bytes) -> str | None:
+    """What a state has otherwise than the books, which are made of firm's replies alone."""
+    found = tenants_of(state)
+    names, known = [rows.limits.tenant for rows in found], list(books.tenants)
+    if sorted(names) != sorted(known):
+        return f"the state has the tenants {names}, and the replies made {known}"
+    for rows in found:
+        if rows_of(books.tenants[rows.limits.tenant]) != rows:
+            return f"the state has other rows of {rows.limits.tenant} than the replies made"
+    return None
+
+
+def rows_of(book: Book) -> TenantRows:
+    """A book's rows as a state has them."""
+    tasks = [
+        TaskRow(name, task.job, task.machine, book.waited(task), task.prefers) for name, task in book.tasks.items()
+    ]
+    costs = list(book.costs)[-COSTS_OF_STATE:]
+    return TenantRows(book.limits, book.commands, costs, book.machines, book.jobs, tasks)

@@ -1,0 +1,104 @@
+"""The journal's lines in pieces, as a replay gives them to firm."""
+
+from __future__ import annotations
+
+from collections import deque
+from collections.abc import Iterator
+from dataclasses import dataclass
+from typing import NamedTuple
+
+from .lines import NO_MEMORY, OPERATOR_NO_MEMORY, first_word
+from .records import Block, plain
+from .recovery import Found, damaged, read_file
+
+PIECE_BYTES = 262_144  # of lines without a block
+
+
+class Place(NamedTuple):
+    """Where lines that were written together stand among all lines."""
+
+    number: int  # of the first, from 1
+    end: int  # in bytes, as firm reads them
+
+
+@dataclass(frozen=True, slots=True)
+class Piece:
+    """Lines of a replay: a block, or lines behind the last one."""
+
+    text: bytes
+    count: int
+    place: Place
+    block: Block | None
+    refused: frozenset[int]  # lines that memory was refused to, counted in the piece from 0
+    doubtful: frozenset[int]  # those of them that an older firmd kept
+
+    def effective(self) -> bytes:
+        """The piece, with the lines that memory was refused to as their first words: they count and change nothing."""
+        if not self.refused:
+            return self.text
+        lines = self.text.split(b"\n")
+        for number in self.refused:
+            lines[number] = first_word(lines[number]) or b"+"
+        return b"\n".join(lines)
+
+    def restore_refused(self, first: int, replies: list[bytes]) -> None:
+        """Puts the replies in place that were given when memory was refused; `first` is the number of the first."""
+        for number in self.refused:
+            if first <= number < first + len(replies):
+                tenant, count, *_ = replies[number - first].split(b" ")
+                is_operators = tenant == b"+"
+                replies[number - first] = (
+                    OPERATOR_NO_MEMORY if is_operators else b"%b %b %b" % (tenant, count, NO_MEMORY)
+                )
+
+
+def pieces_of(found: Found) -> Iterator[Piece]:
+    """All lines that were found, in their order."""
+    blocks = deque(sorted(found.blocks, key=lambda block: block.start))
+    text, start, number = b"", found.base.size, found.base.lines + 1  # lines that are not given yet, and their place
+    segments = list(found.segments)
+    for segment in segments:
+        data = read_file(segment.path)
+        if segment is segments[-1]:
+            data = data[: found.last_size]
+        text += data if segment.is_old else plain(data)
+        at = 0
+        for end, block in _cuts(text, start, blocks):
+            piece = _piece(found, text[at:end], Place(number, start + end), block)
+            at, number = end, number + piece.count
+            yield piece
+        text, start = text[at:], start + at
+
+
+def _cuts(text: bytes, start: int, blocks: deque[Block]) -> Iterator[tuple[int, Block | None]]:
+    """Where the pieces of a text end, with their blocks; what is left is of a block that ends behind the text."""
+    at = 0
+    while at < len(text):
+        while blocks and blocks[0].start < start + at:
+            blocks.popleft()  # another one has its lines, or it began before all that is read
+        block = blocks[0] if blocks else None
+        if block is None or block.start > start + at:
+            at = _piece_end(text, at, len(text) if block is None else block.start - start)
+            yield at, None
+        elif block.end - start <= len(text):
+            at = block.end - start
+            yield at, blocks.popleft()
+        else:
+            return
+
+
+def _piece_end(text: bytes, start: int, most: int) -> int:
+    """Where a piece without a block ends: with a line, before the most if it can."""
+    end = text.rfind(b"\n", start, min(most, start + PIECE_BYTES)) + 1
+    return end if end else text.index(b"\n", start) + 1
+
+
+def _piece(found: Found, text: bytes, place: Place, block: Block | None) -> Piece:
+    count = text.count(b"\n")
+    if block is not None and (block.count != count or not text.endswith(b"\n")):
+        last = place.number + count - 1
+        damaged(f"{found.segments[0].path.parent}: the replies to lines {place.number} to {last} are of others")
+    known = found.refused
+    refused = frozenset(number - place.number for number in known if 0 <= number - place.number < count)
+    doubtful = frozenset(below for below in refused if not known[place.number + below])
+    return Piece(text, count, place, block, refused, doubtful)

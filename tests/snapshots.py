@@ -1,0 +1,780 @@
+#!/usr/bin/env python3
+"""Has firmd make snapshots, start from them and change over to a fresh firm, damages them, and kills it meanwhile.
+
+usage: tests/snapshots.py [--quick] [--program FILE] [--state FILE] [--only WORDS] [--kills N] [--seed N]
+Each check has a line; the last line is 'N passed, M failed', and the exit status is 1 where one failed. It needs the
+built firm and firm_state. firm alone, over all lines of the journal from its beginning, is the judge of each reply.
+"""
+
+from __future__ import annotations
+
+import argparse
+import os
+import random
+import shutil
+import subprocess
+import sys
+import tempfile
+import time
+from collections import Counter
+from collections.abc import Callable
+from concurrent.futures import ThreadPoolExecutor
+from contextlib import suppress
+from dataclasses import dataclass
+from functools import partial
+from pathlib import Path
+
+import firmd
+from firmd import HEADING, ROSTER, Client, Daemon, Gone, Setup, Tenant, in_threads, roster_of, wait_for
+from harness import program
+from harness.checks import Check, count_ends, passes, require, run_script
+from harness.deployed import SERVICE, Limits, archive, extent, kept_books, records, service_states, snapshots
+from journal_kit import QUESTIONS, ROUNDS, ask_all, tool
+from snapshot_kit import (
+    MORE,
+    PATIENT,
+    asked,
+    books_of,
+    children,
+    failures,
+    goes_on,
+    has_snapshots,
+    holds,
+    last_lines,
+    named,
+    processes,
+    replayed,
+    shown,
+    text_of,
+    with_snapshots,
+)
+
+CHECKS_AT_A_TIME = 4
+MOMENT_SECONDS = 30.0  # at most, until a kill
+LIMIT = 8_000  # bytes that firm may read, where fresh ones take over
+
+
+@dataclass(frozen=True)
+class Options(Setup):
+    state: str
+    kills: int
+
+
+# States, by firm_state.
+
+
+def folds(setup: Options) -> None:
+    """States are folded, joined and cut as firm goes on from them; faults have the words of firm_state."""
+    with setup.daemon() as daemon:
+        roster, first, rest = daemon.folder / "roster.csv", [*ROUNDS, *MORE], [*QUESTIONS, *MORE]
+        opening = service_states.Opening(roster)
+        text = service_states.fold(opening, [text_of(first)])
+        whole = setup.alone(ROSTER, text_of([*first, *rest]))
+        with service_states.state_file(text) as state:
+            done = program.run_words([setup.program, *state.words()], text_of(rest))
+            require(done.output.splitlines() == whole[len(first) :], done)
+            require(service_states.fold(state) == text, "it is written as it is read")
+            pieces = [text_of(rest)[place : place + 7] for place in range(0, len(text_of(rest)), 7)]
+            require(
+                service_states.fold(state, pieces) == service_states.fold(opening, [text_of([*first, *rest])]), "law"
+            )
+            parts = [service_states.fold(state, part=service_states.Part(tenants=[name])) for name in ("beta", "alpha")]
+            require([len(service_states.tenants_of(part)) for part in parts] == [1, 1], "cut")
+            refused(service_states.Part(tenants=["gamma"]), state, ("tenant", 26, "no-such-tenant", None))
+            refused(service_states.Part(merged=[state.path]), state, ("tenant", 25, "tenant-exists", None))
+        with service_states.state_file(parts[1]) as alpha, service_states.state_file(parts[0]) as beta:
+            joined = service_states.fold(alpha, part=service_states.Part(merged=[beta.path]))
+            both = [service_states.tenants_of(parts[1]), service_states.tenants_of(parts[0])]
+            require(service_states.tenants_of(joined) == both[0] + both[1] == service_states.tenants_of(text), joined)
+        with service_states.state_file(text.replace(b" at ", b" on ", 1)) as state:
+            line = 1 + text[: text.index(b" at ")].count(b"\n")
+            refused(service_states.WHOLE, state, ("state", 4, "number", line))
+        rows = service_states.tenants_of(text)
+        require([tenant.limits for tenant in rows][1] == Limits("beta", 30, 300, 10**9, 0, 3), rows)
+        require(kept_books.difference(books_of(setup, first), text) is None, "the books have the same rows")
+        other = kept_books.difference(books_of(setup, first[:-7]), text)
+        require(other is not None, "other books have others")
+
+
+def hangs(setup: Options) -> None:
+    """A firm_state that takes nothing, says nothing, doesn't end or writes without end is killed, and that is told."""
+    del setup
+    with tempfile.TemporaryDirectory(prefix="firm-") as name:
+        for script, said in HANGING:
+            named = {**os.environ, "FIRM_STATE_PROGRAM": firmd.stand_in(Path(name), f"#!/bin/sh\n{script}\n")}
+            words = [sys.executable, "-c", HUNG, str(SERVICE), name]
+            done = subprocess.run(words, capture_output=True, text=True, env=named, timeout=PATIENT)
+            require((done.returncode, done.stdout.strip()) == (0, said), f"{script}: {done}")
+
+
+def files_of_killed(setup: Options) -> None:
+    """A state's text is in no file that a killed process leaves behind."""
+    del setup
+    with tempfile.TemporaryDirectory(prefix="firm-") as name:
+        words = [sys.executable, "-c", KILLED, str(SERVICE)]
+        done = subprocess.run(words, capture_output=True, text=True, env={**os.environ, "TMPDIR": name})
+        require((done.returncode, done.stdout) == (-9, "firm state 1\nrows 0\n\n"), done)
+        require(not os.listdir(name), os.listdir(name))
+
+
+KILLED = """\
+import os, subprocess, sys
+sys.path.insert(0, sys.argv[1])
+from firm_service import states
+with states.state_file(b"firm state 1\\nrows 0\\n") as opening:
+    print(subprocess.run(["cat", opening.path], capture_output=True, text=True).stdout, flush=True)
+    os.kill(os.getpid(), 9)
+"""
+SILENCE = "-9 it has neither taken nor written anything for 1 s, so it is killed"
+HANGING = [
+    ("exec sleep 600", SILENCE),
+    ("cat > /dev/null; exec sleep 600", SILENCE),
+    ("cat > /dev/null; exec >&- 2>&-; exec sleep 600", SILENCE),
+    ("exec <&-; exec sleep 600", SILENCE),
+    ("exec yes", "-9 it writes more than any state has, so it is killed"),
+    ("echo firm_state: no >&2; exit 7", "7 firm_state: no"),
+]
+HUNG = """\
+import sys
+from pathlib import Path
+sys.path.insert(0, sys.argv[1])
+from firm_service import states
+states.SILENT_SECONDS = 1.0
+try:
+    states.fold(states.Opening(Path(sys.argv[2])), [b"alpha round\\n"] * 100_000)
+except states.StateError as error:
+    print(error.status, error)
+"""
+
+
+def refused(
+    part: service_states.Part, opening: service_states.Opening, fault: tuple[str, int, str, int | None]
+) -> None:
+    try:
+        service_states.fold(opening, part=part)
+    except service_states.Refused as error:
+        got = (error.of, error.number, error.name, error.line)
+        require(got == fault and str(error).startswith("firm_state: "), f"{got}: {error}")
+    else:
+        require(False, f"{fault}: it is not refused")
+
+
+# Starts.
+
+
+def starts(setup: Options) -> None:
+    """A start goes on from the last snapshot and its tail, after a kill and a stop, and shows all as before."""
+    with with_snapshots(setup) as (daemon, said):
+        for is_killed in (True, False):
+            before, lines = shown(daemon), last_lines(daemon)
+            daemon.kill() if is_killed else daemon.stop()
+            daemon.start()
+            require(0 < replayed(daemon) <= len(said) - 40 and lines >= 40, f"{replayed(daemon)} of {len(said)} lines")
+            require(shown(daemon) == before, f"{shown(daemon)}, and was {before}")
+            goes_on(setup, daemon, said)
+        daemon.stop()
+        folder = daemon.state / "snapshots"
+        held = snapshots.read(folder, named(daemon)[0])
+        wanted = books_of(setup, said[: held.base.lines])
+        books = kept_books.read_books(held.state, held.books, held.base.lines)
+        require(kept_books.books_text(books) == kept_books.books_text(wanted), "what firmd knows beside firm")
+        require([lines.number for lines in books.tenants.values()] != [], "tenants")
+        require(tool("snapshots", daemon.state).count(" lines, ") == 2, tool("snapshots", daemon.state))
+        shutil.rmtree(folder)
+        daemon.start()
+        require(replayed(daemon) == len(said), "all lines are replayed without snapshots")
+        require(shown(daemon)["lines"] == len(said), "all lines are counted")
+        goes_on(setup, daemon, said)
+        daemon.stop()
+
+
+def refused_memory(setup: Options) -> None:
+    """A line that memory was refused to takes no effect in a snapshot, nor behind one."""
+    with setup.daemon("--snapshot-lines", "30") as daemon:
+        daemon.start()
+        ask_all(daemon, [*ROUNDS, *[b"alpha show"] * 20])
+        daemon.kill()  # before the digest of the replies is kept
+        mark_refused(daemon, 3)  # `alpha task j a`
+        daemon.start()
+        require(ask_all(daemon, [b"alpha where a"])[0].endswith(b" no 10 no-such-task"), "before a snapshot")
+        ask_all(daemon, [b"alpha show"] * 30)
+        has_snapshots(daemon, 1)
+        daemon.kill()
+        daemon.start()
+        require(ask_all(daemon, [b"alpha where a"])[0].endswith(b" no 10 no-such-task"), "in a snapshot")
+        ask_all(daemon, [b"alpha task j tail"])
+        lines = daemon.journal().count(b"\n")
+        daemon.kill()
+        require(last_lines(daemon) < lines, "the line stands behind the snapshot")
+        mark_refused(daemon, lines)
+        daemon.start()
+        require(ask_all(daemon, [b"alpha where tail"])[0].endswith(b" no 10 no-such-task"), "behind a snapshot")
+        daemon.stop()
+
+
+MARKED = """\
+import sys
+from pathlib import Path
+sys.path.insert(0, {service!r})
+from firm_service.journal import Journal, Room
+from firm_service.kept import first_base
+from firm_service.state import State
+state = State(Path({state!r}))
+state.read_opening()
+journal = Journal(state, Room(10**7), first_base(state.folder))
+journal.keep_refused([{number}])
+journal.close()
+"""
+
+
+def mark_refused(daemon: Daemon, number: int) -> None:
+    """Has the journal say that memory was refused to a line."""
+    script = MARKED.format(service=str(SERVICE), state=str(daemon.state), number=number)
+    done = subprocess.run([sys.executable, "-c", script], capture_output=True, text=True)
+    require(done.returncode == 0, done.stderr)
+
+
+# Damage.
+
+
+def damage(path: Path, draw: random.Random) -> str:
+    """Changes a file somehow; says how."""
+    text = path.read_bytes()
+    place = draw.randrange(len(text))
+    kind = draw.choice(["flip", "flip", "cut", "empty", "remove", "repeat"])
+    if kind == "remove":
+        path.unlink()
+    else:
+        flipped = text[:place] + bytes([text[place] ^ 1 << draw.randrange(8)]) + text[place + 1 :]
+        changed = {"flip": flipped, "cut": text[:place], "empty": b"", "repeat": text + text[place:]}
+        path.write_bytes(changed[kind])
+    return f"{kind} of {path.name} at {place}"
+
+
+def damages(setup: Options) -> None:
+    """A damaged snapshot is told and not used, but the one before it and a longer tail, or the whole journal."""
+    draw = random.Random(setup.seed)
+    with with_snapshots(setup) as (daemon, said):
+        daemon.kill()
+        kept = daemon.folder / "kept"
+        shutil.copytree(daemon.state, kept, ignore=shutil.ignore_patterns("view"))
+        first, second = [snapshots.paths_of(daemon.state / "snapshots", segment) for segment in named(daemon)[:2]]
+        for trial in range(2 if setup.is_quick else 100):
+            paths = [draw.choice(first)] + ([draw.choice(second)] if trial % 2 else [])
+            what = [damage(path, draw) for path in paths]
+            daemon.start()
+            told = daemon.said().count(b"a snapshot is not used")
+            wanted = sum(not word.startswith("remove") or word.split(".")[1].startswith("state") for word in what)
+            require(told == wanted, f"{what}: {daemon.said().decode()}")
+            goes_on(setup, daemon, list(said))
+            require(trial % 2 == 0 or replayed(daemon) == len(said), f"{what}: {replayed(daemon)} lines")
+            daemon.kill()
+            shutil.rmtree(daemon.state)
+            shutil.copytree(kept, daemon.state)
+        for segment, other in zip(first, second):
+            segment.write_bytes(other.read_bytes())  # that of another segment
+        daemon.start()
+        require(b"of another segment" in daemon.said(), daemon.said())
+        goes_on(setup, daemon, list(said))
+        daemon.kill()
+
+
+# What is kept.
+
+
+def keeps(setup: Options) -> None:
+    """Old segments are archived or deleted; then one of the snapshots is needed, and no other line is away."""
+    for is_archived in (True, False):
+        with setup.daemon("--snapshot-lines", "20", "--keep", "0") as daemon:
+            archive = daemon.folder / "archive"
+            if is_archived:
+                daemon.options += ["--archive", str(archive)]
+            said: list[bytes] = []
+            daemon.start()
+            for lines in (ROUNDS, MORE, MORE, MORE):
+                goes_on(setup, daemon, said, [*lines, *[b"alpha show"] * 20])
+                holds(daemon, len(said) // 20 * 20 - 20)
+            wait_for(lambda: int(daemon.segments()[0].stem) > 1, "segments are away", PATIENT)
+            daemon.kill()
+            daemon.start()
+            goes_on(setup, daemon, said)
+            whole = b"".join(map(firmd.lines_of, sorted(archive.glob("*.lines")))) + daemon.journal()
+            require(whole == text_of(said) if is_archived else text_of(said).endswith(whole), "the lines")
+            require(tool("print", daemon.state).encode() == daemon.journal(), "it prints what is there")
+            daemon.stop()
+            for segment in named(daemon):
+                for path in snapshots.paths_of(daemon.state / "snapshots", segment):
+                    path.write_bytes(b"")
+            daemon.refuses(5, "segments are missing", "a snapshot is not used")
+    with setup.daemon("--keep", "0") as daemon:
+        daemon.options += ["--archive", str(daemon.folder / "link" / "journal")]
+        (daemon.folder / "link").symlink_to(daemon.state)
+        daemon.refuses(2, "--archive names the journal itself")
+
+
+def clocks_jump(setup: Options) -> None:
+    """A clock that is set ahead takes no segment away, nor keeps one for long by what it wrote; nor one set back."""
+    del setup
+    now, day = time.time(), 86_400.0
+    for times, taken in [
+        ([-9, -8, -7, -0.5, -0.1], 2),  # days from now, when each segment was begun
+        ([-400, -399.9, -399.8, -399.7, -399.6], 0),  # it is set ahead
+        ([-9, 400, -8, -7, -0.1], 3),  # it was ahead
+        ([-9, -8, -7, -0.1, 400], 2),
+        ([-0.3, -0.2, -9, -9, -8.9], 0),  # it is set back
+    ]:
+        with tempfile.TemporaryDirectory(prefix="firm-") as name:
+            journal = Path(name)
+            for number, days in enumerate(times, 1):
+                header = records.Header("state", number, 0, 0, 0, 0, int((now + days * day) * 1_000))
+                (journal / f"{number:08}.lines").write_bytes(header.text())
+            (journal / "extent").write_bytes(extent.Extent(b"state", 1, len(times), 0, 0).text())
+            count = archive.clear(journal, archive.Keeping(days=1.0), len(times) - 1)
+            require(count == taken == len(times) - len(list(journal.glob("*.lines"))), f"{times}: {count} are taken")
+
+
+def archive_away(setup: Options) -> None:
+    """An archive that can't be written delays no snapshot; once it can, segments go there without a further one."""
+    with setup.daemon("--snapshot-lines", "20", "--keep", "0") as daemon:
+        away = daemon.folder / "archive"
+        away.write_bytes(b"")
+        daemon.options += ["--archive", str(away)]
+        said: list[bytes] = []
+        daemon.start()
+        for lines in (ROUNDS, MORE, MORE, MORE):
+            goes_on(setup, daemon, said, [*lines, *[b"alpha show"] * 20])
+            holds(daemon, len(said) // 20 * 20 - 20)
+        wait_for(lambda: failures(daemon) >= 2, f"failures: {daemon.said().decode()}", PATIENT)
+        made = named(daemon)
+        require(int(daemon.segments()[0].stem) == 1, "a segment is away")
+        away.unlink()
+        wait_for(lambda: int(daemon.segments()[0].stem) > 1, "segments are away", PATIENT)
+        require(named(daemon) == made, f"{named(daemon)}, and it had {made}")
+        whole = b"".join(map(firmd.lines_of, sorted(away.glob("*.lines")))) + daemon.journal()
+        require(whole == text_of(said), "the lines")
+        daemon.stop()
+
+
+def leaves_nothing(setup: Options) -> None:
+    """Parts of snapshots that a crash left go with the next one, and no other file; one that can't be written leaves
+    none."""
+    with setup.daemon("--snapshot-lines", "20") as daemon:
+        folder = daemon.state / "snapshots"
+        folder.mkdir(parents=True)
+        for name in LEFT:
+            (folder / name).write_bytes(b"left")
+        (folder / "notes").write_bytes(b"an operator's")
+        said: list[bytes] = []
+        daemon.start()
+        for count in (1, 2, 3):
+            goes_on(setup, daemon, said, [*(ROUNDS if count == 1 else MORE), *[b"alpha show"] * 20])
+            holds(daemon, len(said) // 20 * 20 - 20)
+        wanted = [path.name for segment in named(daemon) for path in snapshots.paths_of(folder, segment)]
+        wait_for(
+            lambda: sorted(path.name for path in folder.iterdir()) == sorted([*wanted, "notes"]),
+            f"{wanted} alone: {sorted(folder.iterdir())}",
+            PATIENT,
+        )
+        require(
+            not [path for path in folder.iterdir() if path.stat().st_mode & 0o077 and path.name != "notes"], "modes"
+        )
+        daemon.stop()
+        held = snapshots.read(folder, named(daemon)[0])
+        for script, told in [(TOO_LITTLE, "which is too little room"), (TOO_LARGE, "File too large")]:
+            words = [sys.executable, "-c", script, str(SERVICE), str(folder), str(held.base.segment)]
+            done = subprocess.run(words, capture_output=True, text=True)
+            require(told in done.stdout, done)
+            require(not any(folder.glob("*.new")), f"{sorted(folder.iterdir())}")
+
+
+LEFT = ["00000000.state", "99999999.state.new", "00000000.snapshot.new", "99999999.state"]
+WRITTEN = """\
+import os, resource, sys
+from pathlib import Path
+sys.path.insert(0, sys.argv[1])
+from firm_service import snapshots
+folder = Path(sys.argv[2])
+snapshot = snapshots.read(folder, int(sys.argv[3]))
+{}
+try:
+    snapshots.write(folder, snapshot)
+except OSError as error:
+    print(error)
+"""
+TOO_LARGE = WRITTEN.format("resource.setrlimit(resource.RLIMIT_FSIZE, (100, 100))")
+TOO_LITTLE = WRITTEN.format(
+    """\
+found = os.statvfs(folder)
+os.statvfs = lambda path: os.statvfs_result((*found[:4], 1, *found[5:10]))
+"""
+)
+
+
+def fails(setup: Options) -> None:
+    """A snapshot that can't be made is told and counted; the service goes on, and makes one once it can."""
+    with setup.daemon("--snapshot-lines", "20") as daemon:
+        blocked = daemon.state / "snapshots"
+        daemon.state.mkdir()
+        blocked.write_bytes(b"")
+        said: list[bytes] = []
+        daemon.start()
+        goes_on(setup, daemon, said, [*ROUNDS, *[b"alpha show"] * 30])
+        wait_for(lambda: b"no snapshot was made" in daemon.said(), daemon.said().decode(), PATIENT)
+        goes_on(setup, daemon, said)
+        blocked.unlink()
+        has_snapshots(daemon, 1)
+        goes_on(setup, daemon, said)
+        daemon.stop()
+    with setup.daemon("--snapshot-lines", "20") as daemon:
+        daemon.words = ["env", f"FIRM_STATE_PROGRAM={daemon.folder / 'none'}", *firmd.FIRMD]
+        said = []
+        daemon.start()
+        goes_on(setup, daemon, said, [*ROUNDS, *[b"alpha show"] * 30])
+        wait_for(lambda: b"states come from firm_state" in daemon.said(), daemon.said().decode(), PATIENT)
+        goes_on(setup, daemon, said)
+        daemon.stop()
+
+
+def seals_once(setup: Options) -> None:
+    """Snapshots that can't be made again and again leave no more segments than one that can."""
+    with setup.daemon("--snapshot-minutes", "0.0001") as daemon:
+        daemon.words = ["env", f"FIRM_STATE_PROGRAM={daemon.folder / 'none'}", *firmd.FIRMD]
+        said: list[bytes] = []
+        daemon.start()
+        goes_on(setup, daemon, said, ROUNDS)
+        for count in (1, 2, 3):
+            wait_for(lambda: failures(daemon) >= count, f"{count} failures: {daemon.said().decode()}", PATIENT)
+            goes_on(setup, daemon, said)
+        require(len(daemon.segments()) == 2, f"{len(daemon.segments())} segments")
+        daemon.stop()
+
+
+def full_disk(setup: Options) -> None:
+    """On a full disk no segment is begun for a snapshot, and none takes the room that lines have: firmd goes on."""
+    with setup.daemon("--snapshot-minutes", "0.0001") as daemon:
+        daemon.state.mkdir()
+        firmd.mount(daemon.state, "-t", "tmpfs", "-o", "size=4m", "tmpfs")
+        try:
+            filling = daemon.state / "filling"
+            filling.write_bytes(bytes(4 * 2**20 - 2**16))  # what is left is for lines, and not for a segment
+            said: list[bytes] = []
+            daemon.start()
+            goes_on(setup, daemon, said, ROUNDS)
+            wait_for(lambda: failures(daemon) >= 2, f"failures: {daemon.said().decode()}", PATIENT)
+            require(b"no segment is begun for a snapshot" in daemon.said(), daemon.said().decode())
+            filling.write_bytes(bytes(3 * 2**20))  # for a segment, and not for a snapshot
+            wait_for(lambda: b"no snapshot was made" in daemon.said(), daemon.said().decode(), PATIENT)
+            require(len(daemon.segments()) == 2 and not named(daemon), f"{daemon.segments()}")
+            goes_on(setup, daemon, said)
+            filling.unlink()
+            has_snapshots(daemon, 1)
+            goes_on(setup, daemon, said)
+            daemon.stop()
+        finally:
+            subprocess.run(["umount", "-l", str(daemon.state)], check=True)
+
+
+def gives_way(setup: Options) -> None:
+    """Who makes a snapshot has a lower priority than firmd and firm, in their session: sessions share the processors
+    whatever the priorities of their processes."""
+    with setup.daemon("--snapshot-lines", "20") as daemon:
+        daemon.start()
+        session, found = os.getsid(daemon.running().pid), set[tuple[bool, int]]()
+        ends = time.monotonic() + PATIENT
+        with daemon.client() as client:
+            while not any(nice > 0 for _, nice in found):
+                require(time.monotonic() < ends, f"a process that makes a snapshot, of low priority: {found}")
+                client.ask(b"alpha show")
+                for pid in processes(daemon):
+                    with suppress(OSError):  # it has ended meanwhile
+                        if b"firm-snapshot" in Path(f"/proc/{pid}/cmdline").read_bytes():
+                            found.add((os.getsid(pid) == session, os.getpriority(os.PRIO_PROCESS, pid)))
+        require(all(is_same for is_same, _ in found), found)
+        require(os.getsid(daemon.firm_process()) == session, "firm is of another session")
+        daemon.stop()
+
+
+# A fresh firm.
+
+
+def changes_over(setup: Options) -> None:
+    """Far more than firm may read goes through: fresh firms go on, and each reply is as from one that reads all."""
+    with setup.daemon("--snapshot-lines", "100", "--journal-limit", str(LIMIT)) as daemon:
+        said: list[bytes] = []
+        daemon.start()
+        processes = {daemon.firm_process()}
+        goes_on(setup, daemon, said, ROUNDS)
+        with daemon.client() as client:
+            ends, number, replies = time.monotonic() + 2 * PATIENT, 0, list[bytes]()
+            firms = 2 if setup.is_quick else 5
+            while len(processes) < firms or number % 50 or len(text_of(said)) <= LIMIT:
+                require(time.monotonic() < ends, f"{len(processes)} firms: {daemon.said().decode()}")
+                line = (b"alpha round", b"alpha where a", b"beta where l", b"alpha task j x%d" % number)[number % 4]
+                reply = client.ask(line)
+                if not reply.startswith(b"? journal-full"):  # so slow is the host
+                    said.append(line)
+                    replies.append(reply)
+                    number += 1
+                processes.add(daemon.firm_process())
+            require(replies == setup.alone(ROSTER, text_of(said))[-len(replies) :], "other replies")
+        daemon.kill()
+        daemon.start()
+        goes_on(setup, daemon, said)
+        daemon.stop()
+
+
+def firms_hang(setup: Options) -> None:
+    """A fresh firm that hangs is killed, and the one that runs goes on; so is a former one that doesn't end."""
+    limits = ["--snapshot-lines", "100", "--journal-limit", str(LIMIT), "--firm-timeout", "1"]
+    with setup.daemon(*limits) as daemon:
+        hanging, daemon.firm = daemon.folder / "hanging", firmd.stand_in(daemon.folder, HUNG_FIRM.format(setup.program))
+        hanging.write_bytes(b"")
+        said: list[bytes] = []
+        daemon.start()
+        goes_on(setup, daemon, said, ROUNDS)
+        first = daemon.firm_process()
+        with daemon.client() as client:
+            until_said(daemon, client, said, b"no fresh firm goes on from the snapshot")
+            require(b"firm has not answered for 1 s" in daemon.said(), daemon.said().decode())
+            hanging.unlink()
+            until_said(daemon, client, said, b"a fresh firm goes on from the snapshot")
+        wait_for(lambda: not Path(f"/proc/{first}").exists(), "the former firm is killed")
+        goes_on(setup, daemon, said)
+        daemon.stop()
+
+
+# In the place of firm. The one that begins with the roster doesn't end with its input; one that begins with a snapshot
+# for firmd itself hangs as long as a file is there.
+HUNG_FIRM = """\
+#!/bin/sh
+case "$*" in
+*roster.csv*) {0} "$@"; exec sleep 600 ;;
+*snapshots*) grep -q firm-snapshot /proc/$PPID/cmdline || [ ! -e "${{0%/*}}/hanging" ] || exec sleep 600 ;;
+esac
+exec {0} "$@"
+"""
+
+
+def until_said(daemon: Daemon, client: Client, said: list[bytes], words: bytes) -> None:
+    """Gives it lines until it says these words."""
+    ends = time.monotonic() + PATIENT
+    while words not in daemon.said():
+        require(time.monotonic() < ends, f"{words!r}: {daemon.said().decode()}")
+        if not client.ask(b"alpha round").startswith(b"? journal-full"):
+            said.append(b"alpha round")
+
+
+def kills(setup: Options, part: int) -> None:
+    """kill -9 or a stop at any moment of a snapshot, a change over and a segment's move: no answered line is lost.
+
+    The long form goes on until each of these moments has come, and was met.
+    """
+    seed = setup.seed + 1000 * (part + 1)
+    draw = random.Random(seed)
+    tenants = [Tenant(f"t{place}", seed + place) for place in range(3)]
+    limits = ["--segment-bytes", "20000", "--snapshot-lines", "60", "--journal-limit", "40000", "--keep", "0"]
+    with setup.daemon(*limits, "--after", "1", roster=roster_of(tenants)) as daemon:
+        archive = daemon.folder / "archive"
+        daemon.options += ["--archive", str(archive)]
+        met: Counter[str] = Counter()
+        count = 0
+        while count < setup.kills or not setup.is_quick and len(met) < len(MOMENTS) and count < 4 * setup.kills:
+            left = list(MOMENTS) if count < setup.kills else [name for name in MOMENTS if name not in met]
+            name = left[count % len(left)]
+            met += Counter({name: kill_amid(daemon, tenants, draw, MOMENTS[name])})
+            count += 1
+        daemon.start()
+        with daemon.client() as client:
+            for tenant in tenants:
+                for command in ("show", "costs"):
+                    line = f"{tenant.name} {command}".encode()
+                    tenant.tell(firmd.Answered(line, client.ask(line)))
+        daemon.stop()
+        whole = b"".join(map(firmd.lines_of, sorted(archive.glob("*.lines")))) + daemon.journal()
+        firmd.check_kept(setup, whole, tenants)
+        print(f"{count} kills, of which it met {dict(met)}", flush=True)
+        require(setup.is_quick or set(met) == set(MOMENTS), f"never met: {set(MOMENTS) - set(met)}")
+
+
+def kill_amid(daemon: Daemon, tenants: list[Tenant], draw: random.Random, moment: Moment) -> bool:
+    """Starts it, has clients ask, and kills it at a moment, or now and then stops it; whether that came."""
+    if draw.random() < 0.2:  # at any moment of its start
+        daemon.spawn()
+        time.sleep(draw.uniform(0.05, 0.5))
+        daemon.kill()
+    daemon.start()
+    works = [partial(talk, tenant, daemon.client(), random.Random(draw.random())) for tenant in tenants for _ in "ab"]
+    with ThreadPoolExecutor(1) as pool:
+        end = partial(daemon.stop) if draw.random() < 0.2 else partial(daemon.kill)
+        ended = pool.submit(end_at, daemon, moment, draw.uniform(0.0, moment.most_seconds), end)
+        raised = in_threads(works)
+    require(all(isinstance(error, Gone) for error in raised), raised)
+    require(b"Traceback" not in daemon.said(), daemon.said().decode())
+    return ended.result()
+
+
+@dataclass(frozen=True)
+class Moment:
+    """When a daemon is killed."""
+
+    has_come: Callable[[Daemon], bool]
+    most_seconds: float = 0.03  # behind that
+
+
+# The first of them are those of the quick form.
+MOMENTS = {
+    "a snapshot is made": Moment(lambda daemon: any(b"firm-snapshot" in words for words in children(daemon)), 0.3),
+    "a fresh firm is given lines": Moment(
+        lambda daemon: sum(words.startswith(daemon.firm.encode()) for words in children(daemon)) > 1
+    ),
+    "a fresh firm goes on": Moment(lambda daemon: b"a fresh firm goes on" in daemon.said()),
+    "a snapshot is written": Moment(lambda daemon: any((daemon.state / "snapshots").glob("*.new"))),
+    "a further snapshot is there": Moment(lambda daemon: len(named(daemon)) > 2),
+    "segments are archived": Moment(lambda daemon: b"segments of the journal are in" in daemon.said()),
+    "any moment": Moment(lambda daemon: True, 0.3),
+}
+
+
+def end_at(daemon: Daemon, moment: Moment, seconds: float, end: Callable[[], None]) -> bool:
+    """Ends it so long after a moment, which it has some time for; whether that came."""
+    ends = time.monotonic() + MOMENT_SECONDS
+    while not (has_come := moment.has_come(daemon)) and time.monotonic() < ends:
+        time.sleep(0.001)
+    time.sleep(seconds)
+    end()
+    return has_come
+
+
+def talk(tenant: Tenant, client: Client, draw: random.Random) -> None:
+    """Asks until the connection ends; what firm can't read yet is asked again later."""
+    with client:
+        while True:
+            for line in tenant.lines(draw.choice([1, 2, 5])):
+                if line.split() and not line.startswith(b"#") and len(line) <= 256:
+                    reply = client.ask(line)
+                    if not reply.startswith(b"?"):
+                        tenant.tell(firmd.Answered(line, reply))
+
+
+# Services that begin with a state.
+
+
+def restores(setup: Options) -> None:
+    """A service begins with the state of another: placements, waits and numbers go on; so does a tenant that moves."""
+    with with_snapshots(setup) as (daemon, said), setup.daemon("--snapshot-lines", "20") as other:
+        done = subprocess.run([*firmd.JOURNAL_TOOL, "state", daemon.state], capture_output=True, text=True)
+        require((done.returncode, done.stdout) == (4, "") and "is in use by process" in done.stderr, done)
+        before = shown(daemon)
+        daemon.stop()
+        with setup.daemon("--snapshot-lines", "20") as copy:
+            shutil.copytree(daemon.state, copy.state)
+            copy.start()
+            require(shown(copy) == before, f"tasks have other lines, so agents end them: {shown(copy)}")
+            require((copy.state / "id").read_text() == (daemon.state / "id").read_text(), "agents know it")
+            copy.stop()
+        state = daemon.folder / "taken"
+        state.write_text(tool("state", daemon.state))
+        whole = service_states.fold(service_states.Opening(daemon.folder / "roster.csv"), [daemon.journal()])
+        require(state.read_bytes() == whole, "the state behind a snapshot and its tail is that of the whole")
+        begin_with(other, state)
+        mode = (other.state / "restored").stat().st_mode & 0o777
+        require(mode == 0o600, f"a tenant's users may read the rows of others: {mode:o}")
+        goes_on(setup, other, said)
+        more = [*MORE, *[b"alpha show"] * 30]
+        goes_on(setup, other, said, more)
+        has_snapshots(other, 1)
+        other.kill()
+        other.start()
+        goes_on(setup, other, said)
+        other.stop()
+        changed = other.folder / "changed"
+        changed.write_bytes(state.read_bytes().replace(b" at ", b" on "))
+        other.restored = changed
+        other.refuses(3, "changed-state")
+        shutil.rmtree(other.state)
+        other.refuses(3, "state fault 4 number in line ")
+        other.restored = Path("/dev/zero")
+        other.refuses(3, "has more than 41,943,040 bytes, so it is no state")
+    moves(setup)
+
+
+def begin_with(daemon: Daemon, state: Path) -> None:
+    """Starts it with a state in its roster's place."""
+    daemon.restored = state
+    daemon.start()
+
+
+def moves(setup: Options) -> None:
+    """A tenant goes to another service by two commands, with all that it had."""
+    with setup.daemon() as here, setup.daemon(roster=HEADING + b"gamma,30,300,1000,0,0\n") as there:
+        said = [*ROUNDS, b"alpha task j waits", b"alpha round"]
+        here.start()
+        there.start()
+        ask_all(here, said)
+        gammas = [b"gamma machine m 1", b"gamma job j 1", b"gamma task j t", b"gamma round"]
+        ask_all(there, gammas)
+        here.stop()
+        there.stop()
+        left, joined = here.folder / "left", there.folder / "joined"
+        left.write_text(tool("state", here.state, "--tenant", "alpha"))
+        joined.write_text(tool("state", there.state, "--merge", left))
+        with setup.daemon() as new:
+            begin_with(new, joined)
+            replies = ask_all(new, [b"alpha where a", b"alpha costs", b"gamma where t", b"alpha round"])
+            wanted = setup.alone(ROSTER, text_of([*said, b"alpha where a", b"alpha costs", b"alpha round"]))[-3:]
+            require([replies[0], replies[1], replies[3]] == wanted, replies)
+            require(replies[2] == b"gamma 5 ok at m", replies)
+            new.stop()
+
+
+SHORT = [
+    folds,
+    hangs,
+    files_of_killed,
+    starts,
+    refused_memory,
+    damages,
+    keeps,
+    archive_away,
+    clocks_jump,
+    leaves_nothing,
+    fails,
+    seals_once,
+    full_disk,
+    gives_way,
+    changes_over,
+    firms_hang,
+    restores,
+]
+
+
+def checks(setup: Options) -> dict[str, Check]:
+    found: dict[str, Check] = {check.__name__.replace("_", " "): partial(check, setup) for check in SHORT}
+    for part in range(1 if setup.is_quick else CHECKS_AT_A_TIME):
+        found[f"kills, part {part}"] = partial(kills, setup, part)
+    return found
+
+
+def main() -> int:
+    parser = argparse.ArgumentParser(description=(__doc__ or "").splitlines()[0])
+    parser.add_argument("--quick", action="store_true", help="the part that tests/quick runs")
+    program.add_program(parser)
+    state = str(program.built("firm_state"))
+    parser.add_argument("--state", type=program.program_file, default=state, metavar="FILE")
+    parser.add_argument("--only", default="", help="nothing but the checks whose names have these words")
+    parser.add_argument("--kills", type=int, help="of each part (default: 3 with --quick, else 60)")
+    parser.add_argument(
+        "--seed", type=int, default=random.randrange(10**6), help="of all that is random (default: any)"
+    )
+    options = parser.parse_args()
+    print(f"seed {options.seed}", flush=True)
+    os.environ["FIRM_STATE_PROGRAM"] = options.state  # for firmd too
+    count = options.kills or (3 if options.quick else 60)
+    setup = Options(options.program, options.quick, options.seed, options.state, count)
+    chosen = {name: check for name, check in checks(setup).items() if options.only in name}
+    with ThreadPoolExecutor(CHECKS_AT_A_TIME) as pool:
+        return count_ends(list(pool.map(passes, chosen.keys(), chosen.values())))
+
+
+if __name__ == "__main__":
+    run_script(main)

@@ -1,0 +1,482 @@
+#!/usr/bin/env python3
+"""Cuts services off between two lines, and asks that they go on from their states as if nothing had happened.
+
+usage: tests/states.py [--quick] [--program FILE] [--state FILE] [--explain FILE] [WORD..]
+With words only the checks whose names have one of them. Each check has a line; the exit status is 1 where one failed.
+Without --quick random streams are 10,000, in some fifteen minutes. It needs a C compiler for refuse.c.
+"""
+
+from __future__ import annotations
+
+import argparse
+import os
+import re
+import subprocess
+import tempfile
+from collections import Counter
+from functools import partial
+from pathlib import Path
+from random import Random
+from typing import Iterator, NamedTuple, Sequence
+
+import faults
+from harness import kinds, program
+from harness.checks import Check, Missed, count_ends, passes, require, run_script
+from harness.small_streams import random_stream, with_noise
+
+STATE = program.built("firm_state")
+EXPLAIN = program.built("firm_explain")
+WORKERS = ("1", "2", "8")
+MOST_PLACES = 64
+FAULT = re.compile(rb"firm_state: state fault (\d+) ([a-z-]+) in line (\d+)\n")
+NAMES = {
+    1: "version",
+    2: "row",
+    3: "name",
+    4: "number",
+    5: "repeated-name",
+    6: "no-such-job",
+    7: "no-such-machine",
+    8: "no-room",
+    9: "arena-nodes",
+    10: "arena-arcs",
+    11: "commands",
+    12: "places",
+    13: "rows",
+}
+
+
+class Options(NamedTuple):
+    quick: bool
+    firm: str
+    state: str
+    explain: str
+
+
+class Cut(NamedTuple):
+    """A roster, the lines before a cut, and those behind it."""
+
+    roster: bytes
+    lines: bytes
+    more: bytes
+
+
+class StateFault(NamedTuple):
+    """The first fault of a state: its number, and that of its line."""
+
+    number: int
+    line: int
+
+
+class Folder:
+    """A folder for a check's files, for as long as the `with` block lasts."""
+
+    def __init__(self) -> None:
+        self.folder = tempfile.TemporaryDirectory(prefix="firm-")
+
+    def __enter__(self) -> Folder:
+        return self
+
+    def __exit__(self, *_: object) -> None:
+        self.folder.cleanup()
+
+    def file(self, name: str, content: bytes) -> str:
+        path = Path(self.folder.name) / name
+        path.write_bytes(content)
+        return str(path)
+
+
+def output_of(words: Sequence[str], text: bytes) -> bytes:
+    """What a run writes that must end well."""
+    done = program.run_words(words, text)
+    require(done.status == 0 and not done.faults, f"{list(words)}: status {done.status}, {done.faults!r}")
+    return done.output
+
+
+def cuts_of(draw: Random, roster: bytes, text: bytes) -> Cut:
+    """A cut of the stream before any of its lines, the first among them, or behind the last."""
+    ends = [0] + [place + 1 for place, byte in enumerate(text) if byte == ord("\n")]
+    place = draw.choice(ends)
+    return Cut(roster, text[:place], text[place:])
+
+
+def state_after(options: Options, words: list[str], lines: bytes) -> bytes:
+    return output_of([options.state, *words], lines)
+
+
+def goes_on(options: Options, cut: Cut, workers: Sequence[str], is_explained: bool) -> None:
+    """The replies from the state are the rest of those of the whole, and so are the reasons of the rounds."""
+    with Folder() as folder:
+        roster = ["--roster", folder.file("roster.csv", cut.roster)]
+        whole = output_of([options.firm, *roster], cut.lines + cut.more)
+        first = output_of([options.firm, *roster], cut.lines)
+        written = state_after(options, roster, cut.lines)
+        state = ["--state", folder.file("state", written)]
+        require(state_after(options, state, b"") == written, "a state is read and written as another")
+        for count in workers:
+            rest = output_of([options.firm, *state, "--workers", count], cut.more)
+            require(first + rest == whole, f"{count} workers: other replies from the state")
+        last = state_after(options, state, cut.more)
+        require(last == state_after(options, roster, cut.lines + cut.more), "another state in the end")
+        if is_explained:
+            before = output_of([options.explain, *roster], cut.lines)
+            behind = output_of([options.explain, *state], cut.more)
+            require(before + behind == output_of([options.explain, *roster], cut.lines + cut.more), "other reasons")
+
+
+def random_cut(seed: int) -> Cut:
+    draw = Random(seed)
+    roster, text = random_stream(draw)
+    return cuts_of(draw, roster, with_noise(draw, text) if seed % 5 == 0 else text)
+
+
+def random_streams(options: Options, count: int) -> None:
+    """Random streams of tenants that come and go, with bad lines, each cut at a random line."""
+    for seed in range(count):
+        try:
+            goes_on(options, random_cut(seed), WORKERS, is_explained=True)
+        except Missed as missed:
+            raise Missed(f"seed {seed}: {missed}") from None
+
+
+def lines_of_kind(kind: str, tasks: int, machines: int) -> tuple[bytes, list[bytes]]:
+    """The roster of a stream of this kind, and the lines up to each round, with it."""
+    stream = kinds.make(kind, tasks, machines)
+    texts = ["".join(line + "\n" for line in [*lines, f"{kinds.TENANT} round"]) for lines in stream.parts]
+    return stream.roster.encode(), [text.encode() for text in texts]
+
+
+def kind_goes_on(options: Options, kind: str) -> None:
+    """A stream of a kind with hundreds of tasks, cut before and behind each round."""
+    roster, parts = lines_of_kind(kind, *((60, 20) if options.quick else (600, 200)))
+    for count in range(len(parts) + 1):
+        cut = Cut(roster, b"".join(parts[:count]), b"".join(parts[count:]))
+        goes_on(options, cut, WORKERS[1:2] if options.quick else WORKERS, is_explained=True)
+
+
+def replies_of(output: bytes, name: bytes) -> bytes:
+    return b"".join(line for line in output.splitlines(keepends=True) if line.startswith(name + b" "))
+
+
+def tenants_in(state: bytes) -> list[bytes]:
+    return [line.split()[1] for line in state.splitlines() if line.startswith(b"tenant ")]
+
+
+def without_operator(lines: bytes) -> bytes:
+    return b"".join(line for line in lines.splitlines(keepends=True) if line.split()[:1] != [b"+"])
+
+
+class Parts(NamedTuple):
+    """The outputs of services that go on from a whole state, from a part of it, and from all parts joined."""
+
+    whole: bytes
+    part: bytes
+    joined: bytes
+
+
+def parts_are_whole(options: Options, count: int) -> None:
+    """A tenant of a cut state, and of a joined one, replies as before; joined, the parts have all tenants again."""
+    for seed in range(count):
+        cut, draw = random_cut(seed), Random(seed)
+        with Folder() as folder:
+            whole = state_after(options, ["--roster", folder.file("roster.csv", cut.roster)], cut.lines)
+            names = tenants_in(whole)
+            kept = draw.sample(names, draw.randint(1, len(names))) if names else []
+            if kept:
+                path = folder.file("whole", whole)
+                outputs = outputs_of_parts(
+                    options, path, [kept, [name for name in names if name not in kept]], cut.more
+                )
+                replies_are_alike(outputs, names, kept, f"seed {seed}")
+
+
+def outputs_of_parts(options: Options, path: str, groups: list[list[bytes]], more: bytes) -> Parts:
+    """The outputs for the tenants' lines, with the tenants in these groups."""
+    lines = without_operator(more)
+    with Folder() as folder:
+        files = [
+            folder.file(f"part{len(names)}-{names[0].decode()}", part_of(options, path, names))
+            for names in groups
+            if names
+        ]
+        merged = ["--merge", *files[1:]] if files[1:] else []
+        joined = state_after(options, ["--state", files[0], *merged], b"")
+        require(sorted(tenants_in(joined)) == sorted(sum(groups, [])), "other tenants in the joined state")
+        paths = [path, files[0], folder.file("joined", joined)]
+        return Parts(*(output_of([options.firm, "--state", file], lines) for file in paths))
+
+
+def replies_are_alike(outputs: Parts, names: list[bytes], kept: list[bytes], what: str) -> None:
+    for name in names:
+        require(replies_of(outputs.joined, name) == replies_of(outputs.whole, name), f"{what}: {name!r} joined")
+    for name in kept:
+        require(replies_of(outputs.part, name) == replies_of(outputs.whole, name), f"{what}: {name!r} alone")
+
+
+def part_of(options: Options, path: str, names: list[bytes]) -> bytes:
+    """The state of these tenants alone; it has no others."""
+    part = state_after(options, ["--state", path, "--tenant", *(name.decode() for name in names)], b"")
+    require(sorted(tenants_in(part)) == sorted(names), f"other tenants than {names}")
+    return part
+
+
+WORKED = b"""\
+firm state 1
+place admissions 1
+tenant alpha nodes 9 arcs 24 life 1000000 spread 1 churn 2 remote 0 commands 6
+costs 0 13
+machine m1 2
+job web 10
+task web a at m1 prefers m1
+task web c waits 1
+place admissions 2
+rows 8
+"""
+
+
+def changed(old: bytes, new: bytes) -> bytes:
+    require(WORKED.count(old) == 1, old)
+    return WORKED.replace(old, new)
+
+
+def with_rows(rows: Sequence[bytes]) -> bytes:
+    """The text of a state of these rows."""
+    return b"".join(line + b"\n" for line in [b"firm state 1", *rows, b"rows %d" % len(rows)])
+
+
+ROWS = WORKED.splitlines()[1:-1]
+
+FAULTY = [
+    (b"", StateFault(1, 1)),
+    (b"\n", StateFault(1, 1)),
+    (b"tenant,nodes,arcs,life,spread,churn\na,2,0,1,0,0\n", StateFault(1, 1)),
+    (changed(b"state 1", b"state 2"), StateFault(1, 1)),
+    (b"firm state 1", StateFault(13, 2)),
+    (b"firm state 1\n", StateFault(13, 2)),
+    (b"firm state 1\nrows 0", StateFault(13, 2)),
+    (b"firm state 1\nrows 1\n", StateFault(13, 2)),
+    (WORKED[:-1], StateFault(13, 10)),
+    (WORKED + b"\n", StateFault(13, 11)),
+    (WORKED + WORKED, StateFault(13, 11)),
+    (changed(b"rows 8", b"rows 7"), StateFault(13, 10)),
+    (changed(b"rows 8", b"rows 08"), StateFault(2, 10)),
+    (changed(b"admissions 2\n", b"admissions 2 \n"), StateFault(2, 9)),
+    (changed(b"job web 10", b"job  web 10"), StateFault(3, 6)),
+    (changed(b"job web 10", b"Job web 10"), StateFault(2, 6)),
+    (changed(b"costs 0 13\n", b""), StateFault(2, 4)),
+    (changed(b"costs 0 13", b"costs 0 13\ncosts"), StateFault(2, 5)),
+    (with_rows([*ROWS[:3], ROWS[4], ROWS[3], *ROWS[5:]]), StateFault(2, 6)),
+    (with_rows(ROWS[1:]), StateFault(2, 2)),
+    (changed(b"tenant alpha", b"tenant Alpha"), StateFault(3, 3)),
+    (changed(b"machine m1", b"machine M1"), StateFault(3, 5)),
+    (changed(b"nodes 9", b"nodes 1"), StateFault(4, 3)),
+    (changed(b"machine m1 2", b"machine m1 65"), StateFault(4, 5)),
+    (changed(b"waits 1", b"waits 1000001"), StateFault(4, 8)),
+    (changed(b"remote 0", b"remote 0 patience 0"), StateFault(4, 8)),
+    (changed(b"remote 0", b"remote 0 patience 1000001"), StateFault(4, 3)),
+    (changed(b"remote 0", b"remote 0 patience 1000000"), StateFault(2, 3)),
+    (changed(b"costs 0 13", b"costs 0 12288000001"), StateFault(4, 4)),
+    (changed(b"admissions 2", b"admissions 32769"), StateFault(4, 9)),
+    (with_rows([*ROWS[:7], b"place admissions 1", *ROWS[1:3]]), StateFault(5, 10)),
+    (changed(b"job web 10", b"job web 10\njob web 10"), StateFault(5, 7)),
+    (changed(b"web c", b"web a"), StateFault(5, 8)),
+    (changed(b"task web c", b"task batch c"), StateFault(6, 8)),
+    (changed(b"at m1 prefers", b"at m2 prefers"), StateFault(7, 7)),
+    (changed(b"prefers m1", b"prefers m2"), StateFault(7, 7)),
+    (with_rows([*ROWS[:6], b"task web b at m1", b"task web d at m1"]), StateFault(8, 9)),
+    (changed(b"nodes 9", b"nodes 5"), StateFault(9, 8)),
+    (changed(b"arcs 24", b"arcs 4"), StateFault(10, 7)),
+    (changed(b"commands 6", b"commands 1000001"), StateFault(11, 3)),
+    (changed(b"commands 6", b"commands 5"), StateFault(11, 8)),
+    (with_rows([*ROWS[:7], b"place admissions 0"]), StateFault(12, 10)),
+    (changed(b"admissions 1", b"admissions 0"), StateFault(12, 3)),
+    (with_rows([b"place admissions 1"] * (MOST_PLACES + 1)), StateFault(12, MOST_PLACES + 2)),
+]
+
+
+def fault_of(options: Options, text: bytes) -> StateFault | None:
+    """The fault of a text as all three programs tell it, or None where it is a state, which is written as it stands."""
+    with Folder() as folder:
+        path = folder.file("state", text)
+        told = program.run_words([options.state, "--state", path], b"")
+        for name in (options.firm, options.explain):
+            served = program.run_words([name, "--state", path], b"")
+            require(served.status == told.status and not served.output, f"{name}: {served}")
+            behind = served.faults.partition(b": ")[2] == told.faults.partition(b": ")[2]
+            require(behind, f"{name}: {served.faults!r}, and {told.faults!r}")
+    if told.status == 0:
+        require(told.output == text and not told.faults, "a state is read and written as another")
+        return None
+    found = FAULT.fullmatch(told.faults)
+    require(told.status == 3 and not told.output and found, told)
+    assert found is not None
+    require(NAMES[int(found[1])] == found[2].decode(), told)
+    return StateFault(int(found[1]), int(found[3]))
+
+
+def hostile_states(options: Options) -> None:
+    """Each fault has its number, its name and its line, and nothing is served."""
+    require(fault_of(options, WORKED) is None, "the worked state is none")
+    for text, fault in FAULTY:
+        found = fault_of(options, text)
+        require(found == fault, f"{text!r}: {found}, and not {fault}")
+    require({fault.number for _, fault in FAULTY} == set(NAMES), "a fault that no text has")
+
+
+def cut_states(options: Options, count: int) -> None:
+    """A state cut at any byte is a fault of the line there."""
+    places = range(len(WORKED)) if not options.quick else Random(1).sample(range(len(WORKED)), count)
+    for place in places:
+        found = fault_of(options, WORKED[:place])
+        require(found is not None and found.line >= min(2, 1 + WORKED[:place].count(b"\n")), f"{place}: {found}")
+
+
+def changed_states(options: Options, count: int) -> None:
+    """States of random streams, with rows doubled, left out or changed, are faults, or states that are written so."""
+    seen = [fault_of(options, changed_state(options, seed)) is None for seed in range(count)]
+    require(seen.count(False) > count // 2, f"{seen.count(False)} faults of {count}")
+
+
+def changed_state(options: Options, seed: int) -> bytes:
+    """A state of a random stream, with a row doubled, left out, changed, or exchanged with another."""
+    draw, cut = Random(seed), random_cut(seed)
+    with Folder() as folder:
+        text = state_after(options, ["--roster", folder.file("roster.csv", cut.roster)], cut.lines)
+    lines = text.splitlines(keepends=True)
+    place, shape = draw.randrange(len(lines)), draw.randrange(4)
+    if shape == 0:
+        lines.insert(place, lines[place])
+    elif shape == 1:
+        del lines[place]
+    elif shape == 2:
+        lines[place] = with_noise(draw, lines[place])
+    else:
+        lines[place], lines[-1 - place] = lines[-1 - place], lines[place]
+    return b"".join(lines)
+
+
+def joins_are_refused(options: Options) -> None:
+    """A tenant of both states, want of a place, and a name that is not there are faults; nothing is written."""
+    full = with_rows([row for number in range(MOST_PLACES) for row in small_tenant(b"t%d" % number)])
+    cases = [
+        (WORKED, ["--merge", "worked"], b"tenant fault 25 tenant-exists of alpha"),
+        (full, ["--merge", "worked"], b"tenant fault 27 operator-full of alpha"),
+        (WORKED, ["--tenant", "alpha", "beta"], b"tenant fault 26 no-such-tenant of beta"),
+        (WORKED, ["--merge", "none"], b"cannot read state"),
+        (WORKED, ["--merge", "faulty"], b"state fault 13 rows in line 10"),
+    ]
+    for text, words, fault in cases:
+        with Folder() as folder:
+            files = {"worked": folder.file("worked", WORKED), "faulty": folder.file("faulty", WORKED[:-1])}
+            told = program.run_words(
+                [options.state, "--state", folder.file("state", text), *(files.get(word, word) for word in words)], b""
+            )
+        require(told == (3, b"", b"firm_state: " + fault + b"\n"), f"{words}: {told}")
+
+
+def small_tenant(name: bytes) -> list[bytes]:
+    limits = b"nodes 2 arcs 0 life 1 spread 0 churn 0 remote 0"
+    return [b"place admissions 1", b"tenant %s %s commands 0" % (name, limits), b"costs"]
+
+
+def statuses(options: Options) -> None:
+    """The exit statuses of firm_state, and what it says with them."""
+    neither = b"no roster and no state: give --roster FILE or --state FILE"
+    both = b"a roster and a state: give --roster FILE or --state FILE, not both"
+    with Folder() as folder:
+        roster = folder.file("roster.csv", b"tenant,nodes,arcs,life,spread,churn\na,2,0,1,0,0\n")
+        state, faulty = folder.file("state", WORKED), folder.file("faulty", b"tenant\n")
+        cases: list[tuple[list[str], int, bytes]] = [
+            ([], 2, neither),
+            (["--roster", roster, "--state", state], 2, both),
+            (["--state", state, "--tenant", "A"], 2, b"a tenant is no name"),
+            (["--roster", "/nonexistent"], 3, b"cannot read roster"),
+            (["--state", "/nonexistent"], 3, b"cannot read state"),
+            (["--roster", faulty], 3, b"roster fault 1 header"),
+            (["--state", faulty], 3, b"state fault 1 version in line 1"),
+        ]
+        for words, status, said in cases:
+            told = program.run_words([options.state, *words], b"a show\n")
+            require(told == (status, b"", b"firm_state: " + said + b"\n"), f"{words}: {told}")
+        for words in (
+            ["--state", state, "--fly"],
+            ["--state"],
+            ["--state", state, "more"],
+            ["--state", state, "--tenant"],
+        ):
+            told = program.run_words([options.state, *words], b"")
+            require(told.status == 2 and not told.output and told.faults.startswith(b"error: "), f"{words}: {told}")
+        for words, first in ((["--help"], b"Writes the state"), (["--version"], b"firm_state ")):
+            told = program.run_words([options.state, *words], b"")
+            require(told.status == 0 and told.output.startswith(first) and not told.faults, f"{words}: {told}")
+        devices(options, state)
+
+
+def devices(options: Options, state: str) -> None:
+    """A read that fails, and a write."""
+    words = [options.state, "--state", state]
+    folder = os.open("/", os.O_RDONLY)
+    read = subprocess.run(words, stdin=folder, capture_output=True)
+    os.close(folder)
+    require((read.returncode, read.stdout, read.stderr) == (4, b"", b"firm_state: read\n"), read)
+    with open("/dev/full", "wb") as full:
+        failed = subprocess.run(words, stdin=subprocess.DEVNULL, stdout=full, stderr=subprocess.PIPE)
+    require((failed.returncode, failed.stderr) == (5, b"firm_state: write\n"), failed)
+
+
+def refused_memory(options: Options, step: int) -> None:
+    """Requests for memory refused in turn: firm_state ends with status 6 and writes nothing, or writes the state."""
+    lines = [b"a machine m 2", b"a job j 5", b"a task j x m", b"b job k 2", b"a round", b"a task j y", b"a round"]
+    text = b"".join(line + b"\n" for line in lines)
+    with Folder() as folder:
+        roster = folder.file("roster.csv", b"tenant,nodes,arcs,life,spread,churn\na,60,400,100,3,5\nb,9,9,9,0,0\n")
+        words = ["--roster", roster, "--merge", folder.file("worked", WORKED), "--tenant", "a", "alpha"]
+        whole = state_after(options, words, text)
+        runs = faults.Runs(faults.Options(options.state, "", "", None, 0), folder.folder.name)
+        requests, ends = runs.run_words(words, text)[1].memory, Counter[int]()
+        for number in range(1, requests + 1, step):
+            done, _ = runs.run_words(words, text, refuse_memory=number)
+            wanted = (6, b"", b"firm_state: memory\n") if done.status else (0, whole, b"")
+            require(done == wanted, f"request {number}: {done}")
+            ends[done.status] += 1
+    print(f"{requests} requests: {dict(ends)}", flush=True)
+    require(ends[6] > 10, ends)
+
+
+def checks(options: Options) -> dict[str, Check]:
+    """Each check's name and what it runs; it passes where nothing is raised."""
+    quick = options.quick
+    return {
+        "statuses": partial(statuses, options),
+        "hostile states": partial(hostile_states, options),
+        "cut states": partial(cut_states, options, 20),
+        "changed states": partial(changed_states, options, 40 if quick else 2000),
+        "refused memory": partial(refused_memory, options, 5 if quick else 1),
+        "joins that are refused": partial(joins_are_refused, options),
+        "parts": partial(parts_are_whole, options, 20 if quick else 1000),
+        "random streams": partial(random_streams, options, 40 if quick else 10_000),
+        **{f"kind, {kind}": partial(kind_goes_on, options, kind) for kind in kinds_of(quick)},
+    }
+
+
+def kinds_of(quick: bool) -> Iterator[str]:
+    yield from ("steady", "overload", "local") if quick else kinds.KINDS
+
+
+def main() -> int:
+    parser = argparse.ArgumentParser(description=(__doc__ or "").splitlines()[0])
+    parser.add_argument("words", nargs="*", metavar="WORD", help="only checks whose names have one of these words")
+    parser.add_argument("--quick", action="store_true", help="few and small streams, in some seconds")
+    program.add_program(parser)
+    parser.add_argument("--state", type=program.program_file, default=str(STATE), metavar="FILE")
+    parser.add_argument("--explain", type=program.program_file, default=str(EXPLAIN), metavar="FILE")
+    given = parser.parse_args()
+    options = Options(given.quick, given.program, given.state, given.explain)
+    chosen = {
+        name: check for name, check in checks(options).items() if not given.words or any(w in name for w in given.words)
+    }
+    return count_ends([passes(name, check) for name, check in chosen.items()])
+
+
+if __name__ == "__main__":
+    run_script(main)
