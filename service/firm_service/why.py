@@ -1,60 +1,136 @@
-"""Why a task is where it is: firm_explain's reasons for the last round of its tenant, over the journal."""
+"""Why a task is where it is: firm_explain's reasons for a round from a state, and trials of what would change it."""
 
 from __future__ import annotations
 
-import os
-import subprocess
-from collections.abc import Iterator
-from pathlib import Path
+import re
+from collections.abc import Iterator, Sequence
+from dataclasses import dataclass
 
-from .kept import found_now, kept_lines
-from .lines import first_word
-from .tables import Row
+from .books import Book
+from .refused import Refused
+from .trials import MOST_WEIGHT, Change, Trial, after, after_round, changes, of_weight, round_of
 
-PROGRAM = Path(__file__).resolve().parents[2] / "crates" / "firm_explain" / "out" / "firm_explain"
-
-
-class NotBuilt(Exception):
-    """There is no firm_explain that works."""
+CHANGES = {word: word for word in ("starts", "stays", "moves", "waits")} | {"preempted": "stops"}
+CLAIM = re.compile(r"(.*) (?:at least ([0-9]+) more|as much(, ranks after)?)")
 
 
-def journal_of(state: Path, tenant: bytes) -> Iterator[bytes]:
-    """The journal's lines of a tenant and those of the operator, without those that memory was refused to."""
-    found = found_now(state)
-    for kept in kept_lines(found):
-        for number, line in enumerate(kept.lines, kept.number):
-            if first_word(line) in (tenant, b"+") and number not in found.refused:
-                yield line + b"\n"
+@dataclass(frozen=True, slots=True)
+class Choice:
+    """Another choice of the task."""
+
+    machine: str | None  # None: to wait
+    more: int  # what the cheapest placement with it costs more
+    ranks_after: bool  # the task's own choice, and costs as much
 
 
-def last_round(output: str) -> tuple[str, list[str]]:
-    """The reply to the last round in firm_explain's output, and the comment lines behind it."""
-    reply, reasons, is_behind = "", list[str](), False
-    for line in output.splitlines():
-        if not line.startswith("#"):
-            is_behind = line.split()[2:4] == ["ok", "round"]
-            reply, reasons = (line, []) if is_behind else (reply, reasons)
-        elif is_behind:
-            reasons.append(line.removeprefix("#").strip())
-    return reply, reasons
+@dataclass(frozen=True, slots=True)
+class Free:
+    """What the cheapest of the slots that stay free would cost a task that waits."""
+
+    machine: str
+    crowding: int  # beside the tasks that are there
+    remote: int
+    churn: int
+
+    @property
+    def cost(self) -> int:
+        return self.crowding + self.remote + self.churn
 
 
-def why(task: Row, state: Path) -> Row:
-    """The reasons for a task, a row of the view; raises `NotBuilt`, and where the state can't be read `OSError` or
-    `Fault`."""
-    program = Path(os.environ.get("FIRM_EXPLAIN", PROGRAM))
-    if not program.exists():
-        raise NotBuilt(f"the reasons come from firm_explain, which is not built: there is no {program}")
-    tenant = task["tenant"]
-    text = b"".join(journal_of(state, tenant.encode()))
-    words = [program, "--roster", state / "roster.csv", "--tenant", tenant, "--why", task["task"]]
-    try:
-        done = subprocess.run(words, input=text, capture_output=True)
-    except OSError as error:
-        raise NotBuilt(f"cannot run {program}: {error.strerror}") from error
-    if done.returncode:
-        raise NotBuilt(f"{program} ended with status {done.returncode}: {done.stderr.decode(errors='replace').strip()}")
-    reply, reasons = last_round(done.stdout.decode("ascii", "backslashreplace"))
-    # the words with which a line on the round or the task begins
-    about = ("cost", task["task"], f"{task['task']}'s", "least", "least:", "NOT")
-    return {"task": task, "reply": reply, "reasons": [line for line in reasons if line.split(" ", 1)[0] in about]}
+@dataclass(frozen=True, slots=True)
+class Heavier:
+    """The least weight by which a task that waits would run, and what would become of others then."""
+
+    weight: int
+    machine: str
+    changes: list[Change]
+
+
+@dataclass(frozen=True, slots=True)
+class Reasons:
+    """A round, and what becomes of a task in it."""
+
+    reply: str
+    lines: list[str]  # firm_explain's, on the round and the task
+    cost: int
+    change: str  # starts, stays, moves, waits, or stops: it is preempted
+    machine: str | None  # where the task runs then
+    pays: int  # for that, beside crowding
+    others: list[Choice]  # the cheapest first
+    slots: int
+    free: int  # slots after the round
+    cheapest: Free | None  # where the task waits beside free slots
+    heavier: Heavier | None  # where it waits, and some weight has it run
+
+
+def reasons(state: str, book: Book, name: str) -> Reasons:
+    """The reasons for a task in a round from a state, which has this book; raises `NotBuilt` and `Refused`."""
+    tenant = book.limits.tenant
+    lines = [round_of(tenant)]
+    with Trial("firm_explain", state, ("--tenant", tenant, "--why", name), lines) as trial:
+        reply, *comments = trial.output()
+    if reply.split()[2:4] != ["ok", "round"]:
+        raise Refused("no-round", f"a round of {tenant} is refused: {reply}")
+    comments = [line.removeprefix("# ") for line in comments]
+    later = after(book, lines, [reply])
+    machine = later.tasks[name].machine
+    # The line on all choices of the task stands below its rents.
+    own = comments[next(place for place, line in enumerate(comments, 1) if line.startswith(f"{name}'s rents: "))]
+    said, *claims = own.removeprefix(f"{name} ").split("; ")
+    what, _, pays = said.partition(": ")
+    others = [choice for claim in claims for choice in choices(claim, book.tasks[name].machine)]
+    return Reasons(
+        reply,
+        list(about(comments, name)),
+        int(reply.split()[5]),
+        CHANGES[what.split(" ")[0]],
+        machine,
+        int(pays.split(" ")[0]),
+        others,
+        later.slots,
+        later.slots - later.running,
+        None if machine else cheapest_free(book, later, name),
+        None if machine else heavier(book, later, name, others),
+    )
+
+
+def about(comments: Sequence[str], name: str) -> Iterator[str]:
+    """The comment lines on the round or the task."""
+    first_words = ("cost", name, f"{name}'s", "least", "least:", "NOT")
+    return (line for line in comments if line.split(" ", 1)[0] in first_words)
+
+
+def choices(claim: str, home: str | None) -> Iterator[Choice]:
+    """Other choices that cost the same, as `m1, m2 at least 3 more`, of a task that ran at home before the round."""
+    found = CLAIM.fullmatch(claim)
+    if found is None:
+        raise Refused("unknown-reason", f"firm_explain says {claim!r}")
+    for word in found[1].split(", "):
+        machine = {"to wait": None, "to stay": home}.get(word, word)
+        yield Choice(machine, int(found[2] or 0), found[3] is not None)
+
+
+def cheapest_free(book: Book, later: Book, name: str) -> Free | None:
+    task, limits = book.tasks[name], book.limits
+    found: list[Free] = []
+    for machine, held in later.loads().items():
+        if len(held.tasks) < held.slots:
+            is_home = machine == task.machine
+            remote = limits.remote if task.prefers and machine not in task.prefers and not is_home else 0
+            churn = limits.churn if task.machine and not is_home else 0
+            found.append(Free(machine, limits.spread * len(held.tasks), remote, churn))
+    return min(found, key=lambda free: free.cost) if found else None
+
+
+def heavier(book: Book, later: Book, name: str, others: Sequence[Choice]) -> Heavier | None:
+    """The least weight by which the task runs: firm_explain's numbers are exact, so trials only tell how ties end."""
+    more = min((choice.more for choice in others if choice.machine is not None), default=MOST_WEIGHT)
+    weight = book.jobs[book.tasks[name].job]
+    for least in range(weight + max(more, 1), weight + more + 2):
+        if least > MOST_WEIGHT:
+            return None
+        tried = after_round(of_weight(book, name, least))
+        machine = tried.tasks[name].machine
+        if machine is not None:
+            return Heavier(least, machine, [change for change in changes(later, tried) if change.task != name])
+    raise Refused("unknown-reason", f"{name} waits, though {more} more make up for what it costs to run it")

@@ -1,0 +1,174 @@
+"""Trials: firm and firm_explain open with a tenant's state and answer some lines, and nothing else hears of them.
+
+They run as the user who asks, at a low priority, and with bounds on their time and memory.
+"""
+
+from __future__ import annotations
+
+import os
+import resource
+import signal
+import subprocess
+from collections.abc import Iterable, Sequence
+from contextlib import ExitStack, suppress
+from dataclasses import dataclass, replace
+from tempfile import TemporaryFile
+from typing import IO
+
+from .book_states import copy_of, text_of
+from .books import Book, Books
+from .bounds import MEBIBYTE
+from .lines import is_memory_refused
+from .programs import NotBuilt, program_of
+from .refused import Refused
+from .sizes import HUBS, MOST_ARCS, MOST_NODES
+from .states import state_file
+
+NICENESS = 5
+MOST_SECONDS, MOST_PROCESSOR_SECONDS = 60.0, 20  # of one run
+MOST_MEMORY = 2048 * MEBIBYTE  # of address space
+MOST_WEIGHT = 1_000_000
+STATUS_OF_MEMORY = 6
+OVER_TIME = (-signal.SIGXCPU, -signal.SIGKILL)
+
+
+@dataclass(frozen=True, slots=True)
+class Change:
+    """A task that is elsewhere than before, or new."""
+
+    task: str
+    job: str
+    change: str  # starts, moves, stops, or waits: it is new
+    before: str | None  # its machine
+    after: str | None
+
+
+def stand_behind() -> None:
+    """Has this process, and those that it starts, go behind others, with bounds on the time and memory of each."""
+    with suppress(OSError):
+        os.nice(NICENESS)
+    for kind, most in [(resource.RLIMIT_CPU, MOST_PROCESSOR_SECONDS), (resource.RLIMIT_AS, MOST_MEMORY)]:
+        _, hard = resource.getrlimit(kind)
+        bound = most if hard == resource.RLIM_INFINITY else min(most, hard)
+        resource.setrlimit(kind, (bound, bound))
+
+
+class Trial:
+    """A run of a program that opens with a state's text and reads these lines, until the `with` block ends."""
+
+    def __init__(self, name: str, state: str, options: Sequence[str], lines: Iterable[bytes]) -> None:
+        self._name, self._program = name, program_of(name)
+        with ExitStack() as files:  # not pipes: one that the program doesn't read would end this process
+            opening = files.enter_context(state_file(state.encode()))
+            given, self._output, self._errors = (files.enter_context(TemporaryFile(prefix="firm-")) for _ in range(3))
+            given.writelines(line + b"\n" for line in lines)
+            given.seek(0)
+            words = [str(self._program), *opening.words(), *options]
+            try:
+                self._process = subprocess.Popen(words, stdin=given, stdout=self._output, stderr=self._errors)
+            except OSError as error:
+                raise NotBuilt(f"{name} can't be run: {self._program}: {error.strerror}") from error
+            self._files = files.pop_all()
+
+    def __enter__(self) -> Trial:
+        return self
+
+    def __exit__(self, *_: object) -> None:
+        self._process.kill()
+        self._process.wait()
+        self._files.close()
+
+    def output(self) -> list[str]:
+        """The lines that it writes, once it has ended."""
+        name = self._name
+        try:
+            status = self._process.wait(MOST_SECONDS)
+        except subprocess.TimeoutExpired as error:
+            raise Refused("too-long", f"{name} took {MOST_SECONDS:g} s, and was stopped") from error
+        if status in OVER_TIME:
+            raise Refused("too-long", f"{name} took {MOST_PROCESSOR_SECONDS} s of processor time, and was stopped")
+        if status == STATUS_OF_MEMORY:
+            raise Refused("memory", f"{name} needs more than {MOST_MEMORY // MEBIBYTE:,} MiB")
+        if status:
+            said = read_all(self._errors).decode(errors="replace").strip()
+            raise NotBuilt(f"{self._program} ended with status {status}: {said}")
+        return read_all(self._output).decode("ascii").splitlines()
+
+    def replies(self) -> list[str]:
+        """The same of firm, where it was refused no memory."""
+        found = self.output()
+        if any(is_memory_refused(reply.encode()) for reply in found):
+            raise Refused("memory", "memory was refused to firm")
+        return found
+
+
+def read_all(file: IO[bytes]) -> bytes:
+    file.seek(0)
+    return file.read()
+
+
+def firm(state: str, lines: Sequence[bytes]) -> Trial:
+    """A trial of lines that get a reply."""
+    return Trial("firm", state, ("--workers", "1"), lines)
+
+
+def after(book: Book, lines: Sequence[bytes], replies: Sequence[str]) -> Book:
+    """The book after lines with these replies."""
+    books = Books()
+    books.put(copy_of(book))
+    books.replied_all(lines, [reply.encode() for reply in replies], None)
+    return books.tenants[book.limits.tenant]
+
+
+def round_of(tenant: str) -> bytes:
+    return f"{tenant} round".encode()
+
+
+def after_round(book: Book) -> Book:
+    """The book after a round now."""
+    lines = [round_of(book.limits.tenant)]
+    with firm(text_of(book), lines) as trial:
+        return after(book, lines, trial.replies())
+
+
+def changes(before: Book, later: Book) -> list[Change]:
+    """What became of the tasks, in order of submission; those that go on as they were are left out."""
+    found = []
+    for name, task in later.tasks.items():
+        former = before.tasks.get(name)
+        here, there = former.machine if former else None, task.machine
+        if here != there:
+            change = "starts" if here is None else "stops" if there is None else "moves"
+            found.append(Change(name, task.job, change, here, there))
+        elif former is None:
+            found.append(Change(name, task.job, "waits", None, None))
+    return found
+
+
+def of_weight(book: Book, name: str, weight: int) -> Book:
+    """The book where the task is of this weight, by a job of its own if its job has other tasks.
+
+    Where not even the largest arena has room for that job, the rounds that the task has waited are raised instead: they
+    count as its weight does.
+    """
+    found = copy_of(book)
+    task, limits = found.tasks[name], found.limits
+    if sum(other.job == task.job for other in found.tasks.values()) == 1:
+        found.jobs[task.job] = weight
+    elif len(found.machines) + len(found.jobs) + len(found.tasks) + HUBS < MOST_NODES and arcs_of(found) < MOST_ARCS:
+        nodes, arcs = min(limits.nodes + 1, MOST_NODES), min(limits.arcs + 1, MOST_ARCS)
+        found.limits = replace(limits, nodes=nodes, arcs=arcs, life=max(limits.life, found.commands + 1))
+        found.number = b"%d" % (found.commands + 1)  # each row took a command
+        task.job = next(job for job in map("w{}".format, range(MOST_NODES)) if job not in found.jobs)
+        found.jobs[task.job] = weight
+    elif task.machine is None and found.waited(task) + weight - found.jobs[task.job] <= limits.patience:
+        task.waits_from -= weight - found.jobs[task.job]
+    else:
+        raise Refused("no-room", f"the arena of {limits.tenant} has no room to try another weight of {name}")
+    return found
+
+
+def arcs_of(book: Book) -> int:
+    """The arcs that the rows use, as docs/PLACEMENT.md counts them."""
+    machines = sum(1 + slots for slots in book.machines.values())
+    return machines + len(book.jobs) + sum(3 + len(task.prefers) for task in book.tasks.values())

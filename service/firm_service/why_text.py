@@ -1,0 +1,88 @@
+"""Reasons in the words of an operator."""
+
+from __future__ import annotations
+
+from collections.abc import Iterator, Sequence
+from itertools import groupby
+
+from .tables import Row
+from .trials import MOST_WEIGHT, Change
+from .why import Choice, Reasons
+
+MOST_NAMES, MOST_COSTS, MOST_CHANGES = 4, 4, 8  # that a line has
+DOES = {  # what a round now would do with the task, and what a past one did
+    "starts": ("start it on {}", "started it on {}"),
+    "stays": ("leave it on {}", "left it on {}"),
+    "moves": ("move it to {}", "moved it to {}"),
+    "waits": ("leave it waiting", "left it waiting"),
+    "stops": ("preempt it", "preempted it"),
+}
+EFFECTS = {  # what would become of another task, and what would have
+    "starts": ("run on {0.after}", "have run on {0.after}"),
+    "moves": ("move from {0.before} to {0.after}", "have moved from {0.before} to {0.after}"),
+    "stops": ("wait", "have waited"),
+}
+
+
+def sentences(found: Reasons, known: Row, past: int | None) -> Iterator[str]:
+    """Lines on a task of which this is known, in a round now, or in a past one of this number."""
+    would, did = (words.format(found.machine) for words in DOES[found.change])
+    yield f"round {past} cost {found.cost}, and {did}" if past else f"a round now would cost {found.cost}, and {would}"
+    if found.machine is not None:
+        yield "; ".join([f"it pays {found.pays} there", *claims(found.others)])
+        return
+    churn = found.pays - known["weight"] - known["waited"]
+    parts = f"weight {known['weight']}, rounds {known['waited']}" + (f", churn {churn}" if churn else "")
+    to_wait = f"to wait costs it {found.pays} ({parts})"
+    machines = [choice for choice in found.others if choice.machine is not None]
+    if machines:
+        yield f"{to_wait}; to run would cost {next(claims(machines))}"
+        yield slots(found, past is not None)
+        yield heavier(found, past is not None)
+    else:
+        yield f"{to_wait}; there is no machine"
+
+
+def claims(others: Sequence[Choice]) -> Iterator[str]:
+    """What other choices would cost: machines, the cheapest first, and then to wait."""
+    machines = [choice for choice in others if choice.machine is not None]
+    for place, (more, alike) in enumerate(groupby(machines, claim)):
+        if place < MOST_COSTS:
+            yield f"{more} on {listed([str(choice.machine) for choice in alike], MOST_NAMES)}"
+    yield from (f"{claim(choice)} to wait" for choice in others if choice.machine is None)
+
+
+def claim(choice: Choice) -> str:
+    if choice.more:
+        return f"at least {choice.more} more"
+    return "as much, though ranked later," if choice.ranks_after else "as much"
+
+
+def listed(names: Sequence[str], most: int) -> str:
+    rest = len(names) - most
+    return ", ".join(names[:most]) + (f" and {rest:,} more" if rest > 0 else "")
+
+
+def slots(found: Reasons, is_past: bool) -> str:
+    free = found.cheapest
+    if free is None:
+        return f"slots {found.slots:,}, none free"
+    costs = {"crowding": free.crowding, "remote": free.remote, "churn": free.churn}
+    parts = ", ".join(f"{name} {cost}" for name, cost in costs.items() if cost)
+    return (
+        f"slots {found.slots:,}, free {found.free:,}, but dearer than waiting:"
+        f" the cheapest, on {free.machine}, {'cost' if is_past else 'costs'} {free.cost} ({parts})"
+    )
+
+
+def heavier(found: Reasons, is_past: bool) -> str:
+    least, run = found.heavier, "have run" if is_past else "run"
+    if least is None:
+        return f"by no weight up to {MOST_WEIGHT:,} would it {run}"
+    others = [effect(change, is_past) for change in least.changes]
+    rest = f"; {listed(others, MOST_CHANGES)}" if others else ", and no other task would change"
+    return f"from weight {least.weight} on it would {run} on {least.machine}{rest}"
+
+
+def effect(change: Change, is_past: bool) -> str:
+    return f"{change.task} would {EFFECTS[change.change][is_past].format(change)}"
