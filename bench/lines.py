@@ -1,7 +1,7 @@
 #!/usr/bin/env python3
 """Measures lines a second of the built program, and its memory over a long input.
 
-usage: bench/lines.py [--program FILE] [--lines N] [--repeats R] [--bytes B] [--rates]
+usage: bench/lines.py [--program FILE] [--lines N] [--repeats R] [--bytes B] [--rates] [--keep]
 Streams of refused adders, `show`, `where`, and all three in turn, for a tenant of 10 rows and for one of 4,000, from a
 file to a file. Times are processor times (user and system), the least of R runs, less those of a run that only adds
 the rows; where valgrind is installed, also instructions. Every output is checked: its last number is the count of
@@ -18,9 +18,11 @@ import shutil
 import subprocess
 import tempfile
 from dataclasses import dataclass
+from functools import partial
 from pathlib import Path
 from typing import NamedTuple
 
+import results
 from shared import BUILT, CannotRun, program_file, require, run_script
 
 ROSTER = "tenant,nodes,arcs,life,spread,churn\nt,4096,65536,1099511627776,1,2\n"
@@ -54,6 +56,7 @@ class Options:
     repeats: int
     bytes: int
     rates: bool
+    keep: bool
 
 
 class Text(NamedTuple):
@@ -175,11 +178,12 @@ def read_options() -> Options:
     parser.add_argument("--repeats", type=int, default=5)
     parser.add_argument("--bytes", type=int, default=100_000_000)
     parser.add_argument("--rates", action="store_true", help="nothing but lines a second")
+    parser.add_argument("--keep", action="store_true", help=results.HELP)
     return Options(**vars(parser.parse_args()))
 
 
-def main() -> int:
-    options = read_options()
+def show(options: Options) -> int:
+    """Measures and prints; the exit status."""
     if not Path(TIME).exists():
         raise CannotRun(f"it needs {TIME} (Debian's package time)")
     with tempfile.TemporaryDirectory(prefix="firm-") as folder:
@@ -191,6 +195,11 @@ def main() -> int:
             print_instructions(bench)
         print_memory(bench)
     return 0
+
+
+def main() -> int:
+    options = read_options()
+    return results.show_and_keep("lines", options.keep, partial(show, options))
 
 
 if __name__ == "__main__":

@@ -2,7 +2,7 @@
 """Measures the built program as a live client sees it, who holds its input open: a line, a round, and idle time.
 
 usage: bench/live.py [--program FILE] [--beside FILE] [--workers 1,2,8] [--rounds N] [--paused N] [--seconds S]
-                     [--repeats R]
+                     [--repeats R] [--keep]
 Times are from the write of a line to its last reply, by the clock on the wall: the middle and the ninetieth of a
 hundred, of the best of R runs; beside them the processor time of the service for each. With `--beside` another built
 program is measured in turn with it. A round is one of no tasks. Where no reply to it comes in two seconds while no
@@ -18,10 +18,12 @@ import subprocess
 import tempfile
 import time
 from dataclasses import dataclass
+from functools import partial
 from pathlib import Path
 from statistics import median
 from typing import NamedTuple, Sequence
 
+import results
 from shared import BUILT, opened, program_file, run_script
 
 ROSTER = "tenant,nodes,arcs,life,spread,churn\nt,4096,65536,1099511627776,1,2\n"
@@ -40,6 +42,7 @@ class Options:
     paused: int
     seconds: float
     repeats: int
+    keep: bool
 
     def programs(self) -> list[str]:
         return [self.program, *([self.beside] if self.beside else [])]
@@ -179,11 +182,12 @@ def read_options() -> Options:
     parser.add_argument("--paused", type=int, default=200, help="lines and rounds with a pause before each")
     parser.add_argument("--seconds", type=float, default=5, help="for which the service is idle")
     parser.add_argument("--repeats", type=int, default=3)
+    parser.add_argument("--keep", action="store_true", help=results.HELP)
     return Options(**vars(parser.parse_args()))
 
 
-def main() -> int:
-    options = read_options()
+def show(options: Options) -> int:
+    """Measures and prints; the exit status."""
     print(f"load before: {os.getloadavg()[0]:.1f} on {os.cpu_count()} processors\n")
     with tempfile.TemporaryDirectory(prefix="firm-") as folder:
         roster = Path(folder) / "roster.csv"
@@ -192,6 +196,11 @@ def main() -> int:
         print_idle(options, roster)
     print(f"\nload after: {os.getloadavg()[0]:.1f}")
     return 0
+
+
+def main() -> int:
+    options = read_options()
+    return results.show_and_keep("live", options.keep, partial(show, options))
 
 
 if __name__ == "__main__":

@@ -2,7 +2,7 @@
 """Measures rounds of the built program, with LEMON's solvers on the same networks beside it where LEMON is installed.
 
 usage: bench/rounds.py [--program FILE] [--measure FILE] [--beside FILE] [--sizes 100x20,..] [--kinds fresh,..]
-                       [--repeats N] [--seed S] [--all-rounds] [--kept]
+                       [--repeats N] [--seed S] [--all-rounds] [--last] [--keep]
 Prints tables in Markdown and keeps each round as a line of JSON in out/bench/rounds.jsonl. Times are processor times,
 the middle of some runs. Every placement is checked to be legal and to cost what the reply says, and that cost against
 LEMON's optimum; the exit status is 1 where one is wrong. docs/PERFORMANCE.md says what the figures mean.
@@ -15,10 +15,12 @@ import os
 import sys
 import tempfile
 from dataclasses import dataclass
+from functools import partial
 from itertools import product
 from typing import Callable, Iterable, TextIO
 
 import kept
+import results
 from kept import RoundRecord
 from measure import build_lemon, read_counts, run_stream, solve
 from shared import BUILT, CannotRun, Missed, built, kinds, program_file, require, run_script
@@ -36,7 +38,8 @@ class Options:
     repeats: int
     seed: int
     all_rounds: bool
-    kept: bool
+    last: bool
+    keep: bool
 
 
 def row(record: RoundRecord, timed: Iterable[str]) -> str:
@@ -169,13 +172,14 @@ def read_options() -> Options:
     parser.add_argument("--repeats", type=int, default=5)
     parser.add_argument("--seed", type=int, default=1)
     parser.add_argument("--all-rounds", action="store_true", help="a row for each round")
-    parser.add_argument("--kept", action="store_true", help="measure nothing, print the tables of the last run")
+    parser.add_argument("--last", action="store_true", help="measure nothing, print the tables of the last run")
+    parser.add_argument("--keep", action="store_true", help=results.HELP)
     return Options(**vars(parser.parse_args()))
 
 
-def main() -> int:
-    options = read_options()
-    if options.kept:
+def show(options: Options) -> int:
+    """Measures and prints; the exit status."""
+    if options.last:
         print_tables(kept.read(kept.ROUNDS, RoundRecord), options.all_rounds)
         return 0
     for path in (options.program, options.measure):
@@ -187,6 +191,11 @@ def main() -> int:
         print_tables(records, options.all_rounds)
     print(f"\n{len(records)} rounds, {wrong} streams wrong")
     return 1 if wrong else 0
+
+
+def main() -> int:
+    options = read_options()
+    return results.show_and_keep("rounds", options.keep, partial(show, options))
 
 
 if __name__ == "__main__":

@@ -2,7 +2,7 @@
 """Measures rounds a second of the built program with some numbers of workers.
 
 usage: bench/workers.py [--program FILE] [--beside FILE] [--measure FILE] [--workers 1,2,4] [--tenants N]
-                        [--size 500x100] [--rounds N] [--repeats R]
+                        [--size 500x100] [--rounds N] [--repeats R] [--keep]
 Each tenant has a full cold book and asks its rounds in turn with the others, from a file to a file: the best of R runs,
 less a run that only adds the rows, by the clock on the wall and by processor time. With each number of workers the
 output must be the same, and that of `firm_measure`, the service on one thread, where it is built; the exit status is 1
@@ -19,10 +19,12 @@ import subprocess
 import tempfile
 import time
 from dataclasses import dataclass
+from functools import partial
 from pathlib import Path
 from typing import NamedTuple
 
 import kept
+import results
 from kept import RateRecord
 from shared import BUILT, built, program_file, read_size, run_script
 
@@ -42,6 +44,7 @@ class Options:
     size: tuple[int, int]
     rounds: int
     repeats: int
+    keep: bool
 
 
 class Service(NamedTuple):
@@ -144,11 +147,12 @@ def read_options() -> Options:
     parser.add_argument("--size", type=read_size, default="500x100", help="tasks and machines of a tenant")
     parser.add_argument("--rounds", type=int, default=50, help="of each tenant")
     parser.add_argument("--repeats", type=int, default=3)
+    parser.add_argument("--keep", action="store_true", help=results.HELP)
     return Options(**vars(parser.parse_args()))
 
 
-def main() -> int:
-    options = read_options()
+def show(options: Options) -> int:
+    """Measures and prints; the exit status."""
     print(f"load before: {os.getloadavg()[0]:.1f} on {os.cpu_count()} processors\n")
     with tempfile.TemporaryDirectory(prefix="firm-") as name:
         records, is_alike = measure(options, Path(name))
@@ -157,6 +161,11 @@ def main() -> int:
         kept.keep(file, records)
     print(f"\nload after: {os.getloadavg()[0]:.1f}" + ("" if is_alike else "; DIFFERENT outputs"))
     return 0 if is_alike else 1
+
+
+def main() -> int:
+    options = read_options()
+    return results.show_and_keep("workers", options.keep, partial(show, options))
 
 
 if __name__ == "__main__":

@@ -99,7 +99,7 @@ def check_roster(options: Options, seed: int) -> Outcomes | None:
     return check(options.command(), Case(f"roster-{seed}", roster, b"a0 show\n"))
 
 
-def check_ages(options: Options, rounds: int = service.LONGEST_WAIT + 3) -> Outcomes | None:
+def check_ages(options: Options, rounds: int = service.LONGEST_PATIENCE + 3) -> Outcomes | None:
     """A task that waits as long as its age can grow, and longer."""
     lines = ["a job j 5", "a task j x"] + ["a round"] * rounds
     lines += ["a where x", "a costs", "a machine m 1", "a round", "a where x", "a drain m", "a round", "a where x"]

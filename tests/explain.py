@@ -2,8 +2,10 @@
 """Asks firm_explain from outside: its lines without the reasons are firm's, and tests/certificates takes its reasons.
 
 usage: tests/explain.py [--quick] [--program FILE] [--explain FILE] [WORD..]
-With words only the checks whose names have one of them. Each check has a line; the exit status is 1 where one failed.
-The long run takes some ten minutes. It needs a C compiler for refuse.c.
+Reasons of each kind of stream at 3,000 tasks and 1,000 machines are accepted, also with --all, --why and --machine, and
+outputs with one number or comment line changed are not; also --tenant, statuses, pieces, failed writes, refused and
+constant memory, and time. With words only the checks whose names have one of them. Each check has a line; the exit
+status is 1 where one failed. The long run takes some ten minutes. It needs a C compiler for refuse.c.
 """
 
 from __future__ import annotations

@@ -2,8 +2,21 @@
 """Refuses each request for memory and each thread of the built program in turn, and fails each read and write once.
 
 usage: tests/faults.py [--program FILE] [--under COMMAND] [--workers N] [--only PART] [--random N]
-Each run must end as the documents promise; what did not has a line, and the exit status is 1 then. docs/HARDENING.md
-says what is asked of each run. It needs a C compiler (cc) for refuse.c, which is preloaded into the program.
+What did not end as it must has a line, and the exit status is 1 then. It needs a C compiler (cc) for refuse.c, which is
+preloaded into the program and refuses, fails or shortens chosen requests, on eight streams (on the longest only
+memory):
+
+- The Nth request for memory is refused, for each N, all growths of first rows and the blocks of an admission among
+  them; then all from the Nth on: status 6, `firm: memory`, a prefix of the output; or status 0, `no 14 memory` or
+  `+ no 28 operator-memory` on some lines, and all others as the plain service answers with memory refused to these.
+- The Nth read of the input fails or is interrupted, in pieces of 1, 2, 7, 257 and 4,096 bytes: status 4, `firm: read`,
+  the answers to the whole lines read; while rounds are away, a prefix of them.
+- The Nth write fails, finds no space, is interrupted or takes nothing, in writes of 1, 4 and 4,096 bytes: status 5,
+  `firm: write`, a prefix; with writes of one byte exactly N - 1 bytes.
+- The Nth read of the roster fails: status 3, `firm: cannot read roster`, no output.
+- The Nth thread can't be started: the first, which reads ahead: status 0, the whole output; a worker: status 6,
+  `firm: memory`, no output.
+- Nothing fails, with these pieces and writes: status 0, the whole output.
 """
 
 from __future__ import annotations

@@ -36,13 +36,12 @@ from typing import Any, TypeVar
 import firmd
 from harness import program, service
 from harness.checks import Check, Missed, Skipped, count_ends, passes, print_skipped, require, run_script
-from harness.deployed import LONGEST_WAIT, MOST_OF_USER, MOST_UNREAD, SERVICE, Book, Books, Shown, Status
+from harness.deployed import MOST_OF_USER, MOST_UNREAD, SERVICE, Book, Books, Shown, Status
 from harness.deployed import bound, gets_reply, roster, serve_view
 from harness.program import ROOT
 from harness.small_streams import random_bad_roster, random_stream, with_noise
 
 FIRMCTL = SERVICE / "firmctl"
-EXPLAIN = program.built("firm_explain")
 BROWSER_SECONDS, BROWSER_TRIES = 30, 3  # headless Chromium hangs once in some fifty starts, whatever it is to show
 ROSTER = b"tenant,nodes,arcs,life,spread,churn\nalpha,12,40,100,1,2\nbeta,8,30,5,0,3\n"
 DAY = b"""alpha machine m1 2
@@ -98,7 +97,7 @@ class Front:
     async def serve(self) -> None:
         """Serves until it is stopped; all connections are closed then."""
         self.loop, self.ended = asyncio.get_running_loop(), asyncio.Event()
-        view = await serve_view(bound(self.state / "view"), self.shown)
+        view = await serve_view(bound(self.state / "view"), self.shown, state=self.state)
         if self.has_http:
             from firm_service.address import Address
             from firm_service.web import serve_http
@@ -190,7 +189,16 @@ def limits_of_model(tenant: service.Tenant) -> object:
 
 def limits_of_book(book: Book) -> object:
     limits = book.limits
-    return (limits.tenant, limits.nodes, limits.arcs, limits.life, limits.spread, limits.churn, limits.remote)
+    return (
+        limits.tenant,
+        limits.nodes,
+        limits.arcs,
+        limits.life,
+        limits.spread,
+        limits.churn,
+        limits.remote,
+        limits.patience,
+    )
 
 
 def books_of_stream(seed: int) -> None:
@@ -285,10 +293,25 @@ def books_of_long_waits() -> None:
     books.replied(b"a job j 5", b"a 1 ok", None)
     books.replied(b"a task j x", b"a 2 ok", None)
     book = books.tenants["a"]
-    for number in range(3, LONGEST_WAIT + 6):
+    for number in range(3, roster.LONGEST_PATIENCE + 6):
         books.replied(b"a round", b"a %d ok round cost 5" % number, None)
-        if number > LONGEST_WAIT:
-            require(book.waited(book.tasks["x"]) == min(number - 2, LONGEST_WAIT), number)
+        if number > roster.LONGEST_PATIENCE:
+            require(book.waited(book.tasks["x"]) == min(number - 2, roster.LONGEST_PATIENCE), number)
+
+
+def books_of_a_patient_tenant() -> None:
+    """A wait is counted no further than the patience of an operator's line, which a record of the tenant has."""
+    books = Books()
+    books.start(ROSTER)
+    record = "gamma,9,24,100,1,2,7,2"
+    books.replied(f"+ admit {record}".encode(), b"+ ok admitted gamma", None)
+    book = books.tenants["gamma"]
+    require((book.limits.row(), book.limits.patience) == (record, 2), book.limits)
+    books.replied(b"gamma job j 5", b"gamma 1 ok", None)
+    books.replied(b"gamma task j x", b"gamma 2 ok", None)
+    for number, waited in enumerate([1, 2, 2, 2], 3):
+        books.replied(b"gamma round", b"gamma %d ok round cost 5" % number, None)
+        require(book.waited(book.tasks["x"]) == waited, number)
 
 
 def books_of_foreign_replies() -> None:
@@ -446,7 +469,7 @@ def firmctl(*words: str, **environment: str) -> program.Run:
         stdin=subprocess.DEVNULL,
         capture_output=True,
         env={**kept, **environment},
-        timeout=60,
+        timeout=180,
     )
     return program.Run(done.returncode, done.stdout, done.stderr)
 
@@ -510,8 +533,10 @@ def tables_are_printed() -> None:
         )
         done = firmctl("status", FIRM_STATE=state)
         require(done.status == 0 and re.fullmatch(STATUS, done.output.decode()), done.output.decode())
-        started.status.journal_bytes = 5_000
-        require(b"half is full" in firmctl("status", "--state", state).output, "no warning of a long stream")
+        for size, is_told in [(7_500, False), (7_501, True)]:
+            started.status.journal_bytes = size
+            said = firmctl("status", "--state", state).output
+            require((b"; no fresh firm goes on yet: see 'Snapshots' in" in said) == is_told, said.decode())
 
 
 def json_is_printed() -> None:
@@ -533,7 +558,9 @@ def json_is_printed() -> None:
         status = json.loads(firmctl("status", "--json", "--state", state).output)
         require(status["status"]["journal_limit"] == 10_000 and status["tenants"][1]["tenant"] == "beta", status)
         lines = json.loads(firmctl("lines", "beta", "--json", "--state", state).output)
+        number = lines.pop("number")  # of the tenant's last reply
         require(lines == {"row": "beta,8,30,5,0,3,0", "lines": ["beta job low 2", "beta task low a"]}, lines)
+        require(number == 2, f"the last reply of beta is {number}")
         started.say(b"alpha done a", b"alpha round", seconds=0.01)
         tasks = json.loads(firmctl("tasks", "alpha", "--json", "--state", state).output)["tasks"]
         require(0 <= tasks[2]["seconds"] < 60 and tasks[2]["machine"] == "m1" and tasks[0]["seconds"] is None, tasks)
@@ -554,13 +581,13 @@ def exit_statuses() -> None:
             (["fly", "--state", state], 2, b"usage"),
             (["lines", "--state", state], 2, b"usage"),
             (["tasks", "--state", "/nonexistent"], 3, b"no firmd answers at /nonexistent/view"),
-            (["why", "d", "--state", state], 4, b"firm_explain, which is not built"),
+            (["why", "d", "--state", state], 4, b"firm_explain can't be run: /nonexistent/firm_explain"),
         ]
         for words, status, told in cases:
             done = firmctl(*words, FIRM_EXPLAIN="/nonexistent/firm_explain")
             require(done.status == status and told in done.faults, f"{words}: {done}")
         done = firmctl("why", "d", "--state", state, FIRM_EXPLAIN="/nonexistent")
-        known = b"alpha d waits, rounds so far 1; one more costs 5: its job's weight 4 and 1\n"
+        known = b"alpha d (job batch, weight 4) waits, rounds so far 1, prefers m1\n"
         require(done.output == known, done)
     done = firmctl("tasks", "--state", state)
     require(done.status == 3, done)
@@ -592,25 +619,6 @@ def firmctl_over_firmd(built: str) -> None:
             require(watcher.next() is None, "a watcher is closed at a stop")
 
 
-def reasons_over_firmd(built: str) -> None:
-    """why, of firmd and the built firm_explain: of a task that runs, one that waits, and one that ended."""
-    if not EXPLAIN.exists():
-        raise Skipped("firm_explain is not built: ./build.py firm_explain")
-    with firmd.Setup(built, True, 1).daemon(roster=ROSTER) as daemon:
-        daemon.start()
-        with firmd.Client(daemon.operator) as client:
-            for line in DAY:
-                client.ask(line)
-            for task, wanted in [("a", b"a stays on m1: "), ("d", b"d waits: 4")]:
-                done = firmctl("why", task, "alpha", "--state", str(daemon.state))
-                known, cost, *reasons = done.output.splitlines()
-                require(done.status == 0 and known.startswith(b"alpha %s " % task.encode()), done)
-                require(cost == b"cost 5: loads 1, moves 0, preemptions 0, waits 4, remote 0", done)
-                require(any(reason.startswith(wanted) for reason in reasons), done)
-            client.ask(b"alpha done d")
-        require(firmctl("why", "d", "--state", str(daemon.state)).status == 1, "a task that ended")
-
-
 def http_over_firmd(built: str) -> None:
     """firmd serves metrics and the page itself; a faulty or taken address, or packages that are missing, stop it."""
     setup = firmd.Setup(built, True, 1)
@@ -640,42 +648,6 @@ def http_over_firmd(built: str) -> None:
         require(http_ask(port, "/")[2] == (ROOT / "service/firm_service/page.html").read_bytes(), "the page")
         book = json.loads(http_ask(port, "/tenants/alpha.json")[2])
         require((book["running"], book["waiting"], book["costs"]) == (3, 1, [1, 5]), book)
-
-
-STAND_IN = """#!/bin/sh
-cat > "$(dirname "$0")/asked"
-cat <<END
-alpha 7 ok round cost 9
-# cost 9: loads 9
-# d waits: 9
-alpha 11 ok round cost 5
-# cost 5: loads 1, moves 0, preemptions 0, waits 4, remote 0
-# low rents: 5 each
-# d waits: 4; m1 at least 1 more
-# least: cost 5 = 19 - 14
-alpha 12 no 8 no-such-job
-END
-"""
-
-
-def reasons_are_told() -> None:
-    """why asks firm_explain, a stand-in here, over the journal's lines of the tenant, and tells what it says last."""
-    with front() as started:
-        stand_in = started.state / "firm_explain"
-        stand_in.write_text(STAND_IN)
-        stand_in.chmod(0o755)
-        folder = started.state / "journal"
-        folder.mkdir()
-        (started.state / "roster.csv").write_bytes(ROSTER)
-        (folder / "00000002.lines").write_bytes(b"alpha task batch d m1\n\t alpha round\r\n+ retire beta\n")
-        (folder / "00000001.lines").write_bytes(b"beta job low 2\nalpha job web 10\nalpha job no-memory 1\n")
-        (folder / "refused").write_bytes(b"1 2\n")
-        done = firmctl("why", "d", "--state", str(started.state), FIRM_EXPLAIN=str(stand_in))
-        lines = done.output.decode().splitlines()
-        wanted = ["cost 5: loads 1, moves 0, preemptions 0, waits 4, remote 0", "d waits: 4; m1 at least 1 more"]
-        require(done.status == 0 and lines[1:] == wanted + ["least: cost 5 = 19 - 14"], done)
-        asked = (started.state / "asked").read_bytes()
-        require(asked == b"alpha job web 10\nalpha task batch d m1\n\t alpha round\r\n+ retire beta\n", asked)
 
 
 def watchers_follow() -> None:
@@ -1160,6 +1132,7 @@ def checks(built: str, streams: range) -> dict[str, Check]:
     return {
         f"books beside the plain service, {len(streams)} streams": partial(books_beside_the_service, streams),
         "books of worn tenants": books_of_worn_tenants,
+        "books of a patient tenant": books_of_a_patient_tenant,
         "books, a reply that belongs to no tenant": books_of_foreign_replies,
         "lines that give the same rows": partial(lines_give_the_same_rows, fewer),
         "rosters are judged as firm does": partial(rosters_are_judged, streams, built),
@@ -1167,13 +1140,11 @@ def checks(built: str, streams: range) -> dict[str, Check]:
         "firmctl, tables": tables_are_printed,
         "firmctl, JSON": json_is_printed,
         "firmctl, exit statuses": exit_statuses,
-        "firmctl, why": reasons_are_told,
         "firmctl, watch": watch_prints,
         "view, watchers": watchers_follow,
         "view, refusals and limits": views_refuse,
         "view, slow watchers": slow_watchers_are_closed,
         "firmctl over firmd": partial(firmctl_over_firmd, built),
-        "firmctl why over firmd": partial(reasons_over_firmd, built),
         "firmd with HTTP": partial(http_over_firmd, built),
         f"books beside firm, {len(fewer)} streams": partial(books_beside_firm, built, fewer),
     }

@@ -40,7 +40,7 @@ JOURNAL_TOOL = [sys.executable, str(SERVICE / "firm-journal")]
 CHECKS_AT_A_TIME = 4
 HEADING = b"tenant,nodes,arcs,life,spread,churn\n"
 ROSTER = HEADING + b"alpha,30,300,1000000000,1,2\nbeta,30,300,1000000000,0,3\n"
-START_SECONDS = 20
+START_SECONDS = 60
 NOBODY = 65534  # a user and a group without rights of their own
 REPLY_SECONDS = 20
 ROWS = [
@@ -120,6 +120,7 @@ class Daemon:
     firm: str
     options: list[str] = field(default_factory=list)
     words: list[str] = field(default_factory=lambda: FIRMD)
+    restored: Path | None = None  # the state to begin with, instead of the roster
     process: subprocess.Popen[bytes] | None = None
 
     @property
@@ -135,15 +136,8 @@ class Daemon:
         return self.folder / "operator"
 
     def spawn(self) -> subprocess.Popen[bytes]:
-        words = [
-            *self.words,
-            "--firm",
-            self.firm,
-            "--state",
-            str(self.state),
-            "--roster",
-            str(self.folder / "roster.csv"),
-        ]
+        words = [*self.words, "--firm", self.firm, "--state", str(self.state)]
+        words += ["--restore", str(self.restored)] if self.restored else ["--roster", str(self.folder / "roster.csv")]
         words += ["--socket", str(self.any), "--operator", str(self.operator), *self.options]
         with open(self.folder / "errors", "wb") as errors:
             self.process = subprocess.Popen(words, stdin=subprocess.DEVNULL, stderr=errors)
@@ -198,7 +192,12 @@ class Daemon:
 
     def journal(self) -> bytes:
         """The lines, without the journal's own headings."""
-        return b"".join(re.sub(rb"(?m)^#.*\n", b"", path.read_bytes()) for path in self.segments())
+        return b"".join(map(lines_of, self.segments()))
+
+
+def lines_of(segment: Path) -> bytes:
+    """The lines of a segment, without the journal's own headings."""
+    return re.sub(rb"(?m)^#.*\n", b"", segment.read_bytes())
 
 
 @dataclass(frozen=True)
@@ -409,12 +408,11 @@ def kills(setup: Setup, part: int) -> None:
                     line = f"{tenant.name} {command}".encode()
                     tenant.tell(Answered(line, client.ask(line)))
         daemon.stop()
-        check_kept(setup, daemon, tenants)
+        check_kept(setup, daemon.journal(), tenants)
 
 
-def check_kept(setup: Setup, daemon: Daemon, tenants: list[Tenant]) -> None:
+def check_kept(setup: Setup, journal: bytes, tenants: list[Tenant]) -> None:
     """Each line that was answered stands in the journal, and firm alone answers it the same from there."""
-    journal = daemon.journal()
     lines = journal.split(b"\n")[:-1]
     alone = setup.alone(roster_of(tenants), journal)
     require(len(lines) == len(alone), "a reply for each line of the journal")
@@ -877,7 +875,7 @@ def endless_line(setup: Setup) -> None:
 
 def limits(setup: Setup) -> None:
     """Too many clients, and a journal that firm can't read any further, are told; one half as long is warned of."""
-    with setup.daemon("--most-clients", "3", "--journal-limit", "1000") as daemon:
+    with setup.daemon("--most-clients", "3", "--journal-limit", "1000", "--snapshot-lines", "0") as daemon:
         daemon.start()
         clients = [daemon.client() for _ in range(3)]
         require([client.ask(b"alpha") for client in clients][0] == b"alpha 1 no 2 bad-command", "three clients")

@@ -8,6 +8,14 @@ crates: there a thread looks for nothing more before it sleeps, and the counts o
 themselves ask that their counts are reached; one that hangs fails at the limit of seconds. Each has a line; the exit
 status is 1 where one failed.
 
+What happens, and in brackets how often in the gate:
+
+- 1,000,000 times (1,000): four callers hand rounds over to two workers, each after the answer to the one before;
+- 1,000,000 times (10,000): four threads put tickets into the queue, four others get them;
+- 10,000 times (1,000): two rounds are put in one go, while one worker is held before its round;
+- 10,000 times (2,000): the workers are stopped right after a round;
+- 10,000 times (50): a service sleeps until a round is answered, before it reads the next line.
+
 As a control, --control leaves the notification of a put round away, and the counts as they are: then a test must hang.
 """
 

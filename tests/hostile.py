@@ -303,12 +303,12 @@ import os, resource, sys
 from pathlib import Path
 from zlib import crc32
 sys.path.insert(0, {service!r})
-from firm_service.journal import Journal
+from firm_service.journal import Journal, Room
 from firm_service.records import Batch
 from firm_service.state import State
 state = State(Path({state!r}))
 state.roster_sum = crc32(state.roster_path.read_bytes())
-journal = Journal(state, 300)
+journal = Journal(state, Room(300))
 journal.on_shortage = lambda error: sys.exit(f"segment {{len(journal.found.segments) + 1}}: {{error}}")
 resource.setrlimit(resource.RLIMIT_NOFILE, (64, 64))
 def fill():

@@ -249,7 +249,8 @@ def bounded_stop(setup: Setup) -> None:
 def filled_journal(setup: Setup) -> None:
     """A tenant that has used its bytes of the journal is told so; another's lines are taken, and its own later."""
     line = b"alpha show" + b" " * 200 + b"\n"
-    with load(setup, "--bytes-a-day-of-tenant", "10000", "--journal-limit", "50000") as daemon:
+    limits = ["--bytes-a-day-of-tenant", "10000", "--journal-limit", "50000", "--snapshot-lines", "0"]
+    with load(setup, *limits) as daemon:
         with Client(daemon.folder / "alpha") as client, Client(daemon.folder / "beta") as other:
             for text in (line, b"alpha " + b"y" * 250 + b"\n", b"alpha " + b"y" * 300 + b"\n"):
                 client.send(text * 300)

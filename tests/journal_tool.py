@@ -2,7 +2,6 @@
 
 from __future__ import annotations
 
-import os
 import subprocess
 import sys
 import threading
@@ -80,7 +79,7 @@ def printed(*words: str | Path) -> tuple[int, str, str]:
 
 
 def printed_damage(setup: Setup) -> None:
-    """`firm-journal print` and `firmctl why` tell of a damage or a missing state, and print no part of it."""
+    """`firm-journal print` and `firmctl why --round` tell of a damage or a missing state, and print no part of it."""
     with setup.daemon("--segment-bytes", "3000") as daemon:
         answered(daemon, True)
         first, second, *_, last = daemon.segments()
@@ -100,14 +99,12 @@ def printed_damage(setup: Setup) -> None:
         require(status == 4 and "no state" in told, told)
         last.write_bytes(texts[last])
         daemon.start()
-        explain = Path(firmd.stand_in(daemon.folder, "#!/bin/sh\ncat > /dev/null\n"))
-        words: list[str | Path] = [sys.executable, SERVICE / "firmctl", "--state", daemon.state, "why", "a", "alpha"]
+        words: list[str | Path] = [sys.executable, SERVICE / "firmctl", "--state", daemon.state]
+        words += ["why", "a", "alpha", "--round", "4"]
         for path in (first, second):
             path.unlink()
             path.mkdir() if path == first else path.write_bytes(b"")
-            done = subprocess.run(
-                words, capture_output=True, text=True, env={**os.environ, "FIRM_EXPLAIN": str(explain)}
-            )
+            done = subprocess.run(words, capture_output=True, text=True)
             told = f"{path.name}: status {done.returncode}: {done.stderr}"
             require(done.returncode == 3 and done.stderr.startswith("firmctl: ") and path.name in done.stderr, told)
             path.rmdir() if path == first else path.unlink()

@@ -2,6 +2,11 @@
 """Asks the built program as live clients do, which hold its input open and wait for each reply.
 
 usage: tests/live.py [--program FILE] [--under COMMAND] [--only WORDS] [--streams N] [--first SEED]
+With 1, 2 and 8 workers: random streams get the same replies line by line as in one go. During long rounds more of
+another tenant's lines go in than a pipe holds; their replies follow in order. Meanwhile the output closes (status 5),
+the input ends (all replies, status 0), a terminal hangs up (status 4), and the program is stopped and continued. It has
+two threads more than workers, and one less if the thread that reads ahead can't be started.
+
 Each check has a line, and the exit status is 1 where one failed. It needs a C compiler (cc) for refuse.c, which makes a
 round as long as a check wants it.
 """

@@ -283,7 +283,7 @@ def two_at_a_time(setup: Setup) -> None:
 def locked_folders(setup: Setup) -> None:
     """Clients that keep the folders of their sockets locked delay a start by little, and an end by nothing."""
     with setup.daemon() as daemon, ExitStack() as held:
-        folders = [daemon.folder / f"client-{place}" for place in range(40)]
+        folders = [daemon.folder / f"client-{place}" for place in range(70)]
         require(LOCK_SECONDS * len(folders) > 2 * START_SECONDS, "a wait for each would be too long")
         for folder in folders:
             folder.mkdir()

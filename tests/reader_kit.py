@@ -2,7 +2,9 @@
 """Greedy readers of firmd, in a process of their own, for the checks that look what they do to others.
 
 usage: tests/reader_kit.py KIND STATE PORT
+       tests/reader_kit.py
 It reads as KIND says until it is terminated. It prints a line with the first answer, and then how many there were.
+Without words it listens at a port, which it prints, and closes each connection once something has come.
 """
 
 from __future__ import annotations
@@ -13,8 +15,8 @@ import socket
 import sys
 import threading
 import time
-from collections.abc import Callable
-from contextlib import suppress
+from collections.abc import Callable, Iterator
+from contextlib import contextmanager, suppress
 from itertools import count
 from pathlib import Path
 from subprocess import DEVNULL, PIPE, Popen
@@ -121,9 +123,21 @@ def read_for_ever(reader: Reader, state: str, port: int) -> None:
         time.sleep(0.01)
 
 
+def close_all() -> int:
+    """Takes connections one after another, reads once from each and closes it."""
+    with socket.create_server(("127.0.0.1", 0)) as server:
+        print(server.getsockname()[1], flush=True)
+        while True:
+            connection, _ = server.accept()
+            with connection, suppress(OSError):
+                connection.recv(1 << 18)
+
+
 def main() -> int:
-    kind, state, port = sys.argv[1], sys.argv[2], int(sys.argv[3])
     os.nice(NICENESS)
+    if not sys.argv[1:]:
+        return close_all()
+    kind, state, port = sys.argv[1], sys.argv[2], int(sys.argv[3])
     ended = threading.Event()
     signal.signal(signal.SIGTERM, lambda *_: ended.set())
     for reader, number in KINDS[kind]:
@@ -132,9 +146,20 @@ def main() -> int:
     while not next(answers):
         time.sleep(0.01)
     print("reading", flush=True)
-    ended.wait()
+    while not ended.wait(1.0):  # a signal that comes as this process goes on may interrupt another thread's call
+        pass
     print(next(answers), flush=True)
     os._exit(0)
+
+
+@contextmanager
+def closing_server() -> Iterator[int]:
+    """The port of a server that closes each connection as the viewer does, in a process of its own."""
+    with Popen([sys.executable, str(Path(__file__))], stdin=DEVNULL, stdout=PIPE) as process:
+        try:
+            yield int(opened(process.stdout).readline())
+        finally:
+            process.kill()
 
 
 class Readers:

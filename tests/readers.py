@@ -39,21 +39,25 @@ from harness.checks import Check, Missed, Skipped, count_ends, passes, require, 
 from harness.deployed import Books, Follower, Shown, Status, feed, feeder
 from harness.small_streams import random_stream
 from hostile import is_served, patch_viewer, view_of, with_http
-from reader_kit import KINDS, SCRAPE, Readers, view_of as connect_view, web_of
+from reader_kit import KINDS, SCRAPE, Readers, closing_server, view_of as connect_view, web_of
 
 ROSTER = firmd.HEADING + b"alpha,4096,65536,1000000000,1,2\nbeta,30,300,1000000000,0,3\n"
 TASKS = 2_500
 FAST = Path("/dev/shm")  # where syncs take no time, so that what is measured is firmd
 RATIO = 1.5
+MANY_TIMES = 5  # of firmd's work, which others of the host change by less
 LONG_SECONDS = 120.0  # for what readers have asked, on a busy host
 TRIES = 6  # of a measurement: others use the host too
+WATCHERS = 64  # as many as an agent for each tenant
 MOST_GROWN_FIRMD = 32_000  # kilobytes, by readers that read nothing: 16 MiB for the viewer; 22,000 in all were seen
+CLOSED = "requests without reading"  # its connections are closed, and made again, without end
 MOST_GROWN = {  # of the viewer, by kind; those of the view have 64 MiB in all
-    "requests without reading": 10_000,
+    CLOSED: 10_000,
     "watchers that do not read": 150_000,
     "views that do not read": 150_000,
 }
 SAID = 'firm_own_replies_total{reply="unknown-tenant",socket="*",tenant=""}'
+TICKS = os.sysconf("SC_CLK_TCK")  # of a processor's second
 VIEW, ALPHA, BETA, OPERATORS = 61001, 61002, 61003, 61004  # groups, and users of these names
 
 
@@ -86,10 +90,13 @@ def children_of(daemon: Daemon) -> dict[int, str]:
 
 
 def viewer_of(daemon: Daemon) -> int:
-    """The process that answers readers."""
-    found = [pid for pid, words in children_of(daemon).items() if "firm-viewer" in words]
-    require(len(found) == 1, f"firmd has one process for readers, and not {children_of(daemon)}")
-    return found[0]
+    """The process that answers readers; one that has just been started gets its words a moment later."""
+
+    def viewers() -> list[int]:
+        return [pid for pid, words in children_of(daemon).items() if "firm-viewer" in words]
+
+    wait_for(lambda: len(viewers()) == 1, "firmd has one process for readers")
+    return viewers()[0]
 
 
 def ask(daemon: Daemon, request: object) -> Any:
@@ -190,32 +197,72 @@ class Measured:
         self.requests += len(times)
         self.slowest.append(percentile(times, 0.99))
 
+    def of_each(self) -> float:
+        """firmd's seconds for a request."""
+        return self.processor / self.requests
+
+    def of_each_at_most(self) -> float:
+        """The same, where the system, which counts in ticks, may have left one out."""
+        return (self.processor + 1 / TICKS) / self.requests
+
     def __str__(self) -> str:
-        of_each = 1e6 * self.processor / self.requests
-        return f"p99 {1e3 * statistics.median(self.slowest):.2f} ms, {of_each:.0f} us of firmd's processor time"
+        p99 = statistics.median(self.slowest)
+        return f"p99 {1e3 * p99:.2f} ms, {1e6 * self.of_each():.0f} us of firmd's processor time"
 
 
 def processor_seconds(daemon: Daemon) -> float:
     """What firmd took so far."""
     fields = Path(f"/proc/{daemon.running().pid}/stat").read_text().rpartition(")")[2].split()
-    return (int(fields[11]) + int(fields[12])) / os.sysconf("SC_CLK_TCK")
+    return (int(fields[11]) + int(fields[12])) / TICKS
+
+
+class Elsewhere:
+    """The same readers of a server that is none of firmd's, while those of firmd pause: what they cost the host itself.
+
+    Only connections that are made and closed without end cost it anything that a writer could notice.
+    """
+
+    def __init__(self, kind: str, daemon: Daemon) -> None:
+        self._stack, self._readers = ExitStack(), None
+        if kind == CLOSED:
+            port = self._stack.enter_context(closing_server())
+            self._readers = self._stack.enter_context(Readers(kind, daemon.state, port))
+            self._readers.pause()
+
+    def __enter__(self) -> Elsewhere:
+        return self
+
+    def __exit__(self, *_: object) -> None:
+        self._stack.close()
+
+    @contextmanager
+    def reading(self) -> Iterator[None]:
+        if self._readers is not None:
+            self._readers.go_on()
+        yield
+        if self._readers is not None:
+            self._readers.pause()
 
 
 def unhurried(setup: Setup, kind: str) -> None:
     """A writer's requests take at most half as long again beside such readers as without them, and firmd no more work.
 
-    Others use the host too, so some tries are left to it; what firmd itself does is measured over all.
+    Others use the host too, so some tries are left to it; what firmd itself does is measured over all. Without readers
+    means before there were any too: readers whose questions are still answered while they pause would compare well.
     """
     rounds, seconds = (3, 0.5) if setup.is_quick else (8, 1.0)
     with full_service(setup) as (daemon, port):
+        before = Measured()
+        before.add(daemon, seconds)
         readers: Deaths | Readers = Deaths(daemon) if kind == "deaths" else Readers(kind, daemon.state, port)
-        with readers:
+        with readers, Elsewhere(kind, daemon) as elsewhere:
             for _ in range(TRIES):
                 alone, beside = Measured(), Measured()
                 for _ in range(rounds):
                     readers.pause()
                     time.sleep(0.2)  # until all that was asked is answered
-                    alone.add(daemon, seconds)
+                    with elsewhere.reading():
+                        alone.add(daemon, seconds)
                     readers.go_on()
                     time.sleep(0.1)
                     beside.add(daemon, seconds)
@@ -225,8 +272,9 @@ def unhurried(setup: Setup, kind: str) -> None:
                     break
         require(readers.answers > 0, "they read something")
         require(ratio <= RATIO, f"{ratio:.2f} times")
-        work = (beside.processor / beside.requests) / (alone.processor / alone.requests)
-        require(work <= RATIO, f"{work:.2f} times the work")
+        require(beside.of_each() <= RATIO * alone.of_each_at_most(), f"more work: {beside}, and not {alone}")
+        is_over = alone.of_each() <= MANY_TIMES * before.of_each_at_most()
+        require(is_over, f"what readers asked is still under way: {alone}, and before there were any {before}")
         is_served(daemon)
         shows_all(daemon)
 
@@ -270,6 +318,31 @@ def slow_connections(setup: Setup) -> None:
                 with daemon.client() as client:
                     client.ask(b"alpha show")
                 require(b"alpha show" in watching.recv(1 << 16), "an idle watcher is not")
+        daemon.stop()
+
+
+def watched_lines(setup: Setup) -> None:
+    """Lines that a client sends without waiting cost firmd about the same beside many watchers that don't read."""
+    lines = [b"alpha show"] * 1_000
+
+    def seconds_of_lines() -> float:
+        began = processor_seconds(daemon)
+        for _ in range(30):
+            give(client, lines)
+        return processor_seconds(daemon) - began
+
+    with setup.daemon() as daemon, ExitStack() as held:
+        client = held.enter_context(daemon.start().client())
+        alone = seconds_of_lines()
+        for _ in range(WATCHERS):
+            watcher = held.enter_context(connect_view(str(daemon.state)))
+            watcher.sendall(b'{"ask": "watch"}\n')
+            require(watcher.recv(1 << 16, socket.MSG_PEEK), "it watches")
+        beside = seconds_of_lines()
+        told = f"{beside:.2f} s instead of {alone:.2f}"
+        print(f"firmd's processor time beside {WATCHERS} watchers: {told}", flush=True)
+        require(beside <= MANY_TIMES * (alone + 1 / TICKS), told)
+        require("status" in ask(daemon, {"ask": "status"}), "others are shown what they ask")
         daemon.stop()
 
 
@@ -606,16 +679,18 @@ def asked_by(daemon: Daemon, user: int, groups: list[int], *requests: object) ->
 def own_tenant(setup: Setup) -> None:
     """A view shows each user the tenants whose lines that user may send, and operators all."""
     tasks, status = {"ask": "tasks"}, {"ask": "status"}
-    others = [{"ask": "tasks", "tenant": "beta"}, {"ask": "book", "tenant": "beta"}, {"ask": "lines", "tenant": "beta"}]
+    others = [{"ask": word, "tenant": "beta", "round": 3} for word in ("tasks", "book", "lines", "state", "before")]
     with host_of_tenants(setup) as daemon:
         with daemon.client() as client:
             give(client, ROWS)
         wait_for(lambda: len(ask(daemon, tasks)["tasks"]) == 2, "rows")
-        answers = asked_by(daemon, ALPHA, [ALPHA, VIEW], tasks, status, *others, {"ask": "book", "tenant": "alpha"})
+        own = [{"ask": "book", "tenant": "alpha"}, {"ask": "tasks", "name": "l"}, {"ask": "state", "tenant": "alpha"}]
+        answers = asked_by(daemon, ALPHA, [ALPHA, VIEW], tasks, status, *others, *own)
         require([row["tenant"] for row in answers[0]["tasks"]] == ["alpha"], answers[0])
         require([row["tenant"] for row in answers[1]["tenants"]] == ["alpha"], answers[1])
-        require([answer.get("error") for answer in answers[2:5]] == ["no-such-tenant"] * 3, answers[2:5])
-        require(answers[5]["book"]["tenant"] == "alpha", answers[5])
+        require([answer.get("error") for answer in answers[2:7]] == ["no-such-tenant"] * 5, answers[2:7])
+        require(answers[7]["book"]["tenant"] == "alpha" and answers[8]["tasks"] == [], answers[7:9])
+        require(answers[9]["tenant"] == "alpha" and " beta " not in answers[9]["text"], answers[9])
         answers = asked_by(daemon, BETA, [BETA, ALPHA, VIEW], tasks)
         require([row["tenant"] for row in answers[0]["tasks"]] == ["alpha", "beta"], "a user of two tenants' groups")
         answers = asked_by(daemon, OPERATORS, [OPERATORS, VIEW], tasks)
@@ -651,6 +726,7 @@ CHECKS: list[Callable[[Setup], None]] = [
     whole_messages,
     shown_after_gaps,
     watchers_behind,
+    watched_lines,
     own_tenant,
 ]
 

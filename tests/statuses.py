@@ -1,5 +1,5 @@
 #!/usr/bin/env python3
-"""Asks the built program for its exit statuses, by words, rosters and inputs, and for what it says with them.
+"""Asks the built program for its exit statuses, by words, rosters, states and inputs, and for what it says with them.
 
 usage: tests/statuses.py [--program FILE]
 Each check has a line, and the exit status is 1 where one failed.
@@ -29,10 +29,11 @@ SHOWN = b"a 1 ok machines 0 jobs 0 tasks 0 running 0 nodes 2 of 2 arcs 0 of 0\n"
 HELP = """\
 Decides where the tasks of a shared cluster run, at the lowest cost
 
-Usage: firm [OPTIONS] --roster <FILE>
+Usage: firm [OPTIONS]
 
 Options:
       --roster <FILE>  The roster of tenants, a CSV file
+      --state <FILE>   The state to go on from, in place of a roster
       --workers <N>    How many threads solve rounds, from 1 to 8 [default: 2]
   -h, --help           Print help
   -V, --version        Print version
@@ -75,9 +76,9 @@ class FaultyWords(NamedTuple):
 
 
 FAULTY_WORDS = [
-    FaultyWords([], "the following required arguments were not provided:"),
     FaultyWords(["--roster"], "a value is required for '--roster <FILE>' but none was supplied"),
-    FaultyWords(["--workers", "2"], "the following required arguments were not provided:"),
+    FaultyWords(["--state"], "a value is required for '--state <FILE>' but none was supplied"),
+    FaultyWords(["--state", "s", "--state", "s"], "the argument '--state <FILE>' cannot be used multiple times"),
     FaultyWords(["--roster", "r.csv", "more"], "unexpected argument 'more' found"),
     FaultyWords(["--roster", "r.csv", "--fast"], "unexpected argument '--fast' found"),
     FaultyWords(
@@ -101,6 +102,16 @@ FAULTY_WORDS = [
 ]
 
 
+# Words that name no file to open with, or two, and what is said of them.
+NOT_ONE: dict[str, list[list[str]]] = {
+    "no roster and no state: give --roster FILE or --state FILE": [[], ["--workers", "2"]],
+    "a roster and a state: give --roster FILE or --state FILE, not both": [
+        ["--roster", "r.csv", "--state", "s"],
+        ["--state=s", "--workers", "8", "--roster=r.csv"],
+    ],
+}
+
+
 class FaultyRoster(NamedTuple):
     """The text of a roster, and the fault that it has."""
 
@@ -120,6 +131,40 @@ FAULTY_ROSTERS = [
     FaultyRoster(HEADING, "6 count"),
     FaultyRoster(HEADING + b"".join(b"t%d,2,0,1,0,0\n" % number for number in range(65)), "6 count"),
 ]
+
+
+# A state that opens as a roster of one tenant does, and one behind a command and a retirement.
+STATE = b"""\
+firm state 1
+place admissions 1
+tenant a nodes 2 arcs 0 life 1 spread 0 churn 0 remote 0 commands 0
+costs
+rows 3
+"""
+LATER_STATE = (
+    STATE.replace(b"life 1 ", b"life 2 ")
+    .replace(b"commands 0", b"commands 1")
+    .replace(b"rows 3", b"place admissions 2\nrows 4")
+)
+
+FAULTY_STATES = {
+    b"": "1 version in line 1",
+    HEADING + ROW: "1 version in line 1",
+    STATE.replace(b"state 1", b"state 2"): "1 version in line 1",
+    STATE.replace(b"costs\n", b"\n"): "2 row in line 4",
+    STATE.replace(b"tenant a", b"tenant A"): "3 name in line 3",
+    STATE.replace(b"nodes 2", b"nodes 1"): "4 number in line 3",
+    STATE.replace(
+        b"rows", b"place admissions 1\ntenant a nodes 2 arcs 0 life 1 spread 0 churn 0 remote 0 commands 0\nrows"
+    ): ("5 repeated-name in line 6"),
+    STATE.replace(b"costs\n", b"costs\nmachine m 1\n"): "9 arena-nodes in line 5",
+    STATE.replace(b"commands 0", b"commands 2"): "11 commands in line 3",
+    STATE.replace(b"costs\n", b"costs 0\n"): "11 commands in line 4",
+    STATE.replace(b"admissions 1", b"admissions 0"): "12 places in line 3",
+    STATE[:-1]: "13 rows in line 5",
+    STATE.replace(b"rows 3\n", b""): "13 rows in line 5",
+    STATE + STATE: "13 rows in line 6",
+}
 
 
 class Served(NamedTuple):
@@ -153,6 +198,10 @@ def faulty_words(built: str) -> None:
         found = run(built, words, b"a show\n")
         require(found.status == 2 and not found.output, f"{words}: {found}")
         require(found.faults.startswith(f"error: {first}\n".encode()), f"{words}: {found.faults.decode()}")
+    for said, all_words in NOT_ONE.items():
+        for words in all_words:
+            found = run(built, words, b"a show\n")
+            require(found == (2, b"", f"firm: {said}\n".encode()), f"{words}: {found}")
     found = run(built, [b"--roster", b"\xff.csv"])
     require(found == (2, b"", b"firm: the command line is no text\n"), found)
 
@@ -212,6 +261,25 @@ def rosters(built: str, folder: Path) -> None:
             require(found == (0, output, b""), f"{words}: {text[-40:]!r}: {commands[:40]!r}: {found.faults!r}")
 
 
+def states(built: str, folder: Path) -> None:
+    """A faulty state gives status 3, and nothing is read or written; others are gone on from."""
+    path = folder / "state"
+    for text, fault in FAULTY_STATES.items():
+        path.write_bytes(text)
+        found = run(built, ["--state", str(path)], b"a show\n")
+        require(found == (3, b"", f"firm: state fault {fault}\n".encode()), f"{text!r}: {found}")
+    for text, output in ((STATE, SHOWN), (LATER_STATE, SHOWN.replace(b"a 1 ", b"a 2 "))):
+        path.write_bytes(text)
+        for words in (["--state", str(path)], ["--workers=8", f"--state={path}", "--"]):
+            found = run(built, words, b"a show\n")
+            require(found == (0, output, b""), f"{words}: {text!r}: {found}")
+    for words in (["--state", f"{folder}/none"], ["--state", str(folder)]):
+        found = run(built, words, b"a show\n")
+        require(found == (3, b"", b"firm: cannot read state\n"), found)
+    found = run(built, ["--state", "/dev/zero"])
+    require(found == (3, b"", b"firm: state fault 1 version in line 1\n"), found)
+
+
 def bytes_of_the_roster(built: str, folder: Path) -> None:
     """Of a roster's file one byte more is read than a roster may have, and no further one."""
     path, size = folder / "fifo", 200_000
@@ -227,8 +295,9 @@ def bytes_of_the_roster(built: str, folder: Path) -> None:
 
 
 def unread_input(built: str, folder: Path) -> None:
-    """Where the words or the roster are at fault no byte of the input is read."""
-    unserved: list[list[str]] = [[], ["--help"], ["--version"], ["--roster", f"{folder}/none"]]
+    """Where the words, the roster or the state are at fault no byte of the input is read."""
+    none = f"{folder}/none"
+    unserved: list[list[str]] = [[], ["--help"], ["--version"], ["--roster", none], ["--state", none]]
     for words in unserved:
         ours, theirs = os.pipe()
         os.write(theirs, b"a show\n")
@@ -251,6 +320,7 @@ def main() -> int:
                 ("example of the help", partial(example_of_the_help, built, folder)),
                 ("faults that nobody reads", partial(faults_that_nobody_reads, built, folder)),
                 ("rosters", partial(rosters, built, folder)),
+                ("states", partial(states, built, folder)),
                 ("bytes of the roster", partial(bytes_of_the_roster, built, folder)),
                 ("unread input", partial(unread_input, built, folder)),
             ]

@@ -12,7 +12,6 @@ from .roster import Limits, read_roster
 
 # The byte that tells `no ..` from `ok ..`, and those behind `ok `; all other outcomes change no rows.
 REFUSAL, EVICTED, ROUND = b"ner"
-LONGEST_WAIT = 1_000_000  # rounds; firm counts a wait no further
 COSTS_KEPT = 120  # of a tenant's last rounds, for the page; firm itself tells 8
 ROUND_SECONDS = (0.0001, 0.0002, 0.0005, 0.001, 0.002, 0.005, 0.01, 0.02, 0.05, 0.1, 0.2, 0.5, 1.0, 2.0, 5.0, 10.0)
 
@@ -75,8 +74,8 @@ class Book:
         return self.waiting > 0
 
     def waited(self, task: Task) -> int:
-        """The rounds that left the task waiting since it last ran or was added."""
-        return 0 if task.machine is not None else min(self.rounds - task.waits_from, LONGEST_WAIT)
+        """The rounds that left the task waiting since it last ran or was added, as far as firm counts them."""
+        return 0 if task.machine is not None else min(self.rounds - task.waits_from, self.limits.patience)
 
     def loads(self) -> dict[str, Machine]:
         """Each machine with its tasks."""

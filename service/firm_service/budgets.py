@@ -18,7 +18,7 @@ WAIT_SECONDS = 0.005  # at least, for a lane or a socket that is ahead of its by
 MOST_BYTES = 2**40  # of any budget
 GO, SPLIT = Verdict(), Verdict(is_to_split=True)
 
-JOURNAL_FULL = b"? journal-full: firm can't read further lines; the operator must begin a new state\n"
+JOURNAL_FULL = b"? journal-full: firm can't read further lines before a fresh one goes on from a snapshot\n"
 TENANT_FULL = b"? tenant-journal-full: the lines of %b have used what they may of the journal a day\n"
 SOCKET_FULL = b"? socket-journal-full: the lines of this socket have used what they may of the journal a day\n"
 
@@ -37,7 +37,7 @@ class Budgets:
     of_socket: Rates
 
 
-# What firmd takes in all is some 10 MiB a second, and all that firm reads is 4 GiB: a tenant needs 15 days for that.
+# What firmd takes in all is some 10 MiB a second, and all that a firm reads is 4 GiB: a tenant needs 15 days for that.
 DEFAULTS = Budgets(
     Rates(8 * MEBIBYTE, 256 * MEBIBYTE),
     Rates(16 * MEBIBYTE, 1024 * MEBIBYTE),
@@ -53,7 +53,7 @@ class Bucket:
         self.rate, self.most, self.left, self._at = rate, most, most, now
 
     def has(self, size: int, now: float) -> bool:
-        """Whether there are so many, with those that have come since it was asked last."""
+        """Whether there are as many, with those that have come since it was asked last."""
         self.left = min(self.most, self.left + (now - self._at) * self.rate)
         self._at = now
         return self.left >= size

@@ -7,6 +7,7 @@ from __future__ import annotations
 
 import argparse
 import asyncio
+import gc
 import os
 import resource
 import shutil
@@ -14,8 +15,8 @@ import signal
 import socket
 import sys
 import time
-from collections.abc import Callable
-from contextlib import suppress
+from collections.abc import Callable, Iterator
+from contextlib import contextmanager, suppress
 from functools import partial
 from importlib.util import find_spec
 from pathlib import Path
@@ -23,26 +24,35 @@ from pathlib import Path
 from . import budgets, logs
 from .accept import Acceptor
 from .address import Address
+from .archive import Keeping
 from .books import Books
 from .bounds import MEBIBYTE, Bounds
 from .clients import Client, Clients, Limits, Listener
 from .faults import Exit, Fault, Faults, reason, say
 from .feeder import Feeder, Told
-from .journal import Journal
+from .firm_process import Firm
+from .journal import Journal, Room
+from .kept_books import read_books, start_books
 from .lanes import Bounds as LaneBounds
 from .lines import is_name
 from .measure import load_of
-from .observers import Status
+from .observers import WARNED_SHARE, Status
 from .register import Register
 from .relief import SHORTAGES, Relief
+from .replicated.journal import ReplicatedJournal
+from .replicated.options import Replica, add_options, require_lone
+from .replicated.point import Point, has_point, point_of
 from .rights import Rights
-from .roster import RosterError
+from .recovery import BEGINNING
 from .rounds import Rounds, Times
 from .serving import Serving
 from .sight import Door
+from .snapshots import Snapshot, last, opening_of
+from .snapshotting import Settings, Snapshots
 from .sockets import Names
-from .state import State
-from .stream import Firm, Options, Stream
+from .state import JOURNAL, State
+from .states import Opening
+from .stream import Options, Stream
 
 MOST_INPUT = 2**32  # bytes that firm reads
 SEGMENT_BYTES = 16 * 2**20
@@ -56,6 +66,7 @@ WAITING_OF_TENANT, UNANSWERED_OF_SOCKET, UNANSWERED_IN_ALL = 4 * MEBIBYTE, 16 * 
 WORKERS = 2  # of firm, where no number is named
 ROUNDS_OF_WORKER = 2  # under way: one that is solved, and one on its way
 FIRM_TIMEOUT, LEAST_TIMEOUT = 60.0, 0.1
+SNAPSHOT_LINES, SNAPSHOT_MINUTES = 100_000, 30.0
 SPARE_FILES = 256  # open files beside the clients'
 BUILT = Path(__file__).resolve().parents[2] / "crates" / "firm" / "out" / "firm"
 EXITS = """\
@@ -64,8 +75,9 @@ exit statuses, each but 0 with the reason on standard error:
   1  an error of firmd itself
   2  the command line, or a package that --http needs
   3  the roster can't be read, firm refuses it, or it is not the state's
-  4  the state can't be read or written, as on a full disk, or another firmd has it; or firm does not answer
-  5  the state lacks a part or has others than were written, or firm replies otherwise than was kept
+  4  the state can't be read or written, as on a full disk, or another firmd has it; or firm or etcd does not answer,
+     or another replica leads
+  5  the state lacks a part or has others than were written or stand in etcd, or firm replies otherwise than was kept
   6  firm can't be started, ended by itself, or was refused memory in the replay
   7  a socket or address can't be had"""
 
@@ -76,8 +88,13 @@ class Daemon:
     def __init__(self, options: argparse.Namespace) -> None:
         self._options = options
         self._state = State(options.state)
+        self._replica = Replica(options) if options.etcd is not None else None
         self._program = [options.firm, *(["--workers", str(options.workers)] if options.workers is not None else [])]
-        self._roster = self._state.roster(options.roster, self._program)
+        if self._replica is None:
+            require_lone(self._state)
+            self._opened = self._state.begin(options.opening, self._program)
+        else:
+            self._opened = self._replica.begin(self._state, self._program)
         self._names = Names()
         self._faults = Faults()
         self._has_warned = False
@@ -85,8 +102,13 @@ class Daemon:
     async def run(self) -> None:
         """Serves until it is told to stop; raises the fault that ended it otherwise."""
         started = time.time()
-        journal = Journal(self._state, self._options.segment_bytes)
-        firm = Firm([*self._program, "--roster", str(self._state.roster_path)])
+        snapshot = last(self._state) if self._replica is None else last(self._state, fits=has_point)
+        room = Room(self._options.segment_bytes, self._options.snapshot_lines or None)
+        own = Journal(self._state, room, snapshot.base if snapshot is not None else BEGINNING)
+        point = point_of(snapshot) if snapshot is not None else None
+        self._replicated = self._replica.open(own, point or Point()) if self._replica is not None else None
+        opening = opening_of(self._state, snapshot) if snapshot is not None else self._state.opening
+        firm = Firm([*self._program, *opening.words()])
         self._status = Status(
             started=started,
             firm_process=firm.process.pid,
@@ -98,27 +120,72 @@ class Daemon:
             lines=0,
             process=os.getpid(),
         )
-        self._books = start_books(self._roster)
+        with uncollected():
+            self._books = self._begin_books(snapshot)
         loop = asyncio.get_running_loop()
         register = Register(name.encode() for name in self._books.tenants)
         self._accounts = budgets.Accounts(budgets.of_options(self._options), register, self._status, loop.time)
         rounds = ROUNDS_OF_WORKER * (self._options.workers or WORKERS)
         bounds = LaneBounds(self._options.most_waiting_of_tenant, rounds)
         options = Options(bounds, self._options.firm_timeout)
-        self._stream = Stream(firm, journal, self._accounts, self._faults, options)
+        self._stream = Stream(firm, self._replicated or own, self._accounts, self._faults, options)
         self._relief = Relief(self._faults)
         self._faults.give_up = self._stream.fail
-        self._stream.on_shortage = journal.on_shortage = self._relief.relieve_soon
+        self._stream.on_shortage = own.on_shortage = self._relief.relieve_soon
         loop.set_exception_handler(self._hear_of_error)
         for number in (signal.SIGTERM, signal.SIGINT):
             loop.add_signal_handler(number, self._stop)
         self._stream.is_mistaken = self._books.may_have_moved
         self._stream.observe(self._books)
-        self._stream.start()
-        await asyncio.wait([self._stream.replayed, self._stream.ended], return_when=asyncio.FIRST_COMPLETED)
-        if not self._stream.ended.done():
-            await self._serve()
-        await self._stream.ended
+        if self._replicated is not None:
+            self._follow(self._replicated, partial(self._keep_snapshots, own, snapshot))
+        try:
+            self._stream.start()
+            await asyncio.wait([self._stream.replayed, self._stream.ended], return_when=asyncio.FIRST_COMPLETED)
+            if not self._stream.ended.done():
+                if self._replicated is None:
+                    self._keep_snapshots(own, snapshot)
+                await self._serve()
+            await self._stream.ended
+        finally:
+            if self._replicated is not None:
+                self._replicated.leave()  # also where a fault ends it
+
+    def _follow(self, journal: ReplicatedJournal, keep_snapshots: Callable[[], None]) -> None:
+        """Has the replay go on until this replica leads, or is stopped."""
+        loop = asyncio.get_running_loop()
+        journal.on_fault = partial(call_soon, loop, self._stream.fail)
+        journal.on_following = partial(call_soon, loop, self._tell_following, keep_snapshots)
+        self._stream.on_stop = journal.stop
+        self._stream.observe(journal.digests)
+
+    def _tell_following(self, keep_snapshots: Callable[[], None]) -> None:
+        say(f"follows: {self._status.lines:,} lines so far", logs.INFO)
+        notify(b"READY=1")
+        keep_snapshots()
+
+    def _begin_books(self, snapshot: Snapshot | None) -> Books:
+        """The books before the lines of the replay."""
+        if snapshot is None:
+            return start_books(self._state.opening, self._opened)
+        try:
+            return read_books(snapshot.state, snapshot.books, snapshot.base.lines)
+        except ValueError as error:
+            what = f"the snapshot {snapshot.base.segment:08} in {self._state.snapshots_path}"
+            raise Fault(Exit.JOURNAL, f"{what} is of another version of firmd, move it away: {error}") from error
+
+    def _keep_snapshots(self, journal: Journal, snapshot: Snapshot | None) -> None:
+        options = self._options
+        if options.snapshot_lines:
+            settings = Settings(
+                options.snapshot_lines,
+                options.snapshot_minutes * 60,
+                Keeping(options.keep, options.archive),
+                self._program,
+                options.firm_timeout,
+                options.log_format,
+            )
+            Snapshots(self._stream, journal, settings, self._faults).start(snapshot)
 
     async def _serve(self) -> None:
         together = Bounds(self._options.most_unread_of_socket, self._options.most_unread_in_all)
@@ -176,7 +243,10 @@ class Daemon:
         ]
         address = self._address()
         http = self._listen_http(address) if address is not None else []
-        return Serving(self._listen_view(), http, address, doors, os.getpid(), self._options.log_format)
+        log_format = self._options.log_format
+        return Serving(
+            self._listen_view(), http, address, doors, os.getpid(), log_format, self._state.folder.absolute()
+        )
 
     def _address(self) -> Address | None:
         """That of HTTP, once it is known that it can be served."""
@@ -231,12 +301,16 @@ class Daemon:
         self._status.clients = len(clients.connected)
         self._status.unread_replies = clients.unread_bytes()
         self._status.owed_bytes = clients.backlog.account.total
+        if self._replicated is not None:
+            told = self._replicated.housekeeper.told
+            self._status.etcd_bytes, self._status.etcd_quota = told.etcd_bytes, told.quota_bytes
+            self._status.replicas = told.kept
         used, most = self._status.journal_bytes, self._status.journal_limit
-        if used > most // 2 and not self._has_warned:
-            self._has_warned = True
+        has_warned, self._has_warned = self._has_warned, used > most * WARNED_SHARE
+        if self._has_warned and not has_warned:
             say(
-                f"warning: the journal has {used:,} of {most:,} bytes that firm reads; "
-                "docs/SERVICE.md says how to begin anew"
+                f"warning: the journal has {used:,} of {most:,} bytes that firm reads, and no fresh one goes on yet; "
+                "docs/SERVICE.md says from what"
             )
         feeder.tell_status()
 
@@ -253,19 +327,27 @@ class Daemon:
             transport.abort()
 
 
+@contextmanager
+def uncollected() -> Iterator[None]:
+    """Makes many objects that stay: the collector looks at them neither now, which would double the time, nor later."""
+    gc.disable()
+    try:
+        yield
+    finally:
+        gc.freeze()
+        gc.enable()
+
+
+def call_soon(loop: asyncio.AbstractEventLoop, call: Callable[..., None], *arguments: object) -> None:
+    """Has a loop call it soon, of any thread, also where the loop has ended before."""
+    with suppress(RuntimeError):
+        loop.call_soon_threadsafe(call, *arguments)
+
+
 def part_of(context: dict[str, object]) -> str:
     """The part of firmd that an error is of, as the metrics name it."""
     source = context.get("protocol") or context.get("task") or context.get("future") or context.get("handle")
     return "client" if isinstance(source, Client) else "loop"
-
-
-def start_books(roster: bytes) -> Books:
-    books = Books()
-    try:
-        books.start(roster)
-    except RosterError as error:
-        raise Fault(Exit.ROSTER, str(error)) from error
-    return books
 
 
 def notify(text: bytes) -> None:
@@ -359,6 +441,17 @@ def add_limits(limits: argparse._ArgumentGroup) -> None:
     limits.add_argument("--firm-timeout", type=timeout, default=FIRM_TIMEOUT, metavar="SECONDS", help=told)
 
 
+def add_snapshots(group: argparse._ArgumentGroup) -> None:
+    add = group.add_argument
+    told = "make one each time this number of lines has come; 0: none are made (default: %(default)s)"
+    add("--snapshot-lines", type=partial(number, 0, 10**9), default=SNAPSHOT_LINES, metavar="N", help=told)
+    told = "and after so long, if there were lines (default: %(default)g)"
+    add("--snapshot-minutes", type=duration, default=SNAPSHOT_MINUTES, metavar="MINUTES", help=told)
+    told = "delete lines of the journal that are so old and that no start needs (default: keep all)"
+    add("--keep", type=duration, metavar="DAYS", help=told)
+    add("--archive", type=Path, metavar="DIR", help="move them there instead")
+
+
 def parser() -> argparse.ArgumentParser:
     found = argparse.ArgumentParser(
         prog="firmd",
@@ -369,7 +462,10 @@ def parser() -> argparse.ArgumentParser:
     add = found.add_argument
     told = "the folder of the roster, the journal and the view's socket"
     add("--state", type=Path, required=True, metavar="DIR", help=told)
-    add("--roster", type=Path, metavar="FILE", help="the roster to begin with; the state keeps it")
+    begun = found.add_mutually_exclusive_group()
+    begun.add_argument("--roster", type=Path, metavar="FILE", help="the roster to begin with; the state keeps it")
+    told = "the state of another service to begin with instead, as firm_state writes it"
+    begun.add_argument("--restore", type=Path, metavar="FILE", help=told)
     add_sockets(found.add_argument_group("sockets, at least one"))
     add("--every", type=duration, metavar="SECONDS", help="ask for rounds this often, of tenants with a waiting task")
     add(
@@ -383,6 +479,8 @@ def parser() -> argparse.ArgumentParser:
     add("--workers", type=partial(number, 1, 8), metavar="N", help="threads of firm that solve rounds")
     logs.add_form(found)
     add_limits(found.add_argument_group("limits"))
+    add_snapshots(found.add_argument_group("snapshots"))
+    add_options(found.add_argument_group("a journal in etcd; docs/CLUSTER.md says more"))
     budgets.add_options(found, number)
     return found
 
@@ -395,12 +493,21 @@ def read_options(arguments: list[str]) -> argparse.Namespace:
     options.listeners += options.client
     if not options.listeners:
         found.error("name a socket: --socket, --operator or --client")
+    options.opening = Opening(options.restore, True) if options.restore else None
+    if options.roster is not None:
+        options.opening = Opening(options.roster)
+    if options.archive is not None and options.keep is None:
+        found.error("--archive needs --keep")
+    if options.archive is not None and options.archive.resolve() == (options.state / JOURNAL).resolve():
+        found.error("--archive names the journal itself")
     paths = [listener.path for listener in options.listeners]
     if len(set(paths)) < len(paths):
         found.error("each socket needs a path of its own")
     options.socket_mode = int(options.socket_mode, 8)
     if options.after is not None:
         options.after /= 1_000
+    if options.name is not None and options.etcd is None:
+        found.error("--name is of a replica: name --etcd too")
     if options.every is not None and options.every < 0.001:
         found.error("--every: a millisecond, 0.001, is the shortest time")
     return options

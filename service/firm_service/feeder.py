@@ -27,7 +27,7 @@ from .load import Load
 from .observers import Status
 from .serving import Serving
 
-PROGRAM = str(Path(__file__).resolve().parents[1] / "firm-viewer")
+PROGRAM = str(Path(__file__).resolve().parents[1] / "firm-viewer")  # stands there where the package is not installed
 MOST_BEHIND = 16 * MEBIBYTE  # of messages that wait for a viewer: some hundred thousand lines
 AHEAD = MEBIBYTE  # of messages, from which on no further rows are added to them
 PIECES = 64  # messages that are sent together
@@ -115,6 +115,11 @@ class Pipe:
         except OSError:
             pass
         self._on_end()
+
+
+def viewer_words() -> list[str]:
+    """What Python is to run as the viewer."""
+    return [PROGRAM] if Path(PROGRAM).exists() else ["-P", "-m", "firm_service.viewer"]
 
 
 @dataclass(frozen=True, slots=True)
@@ -242,7 +247,7 @@ class Feeder:
         """In a process group of its own, as a signal from the terminal is firmd's to answer; not in a session, as these
         share the processors whatever their processes' niceness."""
         return subprocess.Popen(
-            [sys.executable, PROGRAM, self._serving.words(end)],
+            [sys.executable, *viewer_words(), self._serving.words(end)],
             stdin=subprocess.DEVNULL,
             stdout=subprocess.DEVNULL,
             pass_fds=[found.fileno() for found in (end, *self._serving.sockets)],

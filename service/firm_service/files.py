@@ -2,8 +2,13 @@
 
 from __future__ import annotations
 
+import errno
 import os
+import stat
+from contextlib import suppress
 from pathlib import Path
+
+PRIVATE = 0o600  # for what has rows of several tenants
 
 
 def sync_folder(path: Path) -> None:
@@ -15,17 +20,44 @@ def sync_folder(path: Path) -> None:
         os.close(folder)
 
 
-def write_synced(path: Path, text: bytes) -> None:
+def make_folder(path: Path, mode: int = 0o777) -> None:
+    """Makes a folder, and those above it that are missing, on the disk, where it is not there."""
+    if not path.exists():
+        make_folder(path.parent)
+        path.mkdir(mode=mode, exist_ok=True)
+        sync_folder(path.parent)
+
+
+def write_synced(path: Path, text: bytes, mode: int = 0o666) -> None:
     """Writes a file, and returns once its text is on the disk; its name may not be."""
-    with open(path, "wb") as file:
+    with open(os.open(path, os.O_WRONLY | os.O_CREAT | os.O_TRUNC, mode), "wb") as file:
         file.write(text)
         file.flush()
         os.fsync(file.fileno())
 
 
-def replace_synced(path: Path, text: bytes) -> None:
-    """Gives a file this text, on the disk as a whole or not at all."""
+def replace_synced(path: Path, text: bytes, mode: int = 0o666) -> None:
+    """Gives a file this text, on the disk as a whole or not at all; a part of it takes no room there either."""
     new = path.with_name(f"{path.name}.new")
-    write_synced(new, text)
-    new.replace(path)
+    try:
+        write_synced(new, text, mode)
+        new.replace(path)
+    except OSError:
+        with suppress(OSError):
+            new.unlink()
+        raise
     sync_folder(path.parent)
+
+
+def require_room(folder: Path, size: int) -> None:
+    """Asks that a disk has this number of bytes free, for what can wait where lines can't."""
+    found = os.statvfs(folder)
+    if found.f_bavail * found.f_frsize < size:
+        raise OSError(errno.ENOSPC, f"less than {size:,} bytes are free, which is too little room", str(folder))
+
+
+def is_open(path: Path) -> bool:
+    """Whether a file is there that all users may read."""
+    with suppress(OSError):
+        return bool(path.stat().st_mode & stat.S_IROTH)
+    return False

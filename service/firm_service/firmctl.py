@@ -1,4 +1,4 @@
-"""firmctl: what runs where, what waits and why, asked of a running firmd."""
+"""firmctl: what runs where, what waits and why, asked of a running firmd; and work, submitted to a queue."""
 
 from __future__ import annotations
 
@@ -6,29 +6,33 @@ import argparse
 import json
 import os
 import signal
-import socket
 import sys
 import time
-from collections.abc import Callable, Iterator, Sequence
+from collections.abc import Callable, Sequence
 from dataclasses import asdict
 from pathlib import Path
 from typing import Any
 
-from . import roster, tables
-from .faults import Fault
+from . import tables
+from .command_line import NOT_THERE, USAGE, Failure, Verb, Verbs, show, whole
+from .lines import is_name
+from .observers import WARNED_SHARE
+from .questions import add_questions
+from .queue.submitting import add_queue
+from .queue.verbs import add_verbs, of_queue
 from .tables import Column, Row, names, number, text
-from .why import NotBuilt, why
+from .view_client import Service, service_of
 
-# Exit statuses. The first is for a roster with a fault too.
-NOT_THERE, USAGE, NO_SERVICE, NOT_BUILT = 1, 2, 3, 4
-ANSWER_SECONDS = 20
+# Verbs that are asked for often: the parsers of all others are not made for them.
+NAMES = frozenset("ps submit logs wait top history tasks machines jobs status agents cancel".split())
 EXITS = """\
 exit statuses:
   0  it is printed
-  1  no such tenant or task, or a faulty roster
-  2  the command line, a file that can't be read, or a task name that several tenants have
-  3  no firmd answers, it ended meanwhile, or its journal can't be read
-  4  firm_explain is not built, or failed"""
+  1  no such tenant, task, machine or round, faulty lines, a faulty roster, one that no arena holds, or what a queue
+     refuses
+  2  the command line, a file that can't be read, or a name that several tenants have
+  3  no firmd or queue answers, it ended meanwhile, or its journal can't be read
+  4  a program of the answer is not built, failed, or took too long"""
 
 TIME = Column("TIME", lambda row: tables.duration(row["seconds"]), is_number=True)
 TASKS = [text("TENANT", "tenant"), text("TASK", "task"), text("JOB", "job"), text("STATE", "state")]
@@ -48,73 +52,6 @@ COUNTS |= {"WAITING": "waiting", "ROUNDS": "rounds", "COST": "last_cost", "COMMA
 TENANTS = [text("TENANT", "tenant"), *(number(head, key) for head, key in COUNTS.items())]
 
 
-class Failure(Exception):
-    """The end of the program with a message and an exit status."""
-
-    def __init__(self, status: int, message: str) -> None:
-        super().__init__(message)
-        self.status = status
-
-
-class Service:
-    """The view socket of a running firmd."""
-
-    def __init__(self, state: str) -> None:
-        self.path = Path(state) / "view"
-        self.socket = socket.socket(socket.AF_UNIX)
-        self.socket.settimeout(ANSWER_SECONDS)
-        try:
-            self.socket.connect(str(self.path))
-        except OSError as error:
-            raise Failure(NO_SERVICE, f"no firmd answers at {self.path}: {error.strerror or error}") from error
-        self.answers = self.socket.makefile("rb")
-
-    def ask(self, ask: str, tenant: str | None = None) -> Row:
-        """The answer to a request."""
-        try:
-            self.socket.sendall(json.dumps({"ask": ask, "tenant": tenant}).encode() + b"\n")
-        except OSError as error:
-            raise self._lost(error) from error
-        return self._answer()
-
-    def watch(self, tenant: str | None) -> Iterator[Row]:
-        """The rows as they are, and then each line with its reply; it ends only by a failure."""
-        rows = self.ask("watch", tenant)
-        if rows.get("book", rows) is None:
-            raise Failure(NOT_THERE, f"no tenant {tenant!r} is there")
-        yield rows
-        self.socket.settimeout(None)
-        while True:
-            yield self._answer()
-
-    def _answer(self) -> Row:
-        try:
-            line = self.answers.readline()
-        except OSError as error:
-            raise self._lost(error) from error
-        if not line.endswith(b"\n"):
-            raise Failure(NO_SERVICE, f"firmd at {self.path} has closed the connection")
-        answer: Row = json.loads(line)
-        if "error" in answer:
-            raise Failure(NOT_THERE if answer["error"] == "no-such-tenant" else NO_SERVICE, answer["text"])
-        return answer
-
-    def _lost(self, error: OSError) -> Failure:
-        return Failure(NO_SERVICE, f"firmd at {self.path} does not answer: {error.strerror or error}")
-
-
-def service_of(options: argparse.Namespace) -> Service:
-    state = options.state or os.environ.get("FIRM_STATE")
-    if not state:
-        raise Failure(USAGE, "name the state folder of firmd: --state DIR, or FIRM_STATE in the environment")
-    return Service(state)
-
-
-def show(options: argparse.Namespace, answer: Row, plain: Callable[[Row], str]) -> None:
-    """Prints an answer, as JSON where that is asked for."""
-    sys.stdout.write(json.dumps(answer, indent=2) + "\n" if options.json else plain(answer))
-
-
 def rows(columns: Sequence[Column], key: str) -> Callable[[argparse.Namespace], None]:
     """The command that prints the rows of a list."""
 
@@ -128,14 +65,25 @@ def rows(columns: Sequence[Column], key: str) -> Callable[[argparse.Namespace], 
 def status_text(answer: Row) -> str:
     status: dict[str, Any] = answer["status"]
     part = status["journal_bytes"] / status["journal_limit"]
-    warning = "; half is full: see 'A stream that gets too long' in docs/SERVICE.md" if part >= 0.5 else ""
+    warning = "; no fresh firm goes on yet: see 'Snapshots' in docs/SERVICE.md" if part > WARNED_SHARE else ""
     return (
         f"firmd runs for {tables.duration(time.time() - status['started'])}, firm is process {status['firm_process']}\n"
         f"clients {status['clients']}, unread replies {status['unread_replies']:,} bytes\n"
         f"lines {status['lines']:,}, {status['replayed_lines']:,} of them replayed at the start\n"
-        f"journal {status['journal_bytes']:,} of {status['journal_limit']:,} bytes, {part:.1%}{warning}\n\n"
+        f"journal {status['journal_bytes']:,} of {status['journal_limit']:,} bytes, {part:.1%}{warning}\n"
+        + replicas_text(status)
+        + "\n"
         + tables.table(TENANTS, answer["tenants"])
     )
+
+
+def replicas_text(status: Row) -> str:
+    """What is known of other replicas and of etcd, where there are any."""
+    if not status["etcd_quota"]:
+        return ""
+    behind = [f"{name} {max(0, status['journal_bytes'] - size):,}" for name, size in status["replicas"].items()]
+    used, quota = status["etcd_bytes"], status["etcd_quota"]
+    return f"etcd {used:,} of {quota:,} bytes, {used / quota:.1%}; bytes behind: {', '.join(behind) or '-'}\n"
 
 
 def status(options: argparse.Namespace) -> None:
@@ -156,48 +104,9 @@ def watch(options: argparse.Namespace) -> None:
             print(f"{clock}  {tables.printable(event['line'])}  ->  {event['reply']}", flush=True)
 
 
-def task_text(task: Row, weight: int) -> str:
-    """What is known of a task without any reasons."""
-    what = f"runs on {task['machine']}"
-    if task["state"] == "waits":
-        waited = task["waited"]
-        what = (
-            f"waits, rounds so far {waited}; one more costs {weight + waited}: its job's weight {weight} and {waited}"
-        )
-    return f"{task['tenant']} {task['task']} {what}\n"
-
-
-def tenant_of(service: Service, task: str, tenant: str | None) -> str:
-    """The tenant that has the task, where one alone has it."""
-    found = [row["tenant"] for row in service.ask("tasks", tenant)["tasks"] if row["task"] == task]
-    if not found:
-        raise Failure(NOT_THERE, f"no task {task!r} is there")
-    if len(found) > 1:
-        raise Failure(USAGE, f"{', '.join(found)} have a task {task!r}: name one, as in 'why {task} {found[0]}'")
-    return str(found[0])
-
-
-def why_command(options: argparse.Namespace) -> None:
-    service = service_of(options)
-    book = service.ask("book", tenant_of(service, options.task, options.tenant))["book"]
-    tasks = {row["task"]: row for row in book["tasks"]}
-    if options.task not in tasks:
-        raise Failure(NOT_THERE, f"the task {options.task!r} has just ended")
-    task = tasks[options.task]
-    known = task_text(task, {row["job"]: row["weight"] for row in book["jobs"]}[task["job"]])
-    try:
-        answer = why(task, service.path.parent)
-    except NotBuilt as reason:
-        show(options, {"task": task, "reply": None, "reasons": None}, lambda _: known)
-        raise Failure(NOT_BUILT, str(reason)) from reason
-    except OSError as error:
-        raise Failure(NO_SERVICE, f"cannot read the journal: {error}") from error
-    except Fault as fault:
-        raise Failure(NO_SERVICE, str(fault)) from fault
-    show(options, answer, lambda answer: known + "".join(line + "\n" for line in answer["reasons"]))
-
-
 def check_roster(options: argparse.Namespace) -> None:
+    from . import roster  # here, as `sizes` below: no other verb needs these
+
     try:
         with open(options.file, "rb") as file:
             data = file.read(roster.MOST_BYTES + 1)
@@ -212,16 +121,86 @@ def check_roster(options: argparse.Namespace) -> None:
         raise Failure(NOT_THERE, f"firm would refuse it: roster fault {faults[0].name}")
 
 
+def make_roster(options: argparse.Namespace) -> None:
+    from . import sizes
+
+    size = sizes.Size(options.machines, options.slots, options.jobs, options.tasks, options.near)
+    if not size.fits:
+        raise Failure(NOT_THERE, sizes.refusal(size))
+    recipe = sizes.RECIPES[options.recipe]
+    limits = size.limits(options.tenant, recipe)
+    answer = {**asdict(limits), "least_weight": recipe.least_weight(options.slots)}
+    show(options, answer, lambda _: sizes.roster_of(limits))
+
+
+def dashboard(_: argparse.Namespace) -> None:
+    sys.stdout.write(Path(__file__).with_name("grafana.json").read_text())
+
+
+def move(options: argparse.Namespace) -> None:
+    from .door.moving import move as move_tenant  # here, as this takes a part of the start of any other command
+
+    move_tenant(options, lambda state, tenant: Service(state).ask("lines", tenant))
+
+
+def tenant_name(text: str) -> str:
+    if not is_name(text.encode()):
+        raise argparse.ArgumentTypeError(f"{text!r} is no name: 1 to 16 of a-z, 0-9 and -")
+    return text
+
+
+def add_make_roster(verbs: Verbs) -> None:
+    if not verbs.has("make-roster"):
+        return
+    from . import sizes
+
+    command = verbs.add(
+        "make-roster", make_roster, "a roster with room for these rows (docs/TUNING.md); asks no service"
+    )
+    for name, low, high, default, told in [
+        ("--machines", 0, 10**6, None, "how many"),
+        ("--slots", 1, sizes.MOST_SLOTS, None, "of each machine"),
+        ("--tasks", 0, 10**9, None, "that firm has at a time, running and waiting"),
+        ("--jobs", 0, 10**6, 10, "that there are at a time (default: %(default)s)"),
+        ("--near", 0, sizes.MOST_NEAR, 0, "preferred machines of each task (default: %(default)s)"),
+    ]:
+        required, kind = default is None, whole(low, high)
+        command.add_argument(name, type=kind, required=required, default=default, metavar="N", help=told)
+    told = "whose roster it is (default: %(default)s)"
+    command.add_argument("--tenant", type=tenant_name, default="alpha", metavar="NAME", help=told)
+    told = "what crowding, moves and other machines than the preferred cost (default: %(default)s)"
+    command.add_argument("--recipe", choices=list(sizes.RECIPES), default="pack", help=told)
+
+
+def either(name: str, verb: Verb) -> Verb:
+    """A verb of firmd's, or where a queue rather than a state folder or a tenant is named, the queue's."""
+
+    def run(options: argparse.Namespace) -> None:
+        is_of_firmd = options.state or getattr(options, "tenant", None)
+        asks_queue = options.queue or "FIRM_QUEUE" in os.environ and not is_of_firmd
+        (of_queue(name) if asks_queue else verb)(options)
+
+    return run
+
+
 def common(state: str | None, as_json: bool | str) -> argparse.ArgumentParser:
     """The options that may stand before the command and behind it; these are their values where they are left out."""
     found = argparse.ArgumentParser(add_help=False)
     told = "the state folder of firmd (otherwise FIRM_STATE names it)"
     found.add_argument("--state", metavar="DIR", default=state, help=told)
+    add_queue(found, state)
     found.add_argument("--json", action="store_true", default=as_json, help="print JSON")
     return found
 
 
-def parser() -> argparse.ArgumentParser:
+def named_verb(words: Sequence[str]) -> str | None:
+    """The verb, where it comes first or behind --json alone; None where that is not sure."""
+    first = words[1:] if words[:1] == ["--json"] else words
+    return first[0] if first and first[0] in NAMES else None
+
+
+def parser(only: str | None = None) -> argparse.ArgumentParser:
+    """Of all verbs, or of one of them."""
     found = argparse.ArgumentParser(
         prog="firmctl",
         description=__doc__,
@@ -230,34 +209,34 @@ def parser() -> argparse.ArgumentParser:
         parents=[common(None, False)],
     )
     behind = common(argparse.SUPPRESS, argparse.SUPPRESS)
-    commands = found.add_subparsers(metavar="COMMAND", required=True)
-
-    def add(name: str, run: Callable[[argparse.Namespace], None], explained: str) -> argparse.ArgumentParser:
-        command = commands.add_parser(name, help=explained, description=explained, parents=[behind])
-        command.set_defaults(run=run)
-        return command
-
-    add("status", status, "the service and each tenant in numbers")
+    verbs = Verbs(found.add_subparsers(metavar="COMMAND", required=True), behind, only)
+    add = verbs.add
+    add("status", either("status", status), "the service and each tenant in numbers; or the queue")
     for name, run, explained in [
         ("tasks", rows(TASKS, "tasks"), "what runs where, and what waits"),
-        ("machines", rows(MACHINES, "machines"), "machines with their slots and tasks"),
-        ("jobs", rows(JOBS, "jobs"), "jobs with their weights and counts"),
+        ("machines", either("machines", rows(MACHINES, "machines")), "machines with their slots and tasks"),
+        ("jobs", either("jobs", rows(JOBS, "jobs")), "jobs with their weights and counts"),
         ("watch", watch, "each line with its reply, as they come"),
     ]:
         add(name, run, explained).add_argument(
             "tenant", nargs="?", metavar="TENANT", help="of all, where none is named"
         )
-    command = add("why", why_command, "why a task is where it is: the reasons of its tenant's last round")
-    command.add_argument("task", metavar="TASK")
-    command.add_argument("tenant", nargs="?", metavar="TENANT", help="where several have a task of that name")
+    add_questions(verbs)
     add("lines", lines, "the lines that give a new tenant the same rows").add_argument("tenant", metavar="TENANT")
     add("check-roster", check_roster, "every fault of a roster; asks no service").add_argument("file", metavar="FILE")
+    add_make_roster(verbs)
+    add_verbs(verbs)
+    command = add("move", move, "move a tenant to another shard of a door")
+    command.add_argument("tenant", metavar="TENANT")
+    command.add_argument("--to", required=True, metavar="SHARD")
+    command.add_argument("--door", type=Path, required=True, metavar="TABLE", help="as firm-door has it")
+    add("dashboard", dashboard, "a dashboard of the metrics, for Grafana's import")
     return found
 
 
 def main() -> int:
     signal.signal(signal.SIGPIPE, signal.SIG_DFL)  # as other programs of a pipe: `firmctl tasks | head`
-    options = parser().parse_args()
+    options = parser(named_verb(sys.argv[1:])).parse_args()
     try:
         options.run(options)
     except Failure as failure:

@@ -9,10 +9,8 @@ from __future__ import annotations
 import os
 import secrets
 import time
-from collections import deque
 from collections.abc import Callable, Iterator, Sequence
 from contextlib import suppress
-from dataclasses import dataclass
 from functools import partial
 from pathlib import Path
 from threading import Lock
@@ -21,44 +19,20 @@ from zlib import crc32
 
 from .extent import Extent, ExtentFile
 from .faults import Exit, Fault, reason
-from .files import sync_folder
-from .records import Batch, Block, Header, plain, refusals
-from .recovery import Found, Segment, damaged, extent_path, find, read_file, segment_path, whole_text
+from .files import require_room, sync_folder
+from .pieces import Piece, Place, pieces_of
+from .records import Batch, Block, Header, refusals
+from .recovery import BEGINNING, Base, Found, Segment, damaged, extent_path, find, segment_path, whole_text
 from .relief import SHORTAGES, Spare
 from .state import ID_BYTES, NEW_JOURNAL, OLD_ID_BYTES, OLD_JOURNAL, State
 
-PIECE_BYTES = 262_144  # of lines without a block, in a replay
 SHORTAGE_TRIES, SHORTAGE_SECONDS = 200, 0.05
+SEAL_BYTES = 65_536  # that are free where a segment is begun early
 Result = TypeVar("Result")
-
-
-class Place(NamedTuple):
-    """Where lines that were written together stand among all lines."""
-
-    number: int  # of the first, from 1
-    end: int  # in bytes, as firm reads them
-
-
-@dataclass(frozen=True, slots=True)
-class Piece:
-    """Lines of a replay: a block, or lines behind the last one."""
-
-    text: bytes
-    count: int
-    place: Place
-    block: Block | None
-    refused: frozenset[int]  # lines that memory was refused to, counted in the piece from 0
-    doubtful: frozenset[int]  # those of them that an older firmd kept
 
 
 def milliseconds() -> int:
     return time.time_ns() // 1_000_000
-
-
-def piece_end(text: bytes, start: int, most: int) -> int:
-    """Where a piece without a block ends: with a line, before the most if it can."""
-    end = text.rfind(b"\n", start, min(most, start + PIECE_BYTES)) + 1
-    return end if end else text.index(b"\n", start) + 1
 
 
 def finish_rewrite(state: State) -> None:
@@ -99,12 +73,21 @@ class Writing:
             self._trouble = Fault(Exit.INTERNAL, f"the journal failed before: {error!r}")
 
 
+class Room(NamedTuple):
+    """What a segment may have before the next one is begun."""
+
+    size: int  # bytes, as it is on the disk
+    lines: int | None = None
+
+
 class Journal:
-    """The segments in a state's folder, of one process at a time. The replay's pieces come first, then lines are
+    """The segments in a state's folder, of one process at a time. What is found is replayed first, then lines are
     appended, by one thread; another may keep refusals meanwhile. A draft is a folder in which it is written anew."""
 
-    def __init__(self, state: State, segment_bytes: int, draft: Path | None = None) -> None:
-        self.state, self.folder, self.segment_bytes = state, draft or state.journal_path, segment_bytes
+    is_following = False  # its lines are all from here
+
+    def __init__(self, state: State, room: Room, base: Base = BEGINNING, draft: Path | None = None) -> None:
+        self.state, self.folder, self.room = state, draft or state.journal_path, room
         self.on_shortage: Callable[[BaseException], None] = lambda error: None  # of a descriptor or memory
         self._lock = Lock()
         self._is_short = False  # what is under way waits for a descriptor or memory
@@ -115,7 +98,8 @@ class Journal:
         self._size = self._synced = 0  # its bytes, and those of them that are synced
         try:
             finish_rewrite(state)
-            self.found = Found() if draft else find(state, self.folder)  # what is there, and all that is appended
+            # What is there behind the base, and all that is appended.
+            self.found = Found() if draft else find(state, self.folder, base)
             self.folder.mkdir(mode=0o700, exist_ok=True)
             sync_folder(self.folder.parent)
             self._folder = os.open(self.folder, os.O_RDONLY | os.O_DIRECTORY)
@@ -128,6 +112,20 @@ class Journal:
         """Whether no segment is of an older firmd."""
         return self.found.since == 1
 
+    def sealed(self) -> Base:
+        """What stands before the last segment: nothing is added to it."""
+        last = self.found.segments[-1]
+        return Base(last.number - 1, last.lines, last.size, last.chain)
+
+    @property
+    def base(self) -> Base:
+        """What stands before the lines that were found."""
+        return self.found.base
+
+    def pieces(self) -> Iterator[Piece]:
+        """All lines that were found, in their order."""
+        return pieces_of(self.found)
+
     def place_of(self, number: int) -> tuple[Path, int]:
         """The segment of a line, and the line's number there, from 1 and without headings."""
         segment = [segment for segment in self.found.segments if segment.lines < number][-1]
@@ -138,7 +136,7 @@ class Journal:
     def _open_last(self) -> None:
         """Opens the last segment, or begins the first, and syncs what a replay is about to obey."""
         for path in self.folder.glob("*.lines"):
-            if int(path.stem) > len(self.found.segments):  # it was begun, and has nothing
+            if int(path.stem) > self.found.last:  # it was begun, and has nothing
                 path.with_suffix(".blocks").unlink(missing_ok=True)
                 path.unlink()
         if self.found.since:
@@ -172,51 +170,9 @@ class Journal:
     def _id(self) -> str:
         """The state's, which is drawn where it has none; one of today's tells that there is an extent."""
         if self.state.id is None:
-            self.state.id = secrets.token_hex(
-                OLD_ID_BYTES if self.found.segments and not self.found.since else ID_BYTES
-            )
+            size = OLD_ID_BYTES if self.found.segments and not self.found.since else ID_BYTES
+            self.state.id = self.state.id_to_take or secrets.token_hex(size)
         return self.state.id
-
-    # The replay
-
-    def pieces(self) -> Iterator[Piece]:
-        """All lines in their order."""
-        blocks = deque(sorted(self.found.blocks, key=lambda block: block.start))
-        text, start, number = b"", 0, 1  # lines that are not given yet, and where they stand
-        for segment in list(self.found.segments):
-            data = read_file(segment.path)
-            text += data if segment.is_old else plain(data)
-            at = 0
-            for end, block in self._cuts(text, start, blocks):
-                piece = self._piece(text[at:end], Place(number, start + end), block)
-                at, number = end, number + piece.count
-                yield piece
-            text, start = text[at:], start + at
-
-    def _cuts(self, text: bytes, start: int, blocks: deque[Block]) -> Iterator[tuple[int, Block | None]]:
-        """Where the pieces of a text end, with their blocks; what is left is of a block that ends behind the text."""
-        at = 0
-        while at < len(text):
-            while blocks and blocks[0].start < start + at:
-                blocks.popleft()  # another one has its lines
-            block = blocks[0] if blocks else None
-            if block is None or block.start > start + at:
-                at = piece_end(text, at, len(text) if block is None else block.start - start)
-                yield at, None
-            elif block.end - start <= len(text):
-                at = block.end - start
-                yield at, blocks.popleft()
-            else:
-                return
-
-    def _piece(self, text: bytes, place: Place, block: Block | None) -> Piece:
-        count = text.count(b"\n")
-        if block is not None and (block.count != count or not text.endswith(b"\n")):
-            damaged(f"{self.folder}: the replies to lines {place.number} to {place.number + count - 1} are of others")
-        known = self.found.refused
-        refused = frozenset(number - place.number for number in known if 0 <= number - place.number < count)
-        doubtful = frozenset(below for below in refused if not known[place.number + below])
-        return Piece(text, count, place, block, refused, doubtful)
 
     # What comes
 
@@ -228,7 +184,7 @@ class Journal:
         size = sum([len(batch.text) for batch in batches])
         with self._lock, self._writing:
             found = self.found
-            if not self.found.since or self._size + size > self.segment_bytes and self._has_lines():
+            if not self.found.since or self._is_full(size) and self._has_lines():
                 self._begin_segment()
             time = milliseconds() if copied is None else copied
             self._write(self._patiently(partial(self._records, batches, time)))
@@ -262,6 +218,23 @@ class Journal:
         finally:
             self._lock.release()
 
+    def sync(self) -> None:
+        """Waits until copied lines are on the disk too."""
+        with self._lock, self._writing:
+            if self._size > self._synced:
+                self._sync()
+
+    def seal(self) -> None:
+        """Begins a segment, so that nothing is added to those before it, if there is a line to seal.
+
+        Raises OSError where the disk may lack room for that; nothing is done then, and lines may still have some.
+        """
+        with self._lock:
+            if self.found.since and self._has_lines():
+                require_room(self.folder, SEAL_BYTES)
+                with self._writing:
+                    self._begin_segment()
+
     def renew(self) -> None:
         """Gives the state another id, for a copy that has lost what was answered since."""
         with self._lock, self._writing:
@@ -281,6 +254,11 @@ class Journal:
                 os.close(self._file)
             os.close(self._folder)
 
+    def _is_full(self, size: int) -> bool:
+        """Whether the last segment has no room for lines of this size."""
+        lines = self.found.lines - self.found.segments[-1].lines
+        return self._size + size > self.room.size or self.room.lines is not None and lines >= self.room.lines
+
     def _has_lines(self) -> bool:
         """Whether the last segment has some."""
         return self.found.lines > self.found.segments[-1].lines
@@ -295,7 +273,7 @@ class Journal:
 
     def _begin_segment(self) -> None:
         """Begins the next segment, and has the extent say so before anything is answered from there."""
-        found, number = self.found, len(self.found.segments) + 1
+        found, number = self.found, self.found.last + 1
         path = segment_path(self.folder, number)
         header = Header(
             self._id(), number, self.state.roster_sum, found.lines, found.size, found.chain, milliseconds()
@@ -311,11 +289,12 @@ class Journal:
             self._file = file
             self._spare.take()
         self._size = self._synced = 0
+        before = found.chain
         self._write(header)
         os.fsync(self._file)
         os.fsync(self._folder)
         self._synced, found.since = self._size, found.since or number
-        found.segments.append(Segment(number, path, False, found.lines, found.size))
+        found.segments.append(Segment(number, path, False, found.lines, found.size, before))
         if self._extent is None:
             self._extent = self._patiently(partial(ExtentFile.make, extent_path(self.folder), self._reached()))
         else:
@@ -356,7 +335,7 @@ class Journal:
 
     def _reached(self) -> Extent:
         found = self.found
-        return Extent(self._id().encode(), found.since, len(found.segments), self._synced, found.chain)
+        return Extent(self._id().encode(), found.since, found.last, self._synced, found.chain)
 
     def _patiently(self, work: Callable[[], Result]) -> Result:
         """Does what may lack a descriptor or memory, again and again while clients are closed for it."""

@@ -1,4 +1,4 @@
-"""Prints a journal's lines, or writes it anew. docs/SERVICE.md says when."""
+"""Prints a journal's lines and its snapshots, or writes it anew. docs/SERVICE.md says when."""
 
 from __future__ import annotations
 
@@ -8,36 +8,45 @@ import signal
 import sys
 import time
 from pathlib import Path
-from zlib import crc32
 
 from .daemon import SEGMENT_BYTES
 from .faults import Exit, Fault, say
 from .files import sync_folder
-from .journal import Journal
-from .kept import Kept, found_now, kept_lines
+from .journal import Journal, Room
+from .kept import Kept, first_base, found_now, kept_lines
 from .lines import first_word
 from .logs import ERROR, add_form, begin
+from .pieces import pieces_of
+from .programs import NotBuilt
 from .records import Batch
-from .recovery import Found
-from .state import NEW_JOURNAL, OLD_JOURNAL, State, read
+from .recovery import BEGINNING, Found
+from .snapshots import Snapshot, last, opening_of, remove_all, segments_of, usable
+from .state import NEW_JOURNAL, OLD_JOURNAL, State, StateFolder
+from .states import Part, Refused, StateError, fold
 
 COPIED_LINES = 4_096  # at a time, of an older segment
 EXITS = """\
 exit statuses:
   0  it is done
   2  the command line, or a line to be obeyed that no older firmd took for a refused one
-  3  the state's roster can't be read
+  3  the state's roster can't be read, or firm_state refuses a state or a tenant
   4  the state can't be read or written, or firmd has it
-  5  the state lacks a part or has others than were written"""
+  5  the state lacks a part or has others than were written
+  6  firm_state can't be run, or ended without a state"""
+
+
+def existing(path: Path) -> State:
+    """A state that no firmd has, until this process ends."""
+    if not path.is_dir():
+        raise Fault(Exit.STATE, f"there is no state {path}")
+    return State(path)
 
 
 def opened(path: Path) -> tuple[State, Journal]:
-    """A state that no firmd has, and its journal, compared as at a start."""
-    if not path.is_dir():
-        raise Fault(Exit.STATE, f"there is no state {path}")
-    state = State(path)
-    state.roster_sum = crc32(read(state.roster_path))
-    return state, Journal(state, SEGMENT_BYTES)
+    """Such a state and its journal, compared as at a start."""
+    state = existing(path)
+    state.read_opening()
+    return state, Journal(state, Room(SEGMENT_BYTES), first_base(path))
 
 
 def print_lines(options: argparse.Namespace) -> None:
@@ -52,10 +61,13 @@ def print_lines(options: argparse.Namespace) -> None:
             sys.stdout.buffer.write(b"".join([line + b"\n" for line in text]))
 
 
+def clock(milliseconds: int) -> str:
+    return time.strftime("%Y-%m-%dT%H:%M:%S", time.gmtime(milliseconds // 1_000)) + f".{milliseconds % 1_000:03}Z"
+
+
 def described(kept: Kept, refused: dict[int, int]) -> list[bytes]:
     """The lines, each behind its number, time and sender."""
-    clock = time.strftime("%Y-%m-%dT%H:%M:%S", time.gmtime(kept.time // 1_000)) + f".{kept.time % 1_000:03}Z"
-    begins = b"%b %b" % (clock.encode() if kept.time else b"-", kept.sender)
+    begins = b"%b %b" % (clock(kept.time).encode() if kept.time else b"-", kept.sender)
     return [
         b"%d %b%b %b\n" % (number, begins, b" refused" if number in refused else b"", line)
         for number, line in enumerate(kept.lines, kept.number)
@@ -68,6 +80,8 @@ def rewrite(options: argparse.Namespace) -> None:
     if source.is_of_today and not options.forget_replies and not options.obey:
         print(f"{source.folder}: all segments have today's form already")
         return
+    if source.found.base != BEGINNING:
+        raise Fault(Exit.STATE, f"{source.folder}: the first lines are archived or deleted: put them back")
     for number in options.obey:
         if source.found.refused.get(number) != 0:  # the time of a refusal that an older firmd kept is not known
             raise Fault(Exit.WORDS, f"line {number} is none that an older firmd took for a refused one")
@@ -75,10 +89,11 @@ def rewrite(options: argparse.Namespace) -> None:
     if old.exists():
         raise Fault(Exit.STATE, f"{old} is there: move it away")
     shutil.rmtree(draft, ignore_errors=True)
-    target = Journal(state, SEGMENT_BYTES, draft)
+    target = Journal(state, Room(SEGMENT_BYTES), draft=draft)
     copy_all(source.found, target, options)
     source.close()
     target.close()
+    remove_all(state.snapshots_path)  # they tell of the former segments, and maybe of another firm
     source.folder.rename(old)
     draft.rename(source.folder)
     sync_folder(state.folder)
@@ -105,6 +120,29 @@ def copy_all(found: Found, target: Journal, options: argparse.Namespace) -> None
         target.keep_refused(numbers, at)
 
 
+def show_snapshots(options: argparse.Namespace) -> None:
+    """Each snapshot with its time and the lines that are in it, or why it is not used."""
+    state = StateFolder(options.state)
+    state.read_opening()
+    for segment, found in zip(segments_of(state.snapshots_path), usable(state)):
+        if isinstance(found, Snapshot):
+            print(f"{segment:08} {clock(found.time)} {found.base.lines} lines, {len(found.state)} bytes")
+        else:
+            print(f"{segment:08} is not used: {found}")
+
+
+def write_state(options: argparse.Namespace) -> None:
+    """The state behind the last line, from the last snapshot on. A firmd that runs would answer lines that it lacks."""
+    state = existing(options.state)
+    state.read_opening()
+    snapshot = last(state)
+    base, opening = BEGINNING, state.opening
+    if snapshot is not None:
+        base, opening = snapshot.base, opening_of(state, snapshot)
+    lines = (piece.effective() for piece in pieces_of(found_now(options.state, base)))
+    sys.stdout.buffer.write(fold(opening, lines, Part(options.merge, options.tenant)))
+
+
 def renew_id(options: argparse.Namespace) -> None:
     state, journal = opened(options.state)
     before = state.id
@@ -119,6 +157,8 @@ def parser() -> argparse.ArgumentParser:
     commands = found.add_subparsers(metavar="COMMAND", required=True)
     for name, run, explained in [
         ("print", print_lines, "the lines, as firm gets them in a replay; firmd may run"),
+        ("snapshots", show_snapshots, "the snapshots, each with its time and lines, or why it is not used"),
+        ("state", write_state, "the service's state behind all lines, for firmd --restore; firmd must not run"),
         ("rewrite", rewrite, "write a journal of an older firmd anew, with a checksum for each record"),
         ("new-id", renew_id, "give a restored copy an id of its own: agents end what ran for lines that it has lost"),
     ]:
@@ -129,6 +169,11 @@ def parser() -> argparse.ArgumentParser:
         if name == "print":
             told = "each line behind its number, time and sender: a socket and a user, or firmd for its own rounds"
             command.add_argument("--senders", action="store_true", help=told)
+        if name == "state":
+            told = "add the tenants of these states"
+            command.add_argument("--merge", type=Path, nargs="+", default=[], metavar="FILE", help=told)
+            told = "keep these tenants alone"
+            command.add_argument("--tenant", nargs="+", default=[], metavar="NAME", help=told)
         if name == "rewrite":
             told = "leave out the digests of replies, for a firm that replies otherwise"
             command.add_argument("--forget-replies", action="store_true", help=told)
@@ -146,6 +191,9 @@ def main() -> int:
     except Fault as fault:
         say(str(fault), ERROR)
         return fault.status
+    except (NotBuilt, StateError) as error:
+        say(str(error), ERROR)
+        return Exit.ROSTER if isinstance(error, Refused) else Exit.FIRM
     except OSError as error:
         say(str(error), ERROR)
         return Exit.STATE

@@ -16,7 +16,7 @@ from collections.abc import Callable, Sequence
 from dataclasses import dataclass, field
 from typing import Protocol
 
-from .journal import Piece, Place
+from .pieces import Piece, Place
 
 OPERATORS = b"+"  # the lane of the operator's lines
 SHARE_LINES = 64  # at most, that clients put into a lane together
@@ -129,7 +129,7 @@ class Lanes:
         self.by_name: dict[bytes, Lane] = {}
         self.full: set[bytes] = set()  # lanes that take no more before half of it has left them
         self.on_room: Callable[[], None] = lambda: None  # one of them takes more again
-        self._late: dict[bytes, float] = {}  # lanes that may be served again so many seconds later
+        self._late: dict[bytes, float] = {}  # lanes that may be served again, each that number of seconds later
         self._ready: deque[Lane] = deque()
         self._rounds: deque[Lane] = deque()  # whose next line is a round
         self._rounds_under_way = 0

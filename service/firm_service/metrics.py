@@ -28,6 +28,8 @@ class BooksCollector(Collector):
     def collect(self) -> Iterator[Metric]:
         yield from self._of_service()
         yield from families(self._shown.load)
+        if self._shown.status.etcd_quota:
+            yield from self._of_etcd()
         yield self._faults()
         yield from self._of_tenants()
         yield self._refusals()
@@ -40,18 +42,39 @@ class BooksCollector(Collector):
         yield CounterMetricFamily("firm_viewer_restarts", told, status.viewer_restarts)
         told = "How often that process fell behind, so that watchers lacked lines, since the start."
         yield CounterMetricFamily("firm_viewer_gaps", told, status.viewer_gaps)
+        yield CounterMetricFamily("firm_snapshots", "Snapshots made since the start.", status.snapshots)
+        told = "How often no snapshot could be made, or a fresh firm could not go on from one, since the start."
+        yield CounterMetricFamily("firm_snapshot_failures", told, status.snapshot_failures)
+        told = "How often a fresh firm went on from a snapshot, since the start."
+        yield CounterMetricFamily("firm_change_overs", told, status.change_overs)
         for name, explained, value in (
+            ("firm_snapshot_lines", "Lines that are in the last snapshot.", status.snapshot_lines),
+            ("firm_snapshot_time_seconds", "When it was made, in seconds since 1970, 0: none.", status.snapshot_time),
             ("firm_replayed_lines", "Lines replayed at the start.", status.replayed_lines),
             ("firm_clients", "Clients that are connected.", status.clients),
             ("firm_unread_reply_bytes", "Replies that clients have not read yet.", status.unread_replies),
             ("firm_unanswered_line_bytes", "Lines that are not answered yet, in memory.", status.owed_bytes),
-            ("firm_journal_bytes", "The journal's size.", status.journal_bytes),
+            (
+                "firm_journal_bytes",
+                "Lines that firm was given since it began, at a state or the journal's beginning.",
+                status.journal_bytes,
+            ),
             ("firm_journal_limit_bytes", "The size at which firm reads no further.", status.journal_limit),
             ("firm_start_time_seconds", "When the service started, in seconds since 1970.", status.started),
             ("firm_tenants", "Tenants that are there.", len(self._shown.books.tenants)),
             ("firm_status_age_seconds", "Time since firmd told what it knows of itself.", self._shown.age),
         ):
             yield GaugeMetricFamily(name, explained, value)
+
+    def _of_etcd(self) -> Iterator[Metric]:
+        status = self._shown.status
+        yield GaugeMetricFamily("firm_etcd_bytes", "What etcd uses of its quota.", status.etcd_bytes)
+        yield GaugeMetricFamily("firm_etcd_quota_bytes", "The size at which etcd takes no lines.", status.etcd_quota)
+        told = "Lines that the disk of a replica has, as of a second ago or more."
+        replicas = GaugeMetricFamily("firm_replica_bytes", told, labels=["replica"])
+        for name, size in status.replicas.items():
+            replicas.add_metric([name], size)
+        yield replicas
 
     def _of_tenants(self) -> Iterator[Metric]:
         rounds = CounterMetricFamily("firm_rounds", "Rounds since the tenant's admission.", labels=["tenant"])

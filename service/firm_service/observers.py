@@ -3,8 +3,10 @@
 from __future__ import annotations
 
 from collections.abc import Sequence
-from dataclasses import dataclass
+from dataclasses import dataclass, field
 from typing import Protocol
+
+WARNED_SHARE = 0.75  # of what firm reads, that is told: from a half on a fresh one is to go on
 
 
 class Observer(Protocol):
@@ -28,7 +30,7 @@ class Status:
     firm_process: int  # the process id of firm, 0 where there is none
     clients: int  # connected now
     unread_replies: int  # bytes of replies that clients have not read yet, as of a second ago at most
-    journal_bytes: int  # of all segments: what a replay gives to firm
+    journal_bytes: int  # that firm was given, of the lines behind the state that it began with
     journal_limit: int  # the most that firm reads
     replayed_lines: int  # at the start
     lines: int  # answered, those of the replay among them
@@ -36,3 +38,11 @@ class Status:
     process: int = 0  # the process id of firmd
     viewer_restarts: int = 0  # of the process that answers readers
     viewer_gaps: int = 0  # how often it fell behind, and was told all rows anew
+    snapshots: int = 0  # made since the start
+    snapshot_failures: int = 0  # how often none could be made, or one was not as it was written, since the start
+    snapshot_lines: int = 0  # that are in the last one
+    snapshot_time: float = 0.0  # when that was, in seconds since the epoch; 0: there is none
+    change_overs: int = 0  # how often a fresh firm took the place of another, since the start
+    etcd_bytes: int = 0  # that etcd uses
+    etcd_quota: int = 0  # of this number, 0 where the journal is of this host alone
+    replicas: dict[str, int] = field(default_factory=dict)  # bytes of lines that the disk of each has

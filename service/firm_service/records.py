@@ -16,13 +16,15 @@ milliseconds since 1970, 0 where they are not known. No line that is kept begins
 from __future__ import annotations
 
 import re
-from dataclasses import dataclass
+from dataclasses import dataclass, field
+from hashlib import blake2b
 from typing import NamedTuple
 from zlib import crc32
 
 VERSION = 2  # the first had lines alone, with digests in files beside them
 HEADER, LINES, REPLIES, REFUSED = b"firm-journal %d" % VERSION, b"lines", b"replies", b"refused"
 HEADER_BEGINS = b"#firm-journal "
+DIGEST_BYTES = 16
 UNKNOWN = b"?"  # the sender of a line that an older firmd kept
 
 _HEADING = re.compile(rb"#(firm-[a-z]+ [0-9]+|lines|replies|refused) ([0-9a-f]{8}) ([^\n]*)\n")
@@ -122,6 +124,19 @@ class Block:
 
     def text(self) -> bytes:
         return sealed(REPLIES, f"{self.start} {self.end} {self.count} {self.replies}".encode())
+
+
+@dataclass(slots=True)
+class Answered:
+    """Lines that were answered since the last block."""
+
+    start: int
+    end: int = 0
+    count: int = 0
+    replies: blake2b = field(default_factory=lambda: blake2b(digest_size=DIGEST_BYTES))
+
+    def block(self) -> Block:
+        return Block(self.start, self.end, self.count, self.replies.hexdigest())
 
 
 class Batch(NamedTuple):

@@ -10,13 +10,14 @@ import re
 from dataclasses import dataclass, field
 from hashlib import blake2b
 from pathlib import Path
-from typing import NoReturn
+from typing import NamedTuple, NoReturn
 from zlib import crc32
 
 from .extent import Extent
 from .faults import RESTORE, Exit, Fault, reason
 from .lines import gets_reply
 from .records import (
+    DIGEST_BYTES,
     HEADER,
     HEADER_BEGINS,
     LINES,
@@ -32,7 +33,6 @@ from .records import (
 )
 from .state import StateFolder
 
-DIGEST_BYTES = 16
 HEADER_BYTES = 512  # at most
 
 
@@ -43,12 +43,31 @@ class Segment:
     is_old: bool  # of an older firmd: lines without headings
     lines: int  # of all segments before
     size: int  # bytes of these lines
+    chain: int  # the checksum of all segments before, as they are on the disk
+
+
+class Base(NamedTuple):
+    """What stands before the first segment that is read."""
+
+    segment: int  # the number of the last one
+    lines: int
+    size: int  # bytes of these lines
+    chain: int  # the checksum of these segments, as they are on the disk
+
+    @classmethod
+    def before(cls, header: Header) -> Base:
+        """What stands before a segment with this header."""
+        return cls(header.number - 1, header.lines, header.size, header.chain)
+
+
+BEGINNING = Base(0, 0, 0, 0)
 
 
 @dataclass(slots=True)
 class Found:
     """What the segments have, as far as they are read."""
 
+    base: Base = BEGINNING
     segments: list[Segment] = field(default_factory=list)
     blocks: list[Block] = field(default_factory=list)
     refused: dict[int, int] = field(default_factory=dict)  # numbers of lines that memory was refused to, with the time
@@ -58,6 +77,14 @@ class Found:
     last_size: int = 0  # bytes of the last segment, as it is on the disk
     since: int = 0  # the first segment of today's form, 0 where there is none
     state: str = ""  # the id of its state
+
+    def __post_init__(self) -> None:
+        _, self.lines, self.size, self.chain = self.base
+
+    @property
+    def last(self) -> int:
+        """The number of the last segment."""
+        return self.base.segment + len(self.segments)
 
     def add(self, segment: Segment, data: bytes, lines: int, size: int) -> None:
         self.segments.append(segment)
@@ -86,12 +113,15 @@ def read_file(path: Path) -> bytes:
         raise Fault(Exit.STATE, f"cannot open the journal {path}: {reason(error)}") from error
 
 
-def find(state: StateFolder, folder: Path) -> Found:
-    """Reads and compares all segments of a folder; the last one is left out where it was begun and has nothing."""
+def find(state: StateFolder, folder: Path, base: Base = BEGINNING) -> Found:
+    """Reads and compares the segments of a folder behind the base. Those before it may be away, the oldest first; the
+    last one is left out where it was begun and has nothing."""
     extent = Extent.read(extent_path(folder))
     numbers = numbers_of(folder)
     if extent is not None:
-        return find_today(state, folder, numbers, extent)
+        return find_today(state, folder, (numbers, extent), base)
+    if base != BEGINNING or numbers[:1] not in ([], [1]):
+        damaged(f"{folder}: segments are missing, or {extent_path(folder)}, which says how far they reach")
     if not numbers and state.id is not None and (state.is_of_today or state.had_roster):
         cure = "" if state.is_of_today else f", or remove {state.id_path} if no line of it was ever answered"
         damaged(f"{folder} has no segments, and the state was begun with some", cure)
@@ -107,35 +137,40 @@ def find(state: StateFolder, folder: Path) -> Found:
     return found
 
 
-def find_today(state: StateFolder, folder: Path, numbers: list[int], extent: Extent) -> Found:
+def find_today(state: StateFolder, folder: Path, there: tuple[list[int], Extent], base: Base) -> Found:
     """The same where there are segments of today's form, which have an extent."""
+    numbers, extent = there
     last = extent.segment
-    if len(numbers) == last + 1 and is_newborn(segment_path(folder, last + 1)):
+    if numbers[-1:] == [last + 1] and is_newborn(segment_path(folder, last + 1)):
         numbers.pop()
-    if len(numbers) != last:
-        what = "segments are missing" if len(numbers) < last else "segments were added"
-        damaged(f"{folder}: {what}: {len(numbers)} are there, and {last} were written")
-    paths = [segment_path(folder, number) for number in numbers]
-    headers = {number: read_header(paths[number - 1]) for number in range(extent.since, last + 1)}
-    found = Found(since=extent.since, state=extent.state.decode())
-    take_old_segments(found, paths[: extent.since - 1], may_be_torn=False)
+    have = numbers[-1] if numbers else 0
+    if have != last or base.segment >= last or numbers[0] > base.segment + 1:
+        what = "segments were added" if have > last else "segments are missing"
+        begins = f"{numbers[0]} to {have}" if numbers else "none"
+        damaged(f"{folder}: {what}: {begins} are there, and {base.segment + 1} to {last} were written")
+    first = max(extent.since, base.segment + 1)
+    headers = {number: read_header(segment_path(folder, number)) for number in range(first, last + 1)}
+    found = Found(base, since=extent.since, state=extent.state.decode())
+    old = range(base.segment + 1, extent.since)
+    take_old_segments(found, [segment_path(folder, number) for number in old], may_be_torn=False)
     for number in headers:
-        take_segment(found, paths[number - 1], extent, headers.get(number + 1))
+        take_segment(found, segment_path(folder, number), extent, headers.get(number + 1))
     if headers[last].roster != state.roster_sum:
         damaged(f"{state.roster_path}: this is not the roster that the state began with")
     if headers[last].state != found.state:
         damaged(f"{extent_path(folder)}: it is that of the state {found.state}, not {headers[last].state}")
     if state.id is None and found.lines:  # one without lines may have none yet: it is written last
         damaged(f"{state.id_path} is missing, which was {found.state}")
-    if state.id not in (None, found.state) and not is_being_renewed(state.id, headers, found):
+    if state.id not in (None, found.state) and not is_being_renewed(state.id, folder, headers[last], found):
         damaged(f"{state.id_path}: it is {state.id}, and the journal that of {found.state}")
     return found
 
 
-def is_being_renewed(name: str | None, headers: dict[int, Header], found: Found) -> bool:
+def is_being_renewed(name: str | None, folder: Path, last: Header, found: Found) -> bool:
     """Whether the state gets another id, which is kept behind a segment that begins with it: this one is the former."""
-    last = max(headers)
-    return headers[last].lines == found.lines and last - 1 in headers and headers[last - 1].state == name
+    former = segment_path(folder, last.number - 1)
+    is_begun = last.lines == found.lines and last.number > found.since and former.exists()
+    return is_begun and read_header(former).state == name
 
 
 def is_newborn(path: Path) -> bool:
@@ -157,13 +192,13 @@ def has_marks(path: Path) -> bool:
 
 
 def numbers_of(folder: Path) -> list[int]:
-    """The segments that are there, none missing between them."""
+    """The segments that are there, none missing between two of them."""
     paths = sorted(folder.glob("*.lines"))
     for path in paths:
         if not re.fullmatch(r"[0-9]+", path.stem) or path != segment_path(folder, int(path.stem)):
             raise Fault(Exit.JOURNAL, f"{path} is no segment of the journal, by its name; move it away")
     found = sorted(int(path.stem) for path in paths)
-    if found != list(range(1, len(found) + 1)):
+    if found and found != list(range(found[0], found[-1] + 1)):
         damaged(f"{folder}: segments are missing: those there are {found}")
     orphans = [path for path in folder.glob("*.blocks") if not path.with_suffix(".lines").exists()]
     lost = [path.name for path in orphans if whole_text(path)]  # one without a record was left by an older firmd
@@ -231,7 +266,7 @@ def take_segment(found: Found, path: Path, extent: Extent, following: Header | N
     """Compares a segment with what was kept of it, by the header of the next one or by the extent."""
     data = read_file(path)
     header = header_of(path, data)
-    here = (len(found.segments) + 1, found.lines, found.size, found.chain)
+    here = (found.last + 1, found.lines, found.size, found.chain)
     if (header.number, header.lines, header.size, header.chain) != here:
         damaged(f"{path}: what stands before it is not what it was written behind")
     if following is None:
@@ -245,7 +280,7 @@ def take_segment(found: Found, path: Path, extent: Extent, following: Header | N
             found.blocks.append(Block.read(record))
         else:
             found.refused |= read_refusals(record)
-    found.add(Segment(header.number, path, False, found.lines, found.size), data, lines, size)
+    found.add(Segment(header.number, path, False, found.lines, found.size, found.chain), data, lines, size)
 
 
 def marks_of(data: bytes) -> list[Record]:
@@ -296,7 +331,8 @@ def take_old_segment(found: Found, path: Path, may_be_torn: bool) -> None:
     for place, line in enumerate(data[end:].split(b"\n")[:-1], data.count(b"\n", 0, end) + 1):
         if not gets_reply(line):
             damaged(f"{path}, line {place}: it gets no reply, so firmd did not write it")
-    found.add(Segment(len(found.segments) + 1, path, True, found.lines, found.size), data, data.count(b"\n"), len(data))
+    segment = Segment(len(found.segments) + 1, path, True, found.lines, found.size, found.chain)
+    found.add(segment, data, data.count(b"\n"), len(data))
     found.chain = crc32(whole_text(path.with_suffix(".blocks")), found.chain)
 
 

@@ -49,8 +49,8 @@ class Spare:
 class Relief:
     """Knows the connections of each socket."""
 
-    def __init__(self, faults: Faults) -> None:
-        self._faults = faults
+    def __init__(self, faults: Faults, refused: bytes = REFUSED) -> None:
+        self._faults, self._refused = faults, refused
         self._loop = asyncio.get_running_loop()
         self._looks: list[Callable[[], Held]] = []
         self.on_memory: Callable[[bool], None] = lambda is_lacking: None  # while it is, clients are not read
@@ -92,7 +92,7 @@ class Relief:
             connection, _ = listening.accept()
             with connection, suppress(OSError):
                 connection.setblocking(False)
-                connection.send(REFUSED)
+                connection.send(self._refused)
         return self._spare.take()
 
     def _wait(self) -> None:

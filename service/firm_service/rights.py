@@ -23,8 +23,9 @@ from .lines import (
 NOT_OPERATOR = b"? operator-only: lines that begin with + go to the operator's socket\n"
 OTHER_TENANT = b"? other-tenant: this socket takes the lines of %b alone\n"
 
-# Lines without a reply: comments, and those without a word that are not too long.
-_SILENT = re.compile(rb"(?m)^(?:#[^\n]*|[ \t]{0,%d}\r?)\n" % MOST_BYTES)
+# Lines without a reply: comments, and those without a word that are not too long. All that follow one another are found
+# at once, so that thousands of them keep no other client waiting for long.
+_SILENT = re.compile(rb"(?m)^(?:#[^\n]*+\n|[ \t]{0,%d}+\r?\n)+" % MOST_BYTES)
 _SHARES = re.compile(rb"(?:[^\n]*\n){1,%d}" % SHARE_LINES)
 
 
@@ -93,7 +94,7 @@ class Rights:
             at += count
 
     def _judge(self, line: bytes, numbers: Iterator[int]) -> Judged:
-        if is_too_long(line):  # whoever it is meant for
+        if is_too_long(line):  # for any tenant
             return Judged(b"", LINE_TOO_LONG, 0)
         word = first_word(line) or b""
         if self.tenant is not None and word != self.tenant:

@@ -10,6 +10,7 @@ from collections.abc import Iterator, Sequence
 from dataclasses import astuple, dataclass
 
 MOST_BYTES, MOST_TENANTS = 65_536, 64  # of a roster, as firm reads them
+LONGEST_PATIENCE = 1_000_000  # rounds; a tenant's, unless its record has another
 
 
 @dataclass(frozen=True, slots=True)
@@ -23,6 +24,7 @@ class Limits:
     spread: int
     churn: int
     remote: int = 0
+    patience: int = LONGEST_PATIENCE
 
     @classmethod
     def of_fields(cls, fields: Sequence[str]) -> Limits:
@@ -30,8 +32,9 @@ class Limits:
         return cls(fields[0], *map(int, fields[1:]))
 
     def row(self) -> str:
-        """The record, as a roster with `remote` and an operator's line have it."""
-        return ",".join(map(str, astuple(self)))
+        """The record, as a roster with `remote` and an operator's line have it; the longest patience is left out."""
+        fields = astuple(self)
+        return ",".join(map(str, fields if self.patience < LONGEST_PATIENCE else fields[:-1]))
 
 
 RANGES = {
@@ -41,9 +44,11 @@ RANGES = {
     "spread": (0, 1_000),
     "churn": (0, 1_000_000),
     "remote": (0, 1_000_000),
+    "patience": (0, LONGEST_PATIENCE),
 }
-LONG_HEADING = ["tenant", *RANGES]
-HEADING = LONG_HEADING[:-1]
+FULL_HEADING = ["tenant", *RANGES]
+HEADINGS = [FULL_HEADING[:width] for width in (6, 7, 8)]  # the last two fields may be left out
+WANTED_HEADING = f"it must be {','.join(HEADINGS[0])!r}, or that and ',remote', or that and ',remote,patience'"
 
 
 @dataclass(frozen=True, slots=True)
@@ -96,13 +101,12 @@ def faults_of_fields(record: Record) -> Iterator[Fault]:
 
 
 def faults_of_heading(record: Record) -> Iterator[Fault]:
-    if record.fields not in (HEADING, LONG_HEADING):
-        wanted = f"it must be {','.join(HEADING)!r}, or that and ',remote'"
-        yield Fault(record.line, "header", "heading", ",".join(record.fields), wanted)
+    if record.fields not in HEADINGS:
+        yield Fault(record.line, "header", "heading", ",".join(record.fields), WANTED_HEADING)
 
 
 def faults_of_records(heading: Record, records: Iterator[Record]) -> Iterator[Fault]:
-    width = len(LONG_HEADING if len(heading.fields) >= len(LONG_HEADING) else HEADING)
+    width = min(max(len(heading.fields), len(HEADINGS[0])), len(FULL_HEADING))
     first_lines: dict[str, int] = {}
     for count, record in enumerate(records, 1):
         tenant = record.fields[0]
@@ -129,7 +133,7 @@ def faults_of(data: bytes) -> Iterator[Fault]:
     records = records_of(data)
     heading = next(records, None)
     if heading is None:
-        yield Fault(1, "header", "heading", "", f"it must be {','.join(HEADING)!r}, or that and ',remote'")
+        yield Fault(1, "header", "heading", "", WANTED_HEADING)
         return
     yield from faults_of_heading(heading)
     yield from faults_of_records(heading, records)

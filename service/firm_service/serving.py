@@ -20,6 +20,7 @@ class Serving:
     doors: Sequence[Door]
     parent: int  # the process that starts it
     log_format: str  # as `logs.begin` takes it
+    state: Path  # the folder
 
     @property
     def sockets(self) -> list[socket.socket]:
@@ -30,7 +31,7 @@ class Serving:
         address = None if self.address is None else asdict(self.address)
         doors = [[door.tenant, str(door.path)] for door in self.doors]
         files = [found.fileno() for found in (feed, *self.sockets)]
-        rest = {"parent": self.parent, "log_format": self.log_format}
+        rest = {"parent": self.parent, "log_format": self.log_format, "state": str(self.state)}
         return json.dumps({"files": files, "address": address, "doors": doors, **rest})
 
     @classmethod
@@ -40,4 +41,4 @@ class Serving:
         feed, view, *http = [socket.socket(fileno=file) for file in given["files"]]
         address = None if given["address"] is None else Address(**given["address"])
         doors = [Door(tenant, Path(path)) for tenant, path in given["doors"]]
-        return feed, cls(view, http, address, doors, given["parent"], given["log_format"])
+        return feed, cls(view, http, address, doors, given["parent"], given["log_format"], Path(given["state"]))

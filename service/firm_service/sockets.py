@@ -50,7 +50,7 @@ class Names:
 
     @contextmanager
     def _alone_in(self, folder: Path) -> Iterator[None]:
-        """No other firmd takes a name in the folder meanwhile. Whoever may read it can lock it, so that is not waited
+        """No other firmd takes a name in the folder meanwhile. Each reader can lock it, so that is not waited
         for long."""
         held = os.open(folder, os.O_RDONLY | os.O_DIRECTORY)
         try:

@@ -1,4 +1,4 @@
-"""The state's folder: its lock, its id, the roster that it began with, and the journal."""
+"""The state's folder: its lock, its id, the roster or the state of a service that it began with, and the journal."""
 
 from __future__ import annotations
 
@@ -8,12 +8,16 @@ import re
 import subprocess
 from collections.abc import Sequence
 from pathlib import Path
+from typing import IO
 from zlib import crc32
 
 from .faults import RESTORE, Exit, Fault, reason
-from .files import replace_synced, sync_folder, write_synced
+from .files import PRIVATE, make_folder, replace_synced, sync_folder, write_synced
+from .states import MOST_BYTES, Opening
 
 ROSTER, LOCK, JOURNAL, VIEW, ID = "roster.csv", "lock", "journal", "view", "id"
+RESTORED, SNAPSHOTS = "restored", "snapshots"
+REPLICA = "replica"  # is there where the lines stand in etcd too
 OLD_JOURNAL, NEW_JOURNAL = "journal.old", "journal.new"  # the one that was rewritten, and the one that is written
 ROSTER_SECONDS = 60  # in which firm must have judged a roster
 OLD_ID_BYTES, ID_BYTES = 8, 10  # an older firmd kept the id before its journal, this one once the journal is there
@@ -25,10 +29,22 @@ class StateFolder:
     def __init__(self, folder: Path) -> None:
         self.folder = folder
         self.roster_path, self.journal_path, self.view_path = folder / ROSTER, folder / JOURNAL, folder / VIEW
-        self.id_path = folder / ID
-        self.had_roster = self.roster_path.exists()  # so a start came as far as the journal
-        self.roster_sum = 0  # of the kept roster, once it is read
+        self.id_path, self.restored_path, self.snapshots_path = folder / ID, folder / RESTORED, folder / SNAPSHOTS
+        self.had_roster = self.opening.path.exists()  # so a start came as far as the journal
+        self.roster_sum = 0  # of what it began with, once that is read
         self.id = self._read_id()  # None before the first start is through
+
+    @property
+    def opening(self) -> Opening:
+        """What it began with: a roster, or the state of a service that goes on here."""
+        is_restored = self.restored_path.exists()
+        return Opening(self.restored_path if is_restored else self.roster_path, is_restored)
+
+    def read_opening(self) -> bytes:
+        """The kept roster or state, whose checksum is known from then on."""
+        text = read(self.opening)
+        self.roster_sum = crc32(text)
+        return text
 
     @property
     def is_of_today(self) -> bool:
@@ -51,19 +67,16 @@ class State(StateFolder):
     """A folder that this process alone has, as long as it lives."""
 
     def __init__(self, folder: Path) -> None:
-        try:
-            if not folder.exists():
-                folder.mkdir(mode=0o750, parents=True)
-                sync_folder(folder.parent)
-            self._lock = os.open(folder / LOCK, os.O_RDWR | os.O_CREAT, 0o600)
-        except OSError as error:
-            raise Fault(Exit.STATE, f"cannot use the state {folder}: {reason(error)}") from error
-        self._take_lock(folder)
+        self._lock = lock_alone(folder)
+        self.id_to_take: str | None = None  # by a new state, where other replicas have it already
         super().__init__(folder)
 
-    def roster(self, given: Path | None, firm: Sequence[str]) -> bytes:
-        """The roster of the state. The first one that firm accepts is kept; another one is refused from then on."""
-        text = self._choose_roster(given, firm)
+    def begin(self, given: Opening | None, firm: Sequence[str], agreed: bytes | None = None) -> bytes:
+        """What the state began with. The first that firm accepts is kept; another is refused from then on.
+
+        Other replicas may have agreed on a roster, which a new state takes.
+        """
+        text = self._choose(given, firm) if agreed is None else self._take(agreed, given, firm)
         self.roster_sum = crc32(text)
         return text
 
@@ -76,8 +89,8 @@ class State(StateFolder):
         except OSError as error:
             raise Fault(Exit.STATE, f"cannot keep an id in {self.folder}: {reason(error)}") from error
 
-    def _choose_roster(self, given: Path | None, firm: Sequence[str]) -> bytes:
-        kept = read(self.roster_path) if self.roster_path.exists() else None
+    def _choose(self, given: Opening | None, firm: Sequence[str]) -> bytes:
+        kept = read(self.opening) if self.opening.path.exists() else None
         if kept is None:
             self._require_new()
         if given is None:
@@ -86,20 +99,31 @@ class State(StateFolder):
             return kept
         text = read(given)
         if kept is None:
-            self._keep_roster(text, given, firm)
+            self._keep(text, given, firm)
         elif kept != text:
+            what = "state" if given.is_state else "roster"
             raise Fault(
                 Exit.ROSTER,
-                f"changed-roster: {given} is not the roster that the state began with, {self.roster_path};"
+                f"changed-{what}: {given.path} is not the {what} that the state began with, {self.opening.path};"
                 " admit and retire tenants with the operator's lines, or begin a new state",
             )
         return text
+
+    def _take(self, agreed: bytes, given: Opening | None, firm: Sequence[str]) -> bytes:
+        if not self.opening.path.exists():
+            self._require_new()
+            self._keep(agreed, given or Opening(self.roster_path), firm)
+        if given is not None and read(given) != agreed:
+            what = f"changed-roster: {given.path} is not the roster that the other replicas began with"
+            raise Fault(Exit.ROSTER, what)
+        return read(self.opening)
 
     def _require_new(self) -> None:
         """Asks that no start came as far as the journal; only an older firmd kept the id before a roster."""
         folders = [self.folder / name for name in (JOURNAL, OLD_JOURNAL, NEW_JOURNAL)]
         if self.is_of_today or any(path for folder in folders for path in folder.glob("*.lines")):
-            raise Fault(Exit.JOURNAL, f"{self.roster_path} is missing, with which the state began; {RESTORE}")
+            what = f"{self.roster_path} or {self.restored_path.name}"
+            raise Fault(Exit.JOURNAL, f"{what} is missing, with which the state began; {RESTORE}")
         try:
             if self.id is not None:
                 self.id_path.unlink()
@@ -107,32 +131,41 @@ class State(StateFolder):
         except OSError as error:
             raise Fault(Exit.STATE, f"cannot use the state {self.folder}: {reason(error)}") from error
 
-    def _take_lock(self, folder: Path) -> None:
+    def _keep(self, text: bytes, given: Opening, firm: Sequence[str]) -> None:
+        path = self.restored_path if given.is_state else self.roster_path
+        new = path.with_suffix(".new")
         try:
-            fcntl.flock(self._lock, fcntl.LOCK_EX | fcntl.LOCK_NB)
-        except BlockingIOError as error:
-            holder = os.pread(self._lock, 20, 0).decode(errors="replace").strip()
-            raise Fault(Exit.STATE, f"the state {folder} is in use by process {holder or 'unknown'}") from error
-        try:
-            os.ftruncate(self._lock, 0)
-            os.pwrite(self._lock, f"{os.getpid()}\n".encode(), 0)
-        except OSError as error:
-            raise Fault(Exit.STATE, f"cannot use the state {folder}: {reason(error)}") from error
-
-    def _keep_roster(self, text: bytes, given: Path, firm: Sequence[str]) -> None:
-        new = self.roster_path.with_suffix(".new")
-        try:
-            write_synced(new, text)
-            try_roster(new, given, firm)
-            new.replace(self.roster_path)
+            write_synced(new, text, PRIVATE if given.is_state else 0o666)
+            try_opening(Opening(new, given.is_state), given.path, firm)
+            new.replace(path)
             sync_folder(self.folder)
         except OSError as error:
-            raise Fault(Exit.STATE, f"cannot keep the roster in {self.folder}: {reason(error)}") from error
+            raise Fault(Exit.STATE, f"cannot keep {given.path} in {self.folder}: {reason(error)}") from error
 
 
-def try_roster(path: Path, given: Path, firm: Sequence[str]) -> None:
-    """Lets firm judge the roster, over an empty input."""
-    words = [*firm, "--roster", str(path)]
+def lock_alone(folder: Path, mode: int = 0o750) -> IO[bytes]:
+    """Has this process alone the folder, which is made where it is not there, until it ends or closes this file."""
+    try:
+        make_folder(folder, mode)
+        lock = open(os.open(folder / LOCK, os.O_RDWR | os.O_CREAT, 0o600), "r+b", buffering=0)
+    except OSError as error:
+        raise Fault(Exit.STATE, f"cannot use the state {folder}: {reason(error)}") from error
+    try:
+        fcntl.flock(lock, fcntl.LOCK_EX | fcntl.LOCK_NB)
+    except BlockingIOError as error:
+        holder = lock.read(20).decode(errors="replace").strip()
+        raise Fault(Exit.STATE, f"the state {folder} is in use by process {holder or 'unknown'}") from error
+    try:
+        lock.truncate(0)
+        lock.write(f"{os.getpid()}\n".encode())
+    except OSError as error:
+        raise Fault(Exit.STATE, f"cannot use the state {folder}: {reason(error)}") from error
+    return lock
+
+
+def try_opening(opening: Opening, given: Path, firm: Sequence[str]) -> None:
+    """Lets firm judge a roster or a state, over an empty input."""
+    words = [*firm, *opening.words()]
     try:
         done = subprocess.run(
             words, stdin=subprocess.DEVNULL, capture_output=True, text=True, errors="replace", timeout=ROSTER_SECONDS
@@ -142,8 +175,10 @@ def try_roster(path: Path, given: Path, firm: Sequence[str]) -> None:
     except OSError as error:
         raise Fault(Exit.FIRM, f"cannot start {words[0]}: {reason(error)}") from error
     said = done.stderr.strip()
-    if done.returncode == 3:
+    if done.returncode == 3 and not opening.is_state:
         raise Fault(Exit.ROSTER, f"{given}: {said}; firmctl check-roster {given} names line, field and value")
+    if done.returncode == 3:
+        raise Fault(Exit.ROSTER, f"{given}: {said}")
     if done.returncode:
         raise Fault(Exit.FIRM, f"firm ended with status {done.returncode}, and said: {said}")
 
@@ -153,8 +188,13 @@ def id_of(folder: Path) -> str:
     return (folder / ID).read_text("ascii", "replace").strip()
 
 
-def read(path: Path) -> bytes:
+def read(opening: Opening) -> bytes:
+    what = "state" if opening.is_state else "roster"
     try:
-        return path.read_bytes()
+        with open(opening.path, "rb") as file:
+            text = file.read(MOST_BYTES + 1)
     except OSError as error:
-        raise Fault(Exit.ROSTER, f"cannot read the roster {path}: {reason(error)}") from error
+        raise Fault(Exit.ROSTER, f"cannot read the {what} {opening.path}: {reason(error)}") from error
+    if len(text) > MOST_BYTES:
+        raise Fault(Exit.ROSTER, f"{opening.path} has more than {MOST_BYTES:,} bytes, so it is no {what}")
+    return text

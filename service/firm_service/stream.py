@@ -3,101 +3,96 @@
 Three threads: the loop's, which takes lines and hands out replies; a writer, which waits for the disk and for firm's
 input; and one that waits for firm's end. Lines wait in the lanes of their tenants; all that leave these while the
 writer waits share its next write and its next sync.
+
+A fresh firm may take the place of the one that runs: between two writes, once all is answered that this was given.
 """
 
 from __future__ import annotations
 
 import asyncio
-import fcntl
 import os
-import subprocess
 import time
 from collections import deque
 from collections.abc import Callable, Iterator, Sequence
 from contextlib import suppress
-from dataclasses import dataclass, field
+from dataclasses import dataclass
 from functools import partial
-from hashlib import blake2b
 from itertools import groupby, islice
+from pathlib import Path
 from queue import SimpleQueue
 from threading import Event, Thread
+from typing import NamedTuple, Protocol
 
 from .budgets import Accounts
-from .faults import Exit, Fault, Faults, Reader, reason
-from .journal import Journal, Piece, Place, Shortage
+from .faults import Exit, Fault, Faults, Reader
+from .firm_process import Firm
+from .journal import Shortage
 from .lanes import OPERATORS, Bounds, Lanes, Owner, Share
-from .lines import NO_MEMORY, OPERATOR_NO_MEMORY, WORN, first_word, is_memory_refused
+from .lines import NO_MEMORY, OPERATOR_NO_MEMORY, WORN, is_memory_refused
 from .load import SYNC_SECONDS, Histogram
 from .logs import ERROR, tell
 from .observers import Observer, Status
-from .records import UNKNOWN, Batch, Block
+from .pieces import Piece, Place
+from .records import UNKNOWN, Answered, Batch, Block
+from .recovery import Base
 
 BLOCK_LINES = 1_024  # at least, in a block of the journal
 GROUP_BYTES = 1_048_576  # of lines that are written and synced together, unless one share has more
-DIGEST_BYTES = 16
-PIPE_BYTES = 1_048_576  # that a pipe to or from firm holds, where the system lets it
 READ_BYTES = 65_536  # a piece that needs no memory of its own from the system
 SHORTAGE_SECONDS, SHORTAGE_TRIES = 0.02, 500  # until what lacked memory is tried again, and how often at most
 WATCH_SECONDS = 1.0  # between looks at how long firm has been silent
+IDLE_SECONDS = 0.002  # between looks whether all is answered
 OPERATED, WORN_END = b"+ ok ", b" %b\n" % WORN  # what stands in replies that admit or retire, and ends a worn tenant's
 
 
-@dataclass(slots=True)
-class Answered:
-    """Lines that were answered since the last block."""
+class Journal(Protocol):
+    """The journal as a stream has it: first all pieces of the replay, then what is appended."""
 
-    start: int
-    end: int = 0
-    count: int = 0
-    replies: blake2b = field(default_factory=lambda: blake2b(digest_size=DIGEST_BYTES))
+    @property
+    def base(self) -> Base:
+        """What stands before the pieces."""
 
-    def block(self) -> Block:
-        return Block(self.start, self.end, self.count, self.replies.hexdigest())
+    @property
+    def is_following(self) -> bool:
+        """Whether pieces come from another firmd, as long as that leads."""
 
+    def pieces(self) -> Iterator[Piece]:
+        ...
 
-class Firm:
-    """firm, over pipes."""
+    def place_of(self, number: int) -> tuple[Path, int]:
+        ...
 
-    def __init__(self, words: Sequence[str]) -> None:
-        pipe = subprocess.PIPE
-        try:
-            # In a session of its own: a signal from the terminal is firmd's to answer.
-            self.process = subprocess.Popen(
-                words, stdin=pipe, stdout=pipe, stderr=pipe, bufsize=0, start_new_session=True
-            )
-        except OSError as error:
-            raise Fault(Exit.FIRM, f"cannot start {words[0]}: {reason(error)}") from error
-        stdin, stdout, stderr = self.process.stdin, self.process.stdout, self.process.stderr
-        if stdin is None or stdout is None or stderr is None:
-            raise Fault(Exit.INTERNAL, "firm was started without pipes")
-        self.input, self.output, self._errors = stdin, stdout, stderr
-        for file in (stdin, stdout):
-            with suppress(OSError):  # where the system allows less, the pipe stays as it is
-                fcntl.fcntl(file, fcntl.F_SETPIPE_SZ, PIPE_BYTES)
-        os.set_blocking(stdout.fileno(), False)
+    def append(self, batches: Sequence[Batch]) -> Place:
+        ...
 
-    def give(self, text: bytes) -> None:
-        """Writes all of the text, and waits while firm does not read."""
-        rest = memoryview(text)
-        while rest:
-            rest = rest[os.write(self.input.fileno(), rest) :]
+    def keep(self, block: Block) -> None:
+        ...
 
-    def close_input(self) -> None:
-        self.input.close()
+    def keep_refused(self, numbers: list[int]) -> None:
+        ...
 
-    def end(self) -> str | None:
-        """Waits for its end; what was wrong with it."""
-        said = self._errors.read().decode(errors="replace").strip()
-        status = self.process.wait()
-        if not status:
-            return None
-        return (f"status {status}" if status > 0 else f"signal {-status}") + (f", and said: {said}" if said else "")
+    def close(self) -> None:
+        ...
 
 
 @dataclass(frozen=True, slots=True)
 class Options:
     lanes: Bounds
     firm_timeout: float  # seconds for which firm may owe replies without a word
+
+
+class Successor(NamedTuple):
+    """A firm that has been given all that another was, from this base on."""
+
+    firm: Firm
+    base: Base
+
+
+class Stopping(Exception):
+    """The stream ends, so nothing is begun."""
+
+
+Order = Callable[[], None]  # what the writer does between two writes
 
 
 class Stream:
@@ -114,10 +109,14 @@ class Stream:
         self.replayed: asyncio.Future[None] = self._loop.create_future()
         self.ended: asyncio.Future[None] = self._loop.create_future()  # has the fault, where there is one
         self._firm, self._journal, self._register = firm, journal, accounts.register
+        self._given_to = firm  # the one that the writer gives lines to; the other name is of that which is heard
+        self._base = journal.base  # before the lines that firm was given
+        self.status.lines = self._base.lines
         self.lanes = Lanes(accounts, self._tell_given, options.lanes)
         self._is_handing = False  # lines are about to leave the lanes
         self._given: list[Share] = []  # that have left them, and the writer does not have yet
-        self._queue: SimpleQueue[list[Share] | Block | None] = SimpleQueue()  # to the writer; None: no more will come
+        # To the writer; None: no more will come.
+        self._queue: SimpleQueue[list[Share] | Block | Order | None] = SimpleQueue()
         self._under_way: deque[Share] = deque()  # all that have left the lanes, in order
         self._owed: deque[Share] = deque()  # those that firm has, in order
         self.sync_times = Histogram(SYNC_SECONDS)
@@ -126,7 +125,7 @@ class Stream:
         self._half = b""  # of a reply
         self._replies: list[bytes] = []  # that are not handed out yet
         self._tries = 0  # since memory was there
-        self._answered = Answered(0)
+        self._answered = Answered(self._base.size)
         self._replay_is_sent = self._is_stopping = False
         self._may_write = Event()  # the replay is compared, or it is over anyway
         self._fault: Fault | None = None
@@ -134,7 +133,10 @@ class Stream:
         self._firm_ended: asyncio.Future[str | None] = self._loop.create_future()  # has what was wrong with it
         # All threads are there from the start: one more may be refused later.
         self._reader = Reader("stream", self._read, faults, self._give_up)
-        self._threads = [Thread(target=work, daemon=True) for work in (self._write, self._wait_for_firm)]
+        self._threads = [
+            Thread(target=self._write, daemon=True),
+            Thread(target=self._wait_for_firm, args=(firm,), daemon=True),
+        ]
 
     def start(self) -> None:
         """Begins with the replay; `replayed` and `ended` tell how far it is."""
@@ -175,6 +177,28 @@ class Stream:
         """Ends with this fault, unless there was one before."""
         self._fault = self._fault or fault
         self.stop()
+
+    @property
+    def is_stopping(self) -> bool:
+        return self._is_stopping
+
+    def order(self, order: Order) -> None:
+        """Has the writer do something between two writes; called by any thread."""
+        self._queue.put(order)
+
+    def change_firm(self, finish: Callable[[], Successor]) -> None:
+        """Has a fresh firm take the place of the one that runs; called by the writer, as an order.
+
+        Once all is answered, `finish` makes the successor. Where it raises, the former firm goes on.
+        """
+        while self._owed and not self._is_stopping:
+            time.sleep(IDLE_SECONDS)
+        if self._is_stopping:
+            raise Stopping
+        successor = finish()
+        Thread(target=self._wait_for_firm, args=(successor.firm,), daemon=True).start()
+        self._given_to = successor.firm
+        self.tell_loop(self._switch, successor)
 
     def oldest_seconds(self) -> float:
         """How long the line has waited for its reply that has waited longest."""
@@ -251,12 +275,12 @@ class Stream:
 
     # Other threads.
 
-    def _wait_for_firm(self) -> None:
+    def _wait_for_firm(self, firm: Firm) -> None:
         try:
-            trouble = self._firm.end()
+            trouble = firm.end()
         except BaseException as error:  # whatever it is, the end of the service waits for this
             trouble = f"an end that could not be read: {error!r}"
-        self._tell_loop(self._firm_ended.set_result, trouble)
+        self.tell_loop(self._take_end, firm, trouble)
 
     def _write(self) -> None:
         try:
@@ -267,16 +291,16 @@ class Stream:
         except BrokenPipeError:  # firm has ended; the reading side tells it
             pass
         except Fault as fault:
-            self._tell_loop(self.fail, fault)
+            self.tell_loop(self.fail, fault)
         except BaseException as error:  # whatever it is, the loop must hear of it
-            self._tell_loop(self.fail, Fault(Exit.INTERNAL, f"the writer failed: {error!r}"))
+            self.tell_loop(self.fail, Fault(Exit.INTERNAL, f"the writer failed: {error!r}"))
         try:
-            self._firm.close_input()
+            self._given_to.close_input()
         except BaseException as error:
-            self._tell_loop(self._give_up, Fault(Exit.INTERNAL, f"firm's input can't be closed: {error!r}"))
-        self._tell_loop(self._end_writing)
+            self.tell_loop(self._give_up, Fault(Exit.INTERNAL, f"firm's input can't be closed: {error!r}"))
+        self.tell_loop(self._end_writing)
 
-    def _tell_loop(self, call: Callable[..., None], *arguments: object) -> None:
+    def tell_loop(self, call: Callable[..., None], *arguments: object) -> None:
         """Has the loop call it soon; the end of the service waits for it, so a lack of memory may only delay it."""
         for _ in range(SHORTAGE_TRIES):
             try:
@@ -294,24 +318,43 @@ class Stream:
             share = Share(None, piece.text, piece.count, taken=time.monotonic(), place=piece.place, piece=piece)
             self.status.journal_bytes += len(piece.text)
             self._owed.append(share)
-            self._firm.give(without_effect(piece) if piece.refused else piece.text)
-        self._loop.call_soon_threadsafe(self._end_replay)
+            self._given_to.give(piece.effective())
+            if self._journal.is_following:
+                self._keep_blocks()
+        if not self._is_stopping:
+            self._loop.call_soon_threadsafe(self._end_replay)
+
+    def _keep_blocks(self) -> None:
+        """Keeps the blocks of a replay that may have no end for long, and does what it was ordered meanwhile."""
+        while not self._queue.empty():
+            given = self._queue.get()
+            if isinstance(given, Block):
+                self._journal.keep(given)
+            elif given is None or isinstance(given, list):  # None: no more will come
+                return self._queue.put(given)
+            else:
+                given()
 
     def _write_waiting(self) -> bool:
         """Waits for lines, writes all that wait; False where no more will come."""
         shares: list[Share] = []
+        order: Order | None = None
         goes_on, is_first = True, True
-        while goes_on and (is_first or not self._queue.empty()):
+        while goes_on and order is None and (is_first or not self._queue.empty()):
             is_first = False
             given = self._queue.get()
             if given is None:
                 goes_on = False
             elif isinstance(given, Block):
                 self._journal.keep(given)
-            else:
+            elif isinstance(given, list):
                 shares += given
+            else:
+                order = given
         for group in groups_of(shares):
             self._write_shares(group)
+        if order is not None:
+            order()
         return goes_on
 
     def _write_shares(self, shares: list[Share]) -> None:
@@ -325,7 +368,7 @@ class Stream:
             share.place, share.sent = Place(number, end), now
             number += share.count
         self._owed.extend(shares)
-        self._firm.give(text)
+        self._given_to.give(text)
 
     def _joined(self, shares: list[Share]) -> tuple[list[Batch], bytes]:
         """The lines of all, before any is written; waits where memory is lacking."""
@@ -340,6 +383,29 @@ class Stream:
 
     # The loop's thread.
 
+    def _switch(self, successor: Successor) -> None:
+        """Hears the successor from now on; nothing is owed by the former firm, which ends."""
+        former, self._firm = self._firm, successor.firm
+        self._loop.remove_reader(former.output)
+        self._loop.add_reader(self._firm.output, self._reader)
+        self._heard = self._loop.time()
+        self.status.firm_process = self._firm.process.pid
+        self.status.journal_bytes -= successor.base.size - self._base.size
+        self._base = successor.base
+        former.close_input()
+        self._loop.call_later(self._options.firm_timeout, former.process.kill)  # where it has not ended by then
+        if self._fault is not None:  # the end has begun
+            self._firm.process.kill()
+
+    def _take_end(self, firm: Firm, trouble: str | None) -> None:
+        """A firm has ended."""
+        if firm is not self._firm and firm is not self._given_to:
+            firm.output.close()
+            if trouble is not None:
+                self._faults.count("firm", f"a firm that another one follows ended with {trouble}")
+        elif not self._firm_ended.done():
+            self._firm_ended.set_result(trouble)
+
     def _end_writing(self) -> None:
         self._heard = self._loop.time()  # from now on firm owes its end
         self._written.set_result(None)
@@ -350,7 +416,7 @@ class Stream:
 
     def _tell_replayed(self) -> None:
         if not self._owed and not self.replayed.done():
-            self.status.replayed_lines = self.status.lines
+            self.status.replayed_lines = self.status.lines - self._base.lines
             self.replayed.set_result(None)
             self._may_write.set()
 
@@ -473,7 +539,7 @@ class Stream:
         if NO_MEMORY in text or OPERATOR_NO_MEMORY in text:
             self._keep_refused(share, replies)
         if share.piece is not None and share.piece.refused:
-            restore_refused(share.piece, first, replies)
+            share.piece.restore_refused(first, replies)
             text = b"\n".join(replies) + b"\n"
         self._answered.replies.update(text)
         self._take_in_tenants(share, text, replies)
@@ -536,7 +602,8 @@ class Stream:
             self._loop.remove_reader(self._firm.output)
             self._owed.clear()
             self.fail(fault)
-            self._firm.process.kill()
+            for firm in {self._firm, self._given_to}:
+                firm.process.kill()
             self._loop.create_task(self._end())
         except MemoryError:  # not even an end can be begun; what was answered is on the disk
             os._exit(Exit.INTERNAL)
@@ -607,19 +674,3 @@ def placed(share: Share) -> Place:
     if share.place is None:
         raise Fault(Exit.INTERNAL, "firm answered lines that the journal does not have")
     return share.place
-
-
-def without_effect(piece: Piece) -> bytes:
-    """The piece, with the lines that memory was refused to as their first words: they count and change nothing."""
-    lines = piece.text.split(b"\n")
-    for number in piece.refused:
-        lines[number] = first_word(lines[number]) or b"+"
-    return b"\n".join(lines)
-
-
-def restore_refused(piece: Piece, first: int, replies: list[bytes]) -> None:
-    """Puts the replies in place that were given when memory was refused; `first` is the number of the first reply."""
-    for number in piece.refused:
-        if first <= number < first + len(replies):
-            tenant, count, *_ = replies[number - first].split(b" ")
-            replies[number - first] = OPERATOR_NO_MEMORY if tenant == b"+" else b"%b %b %b" % (tenant, count, NO_MEMORY)

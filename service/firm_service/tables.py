@@ -47,16 +47,13 @@ def table(columns: Sequence[Column], rows: Iterable[Row]) -> str:
     cells = [[column.head for column in columns]]
     cells += [[str(column.cell(row)) for column in columns] for row in rows]
     widths = [max(map(len, column)) for column in zip(*cells)]
-    lines = []
-    for line in cells:
-        aligned = [
-            cell.rjust(width) if column.is_number else cell.ljust(width)
-            for cell, width, column in zip(line, widths, columns)
-        ]
-        lines.append("  ".join(aligned).rstrip() + "\n")
-    return "".join(lines)
+    sides = [">" if column.is_number else "<" for column in columns]
+    line = "  ".join(f"{{:{side}{width}}}" for side, width in zip(sides, widths))
+    return "".join(line.format(*row).rstrip() + "\n" for row in cells)
 
 
 def printable(line: str) -> str:
     """The text with every control character escaped, so that no line of a client can steer a terminal."""
+    if line.isprintable():
+        return line
     return "".join(c if c.isprintable() else c.encode("unicode_escape").decode() for c in line)

@@ -3,8 +3,12 @@
 A request is one object on a line, and so is its answer:
 
 - {"ask": "status"};
-- {"ask": "tasks", "tenant": "alpha"}, also "machines" and "jobs"; of all tenants where none is named;
-- {"ask": "book", "tenant": "alpha"}, all rows of a tenant; {"ask": "lines", "tenant": "alpha"};
+- {"ask": "tasks", "tenant": "alpha"}, also "machines" and "jobs"; of all tenants where none is named; with "name" only
+  those of this name;
+- {"ask": "book", "tenant": "alpha"}, all rows of a tenant; {"ask": "lines", "tenant": "alpha"}, as of a reply's number;
+- {"ask": "state", "tenant": "alpha"}: {"tenant": .., "line": .., "text": ..}, the tenant's state and the number of the
+  last line before it; {"ask": "before", "tenant": "alpha", "round": 11}: the same before the round of this number, with
+  its time (`past_rounds.py`);
 - {"ask": "watch", "tenant": "alpha"}: first {"state": ID, "book": ..}, the state's id and the rows or null, then
   {"line": .., "reply": .., "number": ..} for each line of that tenant, and of the operator that admits or retires it.
   Where no tenant is named, first {"tenants": [..]}, a row for each, then all lines.
@@ -25,9 +29,13 @@ import time
 from collections import Counter
 from collections.abc import AsyncIterator, Callable, Iterator, Sequence
 from dataclasses import asdict
+from pathlib import Path
 
+from .book_states import text_of
 from .books import Book, Books
 from .bounds import MEBIBYTE
+from .past_rounds import PastRounds
+from .refused import Refused
 from .shown import MOST_UNREAD_IN_ALL, Shown
 from .sight import Door, Peer, Sight
 
@@ -40,14 +48,7 @@ BACKLOG = 256  # connections that wait to be accepted
 
 Json = dict[str, object]
 Lists = dict[str, Callable[[Book], Iterator[Json]]]
-
-
-class Refused(Exception):
-    """A request that has no answer."""
-
-    def __init__(self, name: str, text: str) -> None:
-        super().__init__(text)
-        self.name = name
+Named = dict[str, Callable[[Book, str], Iterator[Json]]]
 
 
 def summary_of(book: Book) -> Json:
@@ -70,6 +71,21 @@ def summary_of(book: Book) -> Json:
 def machines_of(book: Book) -> Iterator[Json]:
     for name, machine in book.loads().items():
         yield {"tenant": book.limits.tenant, "machine": name, "slots": machine.slots, "tasks": machine.tasks}
+
+
+def machine_named(book: Book, name: str) -> Iterator[Json]:
+    if name in book.machines:
+        yield from (row for row in machines_of(book) if row["machine"] == name)
+
+
+def job_named(book: Book, name: str) -> Iterator[Json]:
+    if name in book.jobs:
+        yield from (row for row in jobs_of(book) if row["job"] == name)
+
+
+def task_named(book: Book, name: str) -> Iterator[Json]:
+    if name in book.tasks:
+        yield task_of(book, name, time.time())
 
 
 def jobs_of(book: Book) -> Iterator[Json]:
@@ -126,13 +142,14 @@ def books_of(books: Books, sight: Sight) -> list[Book]:
 
 
 LISTS: Lists = {"tasks": tasks_of, "machines": machines_of, "jobs": jobs_of}  # what may be asked of all tenants too
+NAMED: Named = {"tasks": task_named, "machines": machine_named, "jobs": job_named}  # the row of one name
 
 
 class View:
     """Takes connections."""
 
-    def __init__(self, shown: Shown, doors: Sequence[Door]) -> None:
-        self.shown, self.doors = shown, doors
+    def __init__(self, shown: Shown, doors: Sequence[Door], past: PastRounds) -> None:
+        self.shown, self.doors, self.past = shown, doors, past
         self.connections: set[Connection] = set()
         self.users: Counter[int] = Counter()  # how many each has
         self._refused = 0  # clients that are told why
@@ -284,8 +301,13 @@ class Connection:
         """The parts of the answer to a request other than to watch; raises `Refused` before the first."""
         ask = request.get("ask")
         if isinstance(ask, str) and ask in LISTS:
-            async for part in self._rows(ask, self._chosen(request)):
+            if not isinstance(request.get("name", ""), str):
+                raise Refused("bad-request", "a name is a string")
+            async for part in self._rows(ask, self._chosen(request), request.get("name")):
                 yield part
+            return
+        if ask == "before":
+            yield await self._view.past.before(self._book(request).limits.tenant, request.get("round"))
             return
         async with self._shown.turn:
             text = json.dumps(self._told(request)).encode() + b"\n"
@@ -298,18 +320,22 @@ class Connection:
             return status_of(self._shown, self._sight)
         if ask == "book":
             return {"book": rows_of(self._book(request))}
+        if ask == "state":
+            book = self._book(request)
+            return {"tenant": book.limits.tenant, "line": self._shown.books.lines, "text": text_of(book)}
         if ask == "lines":
             book = self._book(request)
-            return {"row": book.limits.row(), "lines": list(book.lines())}
+            return {"row": book.limits.row(), "lines": list(book.lines()), "number": int(book.number)}
         raise Refused("bad-request", f"nothing to be asked: {ask!r}")
 
-    async def _rows(self, ask: str, books: list[Book]) -> AsyncIterator[bytes]:
-        """A list of rows, one tenant at a time."""
+    async def _rows(self, ask: str, books: list[Book], name: object) -> AsyncIterator[bytes]:
+        """A list of rows, or of those of a name, one tenant at a time."""
         yield b'{"%b":[' % ask.encode()
         is_first = True
         for book in books:
             async with self._shown.turn:
-                rows = json.dumps(list(LISTS[ask](book)))[1:-1].encode()
+                found = NAMED[ask](book, name) if isinstance(name, str) else LISTS[ask](book)
+                rows = json.dumps(list(found))[1:-1].encode()
                 await asyncio.sleep(0)
             if rows:
                 yield rows if is_first else b"," + rows
@@ -360,7 +386,9 @@ def refused(refusal: Refused) -> bytes:
     return json.dumps({"error": refusal.name, "text": str(refusal)}).encode() + b"\n"
 
 
-async def serve_view(listening: socket.socket, shown: Shown, doors: Sequence[Door] = ()) -> asyncio.Server:
-    """Begins to answer on a Unix socket."""
-    view = View(shown, doors)
+async def serve_view(
+    listening: socket.socket, shown: Shown, doors: Sequence[Door] = (), state: Path | None = None
+) -> asyncio.Server:
+    """Begins to answer on a Unix socket; past rounds are those of the state's journal."""
+    view = View(shown, doors, PastRounds(state))
     return await asyncio.start_unix_server(view.serve, sock=listening, backlog=BACKLOG)

@@ -6,17 +6,15 @@ It has the view, the page and the metrics, at a low priority. It ends with firmd
 from __future__ import annotations
 
 import asyncio
-import ctypes
-import os
 import resource
 import signal
 import socket
 import sys
 from contextlib import suppress
-from pathlib import Path
 
 from . import logs
 from .books import Books
+from .child import end_with, give_way
 from .feed import Messages
 from .follower import Follower
 from .observers import Status
@@ -25,12 +23,11 @@ from .shown import Shown
 from .view import MOST_CLIENTS, serve_view
 
 NICENESS = 5
-OUT_OF_MEMORY_SCORE = "500"  # of 1,000: where the host lacks memory, this process ends before firmd and firm
+OUT_OF_MEMORY_SCORE = 500  # of 1,000: where the host lacks memory, this process ends before firmd and firm
 READ_BYTES = 1 << 18
 BEAT_SECONDS = 1.0  # between signs of life
 END_SECONDS = 0.5  # for watchers to read what was told last
 FILES = MOST_CLIENTS + 256  # connections to the view and the page, and those that are just closed
-PR_SET_PDEATHSIG = 1
 
 
 class Viewer:
@@ -85,7 +82,7 @@ class Viewer:
     async def _serve(self) -> None:
         try:
             serving = self._serving
-            self._servers.append(await serve_view(serving.view, self._shown, serving.doors))
+            self._servers.append(await serve_view(serving.view, self._shown, serving.doors, serving.state))
             if serving.address is not None:
                 from .web import serve_http
 
@@ -129,13 +126,6 @@ def part_of(context: dict[str, object]) -> str:
     return "http" if "aiohttp" in f"{type(source).__module__} {source!r}" or "Gate" in repr(source) else "viewer"
 
 
-def end_with(parent: int) -> None:
-    """Has this process end with that which started it, however that ends."""
-    ctypes.CDLL(None, use_errno=True).prctl(PR_SET_PDEATHSIG, signal.SIGKILL)
-    if os.getppid() != parent:
-        os.kill(os.getpid(), signal.SIGKILL)
-
-
 def allow_files() -> None:
     _, most = resource.getrlimit(resource.RLIMIT_NOFILE)
     wanted = FILES if most == resource.RLIM_INFINITY else min(FILES, most)
@@ -154,9 +144,7 @@ def main() -> int:
     feed, serving = Serving.read(sys.argv[1])
     logs.begin("firm-viewer", serving.log_format)
     end_with(serving.parent)
-    with suppress(OSError):
-        os.nice(NICENESS)
-        Path("/proc/self/oom_score_adj").write_text(OUT_OF_MEMORY_SCORE)
+    give_way(NICENESS, OUT_OF_MEMORY_SCORE)
     allow_files()
 
     async def run() -> None:
@@ -168,3 +156,7 @@ def main() -> int:
         logs.tell(logs.ERROR, "an error of the viewer itself", error)
         return 1
     return 0
+
+
+if __name__ == "__main__":
+    sys.exit(main())

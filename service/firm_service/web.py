@@ -8,7 +8,9 @@ import re
 import socket
 import time
 from base64 import b64encode
-from collections.abc import Callable, Sequence
+from collections import Counter
+from collections.abc import Awaitable, Callable, Sequence
+from contextlib import AbstractAsyncContextManager
 from hashlib import sha256
 from heapq import nsmallest
 from itertools import islice
@@ -33,6 +35,7 @@ LOOK_SECONDS = 1.0
 PIECE_BYTES = 1_024  # that are parsed at a time
 MOST_MACHINES, MOST_JOBS, MOST_WAITS = 400, 200, 100  # on the page, so that an answer takes a few milliseconds
 PAGE = Path(__file__).with_name("page.html")
+Route = Callable[[web.Request], Awaitable[web.StreamResponse]]
 
 
 def policy_of(page: str) -> str:
@@ -69,35 +72,47 @@ def page_of(book: Book) -> Json:
     }
 
 
-class Site:
-    """The handlers of the page and of what it fetches."""
+class Pages:
+    """A page and what it fetches: the handlers' guard, and the headers of all answers."""
 
-    def __init__(self, address: Address, shown: Shown) -> None:
-        self.address, self.shown, self.faults = address, shown, shown.faults
-        self.metrics = Metrics(shown)
-        self.begin: Callable[[RequestHandler], None] = lambda handler: None  # a request of this connection begins
-        self.text = PAGE.read_text("utf-8")
+    server = "firmd"
+
+    def __init__(self, address: Address, text: str, faults: Faults, turn: asyncio.Lock) -> None:
+        self.address, self.text, self.faults, self._turn = address, text, faults, turn
+        self.gates: Gates | None = None  # once it is served
         self.headers = {
             "Content-Security-Policy": policy_of(self.text),
             "Cache-Control": "no-store",
             "Cross-Origin-Resource-Policy": "same-origin",
             "Referrer-Policy": "no-referrer",
-            "Server": "firmd",
+            "Server": self.server,
             "X-Content-Type-Options": "nosniff",
         }
+
+    def routes(self) -> dict[str, Route]:
+        """What is served besides the page, by path."""
+        raise NotImplementedError
+
+    def turn(self, request: web.Request) -> AbstractAsyncContextManager[object]:
+        """In which a request is answered."""
+        return self._turn
+
+    def owner(self, transport: asyncio.Transport) -> int | None:
+        """Whose a connection is, where that matters."""
+        return None
 
     def application(self) -> web.Application:
         found = web.Application(middlewares=[self.guard], client_max_size=1)
         found.router.add_get("/", self.page)
-        found.router.add_get("/metrics", self.prometheus)
-        found.router.add_get("/tenants.json", self.tenants)
-        found.router.add_get("/tenants/{tenant}.json", self.tenant)
+        for path, handler in self.routes().items():
+            found.router.add_get(path, handler)
         return found
 
     @web.middleware
     async def guard(self, request: web.Request, handler: Handler) -> web.StreamResponse:
         """Refuses other names and other methods before any handler sees the request."""
-        self.begin(request.protocol)
+        if self.gates is not None:
+            self.gates.begin(request.protocol)
         response: web.StreamResponse
         hosts: list[str] = request.headers.getall("Host", [])
         if len(hosts) != 1 or not self.address.is_named(hosts[0]):
@@ -106,19 +121,35 @@ class Site:
             response = web.Response(status=405, headers={"Allow": "GET, HEAD"}, text="GET and HEAD alone\n")
         else:
             try:
-                async with self.shown.turn:
+                async with self.turn(request):
                     response = await handler(request)
                     await asyncio.sleep(0)
             except web.HTTPException as error:
                 response = web.Response(status=error.status, text=f"{error.reason}\n")
             except Exception as error:
                 self.faults.note("http", error)
-                response = web.Response(status=500, text="a fault of firmd\n")
+                response = web.Response(status=500, text=f"a fault of {self.server}\n")
         response.headers.update(self.headers)
         return response
 
     async def page(self, _: web.Request) -> web.Response:
         return web.Response(text=self.text, content_type="text/html")
+
+
+class Site(Pages):
+    """firmd's."""
+
+    def __init__(self, address: Address, shown: Shown) -> None:
+        super().__init__(address, PAGE.read_text("utf-8"), shown.faults, shown.turn)
+        self.shown = shown
+        self.metrics = Metrics(shown)
+
+    def routes(self) -> dict[str, Route]:
+        return {
+            "/metrics": self.prometheus,
+            "/tenants.json": self.tenants,
+            "/tenants/{tenant}.json": self.tenant,
+        }
 
     async def prometheus(self, _: web.Request) -> web.Response:
         return web.Response(body=self.metrics.text(), headers={"Content-Type": self.metrics.content_type})
@@ -139,12 +170,13 @@ class Gate(asyncio.Protocol):
     def __init__(self, gates: Gates, handler: RequestHandler) -> None:
         self._gates, self._handler = gates, handler
         self.transport: asyncio.Transport | None = None
+        self.owner: int | None = None
         self.since = 0.0  # when its last request began, or the connection
 
     def connection_made(self, transport: asyncio.BaseTransport) -> None:
         if not isinstance(transport, asyncio.Transport):
             raise TypeError(f"{transport!r} is no stream")
-        self.transport = transport
+        self.transport, self.owner = transport, self._gates.site.owner(transport)
         self._gates.begin(self._handler, self)
         self._handler.connection_made(transport)
 
@@ -174,10 +206,11 @@ class Gate(asyncio.Protocol):
 
 
 class Gates:
-    """All connections. One without a request for some seconds is closed; so is the first such one, for a new one."""
+    """All connections. One without a request for some seconds is closed; so is, for a new one, the first such one of
+    the owner that has most."""
 
-    def __init__(self, server: web.Server, faults: Faults) -> None:
-        self._server, self.faults = server, faults
+    def __init__(self, server: web.Server, site: Pages) -> None:
+        self._server, self.site, self.faults = server, site, site.faults
         self.open: dict[RequestHandler, Gate] = {}  # that which has begun no request for the longest time first
         self._loop = asyncio.get_running_loop()
         self._look()
@@ -191,16 +224,21 @@ class Gates:
         if gate is not None:
             gate.since, self.open[handler] = self._loop.time(), gate
         if len(self.open) > MOST_CONNECTIONS:
-            self._close_first()
+            ((most, _),) = Counter(gate.owner for gate in self.open.values()).most_common(1)
+            self._close(next(handler for handler, gate in self.open.items() if gate.owner == most))
 
-    def _close_first(self) -> None:
-        self.open.pop(next(iter(self.open))).abort()
+    def owner(self, handler: RequestHandler) -> int | None:
+        gate = self.open.get(handler)
+        return gate.owner if gate is not None else None
+
+    def _close(self, handler: RequestHandler) -> None:
+        self.open.pop(handler).abort()
 
     def _look(self) -> None:
         self._loop.call_later(LOOK_SECONDS, self._look)
         oldest = self._loop.time() - PATIENCE_SECONDS
         while self.open and next(iter(self.open.values())).since < oldest:
-            self._close_first()
+            self._close(next(iter(self.open)))
 
 
 class Noted(logging.Handler):
@@ -217,14 +255,16 @@ class Noted(logging.Handler):
 
 async def serve_http(listening: Sequence[socket.socket], address: Address, shown: Shown) -> list[asyncio.Server]:
     """Begins to serve on each of the sockets."""
-    site = Site(address, shown)
-    logger = logging.Logger("firmd")
-    logger.addHandler(Noted(shown.faults))
+    return await serve_pages(listening, Site(address, shown))
+
+
+async def serve_pages(listening: Sequence[socket.socket], site: Pages) -> list[asyncio.Server]:
+    logger = logging.Logger(site.server)
+    logger.addHandler(Noted(site.faults))
     runner = web.AppRunner(site.application(), access_log=None, logger=logger)
     await runner.setup()
     if runner.server is None:
         raise RuntimeError("the runner has no server")
-    gates = Gates(runner.server, shown.faults)
-    site.begin = gates.begin
+    gates = site.gates = Gates(runner.server, site)
     loop = asyncio.get_running_loop()
     return [await loop.create_server(gates.connect, sock=found) for found in listening]

@@ -1,4 +1,4 @@
-"""What docs/PROVED.md names: the files of definitions and the edits in its tables."""
+"""What docs/results/claims.md names: the files of definitions and the edits in its tables."""
 
 from __future__ import annotations
 
@@ -8,15 +8,15 @@ from typing import Iterable, Iterator
 
 from harness.program import ROOT
 
-PROVED = Path("docs/PROVED.md")
-READING = Path("docs/READING.md")  # it names the definitions that need no belief
+CLAIMS = Path("docs/results/claims.md")
+FIRST_TABLE = "\n## "  # before it the page names the definitions that need no belief
 COLUMNS = 4  # claim, contract, definition, edits
 QUOTED = re.compile(r"`([^`\n]+)`")
 
 
 def cells_of(column: int) -> list[str]:
     """What stands in a column of the tables, row by row."""
-    rows = [line.strip("|").split(" | ") for line in (ROOT / PROVED).read_text().splitlines() if line.startswith("| ")]
+    rows = [line.strip("|").split(" | ") for line in (ROOT / CLAIMS).read_text().splitlines() if line.startswith("| ")]
     return [row[column] for row in rows if len(row) == COLUMNS and row[0].strip() != "Claim"]
 
 
@@ -48,9 +48,9 @@ def claim_faults(files: Iterable[Path]) -> Iterator[str]:
     edits = {path.stem for path in found if path.suffix == ".edit"}
     tried = {path.stem: path for path in found if path.suffix == ".edit" and path.parent.name in ("must-fail", "edits")}
     named = {path for cell in cells_of(2) for path in definitions_in(cell)}
-    known = named | set(definitions_in((ROOT / READING).read_text()))
+    known = named | set(definitions_in((ROOT / CLAIMS).read_text().split(FIRST_TABLE)[0]))
     named_edits = edits_in(cells_of(3))
-    yield from (f"{PROVED} names {path}, which is not there" for path in sorted(named - found))
-    yield from (f"{PROVED} names the edit {name}, which is not there" for name in sorted(named_edits - edits))
-    yield from (f"{path} stands in no table of {PROVED}" for path in sorted(definitions_of(found) - known))
-    yield from (f"{tried[name]} stands in no table of {PROVED}" for name in sorted(tried.keys() - named_edits))
+    yield from (f"{CLAIMS} names {path}, which is not there" for path in sorted(named - found))
+    yield from (f"{CLAIMS} names the edit {name}, which is not there" for name in sorted(named_edits - edits))
+    yield from (f"{path} stands in no table of {CLAIMS}" for path in sorted(definitions_of(found) - known))
+    yield from (f"{tried[name]} stands in no table of {CLAIMS}" for name in sorted(tried.keys() - named_edits))

@@ -12,7 +12,9 @@ from dataclasses import dataclass, field
 from typing import Callable, Collection, NamedTuple, Sequence
 
 HEADING = b"tenant,nodes,arcs,life,spread,churn".split(b",")
-LONG_HEADING = HEADING + [b"remote"]
+REMOTE_HEADING = HEADING + [b"remote"]
+FULL_HEADING = REMOTE_HEADING + [b"patience"]
+HEADINGS = (HEADING, REMOTE_HEADING, FULL_HEADING)
 ROSTER_FAULTS = "header row name number repeated-name count memory".split()
 REFUSALS = (
     "worn bad-command bad-name bad-number machine-exists no-such-machine job-exists no-such-job task-exists"
@@ -25,7 +27,7 @@ OPERATOR_REFUSALS = (
 ).split()
 MOST_ROSTER, MOST_LINE = 65536, 256  # bytes
 PLACES, MOST_ADMISSIONS = 64, 32768
-LONGEST_WAIT = 1000000
+LONGEST_PATIENCE = 1000000
 COSTS_KEPT = 8
 
 
@@ -77,10 +79,11 @@ class Limits(NamedTuple):
     spread: int
     churn: int
     remote: int = 0
+    patience: int = LONGEST_PATIENCE
 
 
 # The least and the highest of each of the limits.
-RANGES = [(2, 4096), (0, 65536), (1, 2**40), (0, 1000), (0, 1000000), (0, 1000000)]
+RANGES = [(2, 4096), (0, 65536), (1, 2**40), (0, 1000), (0, 1000000), (0, 1000000), (0, LONGEST_PATIENCE)]
 
 
 def is_name(word: bytes) -> bool:
@@ -290,7 +293,7 @@ class Tenant:
             elif machine != task.machine:
                 changes.append(f" move {name} {task.machine} {machine}")
             task.machine = machine
-            task.waited = min(task.waited + 1, LONGEST_WAIT) if machine is None else 0
+            task.waited = min(task.waited + 1, self.limits.patience) if machine is None else 0
         self.costs = (self.costs + [placement.cost])[-COSTS_KEPT:]
         return f"ok round cost {placement.cost}" + "".join(changes)
 
@@ -338,7 +341,7 @@ def read_roster(text: bytes) -> dict[str, Tenant]:
     if len(text) > MOST_ROSTER:
         raise RosterFault(2)
     records = [line.split(b",") for line in re.split(rb"[\r\n]+", text) if line]
-    if not records or records[0] not in (HEADING, LONG_HEADING):
+    if not records or records[0] not in HEADINGS:
         raise RosterFault(1)
     tenants: dict[str, Tenant] = {}
     for place, record in enumerate(records[1:]):
@@ -381,7 +384,7 @@ def read_operation(words: Sequence[bytes]) -> Operation:
         raise Refused(21)
     is_admission = words[0] == b"admit"
     fields = words[1].split(b",") if is_admission else [words[1]]
-    if is_admission and len(fields) not in (len(HEADING), len(LONG_HEADING)):
+    if is_admission and len(fields) not in map(len, HEADINGS):
         raise Refused(22)
     if not is_name(fields[0]):
         raise Refused(23)

@@ -23,10 +23,10 @@ from pathlib import Path
 from typing import IO, Any, Iterator, NamedTuple
 
 from harness.checks import Skipped, require
-from harness.program import ROOT, opened
+from harness.program import ROOT, built, opened
 
 LIMIT_SECONDS = 300
-CONSOLE_SECONDS = 30  # for what a command of a console gives
+CONSOLE_SECONDS = 90  # for what a command of a console gives
 FENCE = "```"
 TABLE = re.compile(r"\| Line \|.*\| Reply[^|]*\|")
 FIRST_AND_LAST = re.compile(r"\| `([^`]+)` \|.*\| `([^`]+)`[^|]*\|")
@@ -168,6 +168,10 @@ def play_console(console: Block) -> None:
     """Types each command once what the page shows of the one before has come."""
     if "nc -" in console.text and shutil.which("nc") is None:
         raise Skipped("it needs nc (apt-get install netcat-openbsd)")
+    if re.search(r"firmctl .*\bwhy\b", console.text) and not built("firm_explain").exists():
+        raise Skipped("firm_explain is not built")
+    if re.search(r"\broot\b", console.text) and os.geteuid():
+        raise Skipped("it shows what root has")
     with tempfile.TemporaryDirectory(prefix="firm-") as folder:
         for name in ("firm", "crates", "examples", "service"):
             (Path(folder) / name).symlink_to(ROOT / name)

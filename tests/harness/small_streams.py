@@ -5,7 +5,7 @@ from __future__ import annotations
 from random import Random
 from typing import Sequence
 
-from harness.service import HEADING, LONG_HEADING
+from harness.service import FULL_HEADING, HEADING, HEADINGS, REMOTE_HEADING
 
 Record = list[bytes]  # the fields of a roster's row
 Held = dict[str, dict[str, str]]  # by kind: the names, and behind a task's its job
@@ -77,7 +77,7 @@ def random_roster(draw: Random) -> tuple[bytes, list[str]]:
     """A roster of some tenants, and their names. The first has much room, as a rule."""
     records: list[Record] = []
     names = draw.sample(["a", "b", "t-1", "abcdefghijklmnop", "0"], draw.choice([1, 1, 1, 2, 4]))
-    heading = draw.choice([HEADING, LONG_HEADING, LONG_HEADING])
+    heading = draw.choice([HEADING, REMOTE_HEADING, FULL_HEADING, FULL_HEADING])
     for name in names:
         roomy = draw.random() < 0.8
         nodes = draw.randint(10, 30) if roomy else draw.randint(2, 9)
@@ -86,7 +86,8 @@ def random_roster(draw: Random) -> tuple[bytes, list[str]]:
         spread = draw.choice([0, 1, 5, 10, 20, 1000])
         churn = draw.choice([0, 0, 1, 1, 2, 3, 20, 1000000])
         remote = draw.choice([0, 1, 1, 2, 5, 10, 50, 1000000])
-        numbers = [nodes, arcs, life, spread, churn, remote]
+        patience = draw.choice([0, 1, 2, 3, 5, 20, 1000000])
+        numbers = [nodes, arcs, life, spread, churn, remote, patience]
         fields = [name.encode(), *(b"%d" % number for number in numbers)]
         records.append(fields[: len(heading)])
     return roster_of(records, heading), names
@@ -194,13 +195,15 @@ class Stream:
             b"%d" % draw.choice([0, 1, 20]),
             b"%d" % draw.choice([0, 1, 3, 20]),
             b"%d" % draw.choice([0, 1, 5]),
+            b"%d" % draw.choice([0, 2, 1000000]),
         ]
         if draw.random() < 0.15:
-            row[draw.randint(1, 6)] = draw.choice(BAD_NUMBERS + [b""])
+            row[draw.randint(1, 7)] = draw.choice(BAD_NUMBERS + [b""])
         if name in (b"new", b"z") and draw.random() < 0.5 and name.decode() not in self.tenants:
             self.tenants.append(name.decode())
             self.held[name.decode()] = nothing_held()
-        return b"+ admit " + b",".join(row[: draw.choice([6, 7, 7, 7]) if draw.random() < 0.95 else draw.randint(1, 8)])
+        width = draw.choice([6, 7, 8, 8]) if draw.random() < 0.95 else draw.randint(1, 9)
+        return b"+ admit " + b",".join([*row, b"0"][:width])
 
     def line(self) -> bytes:
         if self.draw.random() < self.operators:
@@ -247,9 +250,9 @@ def with_noise(draw: Random, text: bytes) -> bytes:
 
 def random_bad_roster(draw: Random) -> bytes:
     """A roster with a fault or two somewhere, or none."""
-    heading = list(draw.choice([HEADING, LONG_HEADING]))
+    heading = list(draw.choice(HEADINGS))
     records = [
-        [b"a%d" % place, b"9", b"24", b"100", b"1", b"2", b"3"][: len(heading)]
+        [b"a%d" % place, b"9", b"24", b"100", b"1", b"2", b"3", b"4"][: len(heading)]
         for place in range(draw.choice([0, 1, 2, 3, 64, 65]))
     ]
     for _ in range(draw.choice([0, 1, 1, 2])):

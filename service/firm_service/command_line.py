@@ -1,0 +1,81 @@
+"""What the verbs of a command line share: their ends by a failure, their options, and the print of an answer."""
+
+from __future__ import annotations
+
+import argparse
+import json
+import sys
+from collections.abc import Callable
+from dataclasses import dataclass
+from functools import partial
+from typing import Any
+
+from .tables import Row
+
+# Exit statuses. The first is for what is refused, as a roster with a fault, too.
+NOT_THERE, USAGE, NO_SERVICE, NOT_BUILT = 1, 2, 3, 4
+Verb = Callable[[argparse.Namespace], None]
+
+
+class Failure(Exception):
+    """The end of the program with a message and an exit status."""
+
+    def __init__(self, status: int, message: str) -> None:
+        super().__init__(message)
+        self.status = status
+
+
+class Unused(argparse.ArgumentParser):
+    """In the place of a verb that is not asked for, whose options would take time."""
+
+    def __init__(self) -> None:
+        """It has no parts of a parser."""
+
+    def add_argument(self, *_: Any, **__: Any) -> Any:
+        return None
+
+    def set_defaults(self, **_: Any) -> None:
+        return None
+
+
+@dataclass(frozen=True)
+class Verbs:
+    """The verbs of a program, each with the options that all of them have."""
+
+    commands: argparse._SubParsersAction[argparse.ArgumentParser]
+    common: argparse.ArgumentParser
+    only: str | None = None  # which is asked for; None: all are made, as for a list of them
+
+    def has(self, name: str) -> bool:
+        return self.only in (None, name)
+
+    def add(self, name: str, run: Verb, explained: str, epilog: str | None = None) -> argparse.ArgumentParser:
+        if not self.has(name):
+            return Unused()
+        command = self.commands.add_parser(
+            name,
+            help=explained,
+            description=explained,
+            epilog=epilog,
+            formatter_class=argparse.RawDescriptionHelpFormatter,
+            parents=[self.common],
+        )
+        command.set_defaults(run=run)
+        return command
+
+
+def show(options: argparse.Namespace, answer: Row, plain: Callable[[Row], str]) -> None:
+    """Prints an answer, as JSON where that is asked for."""
+    sys.stdout.write(json.dumps(answer, indent=2) + "\n" if options.json else plain(answer))
+
+
+def whole(low: int, high: int) -> Callable[[str], int]:
+    """The type of an option that is a whole number in this range."""
+    return partial(_whole, low, high)
+
+
+def _whole(low: int, high: int, text: str) -> int:
+    number = int(text) if text.isascii() and text.isdigit() else -1
+    if not low <= number <= high:
+        raise argparse.ArgumentTypeError(f"{text!r} is no whole number from {low:,} to {high:,}")
+    return number
