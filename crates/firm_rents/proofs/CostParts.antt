@@ -3,8 +3,9 @@ use Rattle.std.proofs.Common.{◌≡◌, ℕ, zero, suc, ◌+◌, ◌<◌, List,
 use Rattle.firm_rules.specs.declared.rounds.Choice.{Choice}
 use Rattle.firm_rules.specs.declared.rounds.Choice.TheVariants.{On, Wait}
 use Rattle.firm_rules.specs.Placement.{Demand, Case, task_cost, tasks_cost}
-use Rattle.firm_rents.specs.Rents.{choice_at}
-use Rattle.firm_rents.specs.CostParts.{churn_cost, remote_cost, wait_cost, move_cost, preemption_cost, part}
+use Rattle.firm_rules.specs.Placement.{choice_at}
+use Rattle.firm_rents.specs.CostParts.{move_cost, preemption_cost, part}
+use Rattle.firm_rules.specs.ChoiceCost.{churn_cost, remote_cost, wait_cost}
 use Rattle.firm_rents.proofs.Rows.{demand_in}
 
 pub cost_split : (case : Case) (task : Demand) (choice : Choice)

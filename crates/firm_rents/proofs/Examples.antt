@@ -6,7 +6,7 @@ use Rattle.std.proofs.lemmas.Bool.{cases_lt, cases_eq}
 use Rattle.firm_rules.specs.declared.rounds.Choice.{Choice}
 use Rattle.firm_rules.specs.declared.rounds.Choice.TheVariants.{On, Wait}
 use Rattle.firm_rules.specs.Placement.{Demand, Case, load, IsPlace}
-use Rattle.firm_rents.specs.Rents.{choice_at}
+use Rattle.firm_rules.specs.Placement.{choice_at}
 use Rattle.firm_rents.specs.Levels.{IsAtMost, time, paid_by_level, slot_by_level, SuitByLevel}
 
 -- one slot, and two tasks whose waits cost the same

@@ -9,7 +9,7 @@ use Rattle.firm_rules.specs.declared.rounds.Choice.{Choice}
 use Rattle.firm_rules.specs.declared.rounds.Choice.TheVariants.{On, Wait}
 use Rattle.firm_rules.specs.Placement.{Demand, Case, total, load, IsPlace, IsLegal, task_cost, tasks_cost, load_cost}
 use Rattle.firm_rules.specs.Placement.{placement_cost, rank, runs_at, comes_before}
-use Rattle.firm_rents.specs.Rents.{task_at, choice_at}
+use Rattle.firm_rules.specs.Placement.{task_at, choice_at}
 use Rattle.firm_rents.specs.Levels.{IsAtMost, time, amount, cost_by_level, paid_by_level, SuitByLevel}
 use Rattle.firm_rents.specs.Levels.{RentsShowFirst}
 use Rattle.firm_rents.proofs.Payments.{total_same, total-ge, total-add, sum_over, on_machine, by_machine}

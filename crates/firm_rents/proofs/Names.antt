@@ -19,27 +19,6 @@ use Rattle.firm_rules.specs.Placement.{IsPlace}
 use Rattle.firm_rules.specs.Round.{machine_at, place_of, rows_after, task_after, zipped}
 use Rattle.firm_rents.specs.Placed.{choice_of, placement_of}
 
-found_at : (found : Bool) (n place : ℕ) → cond found (Some n) None ≡ Some place → n ≡ place
-found_at true n place e = cc
-found_at false n place e = absurd cc
-
-not_found : (found : Bool) (n : ℕ) → cond found (Some n) None ≡ None → found ≡ false
-not_found true n e = absurd cc
-not_found false n e = refl
-
--- where a test passes first, or past the last where it passes nowhere
-module _ {X : Type 0} (p : X → Bool) (xs : List X) where
-  pub first_found : (place : ℕ) → position p xs ≡ Some place → place ≡ position_or_len p xs
-  first_found place e =
-      sym (found_at (nat_lt (position_or_len p xs) (length xs)) (position_or_len p xs) place e)
-
-  pub none_found : position p xs ≡ None → length xs ≡ position_or_len p xs
-  none_found e =
-      let far : length xs ≤ position_or_len p xs =
-      ltb-false (position_or_len p xs) (length xs)
-      (not_found (nat_lt (position_or_len p xs) (length xs)) (position_or_len p xs) e) in
-      omega (arith, far, prefix_len-le-length (λ (x : X). not (p x)) xs)
-
 apart : (a b : List ℕ) → bytes_eq a b ≡ false → bytes_eq b a ≡ false
 apart a b e = elim (bytes_eq b a) as (λ v. bytes_eq b a ≡ v → v ≡ false) [
   | true ↦ λ f. absurd (true≢false (sym ((bytes_eq-Decides a b).1 (sym ((bytes_eq-Decides b a).0 f))) ∙ e))

@@ -13,7 +13,8 @@ use Rattle.firm_rules.specs.Placement.{Demand, Case, total, goes_to, load, IsPla
 use Rattle.firm_rules.specs.Placement.{load_cost, placement_cost}
 use Rattle.firm_rents.specs.Rents.{paid, least_on, least_paid, all_least, takings, gain, gains, RentsBound}
 use Rattle.firm_rents.specs.Rents.{RentsShowLeast, EachChoiceCostsItsExcess, Show, Suit, RentsThatShowSuit}
-use Rattle.firm_rents.specs.Rents.{task_at, choice_at, CostsMore}
+use Rattle.firm_rents.specs.Rents.{CostsMore}
+use Rattle.firm_rules.specs.Placement.{task_at, choice_at}
 
 pub total_zero : (f : ℕ → ℕ) (n : ℕ) → ((i : ℕ) → i < n → f i ≡ 0) → total f n ≡ 0
 total_zero f zero h = refl

@@ -11,9 +11,9 @@ use Rattle.firm_rules.specs.Placement.{Case, IsPlace, task_cost, runs_at}
 use Rattle.firm_rents.specs.declared.classes.Class.{Class}
 use Rattle.firm_rents.specs.declared.classes.Offer.{Offer}
 use Rattle.firm_rents.specs.declared.classes.LevelRents.{LevelRents}
-use Rattle.firm_rents.specs.Rents.{task_at}
+use Rattle.firm_rules.specs.Placement.{task_at}
 use Rattle.firm_rents.specs.Levels.{IsAtMost, time, amount, paid_by_level, slot_by_level}
-use Rattle.firm_rents.specs.inner.Lowest.{near, wide_cost}
+use Rattle.firm_rules.specs.ChoiceCost.{near, wide_cost}
 use Rattle.firm_rents.specs.inner.Classes.{offered, rents_at, place_of, level_rents, place_offer, place_levels}
 use Rattle.firm_rents.specs.inner.Classes.{IsLeast, NoMore}
 use Rattle.firm_rents.proofs.Cheapest.{own_at, wide_or_near}

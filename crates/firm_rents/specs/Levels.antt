@@ -5,7 +5,7 @@ use Rattle.firm_rules.specs.declared.rounds.Choice.{Choice}
 use Rattle.firm_rules.specs.declared.rounds.Choice.TheVariants.{On, Wait}
 use Rattle.firm_rules.specs.Placement.{Case, load, IsPlace, IsLegal, task_cost, rank}
 use Rattle.firm_rules.specs.Round.{IsRound}
-use Rattle.firm_rents.specs.Rents.{task_at, choice_at}
+use Rattle.firm_rules.specs.Placement.{task_at, choice_at}
 
 -- a number at each level, compared lexicographically: one is at most another where it has the lesser number at the
 -- first level at which they differ

@@ -1,29 +1,15 @@
 -- Rents: a number for each machine, and what they prove of the cost of placements.
 use Rattle.std.specs.Prelude.{◌≡◌, ℕ, zero, suc, ◌+◌, ◌-◌, ◌*◌, ◌^◌, ◌<◌, ◌≤◌, ◌↔◌, min, max, List, [], ◌∷◌, length}
-use Rattle.std.specs.Prelude.{Option, Some, None}
-use Rattle.std.specs.Prelude.{slice_index, slice_index_or}
+use Rattle.std.specs.Prelude.{slice_index}
 use Rattle.firm_rules.specs.declared.rounds.Choice.{Choice}
 use Rattle.firm_rules.specs.declared.rounds.Choice.TheVariants.{On, Wait}
 use Rattle.firm_rules.specs.Placement.{Demand, Case, total, load, IsPlace, IsLegal, task_cost, load_cost}
-use Rattle.firm_rules.specs.Placement.{placement_cost}
+use Rattle.firm_rules.specs.Placement.{choice_at, placement_cost, task_at}
 
 -- one rent for each machine, none of them huge
 pub record AreRents (machines : ℕ) (rents : List ℕ) : Type 0 where
   pub one_each : length rents ≡ machines
   pub small : (j : ℕ) → slice_index rents j ≤ 2 ^ 40
-
--- the task of this number; past the last, one that waits and asks for nothing
-abbrev pub task_at : Case → ℕ → Demand
-task_at case i = slice_index_or case.tasks i (record { home = None; preferred = []; delay = 0; job = 0 })
-
--- the choice of the task of this number; past the last, to wait
-abbrev pub choice_at : List Choice → ℕ → Choice
-choice_at placement i = slice_index_or placement i Wait
-
--- the choice of a task to stay where it is
-abbrev pub home_choice : Option ℕ → Choice
-home_choice (Some home) = On home
-home_choice None = Wait
 
 -- the rent of a choice: that of its machine, and 0 for waiting
 abbrev pub rent : List ℕ → Choice → ℕ

@@ -1,4 +1,3 @@
-pub mod Demands
 pub mod Lowest
 pub mod Bounds
 pub mod Classes

@@ -1,14 +1,14 @@
 //! The machine that costs a task least more, by the low and the high rents of a round together.
 ghost use Rattle.std.specs.Prelude.{◌≡◌, ◌+◌, ◌<◌, length, IfOk};
 ghost use Rattle.firm_rules.specs.declared.rounds.Choice.TheVariants.{On};
-ghost use Rattle.firm_rents.specs.Rents.{task_at, home_choice, rent};
+ghost use Rattle.firm_rents.specs.Rents.{rent};
+ghost use Rattle.firm_rules.specs.Placement.{task_at, home_choice};
 ghost use Rattle.firm_rents.specs.TwoTables.{more_by_both, AreAtGap};
 ghost use Rattle.firm_rents.specs.inner.Lowest.{IsLowest};
 
-use crate::cases::Case;
 use crate::choices::cheapest_other;
 use crate::rents::Rents;
-use firm_rules::Choice;
+use firm_rules::{Case, Choice};
 use std::alloc::{AllocError, Global};
 
 /// Finds the best other machine of each task whose own machine has this gap between its low and its high rent; for a

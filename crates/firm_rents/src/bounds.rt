@@ -1,14 +1,13 @@
 //! What rents prove about the cost of a tenant's placements. None of these calls takes memory.
 ghost use Rattle.std.specs.Prelude.{ℕ, ◌≡◌, ◌+◌, ◌*◌, ◌^◌, ◌≤◌, ◌↔◌, true, length, slice_index, List, IsTrue};
 ghost use Rattle.firm_rules.specs.declared.rounds.Choice.{Choice};
-ghost use Rattle.firm_rules.specs.Placement.{IsLegal, is_legal, placement_cost, load_cost, load, total, tasks_cost};
+ghost use Rattle.firm_rules.specs.Placement.{IsLegal, is_legal, placement_cost};
 ghost use Rattle.firm_rents.specs.Rents.{all_least, gain, gains, Show};
 
-use crate::cases::Case;
 use crate::choices::least_paid;
 use crate::laws::rents_show_least;
 use crate::rents::Rents;
-use firm_rules::{Choice, cost_of_load, legality_is_judged, loads_of};
+use firm_rules::{Case, Choice, legality_is_judged};
 
 /// What rents show about a placement.
 #[derive(Clone, Copy, Debug, PartialEq, Eq)]
@@ -34,7 +33,7 @@ pub fn shows_least(case: &Case, rents: &Rents, placement: &[Choice]) -> Shown
         → placement_cost case.now placement.now ≤ placement_cost case.now other }
 {
     rents_show_least();
-    let cost = loads_cost(case, placement) + task_costs(case, placement);
+    let cost = case.cost_of(placement);
     let paid = paid_of_all(case, rents);
     let gains = gains_of(case, rents);
     Shown {
@@ -87,34 +86,4 @@ pub(crate) fn gain_of(spread: u64, rent: u64, slots: u64) -> u64
         most = most.max((tasks * rent).saturating_sub(load));
     }
     most
-}
-
-/// What the loads of all machines cost. There is one choice for each task.
-pub(crate) fn loads_cost(case: &Case, placement: &[Choice]) -> u64
-    requires { length placement.now ≡ length case.now.tasks }
-    ensures cost { result ≡ total (λ j. load_cost case.now.spread (load placement.now j)) (length case.now.slots) }
-    ensures most { result ≤ 2 ^ 45 }
-{
-    // No more tasks are counted than a tenant may have.
-    prove!(case.task_count() <= 4_096);
-    let spread = case.spread();
-    let loads = loads_of(placement);
-    let mut cost = 0;
-    for place in 0..case.machine_count() {
-        cost += cost_of_load(spread, u64::from(loads[place]));
-    }
-    cost
-}
-
-// What all tasks' choices cost them.
-fn task_costs(case: &Case, placement: &[Choice]) -> u64
-    requires { length placement.now ≡ length case.now.tasks }
-    ensures cost { result ≡ tasks_cost case.now case.now.tasks placement.now }
-    ensures most { result ≤ 2 ^ 34 }
-{
-    let mut cost = 0;
-    for task in 0..case.task_count() {
-        cost += case.cost_of_choice(task, placement[task]);
-    }
-    cost
 }

@@ -1,13 +1,13 @@
 //! What a task pays, and how much more another choice costs it.
 ghost use Rattle.std.specs.Prelude.{◌≡◌, ◌-◌, ◌^◌, ◌<◌, ◌≤◌, true, false, length};
-ghost use Rattle.firm_rules.specs.Placement.{IsPlace};
-ghost use Rattle.firm_rents.specs.Rents.{task_at, paid, least_paid, CostsMore};
+ghost use Rattle.firm_rules.specs.Placement.{goes_to, IsPlace};
+ghost use Rattle.firm_rents.specs.Rents.{paid, least_paid, CostsMore};
+ghost use Rattle.firm_rules.specs.Placement.{task_at};
 ghost use Rattle.firm_rents.specs.inner.Lowest.{IsLowest};
 ghost use Rattle.firm_rules.specs.declared.rounds.Choice.TheVariants.{On};
 
-use crate::cases::{Case, is_on};
 use crate::rents::Rents;
-use firm_rules::Choice;
+use firm_rules::{Case, Choice};
 
 /// What a choice costs the task of this number with its rent.
 pub fn paid(case: &Case, rents: &Rents, task: usize, choice: Choice) -> u64
@@ -82,4 +82,14 @@ pub fn least_paid(case: &Case, rents: &Rents, task: usize) -> u64
     let wait = case.cost_of_choice(task, Choice::Wait);
     let machine = cheapest_other(case, rents, task, Choice::Wait, Choice::Wait);
     wait.min(paid(case, rents, task, machine))
+}
+
+/// Whether the choice is the machine at this place.
+pub(crate) fn is_on(choice: Choice, place: u32) -> bool
+    ensures { result ≡ goes_to place choice }
+{
+    match choice {
+        Choice::On(other) => other == place,
+        Choice::Wait => false,
+    }
 }

@@ -1,12 +1,11 @@
 //! What the cost of a placement is made of.
 ghost use Rattle.std.specs.Prelude.{◌≡◌, ◌+◌, ◌^◌, ◌<◌, ◌≤◌, length};
 ghost use Rattle.firm_rules.specs.Placement.{load, load_cost, placement_cost, total};
-ghost use Rattle.firm_rents.specs.Rents.{task_at};
-ghost use Rattle.firm_rents.specs.CostParts.{move_cost, part, preemption_cost, remote_cost, wait_cost};
+ghost use Rattle.firm_rules.specs.Placement.{task_at};
+ghost use Rattle.firm_rents.specs.CostParts.{move_cost, part, preemption_cost};
+ghost use Rattle.firm_rules.specs.ChoiceCost.{remote_cost, wait_cost};
 
-use crate::bounds::loads_cost;
-use crate::cases::Case;
-use firm_rules::Choice;
+use firm_rules::{Case, Choice};
 
 /// What a placement costs, by kind of cost.
 #[derive(Clone, Copy, Debug, PartialEq, Eq)]
@@ -36,7 +35,7 @@ pub fn parts_of(case: &Case, placement: &[Choice]) -> Parts
         ≡ placement_cost case.now placement.now }
 {
     let mut parts = Parts {
-        loads: loads_cost(case, placement),
+        loads: case.cost_of_loads(placement),
         moves: 0,
         preemptions: 0,
         waits: 0,

@@ -4,17 +4,16 @@ ghost use Rattle.firm_rules.specs.declared.rounds.Choice.{Choice as ChoiceOf};
 ghost use Rattle.firm_rules.specs.declared.rounds.Choice.TheVariants.{On, Wait};
 ghost use Rattle.firm_rules.specs.Placement.{load, rank, runs_at, task_cost, IsPlace};
 ghost use Rattle.firm_rules.specs.Round.{IsRound};
-ghost use Rattle.firm_rents.specs.Rents.{task_at, choice_at};
+ghost use Rattle.firm_rules.specs.Placement.{task_at, choice_at};
 ghost use Rattle.firm_rents.specs.Levels.{time, IsAtMost, paid_by_level, slot_by_level};
-ghost use Rattle.firm_rents.specs.inner.Lowest.{near, wide_cost};
+ghost use Rattle.firm_rules.specs.ChoiceCost.{near, wide_cost};
 ghost use Rattle.firm_rents.specs.inner.Classes.{AreClasses, AreInLevels, IsLeast, IsSpent, NoMore, SuitsLoad};
 ghost use Rattle.firm_rents.specs.inner.Classes.{level_rents, place_of, place_offer};
 
-use crate::cases::{Case, is_on};
 use crate::classes::{Class, LevelRents, Offer, first_differences, is_at_most, is_dearer_before};
 use crate::laws::rents_show_first;
 use crate::rents::MOST_RENT;
-use firm_rules::{Choice, legality_is_judged, loads_of};
+use firm_rules::{Case, Choice, legality_is_judged, loads_of};
 
 /// Whether rents in levels, whoever proposed them, show that a placement is the round's: it is legal, no legal one
 /// costs less, and none that costs as much comes before it. Where the answer is no, nothing is said. Takes no memory.
@@ -352,22 +351,8 @@ fn offer(case: &Case, rents: &LevelRents, task: usize, choice: Choice) -> Offer
         rents,
         cost,
         place,
-        time_of(case, task, rank_of(case, task, choice)),
+        time_of(case, task, case.rank_of(task, choice)),
     )
-}
-
-// How the choice ranks for the task of this number.
-fn rank_of(case: &Case, task: usize, choice: Choice) -> usize
-    requires task { task < length case.now.tasks }
-    requires choice { IsPlace (length case.now.slots) choice }
-    ensures rank { result ≡ rank (length case.now.slots) (task_at case.now task).home choice }
-    ensures most { result ≤ length case.now.slots + 1 }
-{
-    match choice {
-        Choice::On(place) if is_on(case.home(task), place) => 0,
-        Choice::On(place) => place as usize + 1,
-        Choice::Wait => case.machine_count() + 1,
-    }
 }
 
 // The time of this rank of the task of this number.

@@ -2,10 +2,10 @@
 //! placement whose cost meets the bound that they give; *rents in levels* show it to be the first of the least. The
 //! crate knows no network, flow or price.
 //!
-//! A `Case` is the record of that name in `firm_rules/specs/Placement.antt`: the data of a round, with machines by
-//! place and tasks by number. `Rents` are a list of one rent for each machine, at most 2^40. `specs/Rents.antt` says
-//! what a task pays, what a machine gains, and when rents `Show` a placement or `Suit` it: each task pays its least,
-//! the last task of each machine is paid for, no free slot is worth more than it costs.
+//! A round is given as firm_rules' `Case`: its data, with machines by place and tasks by number. `Rents` are a list of
+//! one rent for each machine, at most 2^40. `specs/Rents.antt` says what a task pays, what a machine gains, and when
+//! rents `Show` a placement or `Suit` it: each task pays its least, the last task of each machine is paid for, no free
+//! slot is worth more than it costs.
 //!
 //! `specs/Levels.antt` says the same of *rents in levels*: for each machine, and for waiting, an amount and behind it a
 //! number at each *time*, the choice of some rank of some task. They are compared at the first level at which they
@@ -41,7 +41,6 @@
 
 mod both;
 mod bounds;
-mod cases;
 mod choices;
 mod classes;
 mod cost_parts;
@@ -54,7 +53,6 @@ mod tables;
 
 pub use both::Nearest;
 pub use bounds::{Shown, shows_least};
-pub use cases::Case;
 pub use choices::{cheapest_other, excess, least_paid, paid};
 pub use classes::{Class, LevelRents};
 pub use cost_parts::{Parts, parts_of};

@@ -3,7 +3,7 @@ ghost use Rattle.std.specs.Prelude.{◌≡◌, ◌^◌, ◌≤◌, ℕ, length, 
 ghost use Rattle.firm_rents.specs.Rents.{rent, AreRents};
 ghost use Rattle.firm_rents.specs.inner.Lowest.{IsLowest, is_neither};
 
-use crate::cases::is_on;
+use crate::choices::is_on;
 use firm_rules::Choice;
 use std::marker::Model;
 

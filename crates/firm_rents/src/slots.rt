@@ -4,15 +4,15 @@ ghost use Rattle.std.specs.Prelude.{slice_set as set};
 ghost use Rattle.firm_rules.specs.declared.rounds.Choice.{Choice as ChoiceOf};
 ghost use Rattle.firm_rules.specs.declared.rounds.Choice.TheVariants.{On};
 ghost use Rattle.firm_rules.specs.Placement.{IsLegal, placement_cost, task_cost};
-ghost use Rattle.firm_rents.specs.Rents.{gain, task_at, Show};
+ghost use Rattle.firm_rents.specs.Rents.{gain, Show};
+ghost use Rattle.firm_rules.specs.Placement.{task_at};
 ghost use Rattle.firm_rents.specs.OtherSlots.{with_slots, drawn};
 
 use crate::bounds::gain_of;
-use crate::cases::Case;
 use crate::choices::least_paid;
 use crate::laws::{one_more_machine_saves, other_slots_cost};
 use crate::rents::{MOST_RENT, Rents};
-use firm_rules::{Choice, Slots};
+use firm_rules::{Case, Choice, Slots};
 use std::alloc::{AllocError, Global};
 use std::cmp::Reverse;
 

@@ -5,13 +5,13 @@ ghost use Rattle.std.specs.Prelude.{if◌then◌else◌, nat_lt, min, max, slice
 ghost use Rattle.firm_rules.specs.Placement.{is_legal, IsPlace, load};
 ghost use Rattle.firm_rules.specs.declared.rounds.Choice.{Choice as ChoiceOf};
 ghost use Rattle.firm_rules.specs.declared.rounds.Choice.TheVariants.{On};
-ghost use Rattle.firm_rents.specs.Rents.{task_at, choice_at, rent, paid, AreRents, Show, Suit};
+ghost use Rattle.firm_rents.specs.Rents.{rent, paid, AreRents, Show, Suit};
+ghost use Rattle.firm_rules.specs.Placement.{task_at, choice_at};
 ghost use Rattle.firm_rents.specs.inner.Bounds.{IsBelow, IsWithin};
 
-use crate::cases::Case;
 use crate::laws::rents_that_show_suit;
 use crate::rents::{MOST_RENT, Rents, rent_of};
-use firm_rules::{Choice, legality_is_judged, loads_of};
+use firm_rules::{Case, Choice, legality_is_judged, loads_of};
 use std::alloc::{AllocError, Global};
 
 /// The lowest rents that a legal placement leaves its machines: each machine's last task is paid for, and no task would

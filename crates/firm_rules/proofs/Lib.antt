@@ -8,6 +8,12 @@ pub mod TaskWrites
 pub mod Legals
 pub mod Loads
 pub mod Places
+pub mod MovedPlaces
+pub mod CaseLists
+pub mod CaseSteps
+pub mod Seating
+pub mod CaseKept
+pub mod CaseLaws
 pub mod Padded
 pub mod Recents
 pub mod Costs

@@ -1,7 +1,7 @@
 -- Placements of tasks on machines: which are legal, what they cost, and their order.
 use Rattle.std.specs.Prelude.{◌≡◌, ℕ, zero, suc, not, ◌+◌, ◌-◌, ◌*◌, ◌/◌, ◌<◌, ◌≤◌, ◌==◌, ◌&&◌, ◌||◌, Bool, true, false}
 use Rattle.std.specs.Prelude.{nat_lt, nat_le, ⊤, List, [], ◌∷◌, ◌++◌, length, count_by, slice_index, Option, Some, None}
-use Rattle.std.specs.Prelude.{if◌then◌else◌}
+use Rattle.std.specs.Prelude.{if◌then◌else◌, slice_index_or}
 use Rattle.std.specs.List.{All, list_all, list_any}
 use Rattle.firm_rules.specs.declared.rounds.Choice.{Choice}
 use Rattle.firm_rules.specs.declared.rounds.Choice.TheVariants.{On, Wait}
@@ -26,6 +26,19 @@ pub record Case : Type 0 where
   pub jobs : ℕ
   pub limit : ℕ
   pub tasks : List Demand
+
+-- the task of this number; past the last, one that waits and asks for nothing
+abbrev pub task_at : Case → ℕ → Demand
+task_at case i = slice_index_or case.tasks i (record { home = None; preferred = []; delay = 0; job = 0 })
+
+-- the choice of the task of this number; past the last, to wait
+abbrev pub choice_at : List Choice → ℕ → Choice
+choice_at placement i = slice_index_or placement i Wait
+
+-- the choice of a task to stay where it is
+abbrev pub home_choice : Option ℕ → Choice
+home_choice (Some home) = On home
+home_choice None = Wait
 
 -- the numbers below n
 abbrev pub numbers : ℕ → List ℕ

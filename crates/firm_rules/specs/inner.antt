@@ -1,3 +1,4 @@
--- What no public clause cites: how names, preferences, costs and the rows of a tenant are kept.
+-- What no public clause cites: how names, preferences, costs, the rows of a tenant and their case are kept.
 pub mod Padding
 pub mod Tables
+pub mod Demands

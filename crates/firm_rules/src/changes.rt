@@ -1,7 +1,8 @@
 //! What a round changes.
-ghost use Rattle.std.specs.Prelude.{◌≡◌, ◌<◌, true, IfOk, length, option_to_list};
+ghost use Rattle.std.specs.Prelude.{◌≡◌, ◌<◌, ◌++◌, true, IfOk, OnOk, length, option_to_list, slice_index_or};
 ghost use Rattle.firm_rules.specs.Placement.{IsPlace, is_legal};
 ghost use Rattle.firm_rules.specs.Round.{case_of, changes_made, machine_at, task_changes};
+ghost use Rattle.firm_rules.specs.declared.book.Task.{Task as TaskRow};
 
 use crate::book::Task;
 use crate::names::Name;
@@ -76,12 +77,48 @@ pub fn changes_of<A: Allocator>(
     ensures { IfOk result (λ changes. changes ≡ changes_made rows.now placement.now) }
 {
     let mut list = Vec::new(alloc);
-    for (place, task) in rows.tasks().enumerate() {
-        if let Some(change) = change_of(rows, task, placement[place]) {
-            list.push(change)?;
-        }
+    for task in 0..rows.task_count() {
+        note(&mut list, change_at(rows, task, placement[task]))?;
     }
     Ok(list.into())
+}
+
+// Adds the change last, if there is one.
+fn note(list: &mut Vec<Change>, change: Option<Change>) -> Result<(), AllocError>
+    ensures { OnOk result (list.new.items ≡ list.old.items ++ option_to_list change) }
+{
+    if let Some(change) = change {
+        list.push(change)?;
+    }
+    Ok(())
+}
+
+// What the choice changes for the task of this number, if anything. Most tasks stay, and their rows are not read.
+fn change_at<A: Allocator>(rows: &Rows<A>, number: usize, choice: Choice) -> Option<Change>
+    requires there { number < length rows.now.tasks }
+    requires machine { IsPlace (length rows.now.machines) choice }
+    ensures { (d : TaskRow) → option_to_list result
+        ≡ task_changes rows.now (slice_index_or rows.now.tasks number d) choice }
+{
+    rows.limits();
+    if is_same(rows.case().home(number), choice) {
+        return None;
+    }
+    let Some(task) = rows.task_at(number) else {
+        unreachable!()
+    };
+    change_of(rows, &task, choice)
+}
+
+// Whether the choices are the same.
+fn is_same(one: Choice, other: Choice) -> bool
+    ensures { result ≡ true → one ≡ other }
+{
+    match (one, other) {
+        (Choice::On(place), Choice::On(another)) => place == another,
+        (Choice::Wait, Choice::Wait) => true,
+        _ => false,
+    }
 }
 
 // What the choice changes for the task, if anything.

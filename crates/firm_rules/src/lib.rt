@@ -8,16 +8,23 @@
 //! A round is a function, `round_placement` in `specs/Round.antt`, which three laws (docs/TRUST.md) read aloud;
 //! `proofs/RoundExamples.antt` computes worked rounds with all their placements. Three more laws, in
 //! `specs/Preemption.antt`, say what a preemption takes (docs/PLACEMENT.md), one in `specs/Starvation.antt` what a
-//! round does to a long wait. Only the adders and `changes_of` take memory; `legal` and `cost_of` take time in
-//! proportion to tasks times machines.
+//! round does to a long wait.
+//!
+//! `Rows` keep the `Case` of their rounds (the record of that name in `specs/Placement.antt`): slots, and what each
+//! task brings, with machines and jobs by place. Names are looked up as a row comes; each change of the rows changes
+//! the case too, so that it is always `case_of` them, and `legal`, `cost_of`, `ranks_before` and `changes_of` read it
+//! in time in proportion to tasks and machines. Only the adders, `changes_of` and `Case::of`, which makes a case from
+//! names for a caller that outlives the rows, take memory.
 #![tactic(auto)]
 
 mod amounts;
 mod book;
 mod books;
 mod bounds;
+mod cases;
 mod changes;
 mod commands;
+mod demands;
 mod laws;
 mod names;
 mod placements;
@@ -32,6 +39,7 @@ pub use amounts::{Slots, Weight};
 pub use book::{Job, Machine, Task, Use};
 pub use books::{Book, BookFault};
 pub use bounds::{LONGEST_PATIENCE, Limits};
+pub use cases::Case;
 pub use changes::{Changes, changes_of};
 pub use commands::{Command, LineFault};
 pub use laws::{

@@ -1,21 +1,25 @@
 -- A draft stays sound while rows are read.
-use Rattle.std.proofs.Common.{◌≡◌, ◌<◌, ◌≤◌, ◌-◌, ◌∙◌, ℕ, suc, true, false, List, [], ◌∷◌, ◌++◌, length}
+use Rattle.std.proofs.Common.{◌≡◌, ◌<◌, ◌≤◌, ◌-◌, ◌∙◌, ℕ, zero, suc, true, false, List, [], ◌∷◌, ◌++◌, length}
 use Rattle.std.proofs.Common.{Option, Some, None, Result, Ok, Err, refl, sym, ap, subst, arith, get_or, append_assoc}
-use Rattle.std.specs.Prelude.{ℤ, IfSome, IsSome, OnOk, nat_lt, option_map, replicate}
+use Rattle.std.specs.Prelude.{ℤ, Bool, IfSome, IsSome, OnOk, if◌then◌else◌, is_some, nat_lt, option_map, replicate}
 use Rattle.std.proofs.lemmas.List.{length_push}
 use Rattle.firm_rules.specs.Book.{Book}
+use Rattle.firm_rules.specs.Limits.{TenantLimits}
 use Rattle.firm_rules.specs.Names.{is_name}
 use Rattle.firm_text.specs.Rosters.{most_places}
 use Rattle.firm_saved.specs.Saved.{IsSoundPlace, filled, tenant_name, untouched}
 use Rattle.firm_saved.specs.declared.drafts.Draft.{Draft as Kept}
 use Rattle.firm_saved.specs.declared.faults.FaultKind.{FaultKind}
+use Rattle.firm_saved.specs.declared.faults.FaultKind.TheVariants as fault
 use Rattle.firm_saved.specs.declared.rows.Row.{Row}
 use Rattle.firm_saved.specs.declared.rows.Row.TheVariants as row
 use Rattle.firm_saved.specs.declared.saved.SavedPlace.{SavedPlace}
 use Rattle.firm_saved.specs.declared.tenant_drafts.TenantDraft.{TenantDraft as KeptTenant}
-use Rattle.firm_saved.specs.Drafts.{TenantDraft, booked, costs_fault, ends_given, grown, has_tenant}
-use Rattle.firm_saved.specs.Drafts.{job_fault, machine_fault, place_of, task_fault}
+use Rattle.firm_saved.specs.Drafts.{TenantDraft, booked, costs_fault, either, ends_given, grown, has_tenant}
+use Rattle.firm_saved.specs.Drafts.{job_fault, machine_fault, new_tenant, place_of, task_fault, tenant_fault}
+use Rattle.firm_saved.specs.Drafts.{vacancy_fault}
 use Rattle.firm_saved.specs.inner.Kept.{AreSoundPlaces, IsSoundDraft, IsSoundTenant}
+use Rattle.firm_saved.specs.inner.Kept.{view}
 use Rattle.firm_saved.specs.inner.Loads.{AreLoads, view as tenant_view}
 use Rattle.firm_saved.specs.inner.Returned.{Gives}
 use Rattle.firm_saved.proofs.Places.{sound_push}
@@ -48,6 +52,62 @@ none_if (Some x) none = absurd (none x refl)
 -- where there is no place, no tenant stays
 pub no_tenant : (kept : Kept) → IsSoundDraft kept → kept.present ≡ None → kept.tenant ≡ None
 no_tenant kept sound none = none_if kept.tenant (λ t is. (sound.tenant t is).placed none)
+
+-- where there is no fault, the present place is vacant, and the name is new
+cleared : (some named : Bool) (vacancy rest : Option FaultKind)
+    → (if some then Some fault.Row else either vacancy (if named then Some fault.Repeated else rest)) ≡ None
+    → (vacancy ≡ None) × (named ≡ false)
+cleared true named vacancy rest e = absurd cc
+cleared false named (Some x) rest e = absurd cc
+cleared false true None rest e = absurd cc
+cleared false false None rest e = (refl, refl)
+
+-- and it was given
+vacated : (present : Option ℕ) → vacancy_fault present ≡ None
+    → ((admissions : ℕ) → present ≡ Some admissions → 0 < admissions) × (present ≡ None → ⊥)
+vacated None e = absurd cc
+vacated (Some zero) e = absurd cc
+vacated (Some (suc more)) e = ((λ admissions is. over more admissions is), (λ is. none more is))
+  where
+    over : (more admissions : ℕ) → Some (suc more) ≡ Some admissions → 0 < admissions
+    over more admissions is = let same : suc more ≡ admissions = cc in omega arith
+
+    none : (more : ℕ) → Some (suc more) ≡ None → ⊥
+    none more is = absurd cc
+
+-- a tenant without a fault may stay at the present place
+pub kept_tenant : (kept : Kept) (name : List ℕ) (limits : TenantLimits) (given : ℕ) (tenant : KeptTenant)
+    → IsSoundDraft kept → tenant_fault (view kept) name limits given ≡ None → is_name name ≡ true
+    → tenant_view tenant ≡ new_tenant name limits given → AreLoads tenant
+    → IsSoundDraft (record kept { tenant = Some tenant })
+kept_tenant kept name limits given tenant sound clear formed made loads =
+    record {
+      before = sound.before;
+      room = sound.room;
+      counted = sound.counted;
+      tenant = λ other is. subst (IsSoundTenant kept.before.items kept.present) (the_same other is) stays;
+    }
+  where
+    free : (vacancy_fault kept.present ≡ None) × (has_tenant kept.before.items name ≡ false)
+    free =
+        cleared (is_some (option_map tenant_view kept.tenant)) (has_tenant kept.before.items name)
+        (vacancy_fault kept.present) (if nat_lt limits.life given then Some fault.Commands else None) clear
+
+    its : tenant.name ≡ name
+    its = ap (λ (t : TenantDraft). t.name) made
+
+    stays : IsSoundTenant kept.before.items kept.present tenant
+    stays =
+        record {
+          loads = loads;
+          named = subst (λ n. is_name n ≡ true) (sym its) formed;
+          new = subst (λ n. has_tenant kept.before.items n ≡ false) (sym its) free.1;
+          given = (vacated kept.present free.0).0;
+          placed = (vacated kept.present free.0).1;
+        }
+
+    the_same : (other : KeptTenant) → Some tenant ≡ Some other → tenant ≡ other
+    the_same other is = cc
 
 vacant : {A : Type 0} (o : Option A) → o ≡ None → IsSome o → ⊥
 vacant None e some = absurd (cc)

@@ -1,11 +1,10 @@
 -- The machine with the lowest number, apart from two.
-use Rattle.std.specs.Prelude.{◌≡◌, ℕ, ◌+◌, ◌<◌, ◌≤◌, Bool, true, false, not, ◌&&◌, ◌^◌, nat_lt, List, ◌++◌, length}
+use Rattle.std.specs.Prelude.{◌≡◌, ℕ, ◌+◌, ◌<◌, ◌≤◌, Bool, true, false, not, ◌&&◌, ◌^◌, List, length}
 use Rattle.std.specs.Prelude.{slice_index}
-use Rattle.std.specs.Prelude.{if◌then◌else◌, is_some}
-use Rattle.std.specs.Option.{option_to_list}
 use Rattle.firm_rules.specs.declared.rounds.Choice.{Choice}
 use Rattle.firm_rules.specs.declared.rounds.Choice.TheVariants.{On, Wait}
 use Rattle.firm_rules.specs.Placement.{Demand, Case, goes_to}
+use Rattle.firm_rules.specs.ChoiceCost.{wide_cost, near}
 use Rattle.firm_rents.specs.Rents.{paid}
 use Rattle.firm_rents.specs.declared.rents.Rents.TheInside.{Inside}
 
@@ -32,15 +31,6 @@ pub record RentsFit (rents : Inside) : Type 0 where
   pub first : IsLowest (slice_index rents.table.items) (length rents.table.items) Wait Wait rents.first
   pub second : IsLowest (slice_index rents.table.items) (length rents.table.items) rents.first Wait rents.second
   pub third : IsLowest (slice_index rents.table.items) (length rents.table.items) rents.first rents.second rents.third
-
--- what a machine that is neither its own nor preferred costs the task
-abbrev pub wide_cost : Case → Demand → ℕ
-wide_cost case task =
-    (if is_some task.home then case.churn else 0) + (if nat_lt 0 (length task.preferred) then case.remote else 0)
-
--- the machines that may cost the task less: its own, and those it prefers
-abbrev pub near : Demand → List ℕ
-near task = option_to_list task.home ++ task.preferred
 
 -- how far the search for the cheapest machine but two has come, after this many of the near ones: the choice costs no
 -- more than any machine at the wide cost, nor than any of those near ones

@@ -1,6 +1,7 @@
 use Rattle.std.proofs.Common.{◌≡◌, ℕ, length, ap, subst, arith}
-use Rattle.firm_rents.specs.Rents.{task_at}
-use Rattle.firm_rents.specs.inner.Lowest.{IsCheapestSoFar, near}
+use Rattle.firm_rules.specs.Placement.{task_at}
+use Rattle.firm_rents.specs.inner.Lowest.{IsCheapestSoFar}
+use Rattle.firm_rules.specs.ChoiceCost.{near}
 use Rattle.firm_rents.proofs.Cheapest.{so_far_all}
 use Rattle.firm_rents.proofs.choices.cheapest_other.Goals as goal
 

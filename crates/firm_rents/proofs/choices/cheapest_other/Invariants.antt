@@ -1,4 +1,4 @@
-use Rattle.firm_rents.specs.Rents.{task_at}
+use Rattle.firm_rules.specs.Placement.{task_at}
 use Rattle.firm_rents.specs.inner.Lowest.{IsCheapestSoFar}
 use Rattle.firm_rents.proofs.choices.cheapest_other.Given as goal
 

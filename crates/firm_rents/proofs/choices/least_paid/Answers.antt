@@ -1,5 +1,5 @@
 use Rattle.std.proofs.Common.{arith}
-use Rattle.firm_rents.specs.Rents.{task_at}
+use Rattle.firm_rules.specs.Placement.{task_at}
 use Rattle.firm_rents.proofs.Cheapest.{least_is}
 use Rattle.firm_rents.proofs.choices.least_paid.Goals as goal
 

@@ -3,8 +3,9 @@ use Rattle.std.proofs.lemmas.List.{get_or_default, take_all}
 use Rattle.firm_rules.specs.declared.rounds.Choice.TheVariants.{On, Wait}
 use Rattle.firm_rules.specs.declared.rounds.Choice.{Choice}
 use Rattle.firm_rules.specs.Placement.{Demand}
-use Rattle.firm_rents.specs.Rents.{choice_at, task_at}
-use Rattle.firm_rents.specs.CostParts.{move_cost, part, preemption_cost, remote_cost, wait_cost}
+use Rattle.firm_rules.specs.Placement.{choice_at, task_at}
+use Rattle.firm_rents.specs.CostParts.{move_cost, part, preemption_cost}
+use Rattle.firm_rules.specs.ChoiceCost.{remote_cost, wait_cost}
 use Rattle.firm_rents.proofs.CostParts.{part_more, parts_sum}
 use Rattle.firm_rents.proofs.cost_parts.parts_of.Goals as goal
 

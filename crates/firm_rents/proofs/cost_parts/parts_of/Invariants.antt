@@ -1,6 +1,7 @@
 use Rattle.std.proofs.Common.{◌≡◌, ◌*◌, ◌≤◌, take, length}
 use Rattle.firm_rules.specs.Placement.{load, load_cost, total}
-use Rattle.firm_rents.specs.CostParts.{move_cost, preemption_cost, remote_cost, wait_cost, part}
+use Rattle.firm_rents.specs.CostParts.{move_cost, preemption_cost, part}
+use Rattle.firm_rules.specs.ChoiceCost.{remote_cost, wait_cost}
 use Rattle.firm_rents.proofs.cost_parts.parts_of.Given as goal
 
 abbrev pub invariant-loop-task : goal.invariant-loop-task

@@ -1,8 +1,8 @@
 use Rattle.std.proofs.Common.{◌<◌, ℕ}
 use Rattle.std.specs.Prelude.{slice_index}
 use Rattle.firm_rules.specs.declared.rounds.Choice.TheVariants.{On}
-use Rattle.firm_rents.specs.Rents.{task_at}
-use Rattle.firm_rents.specs.inner.Lowest.{near}
+use Rattle.firm_rules.specs.Placement.{task_at}
+use Rattle.firm_rules.specs.ChoiceCost.{near}
 use Rattle.firm_rents.specs.inner.Classes.{NoMore}
 use Rattle.firm_rents.proofs.first.near_suit.Given as goal
 

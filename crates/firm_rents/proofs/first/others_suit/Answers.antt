@@ -1,8 +1,8 @@
 use Rattle.std.proofs.Common.{◌≡◌, ◌+◌, ◌*◌, ◌<◌, ◌≤◌, suc, length, refl, ap, ◌∙◌, ⊎_elim, arith}
 use Rattle.std.proofs.lemmas.Bool.{cases_lt}
-use Rattle.firm_rents.specs.Rents.{task_at}
+use Rattle.firm_rules.specs.Placement.{task_at}
 use Rattle.firm_rents.specs.Levels.{IsAtMost}
-use Rattle.firm_rents.specs.inner.Lowest.{wide_cost}
+use Rattle.firm_rules.specs.ChoiceCost.{wide_cost}
 use Rattle.firm_rents.specs.inner.Classes.{offered, place_offer, place_levels}
 use Rattle.firm_rents.proofs.Suiting.{as_defined, least_later, tells}
 use Rattle.firm_rents.proofs.first.others_suit.Goals as goal

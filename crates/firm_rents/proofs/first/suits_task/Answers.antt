@@ -1,7 +1,7 @@
 use Rattle.std.proofs.Common.{length, refl}
 use Rattle.firm_rules.specs.declared.rounds.Choice.TheVariants.{Wait}
 use Rattle.firm_rules.specs.Placement.{task_cost}
-use Rattle.firm_rents.specs.Rents.{task_at}
+use Rattle.firm_rules.specs.Placement.{task_at}
 use Rattle.firm_rents.specs.Levels.{time}
 use Rattle.firm_rents.specs.inner.Classes.{NoMore, place_of, place_offer}
 use Rattle.firm_rents.proofs.Suiting.{as_defined, no_more, all_suit}

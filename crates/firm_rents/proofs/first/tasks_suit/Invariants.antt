@@ -1,7 +1,7 @@
 use Rattle.std.proofs.Common.{◌<◌, ◌+◌, ◌*◌, ℕ, length}
 use Rattle.firm_rules.specs.declared.rounds.Choice.{Choice}
 use Rattle.firm_rules.specs.Placement.{IsPlace}
-use Rattle.firm_rents.specs.Rents.{choice_at}
+use Rattle.firm_rules.specs.Placement.{choice_at}
 use Rattle.firm_rents.specs.Levels.{IsAtMost, paid_by_level}
 use Rattle.firm_rents.specs.inner.Classes.{level_rents, IsLeast, IsSpent}
 use Rattle.firm_rents.proofs.first.tasks_suit.Given as goal

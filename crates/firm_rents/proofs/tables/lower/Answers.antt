@@ -2,7 +2,8 @@ use Rattle.std.proofs.Common.{◌<◌, ◌≤◌, length, sym, subst, arith}
 use Rattle.std.proofs.lemmas.List.{get_or_default}
 use Rattle.firm_rules.specs.declared.rounds.Choice.{Choice}
 use Rattle.firm_rules.specs.declared.rounds.Choice.TheVariants.{On, Wait}
-use Rattle.firm_rents.specs.Rents.{paid, task_at}
+use Rattle.firm_rents.specs.Rents.{paid}
+use Rattle.firm_rules.specs.Placement.{task_at}
 use Rattle.firm_rents.proofs.tables.lower.Goals as goal
 
 pub loop-task-preserved : goal.loop-task-preserved

@@ -3,7 +3,8 @@ use Rattle.std.specs.Prelude.{slice_index}
 use Rattle.std.proofs.lemmas.List.{length-set}
 use Rattle.firm_rules.specs.declared.rounds.Choice.TheVariants.{On}
 use Rattle.firm_rules.specs.Placement.{IsPlace, task_cost}
-use Rattle.firm_rents.specs.Rents.{rent, paid, task_at}
+use Rattle.firm_rents.specs.Rents.{rent, paid}
+use Rattle.firm_rules.specs.Placement.{task_at}
 use Rattle.firm_rents.proofs.Bounding.{set_within}
 use Rattle.firm_rents.proofs.tables.lower_for.Goals as goal
 

@@ -1,6 +1,6 @@
 use Rattle.std.proofs.Common.{◌<◌, length, arith}
 use Rattle.firm_rules.specs.declared.rounds.Choice.TheVariants.{On, Wait}
-use Rattle.firm_rents.specs.Rents.{task_at}
+use Rattle.firm_rules.specs.Placement.{task_at}
 use Rattle.firm_rents.proofs.Cheapest.{wide-le}
 use Rattle.firm_rents.proofs.tables.pays_elsewhere.Goals as goal
 

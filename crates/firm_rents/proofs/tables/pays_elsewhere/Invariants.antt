@@ -1,7 +1,8 @@
 use Rattle.std.proofs.Common.{◌+◌, ◌≤◌, ℕ, List, length}
 use Rattle.firm_rules.specs.declared.rounds.Choice.{Choice}
 use Rattle.firm_rules.specs.Placement.{IsPlace}
-use Rattle.firm_rents.specs.Rents.{paid, task_at}
+use Rattle.firm_rents.specs.Rents.{paid}
+use Rattle.firm_rules.specs.Placement.{task_at}
 use Rattle.firm_rents.specs.inner.Bounds.{IsWithin}
 use Rattle.firm_rents.proofs.tables.pays_elsewhere.Given as goal
 

@@ -2,8 +2,9 @@ use Rattle.std.proofs.Common.{◌≡◌, ◌+◌, ◌-◌, ◌<◌, max, length,
 use Rattle.std.proofs.lemmas.List.{get_or_default}
 use Rattle.firm_rules.specs.declared.rounds.Choice.TheVariants.{On, Wait}
 use Rattle.firm_rules.specs.Placement.{task_cost}
-use Rattle.firm_rents.specs.Rents.{choice_at, rent, task_at}
-use Rattle.firm_rents.specs.inner.Lowest.{wide_cost}
+use Rattle.firm_rents.specs.Rents.{rent}
+use Rattle.firm_rules.specs.Placement.{choice_at, task_at}
+use Rattle.firm_rules.specs.ChoiceCost.{wide_cost}
 use Rattle.firm_rents.proofs.Bounding.{floor-le, pays-le}
 use Rattle.firm_rents.proofs.tables.raise.Goals as goal
 

@@ -4,7 +4,8 @@ use Rattle.std.proofs.lemmas.List.{get_or_default}
 use Rattle.firm_rules.specs.declared.rounds.Choice.{Choice}
 use Rattle.firm_rules.specs.declared.rounds.Choice.TheVariants.{On, Wait}
 use Rattle.firm_rules.specs.Placement.{IsPlace}
-use Rattle.firm_rents.specs.Rents.{rent, choice_at, AreRents}
+use Rattle.firm_rents.specs.Rents.{rent, AreRents}
+use Rattle.firm_rules.specs.Placement.{choice_at}
 use Rattle.firm_rents.specs.inner.Bounds.{IsWithin}
 use Rattle.firm_rents.proofs.Bounding.{dearest_by, rent-le, written}
 use Rattle.firm_rents.proofs.tables.rents_for.Goals as goal

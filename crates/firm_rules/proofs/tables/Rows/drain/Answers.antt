@@ -1,28 +1,47 @@
-use Rattle.std.proofs.Common.{List, ℕ, remove, sym, ap, ◌∙◌, arith}
+use Rattle.std.proofs.Common.{List, ℕ, map, remove, sym, ap, ◌∙◌, arith}
 use Rattle.std.specs.Map.{values_of}
 use Rattle.indexmap.proofs.SetLemmas.{map-remove}
 use Rattle.firm_rules.specs.Book.{TenantRows, running_on}
 use Rattle.firm_rules.specs.declared.book.Machine.{Machine}
+use Rattle.firm_rules.specs.Placement.{Case}
+use Rattle.firm_rules.specs.inner.Demands.{without_machine_at}
+use Rattle.firm_rules.proofs.CaseKept.{form-rows, kept, slots-counted, sound-rows}
+use Rattle.firm_rules.proofs.CaseLaws.{case-without_machine}
 use Rattle.firm_rules.proofs.TableLemmas.{tables-without_machine, arcs-at, running-drained, read-name}
 use Rattle.firm_rules.proofs.tables.Rows.drain.Goals as goal
 
 pub invariant_of-self : goal.invariant_of-self
 invariant_of-self g c =
-    (tables-without_machine c.self.invariant c.self.view_is c.args.place c.shift_remove_index.ensures.entries
+    let all = tables-without_machine c.self.invariant.tables c.self.view_is c.args.place
+    c.shift_remove_index.ensures.entries
     c.shift_remove_index.ensures.unique (sym c.in-Some.is ∙ c.shift_remove_index.ensures.entry) c.requires.there
     c.evict-departure.ensures.names c.evict-departure.ensures.tasks (c.from.ensures ∙ c.get.ensures.value)
-    c.evict-departure.ensures.preferences (c.from-2.ensures ∙ c.evict-departure.ensures.count)).tables
+    c.evict-departure.ensures.preferences (c.from-2.ensures ∙ c.evict-departure.ensures.count) in
+    record {
+      tables = all.tables;
+      case = kept (λ (case : Case). let k : Case = record case {
+        slots = remove case.slots c.args.place;
+        tasks = map (without_machine_at c.args.place) case.tasks;
+      } in k)
+          c.self.invariant.case c.self.view_is c.drop_machine.ensures
+          (case-without_machine c.args.self.now (sound-rows c.self.invariant c.self.view_is)
+          (form-rows c.self.invariant c.self.view_is) c.args.place c.requires.there) all.view;
+    }
+
+pub drop_machine-requires : goal.drop_machine-requires
+drop_machine-requires g c =
+    omega (arith, c.requires.there, slots-counted c.self.invariant c.self.view_is)
 
 pub returns-clause-rows : goal.returns-clause-rows
 returns-clause-rows g c =
-    (tables-without_machine c.self.invariant c.self.view_is c.args.place c.shift_remove_index.ensures.entries
+    (tables-without_machine c.self.invariant.tables c.self.view_is c.args.place c.shift_remove_index.ensures.entries
     c.shift_remove_index.ensures.unique (sym c.in-Some.is ∙ c.shift_remove_index.ensures.entry) c.requires.there
     c.evict-departure.ensures.names c.evict-departure.ensures.tasks (c.from.ensures ∙ c.get.ensures.value)
     c.evict-departure.ensures.preferences (c.from-2.ensures ∙ c.evict-departure.ensures.count)).view
 
 pub returns-clause-sound : goal.returns-clause-sound
 returns-clause-sound g c =
-    (tables-without_machine c.self.invariant c.self.view_is c.args.place c.shift_remove_index.ensures.entries
+    (tables-without_machine c.self.invariant.tables c.self.view_is c.args.place c.shift_remove_index.ensures.entries
     c.shift_remove_index.ensures.unique (sym c.in-Some.is ∙ c.shift_remove_index.ensures.entry) c.requires.there
     c.evict-departure.ensures.names c.evict-departure.ensures.tasks (c.from.ensures ∙ c.get.ensures.value)
     c.evict-departure.ensures.preferences (c.from-2.ensures ∙ c.evict-departure.ensures.count)).tables.sound
@@ -31,7 +50,7 @@ pub overflow_sub-self : goal.overflow_sub-self
 overflow_sub-self g c = omega (
   arith,
   c.from.ensures ∙ c.get.ensures.value,
-  (arcs-at c.self.invariant c.self.view_is c.args.place c.in-Some.field-0-0 c.in-Some.machine
+  (arcs-at c.self.invariant.tables c.self.view_is c.args.place c.in-Some.field-0-0 c.in-Some.machine
       (sym c.in-Some.is ∙ c.shift_remove_index.ensures.entry) c.requires.there),
 )
 
@@ -39,7 +58,7 @@ pub overflow_sub-self-2 : goal.overflow_sub-self-2
 overflow_sub-self-2 g c = omega (
   arith,
   c.from-2.ensures,
-  (running-drained c.self.invariant c.self.view_is c.in-Some.machine.name c.evict-departure.result.evicted
+  (running-drained c.self.invariant.tables c.self.view_is c.in-Some.machine.name c.evict-departure.result.evicted
       c.evict-departure.ensures.count),
 )
 
@@ -54,5 +73,5 @@ returns-clause-evicted g c =
     c.evict-departure.ensures.count
     ∙ ap (λ (rows : TenantRows). running_on rows c.in-Some.machine.name) c.self.view_is
     ∙ ap (running_on c.args.self.now)
-    (read-name c.self.invariant c.self.view_is c.args.place c.in-Some.field-0-0 c.in-Some.machine
+    (read-name c.self.invariant.tables c.self.view_is c.args.place c.in-Some.field-0-0 c.in-Some.machine
     (sym c.in-Some.is ∙ c.shift_remove_index.ensures.entry) c.requires.there)

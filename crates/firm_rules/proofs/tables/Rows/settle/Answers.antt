@@ -1,16 +1,83 @@
+use Rattle.std.proofs.Common.{◌≡◌, ℕ, List, length, map, All, sym, ap, subst, ◌∙◌, arith}
+use Rattle.std.specs.Map.{values_of}
+use Rattle.std.proofs.lemmas.List.{length-map}
+use Rattle.firm_rules.specs.Book.{TenantRows}
+use Rattle.firm_rules.specs.Placement.{Case, IsLegal, IsPlace}
+use Rattle.firm_rules.specs.Round.{case_of, demand_of, rows_after, weight_at}
+use Rattle.firm_rules.specs.inner.Tables.{seated, weight_in}
+use Rattle.firm_rules.specs.declared.book.Machine.{Machine}
+use Rattle.firm_rules.specs.declared.book.Task.{Task}
+use Rattle.firm_rules.proofs.CaseKept.{is-case, kept, settled-counted, sound-rows}
+use Rattle.firm_rules.proofs.CaseLaws.{case-rows_after}
+use Rattle.firm_rules.proofs.Legals.{to_legal}
 use Rattle.firm_rules.proofs.TableLemmas.{tables-settled}
 use Rattle.firm_rules.proofs.tables.Rows.settle.Goals as goal
 
+pub settle_case-requires-clause-one_each : goal.settle_case-requires-clause-one_each
+settle_case-requires-clause-one_each g c =
+    let rows : TenantRows = c.args.self.now in
+    let legal : IsLegal (case_of rows) c.args.choices.now =
+    to_legal (case_of rows) c.args.choices.now c.requires.legal in
+    legal.one_each ∙ ap (λ (k : Case). length k.tasks) (sym (is-case c.self.invariant c.self.view_is))
+
+pub settle_case-requires-clause-places : goal.settle_case-requires-clause-places
+settle_case-requires-clause-places g c =
+    let rows : TenantRows = c.args.self.now in
+    let legal : IsLegal (case_of rows) c.args.choices.now =
+    to_legal (case_of rows) c.args.choices.now c.requires.legal in
+    subst (λ n. All (IsPlace n) c.args.choices.now)
+    (ap (λ (k : Case). length k.slots) (sym (is-case c.self.invariant c.self.view_is))) legal.places
+
+pub settle_case-requires-clause-rows : goal.settle_case-requires-clause-rows
+settle_case-requires-clause-rows g c =
+    let all = tables-settled c.self.invariant.tables c.self.view_is c.args.choices.now
+    c.requires.legal c.settle_all-self-inside.ensures.names c.patience-patience.ensures.value
+    c.settle_all-self-inside.ensures.tasks c.settle_all-self-inside.ensures.running in
+    settled-counted c.args.self.now c.args.choices.now c.requires.legal
+    ∙ ap (λ (r : TenantRows). length r.tasks) (sym all.view)
+
+pub settle_case-requires-clause-waited : goal.settle_case-requires-clause-waited
+settle_case-requires-clause-waited g c =
+    let all = tables-settled c.self.invariant.tables c.self.view_is c.args.choices.now
+    c.requires.legal c.settle_all-self-inside.ensures.names c.patience-patience.ensures.value
+    c.settle_all-self-inside.ensures.tasks c.settle_all-self-inside.ensures.running in
+    let sound = all.tables.sound in
+    λ k d l. omega (arith, sound.waited k d l, sound.most_patience)
+
 pub invariant_of-self : goal.invariant_of-self
 invariant_of-self g c =
-    (tables-settled c.self.invariant c.self.view_is c.args.choices.now
+    let rows : TenantRows = c.args.self.now in
+    let was : Case = c.self.inside.case in
+    let all = tables-settled c.self.invariant.tables c.self.view_is c.args.choices.now
     c.requires.legal c.settle_all-self-inside.ensures.names c.patience-patience.ensures.value
-    c.settle_all-self-inside.ensures.tasks
-    c.settle_all-self-inside.ensures.running).tables
+    c.settle_all-self-inside.ensures.tasks c.settle_all-self-inside.ensures.running in
+    let legal : IsLegal (case_of rows) c.args.choices.now =
+    to_legal (case_of rows) c.args.choices.now c.requires.legal in
+    record {
+      tables = all.tables;
+      case = kept (λ (case : Case). let k : Case = record case {
+        tasks = seated (weight_at rows)
+            (rows_after rows c.args.choices.now).tasks c.args.choices.now case.tasks;
+      } in k)
+          c.self.invariant.case c.self.view_is
+          (c.settle_case.ensures
+          ∙ ap (λ (r : TenantRows). let k : Case = record was {
+            tasks = seated (weight_at r)
+                (values_of c.settle_all-self-inside.new.tasks.entries) c.args.choices.now was.tasks;
+          } in k) c.self.view_is
+          ∙ ap (λ (r : TenantRows). let k : Case = record was {
+            tasks = seated (weight_at rows)
+                r.tasks c.args.choices.now was.tasks;
+          } in k) all.view)
+          (case-rows_after rows (sound-rows c.self.invariant c.self.view_is) c.args.choices.now
+          (subst (λ n. All (IsPlace n) c.args.choices.now) (length-map rows.machines (λ (m : Machine). m.slots))
+          legal.places)
+          (legal.one_each ∙ length-map rows.tasks (demand_of rows)))
+          all.view;
+    }
 
 pub returns-clause-sound : goal.returns-clause-sound
 returns-clause-sound g c =
-    (tables-settled c.self.invariant c.self.view_is c.args.choices.now
+    (tables-settled c.self.invariant.tables c.self.view_is c.args.choices.now
     c.requires.legal c.settle_all-self-inside.ensures.names c.patience-patience.ensures.value
-    c.settle_all-self-inside.ensures.tasks
-    c.settle_all-self-inside.ensures.running).tables.sound
+    c.settle_all-self-inside.ensures.tasks c.settle_all-self-inside.ensures.running).tables.sound

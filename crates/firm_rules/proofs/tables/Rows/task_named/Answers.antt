@@ -8,5 +8,6 @@ pub returns : goal.returns
 returns g c =
     c.copied.ensures
     ∙ c.get.ensures.value
-    ∙ lookup-find (λ (task : Task). task.name) c.self.inside.tasks.entries c.args.name c.self.invariant.tasks_by_name
+    ∙ lookup-find (λ (task : Task). task.name) c.self.inside.tasks.entries c.args.name
+    c.self.invariant.tables.tasks_by_name
     ∙ ap (λ (rows : TenantRows). task_named rows c.args.name) c.self.view_is

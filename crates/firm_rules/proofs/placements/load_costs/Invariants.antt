@@ -1,8 +1,0 @@
-use Rattle.std.proofs.Common.{◌≡◌, ◌*◌, ◌≤◌}
-use Rattle.firm_rules.specs.Placement.{total, load, load_cost}
-use Rattle.firm_rules.proofs.placements.load_costs.Given as goal
-
-abbrev pub invariant-loop-place : goal.invariant-loop-place
-invariant-loop-place g l =
-    (l.cost ≡ total (λ j. load_cost l.fn.rows.limits.spread (load l.placement j)) l.place)
-    × (l.cost ≤ l.place * 8589934592)
