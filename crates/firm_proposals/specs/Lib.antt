@@ -1,1 +1,3 @@
+pub mod Proposed
 pub mod Work
+pub mod inner

@@ -1,8 +1,9 @@
 //! The classes of places by which prices differ behind their amounts.
+ghost use Rattle.std.specs.Prelude.{◌≡◌, ◌+◌, length, IfOk};
 
 use crate::numbers::{Numbers, Stack};
 use crate::table::Table;
-use firm_rents::{Class, LevelRents};
+use firm_rents::Class;
 use std::alloc::{AllocError, Global};
 
 /// The number of the first class at each time, and of a class that is cheaper or dearer than its parent at its own.
@@ -81,17 +82,28 @@ impl Classes {
         self.numbers.push(number);
     }
 
-    /// Writes the classes, and the class of each machine and of the outside. Fails only if memory is refused, of
-    /// which none is needed where the rents have had room for so many before.
-    pub(crate) fn write(&self, table: &Table, rents: &mut LevelRents) -> Result<(), AllocError> {
-        rents.places.clear();
-        for place in 0..table.machines() {
-            rents.places.push(self.of.at(place))?;
+    /// Writes the class of each machine and, last, of the outside. Fails only if memory is refused, of which none is
+    /// needed where there is room.
+    pub(crate) fn write_places(
+        &self,
+        table: &Table,
+        places: &mut Vec<u32>,
+    ) -> Result<(), AllocError>
+        ensures { IfOk result (λ _. length places.new.items ≡ table.now.machines + 1) }
+    {
+        places.clear();
+        for machine in 0..table.machines() {
+            places.push(self.of.at(machine))?;
         }
-        rents.places.push(self.of.at(table.outside()))?;
-        rents.classes.clear();
+        places.push(self.of.at(table.outside()))?;
+        Ok(())
+    }
+
+    /// Writes the classes. Fails only if memory is refused, of which none is needed where there is room.
+    pub(crate) fn write(&self, classes: &mut Vec<Class>) -> Result<(), AllocError> {
+        classes.clear();
         for class in 0..self.parents.count() {
-            rents.classes.push(Class {
+            classes.push(Class {
                 parent: self.parents.at(class),
                 time: self.times.at(class),
                 number: self.numbers.at(class),

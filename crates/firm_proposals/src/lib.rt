@@ -2,10 +2,13 @@
 //! without network or flow. Nothing that is claimed of a round rests on this crate: `shows_first` of firm_rents judges
 //! what is proposed.
 //!
-//! A caller makes a `Work` of an `Allowance`, calls `propose`, and takes the `placement()` only where `shows_first`
-//! says yes to it with the `rents()`. Each call ends, faults nowhere, and makes no more searches and looks than it is
-//! allowed; none is made that is not counted. A proposer takes its memory when it is made, for all rounds within a
-//! tenant's limits. No clause says that a round is proposed. No program calls it yet.
+//! A caller makes a `Work` of an `Allowance` and calls `first`, which proposes and has `shows_first` judge: a placement
+//! that it gives is the round's. Each call ends, faults nowhere, and makes no more searches and looks than it is
+//! allowed; none is made that is not counted. A proposal has a choice for each task, an amount and a class for each
+//! machine, and a class for waiting (`specs/Proposed.antt`). No clause says that a round is proposed, or shown. A
+//! proposer takes its memory when it is made, for all rounds within a tenant's limits, and keeps of a round its last
+//! proposal: its price of the hub is the first that the next one tries. `first_best` of firm_canon asks for one in each
+//! round.
 //!
 //! So that this needs few proofs, no table is read by an index that has to be in range: past its end a table of
 //! `Numbers` has `NONE`, where nothing is written. Sums saturate. Loops go over a span, or as long as a look is left. A
@@ -42,6 +45,7 @@ mod market;
 mod nearest;
 mod numbers;
 mod paths;
+mod proposal;
 mod proposer;
 mod sides;
 mod table;

@@ -1,46 +1,82 @@
 //! What proposes a round.
-ghost use Rattle.std.specs.Prelude.{◌≡◌};
+ghost use Rattle.std.specs.Prelude.{◌≡◌, false, IfOk, IfSome, IsTrue};
+ghost use Rattle.firm_rules.specs.Round.{IsRound};
+ghost use Rattle.firm_proposals.specs.Proposed.{nothing_proposed, IsInForm};
 
-use crate::classes::most_classes;
 use crate::draft::Draft;
 use crate::first::First;
 use crate::least::Least;
 use crate::numbers::NONE;
+use crate::proposal::Proposal;
 use crate::table::Table;
 use crate::work::Work;
-use firm_rents::{Case, LevelRents};
-use firm_rules::{Choice, Limits};
+use firm_rents::{LevelRents, shows_first};
+use firm_rules::{Case, Choice, Limits};
 use std::alloc::{AllocError, Global};
+use std::marker::Model;
 
 /// Tables in which rounds are proposed. They are as large as a tenant's limits ask, and take no memory after that.
 #[derive(Drop)]
 pub struct Proposer {
+    limits: Limits,
     table: Table,
     draft: Draft,
     least: Least,
     first: First,
-    rents: LevelRents,
-    placement: Vec<Choice>,
+    proposal: Proposal,
+}
+
+impl Model for Proposer {
+    ghost use Rattle.firm_proposals.specs.Proposed.{Proposed};
+
+    ghost Value = { Proposed };
+
+    ghost view = { λ p. record {
+      limits = p.limits;
+      placement = p.proposal.placement.items;
+      amounts = p.proposal.rents.amounts.items;
+      places = p.proposal.rents.places.items;
+      classes = p.proposal.rents.classes.items;
+      hub_price = p.proposal.hub_price;
+    } };
 }
 
 impl Proposer {
-    /// Tables for tenants within these limits. Fails only if memory is refused.
-    pub fn new(alloc: Global, limits: Limits) -> Result<Proposer, AllocError> {
+    /// Tables for tenants within these limits, and no proposal. Fails only if memory is refused.
+    pub fn new(alloc: Global, limits: Limits) -> Result<Proposer, AllocError>
+        ensures { IfOk result (λ proposer. proposer ≡ nothing_proposed limits) }
+    {
         let (nodes, arcs) = (limits.nodes() as usize, limits.arcs() as usize);
         let table = Table::new(alloc, nodes, arcs)?;
         let draft = Draft::new(alloc, nodes)?;
         let least = Least::new(alloc, nodes)?;
         let first = First::new(alloc, nodes, arcs)?;
-        let placement = Vec::with_capacity(alloc, nodes)?;
-        let rents = room_for_rents(alloc, nodes)?;
+        let proposal = Proposal::new(alloc, nodes)?;
         Ok(Proposer {
+            limits,
             table,
             draft,
             least,
             first,
-            rents,
-            placement,
+            proposal,
         })
+    }
+
+    /// The round's placement, if one is proposed with the work that is left and shown to be it; the price of going to
+    /// any machine in the proposal before is tried first. `None` says nothing of the round. The check takes no look.
+    pub fn first(&mut self, case: &Case, work: &mut Work) -> Option<&[Choice]>
+        ensures first { IfSome result (λ placement. IsRound case.now placement.now) }
+        ensures most { work.new.most ≡ work.old.most }
+    {
+        let hint = self.hub_price();
+        if !self.propose(case, hint, work) {
+            return None;
+        }
+        if shows_first(case, self.rents(), self.placement()) {
+            Some(self.placement())
+        } else {
+            None
+        }
     }
 
     /// Proposes a placement and rents in levels for a round, with the work that is left. Tries `hint` first as the
@@ -48,63 +84,42 @@ impl Proposer {
     /// proposed; where it is yes, `shows_first` judges what is.
     pub fn propose(&mut self, case: &Case, hint: Option<u32>, work: &mut Work) -> bool
         ensures most { work.new.most ≡ work.old.most }
+        ensures limits { self.new.limits ≡ self.old.limits }
+        ensures form { IsTrue result → IsInForm case.now self.new }
+        ensures kept { result ≡ false → self.new.hub_price ≡ self.old.hub_price }
     {
         if !self.table.read(case) {
             return false;
         }
         let hint = hint.unwrap_or(NONE);
         self.least.find(&self.table, &mut self.draft, hint, work);
-        if work.is_short() {
+        if work.is_short() || !self.first.choose(&self.table, &mut self.draft, work) {
             return false;
         }
-        self.first.choose(&self.table, &mut self.draft, work) && self.write().is_ok()
+        let written = self.proposal.write(&self.table, &self.draft, &self.first);
+        written.is_ok()
     }
 
-    /// The rents of the last proposal.
-    pub fn rents(&self) -> &LevelRents {
-        &self.rents
+    /// The rents of the last proposal; none before the first.
+    pub fn rents(&self) -> &LevelRents
+        ensures amounts { result.now.amounts.items ≡ self.now.amounts }
+        ensures places { result.now.places.items ≡ self.now.places }
+        ensures classes { result.now.classes.items ≡ self.now.classes }
+    {
+        &self.proposal.rents
     }
 
-    /// The placement of the last proposal.
-    pub fn placement(&self) -> &[Choice] {
-        self.placement.as_slice()
+    /// The placement of the last proposal; empty before the first.
+    pub fn placement(&self) -> &[Choice]
+        ensures { result.now ≡ self.now.placement }
+    {
+        self.proposal.placement.as_slice()
     }
 
-    /// The price at which tasks went to any machine in the last proposal.
-    pub fn hub_price(&self) -> u32 {
-        self.draft.price(self.table.hub())
+    /// The price at which tasks went to any machine in the last proposal, in units of cost; none before the first.
+    pub fn hub_price(&self) -> Option<u32>
+        ensures { result ≡ self.now.hub_price }
+    {
+        self.proposal.hub_price
     }
-
-    // Writes down what was chosen.
-    fn write(&mut self) -> Result<(), AllocError> {
-        self.placement.clear();
-        for task in 0..self.table.tasks() {
-            let place = self.first.chosen(task);
-            let choice = if place < self.table.hub() {
-                Choice::On(place)
-            } else {
-                Choice::Wait
-            };
-            self.placement.push(choice)?;
-        }
-        self.rents.amounts.clear();
-        for machine in 0..self.table.machines() {
-            self.rents
-                .amounts
-                .push(u64::from(self.draft.price(machine)))?;
-        }
-        self.first.classes().write(&self.table, &mut self.rents)
-    }
-}
-
-// Rents with room for this many tasks and machines together.
-fn room_for_rents(alloc: Global, nodes: usize) -> Result<LevelRents, AllocError> {
-    let amounts = Vec::with_capacity(alloc, nodes)?;
-    let places = Vec::with_capacity(alloc, nodes)?;
-    let classes = Vec::with_capacity(alloc, most_classes(nodes))?;
-    Ok(LevelRents {
-        amounts,
-        places,
-        classes,
-    })
 }

@@ -3,12 +3,12 @@
 //! Places are numbers: each machine's, then that of the hub, over which a task goes to any machine at one cost, then
 //! that of the outside, where tasks wait. A task's ways lie one behind the other: to its own machine if it runs, to
 //! those that it prefers in order of their numbers, to the hub, and last to the outside.
-ghost use Rattle.std.specs.Prelude.{◌<◌, length};
+ghost use Rattle.std.specs.Prelude.{◌≡◌, ◌<◌, length};
+ghost use Rattle.firm_proposals.specs.inner.Written.{SameSize};
 
 use crate::numbers::{NONE, Numbers};
 use arrayvec::ArrayVec;
-use firm_rents::Case;
-use firm_rules::Choice;
+use firm_rules::{Case, Choice};
 use std::alloc::{AllocError, Global};
 
 /// What a task can do: go to a place, at a cost of its own.
@@ -76,11 +76,15 @@ impl Table {
         })
     }
 
-    pub(crate) fn tasks(&self) -> u32 {
+    pub(crate) fn tasks(&self) -> u32
+        ensures { result ≡ self.now.tasks }
+    {
         self.tasks
     }
 
-    pub(crate) fn machines(&self) -> u32 {
+    pub(crate) fn machines(&self) -> u32
+        ensures { result ≡ self.now.machines }
+    {
         self.machines
     }
 
@@ -193,28 +197,43 @@ impl Table {
     }
 
     /// Whether the round's rows found room in the tables.
-    pub(crate) fn read(&mut self, case: &Case) -> bool {
-        let tasks = case.task_count() as u32;
-        let machines = case.machine_count() as u32;
-        self.tasks = tasks;
-        self.machines = machines;
+    pub(crate) fn read(&mut self, case: &Case) -> bool
+        ensures tasks { self.new.tasks ≡ length case.now.tasks }
+        ensures machines { self.new.machines ≡ length case.now.slots }
+    {
+        self.tasks = case.task_count() as u32;
+        self.machines = case.machine_count() as u32;
         self.spread = case.spread() as u32;
         self.way_count = 0;
-        for machine in 0..machines {
+        self.read_machines(case);
+        self.read_tasks(case);
+        let ways = self.way_count;
+        let machines = self.machines;
+        self.firsts.set(self.tasks, ways);
+        let have_machines = machines == 0 || self.slots.at(machines.saturating_sub(1)) != NONE;
+        have_machines && self.firsts.at(self.tasks) == ways && ways as usize <= self.ways.len()
+    }
+
+    fn read_machines(&mut self, case: &Case)
+        ensures { SameSize self.old self.new }
+    {
+        for machine in 0..case.machine_count() as u32 {
             self.slots.set(machine, case.slots(machine as usize) as u32);
             self.demands.set(machine, 0);
         }
-        for task in 0..tasks {
+    }
+
+    fn read_tasks(&mut self, case: &Case)
+        ensures { SameSize self.old self.new }
+    {
+        for task in 0..case.task_count() as u32 {
             self.read_task(case, task);
         }
-        let ways = self.way_count;
-        self.firsts.set(tasks, ways);
-        let have_machines = machines == 0 || self.slots.at(machines.saturating_sub(1)) != NONE;
-        have_machines && self.firsts.at(tasks) == ways && ways as usize <= self.ways.len()
     }
 
     fn read_task(&mut self, case: &Case, task: u32)
         requires { task < length case.now.tasks }
+        ensures { SameSize self.old self.new }
     {
         let number = task as usize;
         let home = match case.home(number) {
@@ -239,6 +258,7 @@ impl Table {
 
     fn read_preferred(&mut self, case: &Case, task: u32, home: u32)
         requires { task < length case.now.tasks }
+        ensures { SameSize self.old self.new }
     {
         let number = task as usize;
         let near = case.near(number);
@@ -254,7 +274,9 @@ impl Table {
         }
     }
 
-    fn add_way(&mut self, task: u32, place: u32, cost: u32) {
+    fn add_way(&mut self, task: u32, place: u32, cost: u32)
+        ensures { SameSize self.old self.new }
+    {
         if let Some(way) = self.ways.get_mut(self.way_count as usize) {
             *way = Way { task, place, cost };
         }
