@@ -1,3 +1,2 @@
 -- What no public clause cites: the words in which functions inside the crate keep what they keep.
 pub mod Push
-pub mod Start

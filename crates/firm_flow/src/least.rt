@@ -32,7 +32,7 @@ fn push_all(net: &mut Net, steps: &[Step])
 }
 
 /// Sends one unit from a source to the sink, and says how much more the flow costs; `None` where there is no way.
-pub(crate) fn send(
+fn send(
     scratch: &mut Scratch,
     net: &mut Net,
     prices: &mut Prices,

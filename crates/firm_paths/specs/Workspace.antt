@@ -2,12 +2,13 @@
 use Rattle.std.specs.Prelude.{◌≡◌, ℕ, List, ◌+◌, ◌-◌, ◌*◌, ◌^◌, ◌<◌, ◌≤◌}
 
 -- the limits of the net for whose searches the room was reserved, how often `begin` was called, how many searches and
--- looks were counted since, and the class of the node at each place
+-- looks, and how many looks of proposals, were counted since, and the class of the node at each place
 pub record Workspace : Type 0 where
   pub limits : ℕ × ℕ
   pub begins : ℕ
   pub searches : ℕ
   pub looks : ℕ
+  pub proposed : ℕ
   pub classes : List ℕ
 
 -- a counter grew by this number where there was room for it below 2^64; else it stands at 2^64 - 1, and did not fall
@@ -24,3 +25,4 @@ pub record HasSearched (old new : Workspace) (made arcs : ℕ) : Type 0 where
   pub searches : HasCounted old.searches new.searches made
   pub looks_kept : old.looks ≤ new.looks
   pub looks : new.looks ≤ old.looks + made * (2 * arcs)
+  pub proposed : new.proposed ≡ old.proposed

@@ -7,4 +7,3 @@ pub mod Turn
 pub mod Going
 pub mod Front
 pub mod Meeting
-pub mod Valid

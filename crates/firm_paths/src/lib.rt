@@ -8,8 +8,8 @@
 //!
 //! A path meets no node twice, and is lent from the scratch until its next search. A *look* reads an arc, even if
 //! barred, full or not tight; with b barred arcs it takes up to b comparisons. A search takes at most two looks for
-//! each arc of the net; counts stop at 2^64 - 1. Only the two `new` take memory. No clause bounds other work than
-//! looks.
+//! each arc of the net; counts stop at 2^64 - 1. A scratch counts the looks of proposals, which are sought outside the
+//! net, apart. Only the two `new` take memory. No clause bounds other work than looks.
 //!
 //! - `raise` requires two different nodes, valid prices, none above that of `to`, and that at most 2^60.
 //! - A failed `tight_within` takes at most two looks for each arc's end in the smaller part, and one, all paid by the
@@ -40,7 +40,6 @@ mod search;
 mod shortest;
 mod tight;
 mod turn;
-mod valid;
 
 pub use classes::tight_within;
 pub use laws::{arcs_are_rows, searches_add_up};
@@ -49,4 +48,3 @@ pub use scratch::Scratch;
 pub use search::Step;
 pub use shortest::raise;
 pub use tight::tight_path;
-pub use valid::are_valid;

@@ -1,9 +1,8 @@
 //! The prices of a network's nodes.
-ghost use Rattle.std.specs.Prelude.{◌≡◌, ◌≢◌, ℕ, ◌+◌, ◌-◌, ◌<◌, ◌≤◌, ◌^◌, ◌↔◌, true, false, None, min, length, IfOk};
-ghost use Rattle.std.specs.Prelude.{IfSome, IsSome, IsTrue, slice_index};
-ghost use Rattle.firm_net.specs.Net.{IsNode, lists_at};
+ghost use Rattle.std.specs.Prelude.{◌≡◌, ℕ, ◌+◌, ◌-◌, ◌<◌, ◌≤◌, ◌^◌, ◌↔◌, true, false, length, IfOk, IfSome, IsSome};
+ghost use Rattle.std.specs.Prelude.{slice_index};
+ghost use Rattle.firm_net.specs.Net.{IsNode};
 ghost use Rattle.firm_paths.specs.NetArcs.{limits_of};
-ghost use Rattle.firm_paths.specs.Paths.{IsHighest};
 ghost use Rattle.firm_paths.specs.PriceTable.{price_of};
 ghost use Rattle.firm_paths.specs.inner.Search.{settled, label, AreRaised};
 ghost use Rattle.firm_paths.specs.inner.Queue.{AreVisited};
@@ -64,45 +63,6 @@ impl Prices {
     {
         zero(&mut self.less);
         self.base = 0;
-    }
-
-    /// Sets every price to this one.
-    pub fn level(&mut self, price: u64)
-        ensures limits { self.new.limits ≡ self.old.limits }
-        ensures same { (v : ℕ) → v < self.old.limits.0 → price_of self.new v ≡ price }
-    {
-        zero(&mut self.less);
-        self.base = price;
-    }
-
-    /// Lowers the price of a node to this one, where it is higher. Nothing changes where the node is not there.
-    pub fn lower(&mut self, net: &Net, node: NodeId, price: u64)
-        requires { self.old.limits ≡ limits_of net.now }
-        ensures limits { self.new.limits ≡ self.old.limits }
-        ensures own { IsNode net.now node
-            → price_of self.new node.id.place ≡ min (price_of self.old node.id.place) price }
-        ensures others { (v : ℕ) → v ≢ node.id.place → price_of self.new v ≡ price_of self.old v }
-        ensures absent { lists_at net.now node ≡ None → self.new ≡ self.old }
-    {
-        let Some(place) = net.place(node) else {
-            return;
-        };
-        let place = place as usize;
-        let less = self.base.saturating_sub(price);
-        if self.less[place] < less {
-            self.less[place] = less;
-        }
-    }
-
-    /// Whether no node has a higher price than this one. Where it says no, one may have, or a node that is gone had.
-    pub fn is_highest(&self, net: &Net, node: NodeId) -> bool
-        requires { self.now.limits ≡ limits_of net.now }
-        ensures { IsTrue result → IsNode net.now node × IsHighest net.now (price_of self.now) node.id.place }
-    {
-        let Some(place) = net.place(node) else {
-            return false;
-        };
-        self.less[place as usize] == 0
     }
 
     /// The price at a place.

@@ -1,8 +1,8 @@
 //! The room in which the searches work.
 ghost use Rattle.std.specs.Prelude.{◌≡◌, ◌↔◌, ℕ, IfOk, IsTrue};
-ghost use Rattle.firm_net.specs.Net.{IsNode, arc_count};
+ghost use Rattle.firm_net.specs.Net.{IsNode};
 ghost use Rattle.firm_paths.specs.Classes.{AreTogether};
-ghost use Rattle.firm_paths.specs.Workspace.{HasCounted, HasSearched};
+ghost use Rattle.firm_paths.specs.Workspace.{HasCounted};
 ghost use Rattle.firm_paths.specs.NetArcs.{limits_of};
 
 use crate::classes::Classes;
@@ -22,6 +22,7 @@ pub struct Scratch {
     begins: u64,
     pub(crate) searches: u64,
     pub(crate) looks: u64,
+    proposed: u64,
     pub(crate) labels: Labels,
     pub(crate) reach: Reach,
     pub(crate) classes: Classes,
@@ -42,6 +43,7 @@ impl Model for Scratch {
       begins = s.begins;
       searches = s.searches;
       looks = s.looks;
+      proposed = s.proposed;
       classes = s.classes.of.items;
     } };
 
@@ -57,6 +59,7 @@ impl Scratch {
     pub fn new(alloc: Global, net: &Net) -> Result<Scratch, AllocError>
         ensures limits { IfOk result (λ scratch. scratch.limits ≡ limits_of net.now) }
         ensures counts { IfOk result (λ scratch. (scratch.begins ≡ 0) × (scratch.searches ≡ 0) × (scratch.looks ≡ 0)) }
+        ensures proposed { IfOk result (λ scratch. scratch.proposed ≡ 0) }
     {
         let limits = net.limits();
         let nodes = limits.0 as usize;
@@ -78,6 +81,7 @@ impl Scratch {
             begins: 0,
             searches: 0,
             looks: 0,
+            proposed: 0,
             labels,
             reach,
             classes,
@@ -85,26 +89,25 @@ impl Scratch {
         })
     }
 
-    /// Counts one call more of itself, and sets the counts of searches and looks to 0.
+    /// Counts one call more of itself, and sets the other counts to 0.
     pub fn begin(&mut self)
         ensures limits { self.new.limits ≡ self.old.limits }
         ensures begins { HasCounted self.old.begins self.new.begins 1 }
         ensures counts { (self.new.searches ≡ 0) × (self.new.looks ≡ 0) }
+        ensures proposed { self.new.proposed ≡ 0 }
     {
         self.begins = self.begins.saturating_add(1);
         self.searches = 0;
         self.looks = 0;
+        self.proposed = 0;
     }
 
-    /// Counts searches that were made outside the net, in a copy of a part of it. Looks beyond two for each arc of the
-    /// net and search are not counted.
-    pub fn count(&mut self, net: &Net, searches: u32, looks: u64)
-        ensures counts { HasSearched self.old self.new searches (arc_count net.now) }
+    /// Counts the looks of a proposal, which was sought outside the net.
+    pub fn count_proposed(&mut self, looks: u64)
+        ensures counted { HasCounted self.old.proposed self.new.proposed looks }
+        ensures rest { self.new ≡ record self.old { proposed = self.new.proposed } }
     {
-        let arcs = net.limits().1 - net.room().1;
-        let most = u64::from(searches).saturating_mul(2 * u64::from(arcs));
-        self.searches = self.searches.saturating_add(u64::from(searches));
-        self.looks = self.looks.saturating_add(looks.min(most));
+        self.proposed = self.proposed.saturating_add(looks);
     }
 
     /// How often `begin` was called; `u64::MAX` for more than can be told.
@@ -128,12 +131,21 @@ impl Scratch {
         self.looks
     }
 
+    /// How many looks proposals took since the last `begin`, each search of theirs counted as one more; `u64::MAX` for
+    /// more than can be told.
+    pub fn proposed(&self) -> u64
+        ensures { result ≡ self.now.proposed }
+    {
+        self.proposed
+    }
+
     /// Puts all nodes into one class. The paths that are asked for inside classes from then on split it, and what is
     /// split is joined by no other call.
     pub fn join_nodes(&mut self)
         ensures limits { self.new.limits ≡ self.old.limits }
         ensures counts { (self.new.begins ≡ self.old.begins) × (self.new.searches ≡ self.old.searches)
             × (self.new.looks ≡ self.old.looks) }
+        ensures proposed { self.new.proposed ≡ self.old.proposed }
         ensures together { (a b : ℕ) → AreTogether self.new a b }
     {
         self.classes.join();

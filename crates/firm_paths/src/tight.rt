@@ -207,11 +207,6 @@ impl Reach {
             if place == goal {
                 return Some(number);
             }
-            // Once the goal was seen, what else lies as near is not read.
-            if self.seen[goal] {
-                number += 1;
-                continue;
-            }
             let current = Current {
                 node,
                 place,

@@ -66,6 +66,7 @@ returns c =
                 c.find-found.ensures.few,
                 as_many_as_counted net,
               );
+              proposed = ap (λ (w : Workspace). w.proposed) c.scratch.view_is;
             }),
       ),
       record {
@@ -133,6 +134,7 @@ returns-in_default-found c =
                 c.find-found.ensures.few,
                 as_many_as_counted net,
               );
+              proposed = ap (λ (w : Workspace). w.proposed) c.scratch.view_is;
             })
             took (omega (arith, looks, c.saturating_add-scratch-inside-2.ensures)) few paid,
       ),

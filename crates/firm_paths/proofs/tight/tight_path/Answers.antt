@@ -33,6 +33,7 @@ returns c =
           };
           looks_kept = omega (arith, looks, c.saturating_add-scratch-inside-2.ensures, c.scratch.ranges);
           looks = omega (arith, looks, c.saturating_add-scratch-inside-2.ensures, c.find_tight-found.ensures.counts);
+          proposed = ap (λ (w : Workspace). w.proposed) c.scratch.view_is;
         },
       ),
       record {

@@ -1,11 +1,11 @@
-use Rattle.std.proofs.Common.{◌≡◌, true, ◌+◌, ◌<◌, ◌∙◌, sym, List, [], arith, refl, ap, length, vec_capacity}
+use Rattle.std.proofs.Common.{◌≡◌, ◌+◌, ◌<◌, ◌∙◌, sym, List, [], arith, refl, ap, length, vec_capacity}
 use Rattle.std.specs.Prelude.{slice_index}
 use Rattle.std.proofs.lemmas.List.{get_or_default}
 use Rattle.firm_paths.specs.inner.Search.{visit}
-use Rattle.firm_paths.specs.inner.Spread.{is, visits_with}
+use Rattle.firm_paths.specs.inner.Spread.{visits_with}
 use Rattle.firm_paths.specs.declared.search.Visit.{Visit}
 use Rattle.firm_paths.proofs.Listed.{node_listed}
-use Rattle.firm_paths.proofs.Spreading.{counted_start, visit_counted, out_start, out_more, out_past, out_done}
+use Rattle.firm_paths.proofs.Spreading.{counted_start, visit_counted, out_start, out_more, out_done}
 use Rattle.firm_paths.proofs.Spreading.{spread_marked}
 use Rattle.firm_paths.proofs.Degrees.{arcs_few}
 use Rattle.firm_paths.proofs.Turns.{turn_counted, turns_counted}
@@ -110,32 +110,3 @@ returns-clause-marked c =
     c.args.start.place
     c.loop-number.self.seen.items c.loop-number.self.visits.items c.loop-number.invariant.length
     c.loop-number.invariant.out.spread
-
-pub loop-number-preserved-then-index : goal.loop-number-preserved-then-index
-loop-number-preserved-then-index c =
-    let seen = c.loop-number.self.seen.items in
-    let vs = c.loop-number.self.visits.items in
-    let n = c.loop-number.number in
-    let within : n < length vs =
-    omega (arith, c.loop-number-test.true, c.len.ensures, c.loop-number.self.visits.ok.0) in
-    let is_visit : c.index.result.now ≡ visit vs n = c.index.ensures ∙ get_or_default vs n _ _ within in
-    let seen_goal : is seen c.args.goal ≡ true =
-    sym (c.index-in-loop-number.ensures ∙ get_or_default seen c.args.goal _ _
-    (omega (arith, c.loop-number.invariant.length, c.requires.goal))) ∙ c.if-index.true in
-    record {
-      length = c.loop-number.invariant.length;
-      counted = c.loop-number.invariant.counted;
-      capacity = c.loop-number.invariant.capacity;
-      looked =
-          let more = turn_counted c.args.arcs.now.net.now vs vs n (n + 1)
-          c.index.result.now.place c.index.result.now.node c.loop-number.self.looks c.requires.net
-          (ap (λ (y : Visit). y.node.id.place) is_visit ∙ ((c.loop-number.invariant.out.spread.named n within).1
-          ∙ sym (ap (λ (y : Visit). y.place) is_visit)))
-          refl (sym (ap (λ (y : Visit). y.place) is_visit)) within c.loop-number.invariant.out.spread.tree.apart
-          (λ i l. refl) c.loop-number.invariant.looked in
-          omega (arith, more);
-      out = out_past c.args.arcs.now.net.now (slice_index c.args.arcs.now.prices.now.prices)
-          c.args.arcs.now.barred.now c.args.start.place
-          c.args.goal seen vs n c.loop-number.invariant.out within
-          (λ e. c.if-place-goal.false (ap (λ (y : Visit). y.place) is_visit ∙ e)) seen_goal;
-    }
