@@ -14,7 +14,7 @@ use Rattle.firm_canon.proofs.Totals.{total_front, total_zero, total-le}
 use Rattle.std.proofs.lemmas.List.{length-map}
 use Rattle.firm_rules.specs.Book.{TenantRows}
 use Rattle.firm_paths.specs.Workspace.{Workspace, HasSearched}
-use Rattle.firm_canon.specs.Counts.{HasSearchedUpTo}
+use Rattle.firm_canon.specs.Counts.{HasMadeUpTo}
 use Rattle.firm_graph.specs.declared.network.Node.{Node}
 use Rattle.firm_graph.specs.declared.network.Node.TheVariants.{Sink, Hub, Machine}
 use Rattle.firm_graph.specs.View.{View, spot_of}
@@ -26,8 +26,8 @@ use Rattle.firm_graph.specs.Graph.{Graph}
 
 -- no search was made, whatever the classes are
 pub same_counts : (old new : Workspace) (arcs : ℕ) → new.limits ≡ old.limits → new.begins ≡ old.begins
-    → new.searches ≡ old.searches → new.looks ≡ old.looks → HasSearched old new 0 arcs
-same_counts old new arcs limits begins searches looks = record {
+    → new.searches ≡ old.searches → new.looks ≡ old.looks → new.proposed ≡ old.proposed → HasSearched old new 0 arcs
+same_counts old new arcs limits begins searches looks proposed = record {
   limits = limits;
   begins = begins;
   searches = record {
@@ -38,10 +38,11 @@ same_counts old new arcs limits begins searches looks = record {
   };
   looks_kept = omega (arith, looks);
   looks = omega (arith, looks);
+  proposed = proposed;
 }
 
 nothing_made : (s : Workspace) (arcs : ℕ) → HasSearched s s 0 arcs
-nothing_made s arcs = same_counts s s arcs refl refl refl refl
+nothing_made s arcs = same_counts s s arcs refl refl refl refl refl
 
 pub none_sought : (s : Workspace) (most found arcs known : ℕ) → HasSought s s most found arcs known known
 none_sought s most found arcs known = record {
@@ -78,13 +79,14 @@ made_both old now new first then arcs one two = record {
   };
   looks_kept = omega (arith, one.looks_kept, two.looks_kept);
   looks = omega (arith, one.looks, two.looks, add-mul first then (2 * arcs));
+  proposed = two.proposed ∙ one.proposed;
 }
   where
     add-mul : (a b c : ℕ) → (a + b) * c ≡ a * c + b * c
     add-mul a b c = omega (arith, mul-add c a b)
 
-pub more_made : (old now new : Workspace) (first then most arcs : ℕ) → HasSearchedUpTo old now first arcs
-    → HasSearchedUpTo now new then arcs → first + then ≤ most → HasSearchedUpTo old new most arcs
+pub more_made : (old now new : Workspace) (first then most arcs : ℕ) → HasMadeUpTo old now first arcs
+    → HasMadeUpTo now new then arcs → first + then ≤ most → HasMadeUpTo old new most arcs
 more_made old now new first then most arcs one two fits = record {
   made = one.made + two.made;
   few = omega (arith, one.few, two.few, fits);
@@ -113,7 +115,7 @@ sought_within old new few most some found arcs before after searched fits finds 
 
 -- where no cut was known, there are as many searches at most as ways and cuts
 pub sought_in_all : (old new : Workspace) (most found arcs known cuts : ℕ) → HasSought old new most found arcs 0 known
-    → known ≤ cuts → HasSearchedUpTo old new (found + cuts) arcs
+    → known ≤ cuts → HasMadeUpTo old new (found + cuts) arcs
 sought_in_all old new most found arcs known cuts searched fits = record {
   made = searched.made;
   few = omega (arith, searched.new_cuts, fits);
@@ -121,7 +123,7 @@ sought_in_all old new most found arcs known cuts searched fits = record {
 }
 
 pub sought_of_all : (old new : Workspace) (most found arcs before after : ℕ)
-    → HasSought old new most found arcs before after → HasSearchedUpTo old new most arcs
+    → HasSought old new most found arcs before after → HasMadeUpTo old new most arcs
 sought_of_all old new most found arcs before after searched = record {
   made = searched.made;
   few = searched.few;
@@ -260,8 +262,8 @@ count_new v old new start end refined cut before after =
     cut
 
 -- searches within a larger number
-pub at_most : (old new : Workspace) (few most arcs : ℕ) → HasSearchedUpTo old new few arcs → few ≤ most
-    → HasSearchedUpTo old new most arcs
+pub at_most : (old new : Workspace) (few most arcs : ℕ) → HasMadeUpTo old new few arcs → few ≤ most
+    → HasMadeUpTo old new most arcs
 at_most old new few most arcs searched fits = record {
   made = searched.made;
   few = omega (arith, searched.few, fits);
@@ -270,11 +272,11 @@ at_most old new few most arcs searched fits = record {
 
 -- the same, of graphs with the same rows
 pub more_since : (one two : Graph) → two.rows ≡ one.rows → (old now new : Workspace) (first then most : ℕ)
-    → HasSearchedUpTo old now first (arena_arcs one.rows) → HasSearchedUpTo now new then (arena_arcs two.rows)
-    → first + then ≤ most → HasSearchedUpTo old new most (arena_arcs one.rows)
+    → HasMadeUpTo old now first (arena_arcs one.rows) → HasMadeUpTo now new then (arena_arcs two.rows)
+    → first + then ≤ most → HasMadeUpTo old new most (arena_arcs one.rows)
 more_since one two same old now new first then most before after =
     more_made old now new first then most (arena_arcs one.rows) before
-    (subst (λ (rows : TenantRows). HasSearchedUpTo now new then (arena_arcs rows)) same after)
+    (subst (λ (rows : TenantRows). HasMadeUpTo now new then (arena_arcs rows)) same after)
 
 pub sought_since : (one two : Graph) → two.rows ≡ one.rows → (old now new : Workspace)
     (first then most some others found before between after : ℕ)

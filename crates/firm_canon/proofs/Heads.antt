@@ -6,15 +6,13 @@ use Rattle.firm_net.specs.Net.{IsArc, IsNode, row_at}
 use Rattle.firm_net.specs.declared.row.NodeId.{NodeId}
 use Rattle.firm_net.specs.declared.row.ArcId.{ArcId}
 use Rattle.firm_paths.specs.Network.{Arc}
-use Rattle.firm_paths.specs.NetArcs.{arc_of}
 use Rattle.firm_paths.specs.Laws.{EachArcHasItsRow}
-use Rattle.firm_graph.specs.View.{View, Shows, lows, flows, spot_of, named}
+use Rattle.firm_graph.specs.View.{View, Shows, lows, flows, spot_of}
 use Rattle.firm_graph.specs.Network.{demand, preferred_at, stay_head, IsNodeOf, IsKeyOf}
 use Rattle.firm_graph.specs.declared.network.Node.{Node}
 use Rattle.firm_graph.specs.declared.network.Node.TheVariants.{Sink, Hub, Machine, Owner, Task}
 use Rattle.firm_graph.specs.declared.network.Key.{Key}
 use Rattle.firm_graph.specs.declared.network.Key.TheVariants.{Stay, Prefer}
-use Rattle.firm_canon.proofs.Placed.{stay_arc, prefer_arc}
 use Rattle.firm_canon.proofs.Shown.{arc_at, key_at, listed_at, row_shown, stay_at, prefer_at}
 
 -- the place of a machine's node; the rest are none

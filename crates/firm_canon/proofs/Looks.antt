@@ -32,7 +32,7 @@ use Rattle.firm_graph.specs.declared.network.Node.{Node}
 use Rattle.firm_graph.specs.declared.network.Node.TheVariants.{Sink, Hub, Machine, Owner, Task}
 use Rattle.firm_graph.specs.declared.network.Key.{Key}
 use Rattle.firm_graph.specs.declared.network.Key.TheVariants.{Through, Slot, Exit, Wide, Stay, Wait, Prefer}
-use Rattle.firm_canon.specs.Counts.{HasLookedUpTo, HasSearchedUpTo}
+use Rattle.firm_canon.specs.Counts.{HasLookedUpTo, HasMadeUpTo}
 use Rattle.firm_canon.specs.inner.Classes.{one_if}
 use Rattle.firm_canon.specs.inner.Looks.{HasLooked, LooksOn, arc_ends}
 use Rattle.firm_canon.specs.inner.State.{IsReady, price, view}
@@ -339,7 +339,7 @@ looks_in_all places found arcs digits old new size looked fits =
 
 -- THE ROUND: first the searches of the least flow, then those of the choice
 pub looks_of_round : (places : List ℕ) (tasks arcs : ℕ) (old mid new : Workspace) → length places ≡ 2 * arcs
-    → HasSearchedUpTo old mid tasks arcs → HasLooked places (2 * tasks) arcs mid new
+    → HasMadeUpTo old mid tasks arcs → HasLooked places (2 * tasks) arcs mid new
     → HasLookedUpTo old new (3 * tasks) arcs
 looks_of_round places tasks arcs old mid new size searched looked = record {
   few = λ digits fits.

@@ -3,10 +3,18 @@ use Rattle.std.specs.Prelude.{ℕ, ◌+◌, ◌*◌, ◌^◌, ◌≤◌}
 use Rattle.firm_paths.specs.Workspace.{Workspace, HasSearched}
 
 -- at most `most` searches were made in a net of `arcs` arcs, each with at most two looks for each arc
-pub record HasSearchedUpTo (old new : Workspace) (most arcs : ℕ) : Type 0 where
+pub record HasMadeUpTo (old new : Workspace) (most arcs : ℕ) : Type 0 where
   pub made : ℕ
   pub few : made ≤ most
   pub searched : HasSearched old new made arcs
+
+-- the same, beside the looks of a proposal, at most 2^24, which are counted apart
+pub record HasSearchedUpTo (old new : Workspace) (most arcs : ℕ) : Type 0 where
+  pub made : ℕ
+  pub few : made ≤ most
+  pub searched : HasSearched old (record new { proposed = old.proposed }) made arcs
+  pub proposed_kept : old.proposed ≤ new.proposed
+  pub proposed : new.proposed ≤ old.proposed + 2 ^ 24
 
 -- looks in a net of `arcs` arcs: at most two at each arc in each of `whole` searches, and in all others together no
 -- more than in one such search for each binary digit of the number of arcs, and in two more

@@ -2,13 +2,12 @@
 use mathlib.Core.Bool.{beq}
 use Rattle.std.proofs.Common.{◌≡◌, ℕ, ◌+◌, ◌<◌, ◌≤◌, Bool, true, false, not, cond, is_some, Option, Some, List, []}
 use Rattle.std.proofs.Common.{◌∷◌, ◌++◌, get_or}
-use Rattle.std.proofs.Common.{length, arith, refl, sym, ap, ap₂, ◌∙◌, subst}
+use Rattle.std.proofs.Common.{length, arith, refl, sym, ap, ap₂, ◌∙◌}
 use Rattle.std.specs.List.{sum_by}
 use Rattle.firm_net.specs.Row.{Row}
 use Rattle.firm_net.specs.Net.{Net, IsNet, row_at, added_of}
 use Rattle.firm_net.specs.declared.row.NodeId.{NodeId}
-use Rattle.firm_net.specs.declared.row.ArcId.{ArcId}
-use Rattle.firm_net.specs.Edits.{Span, IsEdit, span_of}
+use Rattle.firm_net.specs.Edits.{Span, IsEdit}
 use Rattle.firm_rules.specs.Book.{machine_names}
 use Rattle.firm_graph.specs.declared.ids.TaskParts.{TaskParts}
 use Rattle.firm_graph.specs.Graph.{Graph, Mirrors, graph_nodes, graph_spans, home_node, machine_nodes, weight_under}

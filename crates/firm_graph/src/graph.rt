@@ -1,7 +1,7 @@
 //! The network of a tenant.
 ghost use Rattle.std.specs.Prelude.{◌≡◌, ◌≢◌, ◌+◌, ◌^◌, ◌<◌, ◌≤◌, ◌↔◌, false, true, IfOk, OnOk, OnErr, IsTrue, ℕ};
 ghost use Rattle.std.specs.Prelude.{IfSome, IfNone};
-ghost use Rattle.std.specs.Prelude.{length, map, pos, slice_index_or};
+ghost use Rattle.std.specs.Prelude.{[], length, map, pos, slice_index_or, vec_capacity};
 ghost use Rattle.std.specs.List.{All};
 ghost use Rattle.firm_net.specs.Net.{CountsAre, arc_count, without_flow, CanPush, SameOtherRows, row_at, with_row};
 ghost use Rattle.firm_net.specs.Net.{with_unit};
@@ -18,7 +18,7 @@ ghost use Rattle.firm_rules.specs.Sound.{HasRoom};
 ghost use Rattle.firm_rules.specs.Names.{is_among};
 ghost use Rattle.firm_rules.specs.ArenaUse.{arena_nodes, arena_arcs};
 ghost use Rattle.firm_rules.specs.Placement.{is_legal};
-ghost use Rattle.firm_rules.specs.Round.{case_of, rows_after};
+ghost use Rattle.firm_rules.specs.Round.{case_of, round_placement, rows_after};
 ghost use Rattle.firm_graph.specs.Graph.{IsGraph, LackNodes, LackArcs};
 ghost use Rattle.firm_graph.specs.Ids.{view_of};
 ghost use Rattle.firm_graph.specs.Network.{task_nodes, demand};
@@ -34,10 +34,14 @@ use crate::growth::{NewTask, grow_jobs, grow_machines, grow_tasks};
 use crate::ids::{GraphRefusal, JobParts, MachineIds, Stand, TaskArcs, TaskParts, find_machine};
 use crate::moves::{Heads, evict_tasks, forget_machine, home_of, place_task, settle_tasks};
 use crate::order::SearchOrder;
-use firm_flow::in_any_order;
+use crate::proposals::Proposals;
+use firm_flow::{in_any_order, solve};
 use firm_net::{ArcId, Net, NodeId, Way};
 use firm_paths::{Prices, Scratch};
-use firm_rules::{Choice, Limits, Name, Preferred, Rows, Slots, Weight, legality_is_judged};
+use firm_rules::{
+    Choice, Limits, Name, Preferred, Rows, Slots, Weight, legality_is_judged,
+    the_round_is_the_first,
+};
 use std::alloc::{AllocError, Global};
 use std::marker::Model;
 
@@ -53,6 +57,7 @@ pub struct Graph {
     tasks: Vec<TaskParts>,
     sources: Vec<NodeId>,
     order: SearchOrder,
+    proposals: Proposals,
     asked: u64,
 }
 
@@ -76,7 +81,8 @@ impl Graph {
         ensures graph { IfOk result (λ graph. IsGraph graph) }
     {
         let mut net = Net::new(alloc, limits.nodes() as u32, limits.arcs() as u32)?;
-        let order = SearchOrder::new(alloc, limits.nodes() as usize, limits.spread() as u32)?;
+        let order = SearchOrder::new(alloc);
+        let proposals = Proposals::open(alloc, limits)?;
         let hub = put_node(&mut net);
         let sink = put_node(&mut net);
         Ok(Graph {
@@ -89,6 +95,7 @@ impl Graph {
             tasks: Vec::new(alloc),
             sources: Vec::new(alloc),
             order,
+            proposals,
             asked: 0,
         })
     }
@@ -283,10 +290,8 @@ impl Graph {
         self.net.clear_flow();
     }
 
-    /// Makes the net carry a flow of least cost, one unit from each task to the sink, and gives its cost. Begins with
-    /// the units whose ways are planned from the rows, where one look at each arc shows that nothing cheaper exists;
-    /// searches send the others, the dearest to leave waiting first. Makes at most one search for each task, the look
-    /// at each arc counted as one. Takes no memory.
+    /// Makes the net carry a flow of least cost, one unit from each task to the sink, and gives its cost. One search
+    /// for each task sends its unit, the dearest to leave waiting first. Takes no memory.
     pub fn least(&mut self, prices: &mut Prices, scratch: &mut Scratch) -> i64
         requires made_for { (prices.old.limits ≡ limits_of self.old.net)
             × (scratch.old.limits ≡ limits_of self.old.net) }
@@ -308,15 +313,41 @@ impl Graph {
     {
         in_any_order();
         self.order.line_up(&self.net, &self.tasks);
-        self.order
-            .propose(&self.net, &self.machines, &self.tasks, prices);
-        let Ok(cost) = self
-            .order
-            .send_all(&mut self.net, prices, scratch, self.sink)
-        else {
+        let sources = self.order.nodes();
+        let Ok(cost) = solve(&mut self.net, prices, scratch, sources, self.sink) else {
             unreachable!()
         };
         cost
+    }
+
+    /// Sets how many looks the proposal of a round may take, at most 2^24, which is what a new graph allows. With 0 no
+    /// round is proposed.
+    pub fn allow_proposals(&mut self, looks: u64)
+        ensures same { self.new ≡ self.old }
+    {
+        self.proposals.allow(looks);
+    }
+
+    /// Writes the placement of the round to an empty list with room for it, if one is proposed within the allowed looks
+    /// and shown to be the round's; else leaves the list empty. Counts what the proposal took, leaves the net alone,
+    /// and takes no memory.
+    pub fn propose(&mut self, chosen: &mut Vec<Choice>, scratch: &mut Scratch) -> bool
+        requires empty { chosen.old.items ≡ [] }
+        requires room { length self.old.rows.tasks ≤ vec_capacity chosen.old }
+        ensures round { IsTrue result → chosen.new.items ≡ round_placement (case_of self.old.rows) }
+        ensures none { result ≡ false → chosen.new.items ≡ [] }
+        ensures capacity { vec_capacity chosen.old ≤ vec_capacity chosen.new }
+        ensures same { self.new ≡ self.old }
+        ensures counted { scratch.new ≡ record scratch.old { proposed = scratch.new.proposed } }
+        ensures kept { scratch.old.proposed ≤ scratch.new.proposed }
+        ensures few { scratch.new.proposed ≤ scratch.old.proposed + 2 ^ 24 }
+    {
+        the_round_is_the_first();
+        if !self.proposals.are_allowed() {
+            return false;
+        }
+        let case = self.rows.case();
+        self.proposals.write_shown(case, chosen, scratch)
     }
 
     /// Moves one unit of flow along an arc, forward or back. False, and nothing changes, exactly where the arc is not
@@ -398,8 +429,7 @@ impl Graph {
         self.machines[place].through
     }
 
-    /// The place of the machine with a node; `None` exactly where no machine has it. Behind `least` it looks at one
-    /// machine, and behind a change of rows it may look at all.
+    /// The place of the machine with a node; `None` exactly where no machine has it. It looks at one after another.
     pub fn machine_of(&self, node: NodeId) -> Option<usize>
         ensures some { IfSome result (λ j. (j < length self.now.rows.machines)
             × ((view_of self.now).node (Machine j) ≡ node)) }
@@ -407,8 +437,7 @@ impl Graph {
             → (view_of self.now).node (Machine j) ≢ node) }
         ensures graph { IsGraph self.now }
     {
-        let guess = self.order.start.number_of(&self.net, node);
-        find_machine(&self.machines, node, guess)
+        find_machine(&self.machines, node)
     }
 
     /// Removes a job that has no tasks.

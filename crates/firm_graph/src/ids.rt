@@ -68,22 +68,13 @@ impl Model for MachineIds {
     ghost view = { λ m. record { node = m.node; through = m.through; slots = m.slots.items } };
 }
 
-/// The place of the machine with a node. It looks at the others only if the guess is wrong.
-pub(crate) fn find_machine(
-    machines: &[MachineIds],
-    node: NodeId,
-    guess: Option<usize>,
-) -> Option<usize>
+/// The place of the machine with a node.
+pub(crate) fn find_machine(machines: &[MachineIds], node: NodeId) -> Option<usize>
     ensures some { IfSome result (λ j. (j < length machines.now)
         × ((other : NodeIdRow) → slice_index_or (map (λ parts. parts.node) machines.now) j other ≡ node)) }
     ensures none { IfNone result ((j : ℕ) → j < length machines.now
         → (other : NodeIdRow) → slice_index_or (map (λ parts. parts.node) machines.now) j other ≢ node) }
 {
-    if let Some(place) = guess {
-        if has_node(machines, place, node) {
-            return Some(place);
-        }
-    }
     for place in 0..machines.len() {
         if has_node(machines, place, node) {
             return Some(place);
@@ -92,16 +83,14 @@ pub(crate) fn find_machine(
     None
 }
 
-// Whether there is a machine at the place, and it has the node.
+// Whether the machine at a place has the node.
 fn has_node(machines: &[MachineIds], place: usize, node: NodeId) -> bool
-    ensures yes { result ≡ true → (place < length machines.now)
-        × ((other : NodeIdRow) → slice_index_or (map (λ parts. parts.node) machines.now) place other ≡ node) }
-    ensures no { result ≡ false → place < length machines.now
+    requires { place < length machines.now }
+    ensures yes { result ≡ true
+        → (other : NodeIdRow) → slice_index_or (map (λ parts. parts.node) machines.now) place other ≡ node }
+    ensures no { result ≡ false
         → (other : NodeIdRow) → slice_index_or (map (λ parts. parts.node) machines.now) place other ≢ node }
 {
-    if place < machines.len() {
-        let parts = &machines[place];
-        return parts.node == node;
-    }
-    false
+    let parts = &machines[place];
+    parts.node == node
 }

@@ -10,5 +10,4 @@ mod plain;
 mod proposals;
 mod random;
 mod restored;
-mod start;
 mod worlds;

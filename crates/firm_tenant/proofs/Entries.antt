@@ -8,12 +8,12 @@ use Rattle.std.proofs.lemmas.List.Sums.{length-filter, count_by-le-length}
 use Rattle.circular_buffer.specs.Buffer.{keep_last}
 use Rattle.firm_rules.specs.ArenaUse.{arena_nodes, arena_arcs}
 use Rattle.firm_rules.specs.Book.{Book, TenantRows, machine_names, job_names, task_names, with_machine, with_job}
-use Rattle.firm_rules.specs.Book.{with_task, without_machine, evicted, has_tasks, task_named, are_machines, new_task}
+use Rattle.firm_rules.specs.Book.{with_task, evicted, has_tasks, task_named, are_machines, new_task}
 use Rattle.firm_rules.specs.Limits.{TenantLimits}
 use Rattle.firm_rules.specs.Names.{is_among}
 use Rattle.firm_rules.specs.Placement.{placement_cost}
 use Rattle.firm_rules.specs.Recent.{with_cost}
-use Rattle.firm_rules.specs.Round.{case_of, round_placement, rows_after, task_after, zipped}
+use Rattle.firm_rules.specs.Round.{case_of, round_placement, task_after, zipped}
 use Rattle.firm_rules.specs.SoundBook.{IsSoundBook, entry_count, is_cost}
 use Rattle.firm_rules.specs.declared.book.Machine.{Machine}
 use Rattle.firm_rules.specs.declared.book.Job.{Job}

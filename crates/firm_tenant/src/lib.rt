@@ -6,6 +6,7 @@
 //! which is set exactly if the reply is that refusal; docs/FORMATS.md has it in words. Only the three adders and a
 //! round are refused for memory; no clause can say that a growth really was refused. `specs/Alone.antt` folds the step
 //! over marked commands: the replies of a tenant that is alone. `specs/Starvation.antt` says how long a task waits.
+//! `allow_proposals` bounds what is tried for a round before searches in the net; no reply depends on it.
 #![tactic(auto)]
 
 mod laws;

@@ -102,6 +102,13 @@ impl Pool {
         &self.scratch
     }
 
+    /// Sets how many looks the proposal of a round may take, at most 2^24.
+    pub(crate) fn allow_proposals(&mut self, looks: u64)
+        ensures { self.new ≡ self.old }
+    {
+        self.graph.allow_proposals(looks);
+    }
+
     /// Carries out a command that is already counted, and returns its outcome.
     pub(crate) fn answer(&mut self, alloc: Global, command: Command) -> Outcome
         requires asked { self.old.asked < 2 ^ 40 }

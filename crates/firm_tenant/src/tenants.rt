@@ -123,8 +123,16 @@ impl Tenant {
         self.pool.rows().limits()
     }
 
+    /// Sets how many looks the proposal of a round may take, at most 2^24, which is what a new tenant allows. With 0
+    /// rounds are found by searches in the net alone. No reply depends on it.
+    pub fn allow_proposals(&mut self, looks: u64)
+        ensures { self.new ≡ self.old }
+    {
+        self.pool.allow_proposals(looks);
+    }
+
     /// The workspace of the tenant's rounds, for a net of the tenant's limits. It counts the searches and looks of the
-    /// last round.
+    /// last round, and the looks of its proposal.
     pub fn scratch(&self) -> &Scratch
         ensures { result.now.limits ≡ (self.now.rows.limits.nodes, self.now.rows.limits.arcs) }
     {

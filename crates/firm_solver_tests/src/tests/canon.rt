@@ -2,7 +2,7 @@
 ghost use Rattle.std.specs.Prelude.{◌<◌};
 
 use super::random::Random;
-use firm_canon::first_best;
+use firm_canon::{first_best, first_by_search};
 use firm_graph::Graph;
 use firm_paths::{Prices, Scratch};
 use firm_rules::{
@@ -167,11 +167,24 @@ fn count_round(met: &mut Met, rows: &Rows, changes: &Changes, least: u64) {
     }
 }
 
-/// The placement of a round.
+/// The placement of a round, proposed; by searches it is the same.
 fn placement_of(rt: &impl Abort, alloc: Global, graph: &mut Graph) -> Vec<Choice> {
     let mut prices = Prices::new(alloc, graph.net()).expect(rt, "memory");
     let mut scratch = Scratch::new(alloc, graph.net()).expect(rt, "memory");
-    first_best(alloc, graph, &mut prices, &mut scratch).expect(rt, "memory")
+    let first = first_best(alloc, graph, &mut prices, &mut scratch).expect(rt, "memory");
+    assert!(rt; scratch.searches() == 0 && scratch.looks() == 0);
+    let searched = searched_placement_of(rt, alloc, graph);
+    assert!(rt; first.as_slice() == searched.as_slice());
+    first
+}
+
+/// The placement of a round by searches.
+fn searched_placement_of(rt: &impl Abort, alloc: Global, graph: &mut Graph) -> Vec<Choice> {
+    let mut prices = Prices::new(alloc, graph.net()).expect(rt, "memory");
+    let mut scratch = Scratch::new(alloc, graph.net()).expect(rt, "memory");
+    let placement = first_by_search(alloc, graph, &mut prices, &mut scratch);
+    assert!(rt; scratch.proposed() == 0);
+    placement.expect(rt, "memory")
 }
 
 /// The round's placement is the one that the slow search finds; it becomes the tenant's own.
@@ -386,32 +399,44 @@ fn add_many(rt: &impl Abort, alloc: Global, graph: &mut Graph, machines: u8, tas
     }
 }
 
-/// Checks the numbers of searches and of looks that a first round makes.
-fn expect_counts(rt: &impl Abort, alloc: Global, graph: &mut Graph, counts: (u64, u64)) {
+/// The searches of a first round, their looks, and the looks of its proposal, which may take so many.
+fn counts_of(rt: &impl Abort, alloc: Global, graph: &mut Graph, allowed: u64) -> (u64, u64, u64) {
     let mut prices = Prices::new(alloc, graph.net()).expect(rt, "memory");
     let mut scratch = Scratch::new(alloc, graph.net()).expect(rt, "memory");
+    graph.allow_proposals(allowed);
     let placement = first_best(alloc, graph, &mut prices, &mut scratch);
     assert!(rt; placement.is_ok());
-    assert_eq!(rt; (scratch.searches(), scratch.looks()), counts);
+    (scratch.searches(), scratch.looks(), scratch.proposed())
 }
 
+/// Checks what a first round takes: its searches and their looks without a proposal, or else the looks of that. One
+/// that is allowed a look less comes to nothing.
 fn expect_counts_of(
     rt: &impl Abort,
     alloc: Global,
     limits: Option<Limits>,
     rows: (u8, u8),
-    counts: (u64, u64),
+    (searches, looks, proposed): (u64, u64, u64),
 ) {
     let mut graph = opened(rt, alloc, limits.expect(rt, "limits"));
     let (machines, tasks) = rows;
     add_many(rt, alloc, &mut graph, machines, tasks);
-    expect_counts(rt, alloc, &mut graph, counts);
+    assert_eq!(rt;
+        counts_of(rt, alloc, &mut graph, u64::MAX),
+        (0, 0, proposed)
+    );
+    assert_eq!(rt; counts_of(rt, alloc, &mut graph, 0), (searches, looks, 0));
+    let fewer = proposed.saturating_sub(1);
+    assert_eq!(rt;
+        counts_of(rt, alloc, &mut graph, fewer),
+        (searches, looks, fewer)
+    );
 }
 
 #[test]
-fn searches_and_looks_of_a_round_are_counted(rt: HostRuntime) {
+fn what_a_round_takes_is_counted(rt: HostRuntime) {
     let small = Limits::check(9, 24, 100, 1, 2, 7);
-    expect_counts_of(&rt, rt.alloc(), small, (2, 2), (2, 29));
+    expect_counts_of(&rt, rt.alloc(), small, (2, 2), (3, 18, 14));
     let large = Limits::check(33, 91, 100, 1, 2, 7);
-    expect_counts_of(&rt, rt.alloc(), large, (10, 20), (1, 91));
+    expect_counts_of(&rt, rt.alloc(), large, (10, 20), (20, 337, 60));
 }

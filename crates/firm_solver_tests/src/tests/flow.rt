@@ -62,7 +62,7 @@ pub fn solve_once(
 }
 
 /// What flows along each arc, each of which may carry nothing.
-pub fn read_flows(rt: &impl Abort, alloc: Global, world: &World) -> Vec<u32> {
+fn read_flows(rt: &impl Abort, alloc: Global, world: &World) -> Vec<u32> {
     let mut flows = Vec::new(alloc);
     for arc in &world.arcs {
         let row = world.net.arc(*arc).expect(rt, "the arc is there");
@@ -169,7 +169,7 @@ fn are_valid(links: &[Link], flows: &[u32], prices: &[u64]) -> bool {
 
 /// The arcs of a network, the number of its nodes, and its sink.
 #[derive(Clone, Copy)]
-pub struct Network<'a> {
+struct Network<'a> {
     pub links: &'a [Link],
     pub nodes: u32,
     pub sink: usize,
@@ -182,13 +182,7 @@ impl<'a> Network<'a> {
 }
 
 /// Checks that this is a feasible flow of that cost, with valid prices.
-pub fn check_flow(
-    rt: &impl Abort,
-    network: &Network,
-    sources: &[usize],
-    solved: &Solved,
-    cost: i64,
-) {
+fn check_flow(rt: &impl Abort, network: &Network, sources: &[usize], solved: &Solved, cost: i64) {
     let Network { links, nodes, sink } = *network;
     assert!(rt; is_feasible(links, &solved.flows, nodes as usize, sources, sink));
     assert!(rt; are_valid(links, &solved.flows, &solved.prices));
@@ -196,7 +190,7 @@ pub fn check_flow(
 }
 
 /// Checks that nothing flows, and that all prices are 0.
-pub fn check_no_flow(rt: &impl Abort, solved: &Solved) {
+fn check_no_flow(rt: &impl Abort, solved: &Solved) {
     assert!(rt; solved.flows.iter().all(|flow| *flow == 0));
     assert!(rt; solved.prices.iter().all(|price| *price == 0));
 }

@@ -382,9 +382,9 @@ fn searches_and_looks_are_counted(rt: HostRuntime) {
     expect_counts(&rt, &world, (0, 2, 8));
     let _ = raised(&rt, alloc, &mut world, alone, goal);
     expect_counts(&rt, &world, (0, 3, 8));
-    // The second node in the middle is not read, since the goal was seen from the first.
+    // Three arcs at the start, and two at each of the nodes in the middle, though the goal was seen from the first.
     let _ = tight(&rt, alloc, &mut world, onward, &[]);
-    expect_counts(&rt, &world, (0, 4, 13));
+    expect_counts(&rt, &world, (0, 4, 15));
     world.scratch.begin();
     expect_counts(&rt, &world, (1, 0, 0));
     // A barred arc is looked at, and the node behind it is not visited.

@@ -8,12 +8,12 @@ use super::flow::{are_distinct, solve_once};
 use super::paths::{check_nodes, copied};
 use super::random::Random;
 use super::worlds::{Link, World, add_arcs, add_nodes, arc, build, has_room, node};
-use firm_canon::first_best;
+use firm_canon::first_by_search;
 use firm_flow::solve;
 use firm_graph::Graph;
 use firm_net::Way::Forward;
 use firm_net::{ArcId, Net, NodeId};
-use firm_paths::{Prices, Scratch, Step, are_valid, tight_path, tight_within};
+use firm_paths::{Prices, Scratch, Step, tight_path, tight_within};
 use firm_rules::{Choice, Limits, Name, Preferred, Rows, cost_of, legal};
 use std::alloc::Global;
 use std::process::Abort;
@@ -125,7 +125,6 @@ fn count_joined_in(rt: &impl Abort, world: &mut World) -> u64
     ensures limits { (world.new.prices.limits ≡ (8, 16)) × (world.new.scratch.limits ≡ (8, 16)) }
 {
     assert!(rt; has_room(&world.net));
-    assert!(rt; are_valid(&mut world.scratch, &world.net, &world.prices));
     count_joined(rt, &mut world.scratch, &world.net, &world.prices)
 }
 
@@ -353,7 +352,7 @@ fn compare_book(rt: &impl Abort, alloc: Global, graph: &mut Graph, placement: &[
     assert_eq!(rt; graph.least(&mut prices, &mut scratch), cost);
     scratch.join_nodes();
     let joined = count_joined(rt, &mut scratch, graph.net(), &prices);
-    let first = first_best(alloc, graph, &mut prices, &mut scratch).expect(rt, "memory");
+    let first = first_by_search(alloc, graph, &mut prices, &mut scratch).expect(rt, "memory");
     assert!(rt; first.as_slice() == placement);
     count_joined(rt, &mut scratch, graph.net(), &prices);
     joined

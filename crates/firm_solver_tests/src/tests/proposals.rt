@@ -3,12 +3,12 @@ ghost use Rattle.std.specs.Prelude.{◌≡◌, ◌<◌};
 
 use super::canon::{add_job, add_machine, add_task, name, one_to, opened, remove_task};
 use super::random::Random;
-use firm_canon::first_best;
+use firm_canon::first_by_search;
 use firm_graph::Graph;
 use firm_paths::{Prices, Scratch};
 use firm_proposals::{Allowance, Proposer, Work};
-use firm_rents::{Case, shows_first};
-use firm_rules::{Choice, Limits, Name, Preferred, legal};
+use firm_rents::shows_first;
+use firm_rules::{Case, Choice, Limits, Name, Preferred, Rows, legal, use_of};
 use std::alloc::Global;
 use std::process::Abort;
 
@@ -74,24 +74,37 @@ fn change(rt: &impl Abort, alloc: Global, graph: &mut Graph, random: &mut Random
 fn by_network(rt: &impl Abort, alloc: Global, graph: &mut Graph) -> Vec<Choice> {
     let mut prices = Prices::new(alloc, graph.net()).expect(rt, "memory");
     let mut scratch = Scratch::new(alloc, graph.net()).expect(rt, "memory");
-    first_best(alloc, graph, &mut prices, &mut scratch).expect(rt, "memory")
+    first_by_search(alloc, graph, &mut prices, &mut scratch).expect(rt, "memory")
 }
 
-// Whether a round is proposed that is shown to be the first; what is not shown is not accepted.
-fn is_proposed(proposer: &mut Proposer, case: &Case, most: Allowance) -> bool {
-    let mut work = Work::new(most);
-    let is_found = proposer.propose(case, None, &mut work);
-    is_found && shows_first(case, proposer.rents(), proposer.placement())
-}
-
-fn expect_proposed(rt: &impl Abort, proposer: &mut Proposer, case: &Case, wanted: &[Choice]) {
-    assert!(rt; is_proposed(proposer, case, AMPLE));
-    assert!(rt; proposer.placement() == wanted);
+// Whether the round is proposed from nothing and shown.
+fn expect_first(rt: &impl Abort, proposer: &mut Proposer, case: &Case, wanted: &[Choice]) {
     let mut work = Work::new(AMPLE);
-    let price = Some(proposer.hub_price());
-    assert!(rt; proposer.propose(case, price, &mut work));
-    assert!(rt; shows_first(case, proposer.rents(), proposer.placement()));
+    match proposer.first(case, &mut work) {
+        Some(placement) => assert!(rt; placement == wanted),
+        None => panic!(rt; "not shown"),
+    }
     assert!(rt; proposer.placement() == wanted);
+    assert!(rt; shows_first(case, proposer.rents(), proposer.placement()));
+}
+
+// The round is proposed and shown: from nothing, from the hub's price of the last round, and from its own.
+fn expect_proposed(rt: &impl Abort, proposer: &mut Proposer, case: &Case, wanted: &[Choice]) {
+    expect_first(rt, proposer, case, wanted);
+    let price = proposer.hub_price();
+    assert!(rt; price.is_some());
+    let mut work = Work::new(AMPLE);
+    assert!(rt; proposer.propose(case, None, &mut work));
+    assert!(rt; proposer.propose(case, price, &mut work));
+    assert!(rt; proposer.placement() == wanted);
+    expect_first(rt, proposer, case, wanted);
+}
+
+// A proposer that is made for just these rows.
+fn fitting(rt: &impl Abort, alloc: Global, rows: &Rows) -> Proposer {
+    let used = use_of(rows);
+    let limits = Limits::check(used.nodes, used.arcs, 1, 0, 0, 0).expect(rt, "limits");
+    Proposer::new(alloc, limits).expect(rt, "memory")
 }
 
 // A proposal that may not do all its work is the round's or none.
@@ -128,6 +141,7 @@ fn compare(
     let wanted = by_network(rt, alloc, graph);
     let is_cut_off = expect_cut_off(rt, proposer, &case, looks, &wanted);
     expect_proposed(rt, proposer, &case, &wanted);
+    expect_first(rt, &mut fitting(rt, alloc, graph.rows()), &case, &wanted);
     assert!(rt; legal(graph.rows(), &wanted));
     graph.settle(&wanted);
     is_cut_off
@@ -149,4 +163,19 @@ fn proposals_are_the_rounds_of_the_network(rt: HostRuntime) {
         }
     }
     assert!(rt; cut_off > 20, "{cut_off} cut off");
+}
+
+/// Each request for memory can be refused: then no proposer is made.
+#[test]
+fn a_proposer_is_made_unless_memory_is_refused(rt: HostRuntime) {
+    let mut random = Random::new(7);
+    let limits = random_limits(&rt, &mut random);
+    let Ok(mut proposer) = Proposer::new(rt.alloc(), limits) else {
+        return;
+    };
+    assert!(rt; proposer.placement().is_empty() && proposer.rents().classes.is_empty());
+    assert_eq!(rt; proposer.hub_price(), None);
+    let mut graph = opened(&rt, rt.alloc(), limits);
+    change(&rt, rt.alloc(), &mut graph, &mut random);
+    compare(&rt, rt.alloc(), &mut graph, &mut proposer, 0);
 }

@@ -1,6 +1,6 @@
 -- A tenant's book without its count of commands, how many rows were asked for and added, and the workspace of its
 -- rounds.
-use Rattle.std.specs.Prelude.{◌≡◌, ℕ, ℤ, ◌+◌, ◌*◌, ◌≤◌, true, List, [], All, length, pos}
+use Rattle.std.specs.Prelude.{◌≡◌, ℕ, ℤ, ◌+◌, ◌*◌, ◌^◌, ◌≤◌, true, List, [], All, length, pos}
 use Rattle.firm_paths.specs.Workspace.{Workspace, HasCounted}
 use Rattle.firm_rules.specs.ArenaUse.{arena_arcs}
 use Rattle.firm_rules.specs.Limits.{TenantLimits}
@@ -59,12 +59,14 @@ placed_in pool placement =
 abbrev pub IsMadeFor : ℕ × ℕ → TenantLimits → Type 0
 IsMadeFor room limits = room ≡ (limits.nodes, limits.arcs)
 
--- a choice was begun once, and the counts since then are its own: few searches, each with at most two looks per arc
+-- a choice was begun once, and the counts since then are its own: few searches, each with at most two looks per arc,
+-- and the looks of a proposal
 pub record HasBegunOnce (old new : Pool) : Type 0 where
   pub begins : HasCounted old.workspace.begins new.workspace.begins 1
   pub searches : new.workspace.searches ≤ length old.rows.tasks * (length old.rows.machines + 4)
   pub looks : new.workspace.looks
       ≤ length old.rows.tasks * (length old.rows.machines + 4) * (2 * arena_arcs old.rows)
+  pub proposed : new.workspace.proposed ≤ 2 ^ 24
 
 -- what a command counts: a round begins once, and no other command changes the counts
 abbrev pub HasCountedFor : Command → Pool → Pool → Type 0

@@ -1,4 +1,4 @@
-use Rattle.std.proofs.Common.{◌≡◌, ◌<◌, ℕ, map}
+use Rattle.std.proofs.Common.{◌<◌, ℕ, map}
 use Rattle.std.specs.Prelude.{◌≢◌, slice_index_or}
 use Rattle.firm_net.specs.declared.row.NodeId.{NodeId}
 use Rattle.firm_graph.proofs.ids.find_machine.Given as goal

@@ -9,7 +9,6 @@ use Rattle.firm_paths.specs.NetArcs.{arcs_of}
 use Rattle.firm_flow.specs.Flow.{carried}
 use Rattle.firm_flow.specs.NetFlow.{places}
 use Rattle.firm_graph.specs.Graph.{Graph, task_nodes}
-use Rattle.firm_graph.specs.inner.Tables.{Lineup}
 use Rattle.firm_graph.specs.declared.ids.TaskParts.{TaskParts}
 use Rattle.firm_graph.specs.inner.Inside.{graph_of}
 use Rattle.firm_graph.proofs.Cuts.{no-cut, distinct}
@@ -32,18 +31,18 @@ line_up-requires-clause-there c =
     subst (λ (l : List TaskParts). All (λ parts. IsArc g.net parts.arcs.wait) l) (sym c.deref.ensures.value)
     (waits-there g c.self.invariant.graph.mirrors)
 
-pub send_all-requires-clause-nodes : goal.send_all-requires-clause-nodes
-send_all-requires-clause-nodes c =
-    let nodes : List NodeId = c.propose.new.self.nodes in
+pub solve-requires-clause-nodes : goal.solve-requires-clause-nodes
+solve-requires-clause-nodes c =
+    let nodes : List NodeId = c.nodes-sources.result.now in
     let same = lined-up (graph_of c.self.inside) c.deref.result.now c.line_up.new.self.nodes nodes
-    c.deref.ensures.value (ap (λ (l : Lineup). l.nodes) c.propose.ensures.same) c.line_up.ensures.order in
+    c.deref.ensures.value c.nodes-sources.ensures c.line_up.ensures.order in
     distinct (graph_of c.self.inside) nodes c.self.invariant.graph.mirrors same
 
 pub unreachable-requires : goal.unreachable-requires
 unreachable-requires c =
-    let nodes : List NodeId = c.propose.new.self.nodes in
+    let nodes : List NodeId = c.nodes-sources.result.now in
     let same = lined-up (graph_of c.self.inside) c.deref.result.now c.line_up.new.self.nodes nodes
-    c.deref.ensures.value (ap (λ (l : Lineup). l.nodes) c.propose.ensures.same) c.line_up.ensures.order in
+    c.deref.ensures.value c.nodes-sources.ensures c.line_up.ensures.order in
     let cut = c.in_default.ensures.no_way in
     no-cut (graph_of c.self.inside) nodes cut.0 c.self.invariant.graph.mirrors
     c.self.invariant.graph.sound same cut.1
@@ -51,36 +50,30 @@ unreachable-requires c =
 pub invariant_of-self : goal.invariant_of-self
 invariant_of-self c =
     record {
-      graph = reflowed_graph (graph_of c.self.inside) c.send_all.new.net c.self.invariant.graph c.send_all.ensures.net
-          c.send_all.ensures.same;
+      graph = reflowed_graph (graph_of c.self.inside) c.solve.new.net c.self.invariant.graph c.solve.ensures.net
+          c.solve.ensures.same;
       sources = c.self.invariant.sources;
-      room = omega (
-        arith,
-        c.self.invariant.room,
-        c.line_up.ensures.room,
-        ap (λ (l : Lineup). l.room) c.propose.ensures.same,
-        ap (λ (l : Lineup). l.room) c.send_all.ensures.order,
-      );
+      room = omega (arith, c.self.invariant.room, c.line_up.ensures.room);
     }
 
 pub returns-clause-graph : goal.returns-clause-graph
 returns-clause-graph c =
-    reflowed_graph (graph_of c.self.inside) c.send_all.new.net c.self.invariant.graph c.send_all.ensures.net
-    c.send_all.ensures.same
+    reflowed_graph (graph_of c.self.inside) c.solve.new.net c.self.invariant.graph c.solve.ensures.net
+    c.solve.ensures.same
 
 pub returns-clause-shows : goal.returns-clause-shows
 returns-clause-shows c =
-    graph-shows (record (graph_of c.self.inside) { net = c.send_all.new.net })
-    (reflowed_graph (graph_of c.self.inside) c.send_all.new.net c.self.invariant.graph c.send_all.ensures.net
-    c.send_all.ensures.same)
+    graph-shows (record (graph_of c.self.inside) { net = c.solve.new.net })
+    (reflowed_graph (graph_of c.self.inside) c.solve.new.net c.self.invariant.graph c.solve.ensures.net
+    c.solve.ensures.same)
 
 pub returns-clause-least : goal.returns-clause-least
 returns-clause-least c =
-    let nodes : List NodeId = c.propose.new.self.nodes in
+    let nodes : List NodeId = c.nodes-sources.result.now in
     let same = lined-up (graph_of c.self.inside) c.deref.result.now c.line_up.new.self.nodes nodes
-    c.deref.ensures.value (ap (λ (l : Lineup). l.nodes) c.propose.ensures.same) c.line_up.ensures.order in
+    c.deref.ensures.value c.nodes-sources.ensures c.line_up.ensures.order in
     let g : Graph = graph_of c.self.inside in
-    let net : Net = c.send_all.new.net in
+    let net : Net = c.solve.new.net in
     let sink : ℕ = g.sink.id.place in
     let ours : List ℕ = places nodes in
     let theirs : List ℕ = places (task_nodes g) in
@@ -98,11 +91,11 @@ returns-clause-least c =
 
 pub returns-clause-counts : goal.returns-clause-counts
 returns-clause-counts c =
-    let nodes : List NodeId = c.propose.new.self.nodes in
+    let nodes : List NodeId = c.nodes-sources.result.now in
     let same = lined-up (graph_of c.self.inside) c.deref.result.now c.line_up.new.self.nodes nodes
-    c.deref.ensures.value (ap (λ (l : Lineup). l.nodes) c.propose.ensures.same) c.line_up.ensures.order in
+    c.deref.ensures.value c.nodes-sources.ensures c.line_up.ensures.order in
     let g : Graph = graph_of c.self.inside in
-    let made = c.send_all.ensures.counts in
+    let made = c.solve.ensures.counts in
     let tasks : length (view_of c.args.self.now).case.tasks ≡ length (view_of g).case.tasks = ap
     (λ (h : Graph). length (view_of h).case.tasks) (sym c.self.view_is) in
     let net : arc_count g.net ≡ arc_count c.args.self.now.net = ap (λ (h : Graph). arc_count h.net) c.self.view_is in (
@@ -114,5 +107,5 @@ returns-clause-counts c =
         tasks,
         task-count g c.self.invariant.graph,
       ),
-      subst (λ (n : ℕ). HasSearched c.args.scratch.now c.send_all.new.scratch made.0 n) net made.2,
+      subst (λ (n : ℕ). HasSearched c.args.scratch.now c.solve.new.scratch made.0 n) net made.2,
     )

@@ -1,5 +1,6 @@
-use Rattle.std.proofs.Common.{◌≡◌, ◌<◌, List, map, length, refl, rules, arith, ap, sym, ◌∙◌, subst}
-use Rattle.firm_rules.specs.Book.{TenantRows, machine_names}
+use Rattle.std.proofs.Common.{◌≡◌, ◌<◌, List, map, length, refl, rules, arith, ap, sym, ◌∙◌, subst, IfSome}
+use Rattle.firm_rules.specs.Book.{TenantRows, machine_names, with_task_placed}
+use Rattle.firm_rules.specs.Sound.{HasRoom}
 use Rattle.firm_graph.specs.Parts.{MachineParts}
 use Rattle.firm_graph.specs.Graph.{Graph, Mirrors, home_node}
 use Rattle.firm_graph.specs.inner.Inside.{graph_of}
@@ -34,6 +35,13 @@ kept c =
           g.hub c.args.machine) items;
       runs = c.is_some.ensures;
     }))
+
+pub place_task-requires-2-clause-room : goal.place_task-requires-2-clause-room
+place_task-requires-2-clause-room c =
+    subst
+    (λ (r : TenantRows). IfSome c.args.machine (λ _. HasRoom (with_task_placed r c.args.place c.args.machine
+    c.args.waited)))
+    (sym (ap (λ (h : Graph). h.rows) c.self.view_is)) c.requires.room
 
 pub invariant_of-self : goal.invariant_of-self
 invariant_of-self c =

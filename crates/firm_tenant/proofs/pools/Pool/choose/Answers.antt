@@ -32,4 +32,5 @@ returns-clause-counts c =
       workspace = c.first_best.new.scratch;
     } in
     subst (λ (old : Pool). HasBegunOnce old after) c.self.view_is
-    (begun_once inside after _ c.first_best.ensures.searched (search rules) (search rules) (search rules))
+    (begun_once inside after _ c.first_best.ensures.searched (search rules) (search rules) (search rules)
+    (search rules))

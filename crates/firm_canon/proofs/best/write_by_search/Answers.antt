@@ -10,7 +10,7 @@ use Rattle.firm_paths.specs.Classes.{class_of}
 use Rattle.firm_graph.specs.Graph.{Graph}
 use Rattle.firm_graph.specs.Ids.{view_of}
 use Rattle.firm_graph.specs.View.{View, IsSameCase}
-use Rattle.firm_canon.specs.Counts.{HasSearchedUpTo}
+use Rattle.firm_canon.specs.Counts.{HasMadeUpTo}
 use Rattle.firm_rules.specs.Book.{TenantRows}
 use Rattle.firm_canon.specs.inner.Choosing.{Keeps}
 use Rattle.firm_canon.specs.inner.Classes.{HasSought, cut_count}
@@ -21,18 +21,18 @@ use Rattle.firm_canon.proofs.Graphs.{same_on, same_rows, same_machines}
 use Rattle.firm_canon.proofs.Looks.{ends_all, looks_of_round}
 use Rattle.firm_canon.proofs.Ranks.{lasting_start}
 use Rattle.firm_canon.proofs.Starts.{ends}
-use Rattle.firm_canon.proofs.best.first_best.Goals as goal
+use Rattle.firm_canon.proofs.best.write_by_search.Goals as goal
 
 pub choose_all-requires-clause-ready : goal.choose_all-requires-clause-ready
 choose_all-requires-clause-ready c =
     let v : View = view_of c.start.new.graph in
     let made = c.start.ensures in
-    let items : [] ≡ c.in_ok-chosen.chosen.items = sym c.in_ok-chosen.ensures.items in
+    let items : [] ≡ c.args.chosen.now.items = sym c.requires.empty in
     record {
       prices_fit = made.prices ∙ (c.requires.made_for.0 ∙ sym made.same.limits);
       scratch_fits = made.searched.searched.limits ∙ (c.requires.made_for.1 ∙ sym made.same.limits);
       keeps = subst (λ (p : List Choice). Keeps v (price_of c.start.new.prices) p) items made.keeps;
-      classes = lasting_start v (price_of c.start.new.prices) c.in_ok-chosen.chosen.items
+      classes = lasting_start v (price_of c.start.new.prices) c.args.chosen.now.items
           (class_of c.start.new.scratch) made.together;
       in_range = omega arith;
       spent = λ j l. absurd (omega (arith, l));
@@ -45,7 +45,7 @@ returns-clause-round c =
     let s = c.start.ensures.same.case in
     let t = c.choose_all.ensures.same.case in
     let same : IsSameCase old end = record { case = t.case ∙ s.case; node = t.node ∙ s.node; arc = t.arc ∙ s.arc } in
-    let tie : c.chosen-3-1.given.0 ≡ c.choose_all.new.self.chosen.now = search rules in
+    let tie : c.chosen-1.given.0 ≡ c.choose_all.new.self.chosen.now = search rules in
     rw tie (ends c.the_round_is_the_first.ensures old end _ c.choose_all.new.self.chosen.now.items same
     c.choose_all.ensures.ready.keeps
     (omega (
@@ -67,7 +67,7 @@ returns-clause-searched c =
     c.args.scratch.now c.start.new.scratch c.choose_all.new.self.scratch.now tasks (tasks * (machines + 3))
     (tasks * (machines + 4))
     c.start.ensures.searched
-    (subst (λ (most : ℕ). HasSearchedUpTo c.start.new.scratch c.choose_all.new.self.scratch.now most
+    (subst (λ (most : ℕ). HasMadeUpTo c.start.new.scratch c.choose_all.new.self.scratch.now most
     (arena_arcs mid.rows))
     (ap (λ (n : ℕ). n * (length mid.rows.machines + 3)) c.task_count-tasks.ensures.rows
     ∙ ap (λ (n : ℕ). tasks * (n + 3)) (same_machines old mid same))
