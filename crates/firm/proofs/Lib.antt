@@ -1,3 +1,2 @@
-mod ProgramLemmas
 pub mod Entries
 pub mod Options

@@ -2,8 +2,7 @@
 use Rattle.std.proofs.Common.{zero, suc, ◌≡◌, ◌≤◌, ◌<◌, ◌∙◌, ◌++◌, ◌||◌, ℕ, List, [], ◌∷◌, Some, Result, Ok, Err}
 use Rattle.std.proofs.Common.{true, false}
 use Rattle.std.proofs.Common.{length, slice_index, refl, sym, ap, ap₂, subst, inl, inr, codes, arith}
-use Rattle.std.specs.Prelude.{IfOk, Option, option_map, pos}
-use Rattle.std.specs.Borrow.{Bor}
+use Rattle.std.specs.Prelude.{IfOk, Option, pos}
 use Rattle.std.specs.Str.Parse.{IsNumeral, ParsesUnsigned, digits_value, without_leading_plus}
 use Rattle.std.specs.List.{All, slice_index_or}
 use Rattle.std.specs.Str.{bytes_eq}
@@ -11,23 +10,21 @@ use Rattle.std.proofs.lemmas.List.Elements.{All-nil}
 use Rattle.std.proofs.lemmas.Slice.Eq.{bytes_eq-Decides}
 use Rattle.clap.proofs.CallerLemmas.{added_plain}
 use Rattle.clap.proofs.CallerReads.{signed_reads}
-use Rattle.clap.proofs.WalkLemmas.{first_value-rows}
 use Rattle.clap.specs.Built.{IsAuto}
 use Rattle.clap.specs.Facts.{WantsDefault}
-use Rattle.clap.specs.Words.{AddsArg, FailsBy, IsParsedFrom, IsPlain, IsPlainArg, SameRules, app_of, args_of, fault_of}
-use Rattle.clap.specs.Words.{first_value, found_of, groups_of, is_simple, is_simple_and_free, matches_of}
+use Rattle.clap.specs.Words.{AddsArg, IsParsedFrom, IsPlain, IsPlainArg, SameRules, app_of, args_of}
+use Rattle.clap.specs.Words.{found_of, groups_of, is_simple, is_simple_and_free}
 use Rattle.clap.specs.Words.{one_text}
-use Rattle.clap.specs.Words.{HasMatchesOf, ReadsOne, Row, first_of, rows_of, with_rule, without_minus}
+use Rattle.clap.specs.Words.{ReadsOne, with_rule, without_minus}
 use Rattle.clap.specs.declared.builder.action.ArgAction.TheVariants.{Set}
 use Rattle.clap.specs.declared.builder.arg.Arg.{Arg}
 use Rattle.clap.specs.declared.builder.command.Command.{Command}
 use Rattle.clap.specs.declared.builder.command.Command.TheViews.{out-Command as fields_of}
 use Rattle.clap.specs.declared.builder.value_parser.ValueParser.TheVariants.{Signed}
-use Rattle.clap.specs.declared.error.Error.{Error}
 use Rattle.clap.specs.declared.parser.matches.ArgMatches.{ArgMatches}
-use Rattle.firm.specs.CommandLine.{command_line, faults_in, roster_option, state_option}
-use Rattle.firm.specs.CommandLine.{versioned_app, workers_option}
-use Rattle.firm.specs.inner.Options.{HasNumber, IsCommandLine, IsOption}
+use Rattle.firm_program.specs.Options.{IsOption, roster_option, state_option}
+use Rattle.firm.specs.CommandLine.{command_line, versioned_app, workers_option}
+use Rattle.firm.specs.inner.Options.{HasNumber, IsCommandLine}
 use Rattle.firm.proofs.Entries.{default_is_read}
 
 -- what is said of a command that has no argument yet
@@ -201,28 +198,11 @@ is_command_line-if bare one two roster state workers (Ok command) b r s w wants 
     is_command_line bare one two command roster state workers b r s w wants first second third
 is_command_line-if bare one two roster state workers (Err error) b r s w wants first second third = tt
 
-simple : is_simple_and_free command_line ≡ true
+pub simple_and_free : is_simple_and_free command_line ≡ true
+simple_and_free = refl
+
+pub simple : is_simple command_line ≡ true
 simple = refl
-
--- a parse by that command line fails by its faults
-pub fails_by_faults : (command : Command) → app_of command ≡ command_line
-    → {T : Type 0} (words : List (List ℕ)) (result : Result T Error)
-    → (is_simple_and_free (app_of command) ≡ true → FailsBy (fault_of (app_of command) words) result)
-    → FailsBy (faults_in words) result
-fails_by_faults command same words result told =
-    subst (λ app. FailsBy (fault_of app words) result) same
-    (told (subst (λ app. is_simple_and_free app ≡ true) (sym same) simple))
-
-alone_simple : is_simple command_line ≡ true
-alone_simple = refl
-
--- and it finds what the crate's rule finds
-pub finds : (command : Command) → app_of command ≡ command_line → (words : List (List ℕ)) (m : ArgMatches)
-    → HasMatchesOf (app_of command) words m
-    → rows_of (found_of m) ≡ matches_of command_line words
-finds command same words m told =
-    (told (subst (λ app. is_simple app ≡ true) (sym same) alone_simple)).0
-    ∙ ap (λ app. matches_of app words) same
 
 -- a number from 1 to 8, as it is read
 pub record ReadNumber (text : List ℕ) (r : Option ℕ) : Type 0 where
@@ -248,10 +228,3 @@ reads_number {E} G only m h r read =
       least = got.2;
       most = got.3;
     }
-
--- what the getters read of a path
-pub finds_path : (rows : List Row) (m : ArgMatches) (name : List ℕ) (o : Option (Bor (List ℕ)))
-    → rows_of (found_of m) ≡ rows → option_map (λ (s : Bor (List ℕ)). s.now) o ≡ first_value (found_of m) name
-    → option_map (λ (s : Bor (List ℕ)). s.now) o ≡ first_of name rows
-finds_path rows m name o found got =
-    got ∙ (first_value-rows (found_of m) name ∙ ap (first_of name) found)

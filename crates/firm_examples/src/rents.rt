@@ -2,8 +2,8 @@ ghost use Rattle.std.specs.Prelude.{◌≡◌, ◌≤◌, true, IfOk, IsTrue, Li
 ghost use Rattle.firm_rules.specs.declared.rounds.Choice.{Choice as ChoiceOf};
 ghost use Rattle.firm_rules.specs.Placement.{IsLegal, is_legal, placement_cost};
 
-use firm_rents::{Case, low_rents, shows_least};
-use firm_rules::Choice;
+use firm_rents::{low_rents, shows_least};
+use firm_rules::{Case, Choice};
 use std::alloc::{AllocError, Global};
 
 /// Whether the low rents show that no legal placement costs less than this legal one.

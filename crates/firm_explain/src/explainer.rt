@@ -2,8 +2,8 @@
 
 use crate::options::Request;
 use crate::reasons::put_reasons;
-use firm_rents::{Case, placement_of};
-use firm_rules::{Name, Rows};
+use firm_rents::placement_of;
+use firm_rules::{Case, Name, Rows};
 use firm_table::Watcher;
 use firm_text::{Sink, write_all};
 use std::alloc::{AllocError, Global};

@@ -2,13 +2,22 @@
 //! placement costs, the rents that show that no legal placement costs less, and what other choices would cost the tasks
 //! that changed or wait.
 //!
-//! A reader and two sinks, for replies and for reasons (`specs/Program.antt`).
+//! The words, a reader and two sinks, for replies and for reasons, and the exit status (`specs/CommandLine.antt`,
+//! `Program.antt`). Which words name what, `clap` defines.
 //!
 //! # What is proved
 //!
-//! On `Ok` of the private `serve_file` some text was a roster, and the sink of replies got what `firm` writes.
-//! Otherwise nothing was read, or the service stopped, or reasons could not be written. `serve_state` says the same of
-//! a state. No contract says which words lead to which.
+//! `run` ends in one of four ways (`Exits`). The words ask for the rounds of a service (`AskFor`): they name one file
+//! to open with, and a tenant and a task, if these are given, by names.
+//!
+//! - With status 0 some text was a roster, or there was a sound state, as the words have it, and the sink of replies
+//!   got what `firm` writes.
+//! - With a fault's status the file was refused, and nothing was read; or the service stopped; or all replies were
+//!   written, and reasons could not be.
+//!
+//! The words ask for none: they name no file, or two, or a tenant or a task that is no name; or they were answered as
+//! firm_program has it. Then nothing was read. A failed write to the sink of faults changes no status. No contract says
+//! what goes to the sink of reasons, nor what other options do.
 //!
 //! A `Market` is a round that is explained: by its ghost fields its placement is legal, the low and the high rents show
 //! it to be least, and no low rent is above the high one. `Market::of` has `firm_rents` check all that, else the
@@ -48,7 +57,8 @@ mod why;
 
 use firm_program::{arguments, refuse_words};
 use firm_text::Bytes;
-use program::{NAME, Sinks, run};
+use program::NAME;
+pub use program::{Sinks, run};
 use std::process::ExitCode;
 
 fn main(rt: HostRuntime) -> ExitCode {

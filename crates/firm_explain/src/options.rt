@@ -1,7 +1,15 @@
 //! The command line: `firm_explain --roster FILE [--tenant NAME] [--why TASK] [--machine SLOTS] [--all]`, or with
 //! `--state FILE` in the roster's place.
 
+ghost use Rattle.std.specs.Prelude.{IfOk, MatchOption, MatchResult, map};
+ghost use Rattle.clap.specs.Words.{FailsBy};
+ghost use Rattle.firm_program.specs.Options.{HasRule, text_of};
+ghost use Rattle.firm_explain.specs.CommandLine.{all_option, faults_in, machine_option, tenant_option, why_option};
+ghost use Rattle.firm_explain.specs.CommandLine.{Gives, IsNoName};
+ghost use Rattle.firm_explain.specs.inner.Asking.{AsksFor, IsCommandLine, IsNameIfGiven, MisasksFor};
+
 use clap::{Arg, ArgAction, Command, Error, value_parser};
+use firm_program::{Fault, Named, WordsFault, option, roster_option, state_option};
 use firm_rules::{Name, Slots};
 use std::alloc::{AllocError, Global};
 use std::convert::AsStr;
@@ -37,20 +45,6 @@ pub(crate) struct Request {
 }
 
 impl Request {
-    /// What these words ask for; `None` if a word for a name is not one.
-    pub(crate) fn of(given: &Given<'_>) -> Option<Request> {
-        let machine = match given.machine {
-            Some(slots) => Slots::check(u64::from(slots)),
-            None => None,
-        };
-        Some(Request {
-            tenant: name_of(given.tenant)?,
-            why: name_of(given.why)?,
-            machine,
-            all: given.all,
-        })
-    }
-
     /// Whether the rounds of the tenant of this name are explained.
     pub(crate) fn is_of(&self, name: Name) -> bool {
         match self.tenant {
@@ -60,68 +54,125 @@ impl Request {
     }
 }
 
+/// The file to open with, and what is asked of the rounds.
+#[derive(Drop)]
+pub(crate) struct Asked<'a> {
+    pub(crate) named: Named<'a>,
+    pub(crate) request: Request,
+}
+
+impl<'a> Asked<'a> {
+    /// What these words ask for. The fault says that they name not one file to open with, or that the word for a
+    /// tenant or a task is no name.
+    pub(crate) fn of(given: &Given<'a>) -> Result<Asked<'a>, Fault>
+        ensures { MatchResult result (λ asked. AsksFor given.now asked.named) (MisasksFor given.now) }
+    {
+        let named = Named::one_of(given.roster, given.state)?;
+        let Some(tenant) = name_of(given.tenant) else {
+            return Err(Fault::Words(WordsFault::NoTenantOrTask));
+        };
+        let Some(why) = name_of(given.why) else {
+            return Err(Fault::Words(WordsFault::NoTenantOrTask));
+        };
+        let request = Request {
+            tenant,
+            why,
+            machine: slots_of(given.machine),
+            all: given.all,
+        };
+        Ok(Asked { named, request })
+    }
+}
+
+// The slots of a machine, if their number is given.
+fn slots_of(number: Option<u8>) -> Option<Slots> {
+    match number {
+        Some(slots) => Slots::check(u64::from(slots)),
+        None => None,
+    }
+}
+
 // The name that the word is, if there is a word; `None` if the word is not a name.
-fn name_of(word: Option<&str>) -> Option<Option<Name>> {
-    match word {
-        Some(word) => Some(Some(Name::read(word.as_bytes())?)),
-        None => Some(None),
+fn name_of(word: Option<&str>) -> Option<Option<Name>>
+    ensures { MatchOption result (IsNoName (text_of word.entry)) (λ _. IsNameIfGiven word.entry) }
+{
+    let Some(word) = word else {
+        return Some(None);
+    };
+    match Name::read(word.as_bytes()) {
+        Some(name) => Some(Some(name)),
+        None => None,
     }
 }
 
 /// Reads the words; the error is a fault in them, the help they ask for, or refused memory.
-pub(crate) fn read<'a, S: AsStr>(alloc: Global, words: &'a [S]) -> Result<Given<'a>, Error> {
+pub(crate) fn read<'a, S: AsStr>(alloc: Global, words: &'a [S]) -> Result<Given<'a>, Error>
+    ensures faults { FailsBy (faults_in (map S.text words.entry.now)) result }
+    ensures given { IfOk result (λ given.
+        Gives (map S.text words.entry.now) given.roster given.state given.tenant given.why) }
+{
     let matches = command_line(alloc)?.try_get_matches_from(words)?;
+    let roster = matches.get_str("roster");
+    let state = matches.get_str("state");
+    let tenant = matches.get_str("tenant");
+    let why = matches.get_str("why");
     Ok(Given {
-        roster: matches.get_str("roster"),
-        state: matches.get_str("state"),
-        tenant: matches.get_str("tenant"),
-        why: matches.get_str("why"),
+        roster,
+        state,
+        tenant,
+        why,
         machine: matches.get_one::<u8>("machine"),
         all: matches.get_flag("all"),
     })
 }
 
-fn command_line<'a>(alloc: Global) -> Result<Command<'a>, AllocError> {
-    let roster = named(alloc, "roster", "FILE", "The roster of tenants, a CSV file");
-    let state = named(
-        alloc,
-        "state",
-        "FILE",
-        "The state to go on from, in place of a roster",
-    );
-    let tenant = named(
+fn command_line<'a>(alloc: Global) -> Result<Command<'a>, AllocError>
+    ensures { IfOk result IsCommandLine }
+{
+    Command::new(alloc, "firm_explain")
+        .about("Answers as firm does, and writes behind each round why it is the cheapest")
+        .arg(roster_option(alloc))?
+        .arg(state_option(alloc))?
+        .arg(tenant_option(alloc))?
+        .arg(why_option(alloc))?
+        .arg(machine_option(alloc))?
+        .arg(all_option(alloc))
+}
+
+fn tenant_option<'a>(alloc: Global) -> Arg<'a>
+    ensures { HasRule tenant_option result }
+{
+    option(
         alloc,
         "tenant",
         "NAME",
         "Explains the rounds of this tenant alone",
-    );
-    let why = named(alloc, "why", "TASK", "Tells every choice of this task");
-    let machine = named(
+    )
+}
+
+fn why_option<'a>(alloc: Global) -> Arg<'a>
+    ensures { HasRule why_option result }
+{
+    option(alloc, "why", "TASK", "Tells every choice of this task")
+}
+
+fn machine_option<'a>(alloc: Global) -> Arg<'a>
+    ensures { HasRule machine_option result }
+{
+    option(
         alloc,
         "machine",
         "SLOTS",
         "Tells what one more machine would save",
     )
-    .value_parser(value_parser!(u8).range(1..=64));
-    let all = Arg::new(alloc, "all")
-        .long("all")
-        .action(ArgAction::SetTrue)
-        .help("Gives each task that waits a line of its own");
-    Command::new(alloc, "firm_explain")
-        .about("Answers as firm does, and writes behind each round why it is the cheapest")
-        .arg(roster)?
-        .arg(state)?
-        .arg(tenant)?
-        .arg(why)?
-        .arg(machine)?
-        .arg(all)
+    .value_parser(value_parser!(u8).range(1..=64))
 }
 
-// An option with a value.
-fn named<'a>(alloc: Global, long: &'a str, value: &'a str, help: &'a str) -> Arg<'a> {
-    Arg::new(alloc, long)
-        .long(long)
-        .value_name(value)
-        .action(ArgAction::Set)
-        .help(help)
+fn all_option<'a>(alloc: Global) -> Arg<'a>
+    ensures { HasRule all_option result }
+{
+    Arg::new(alloc, "all")
+        .long("all")
+        .action(ArgAction::SetTrue)
+        .help("Gives each task that waits a line of its own")
 }

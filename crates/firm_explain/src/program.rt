@@ -1,13 +1,15 @@
 //! The program, over any reader and writers.
 
-ghost use Rattle.std.specs.Prelude.{◌≡◌, ◌^◌, false, OnOk, IfErr};
+ghost use Rattle.std.specs.Prelude.{◌≡◌, ◌^◌, false, OnOk, IfErr, MatchResult, map};
+ghost use Rattle.firm_program.specs.Runs.{ServesFile};
 ghost use Rattle.firm_table.specs.Openings.{places_opened};
 ghost use Rattle.firm_table.specs.Service.{ServedFrom, StoppedFrom, device};
-ghost use Rattle.firm_explain.specs.Program.{ServesFile, StopsFile, ServesState, StopsState};
+ghost use Rattle.firm_explain.specs.Program.{Exits, StopsExplaining};
+ghost use Rattle.firm_explain.specs.inner.Asking.{EndsAs};
 
 use crate::explainer::Explainer;
-use crate::options::{Given, Request, read};
-use firm_program::{Fault, Named, WordsFault, answer_words, read_roster, read_state, tell};
+use crate::options::{Asked, Request, read};
+use firm_program::{Fault, Named, answer_words, read_roster, read_state, tell};
 use firm_table::{Opening, ServeFault, serve_watched_from};
 use firm_text::{Sink, Source};
 use std::alloc::Global;
@@ -19,14 +21,16 @@ pub(crate) const NAME: &str = "firm_explain";
 
 /// What is written to: replies and the help, reasons, and faults. Replies and reasons may go to one device.
 #[derive(Drop)]
-pub(crate) struct Sinks<O: Sink, C: Sink, F: Sink> {
-    pub(crate) replies: O,
-    pub(crate) reasons: C,
-    pub(crate) faults: F,
+pub struct Sinks<O: Sink, C: Sink, F: Sink> {
+    pub replies: O,
+    pub reasons: C,
+    pub faults: F,
 }
 
-/// Runs the program on its words, the first of which is its name, and returns its exit status.
-pub(crate) fn run<R: Files, S: AsStr, I: Source, O: Sink, C: Sink, F: Sink>(
+/// Runs the program on its words, the first of which is its name, and returns its exit status. A failed write to the
+/// sink of faults changes no status. The first fault decides, in this order: the command line, the file of the roster
+/// or the state, the service, writing the reasons.
+pub fn run<R: Files, S: AsStr, I: Source, O: Sink, C: Sink, F: Sink>(
     rt: &R,
     alloc: Global,
     words: &[S],
@@ -35,6 +39,8 @@ pub(crate) fn run<R: Files, S: AsStr, I: Source, O: Sink, C: Sink, F: Sink>(
 ) -> u8
     requires reader { I.read_failed reader.old ≡ false }
     requires replies { O.write_failed sinks.old.replies ≡ false }
+    ensures { Exits (map S.text words.now) (device (I.left reader.old) (I.left reader.new) (I.read_failed reader.new))
+        (device (O.written sinks.old.replies) (O.written sinks.new.replies) (O.write_failed sinks.new.replies)) result }
 {
     let given = match read(alloc, words) {
         Ok(given) => given,
@@ -42,41 +48,17 @@ pub(crate) fn run<R: Files, S: AsStr, I: Source, O: Sink, C: Sink, F: Sink>(
             return answer_words(NAME, alloc, &error, &mut sinks.replies, &mut sinks.faults);
         }
     };
-    match serve_named(rt, alloc, &given, reader, sinks) {
+    let asked = match Asked::of(&given) {
+        Ok(asked) => asked,
+        Err(fault) => return tell(NAME, &mut sinks.faults, &fault),
+    };
+    match serve_file(rt, alloc, &asked, reader, sinks) {
         Ok(()) => 0,
         Err(fault) => tell(NAME, &mut sinks.faults, &fault),
     }
 }
 
 // Answers the input for the tenants of the roster's or the state's file, with the reasons of its rounds.
-fn serve_named<R: Files, I: Source, O: Sink, C: Sink, F: Sink>(
-    rt: &R,
-    alloc: Global,
-    given: &Given<'_>,
-    reader: &mut I,
-    sinks: &mut Sinks<O, C, F>,
-) -> Result<(), Fault>
-    requires reader { I.read_failed reader.old ≡ false }
-    requires replies { O.write_failed sinks.old.replies ≡ false }
-{
-    let named = Named::one_of(given.roster, given.state)?;
-    let Some(request) = Request::of(given) else {
-        return Err(Fault::Words(WordsFault::NoTenantOrTask));
-    };
-    match named {
-        Named::Roster(path) => serve_file(rt, alloc, &Asked { path, request }, reader, sinks),
-        Named::State(path) => serve_state(rt, alloc, &Asked { path, request }, reader, sinks),
-    }
-}
-
-// The path of a file, and what is asked of the rounds.
-#[derive(Drop)]
-struct Asked<'a> {
-    path: &'a str,
-    request: Request,
-}
-
-// Answers the input for the tenants of the roster at the path.
 fn serve_file<R: Files, I: Source, O: Sink, C: Sink, F: Sink>(
     rt: &R,
     alloc: Global,
@@ -86,45 +68,41 @@ fn serve_file<R: Files, I: Source, O: Sink, C: Sink, F: Sink>(
 ) -> Result<(), Fault>
     requires reader { I.read_failed reader.old ≡ false }
     requires replies { O.write_failed sinks.old.replies ≡ false }
-    ensures serves { OnOk result (ServesFile (device (I.left reader.old) (I.left reader.new) (I.read_failed reader.new))
-        (device (O.written sinks.old.replies) (O.written sinks.new.replies) (O.write_failed sinks.new.replies))) }
-    ensures stops { IfErr result (λ _. StopsFile
+    ensures { MatchResult result
+        (λ _. ServesFile asked.now.named
+        (device (I.left reader.old) (I.left reader.new) (I.read_failed reader.new))
+        (device (O.written sinks.old.replies) (O.written sinks.new.replies) (O.write_failed sinks.new.replies)))
+        (StopsExplaining asked.now.named
         (device (I.left reader.old) (I.left reader.new) (I.read_failed reader.new))
         (device (O.written sinks.old.replies) (O.written sinks.new.replies) (O.write_failed sinks.new.replies))) }
 {
-    let roster = read_roster(rt, alloc, asked.path)?;
-    let opening = Opening::Roster(&roster);
-    let has_lost_reasons = serve_opening(alloc, opening, asked.request, reader, sinks)?;
-    if has_lost_reasons {
-        return Err(Fault::Service(ServeFault::Write));
+    match asked.named {
+        Named::Roster(path) => match read_roster(rt, alloc, path) {
+            Ok(roster) => {
+                let opening = Opening::Roster(&roster);
+                ended(serve_opening(alloc, opening, asked.request, reader, sinks))
+            }
+            Err(fault) => Err(fault),
+        },
+        Named::State(path) => match read_state(rt, alloc, path) {
+            Ok(saved) => {
+                let opening = Opening::State(&saved);
+                ended(serve_opening(alloc, opening, asked.request, reader, sinks))
+            }
+            Err(fault) => Err(fault),
+        },
     }
-    Ok(())
 }
 
-// Answers the input from the state at the path on.
-fn serve_state<R: Files, I: Source, O: Sink, C: Sink, F: Sink>(
-    rt: &R,
-    alloc: Global,
-    asked: &Asked<'_>,
-    reader: &mut I,
-    sinks: &mut Sinks<O, C, F>,
-) -> Result<(), Fault>
-    requires reader { I.read_failed reader.old ≡ false }
-    requires replies { O.write_failed sinks.old.replies ≡ false }
-    ensures serves { OnOk result (ServesState
-        (device (I.left reader.old) (I.left reader.new) (I.read_failed reader.new))
-        (device (O.written sinks.old.replies) (O.written sinks.new.replies) (O.write_failed sinks.new.replies))) }
-    ensures stops { IfErr result (λ _. StopsState
-        (device (I.left reader.old) (I.left reader.new) (I.read_failed reader.new))
-        (device (O.written sinks.old.replies) (O.written sinks.new.replies) (O.write_failed sinks.new.replies))) }
+// How the program ends with a service, which says whether reasons could not be written.
+fn ended(served: Result<bool, ServeFault>) -> Result<(), Fault>
+    ensures { EndsAs served result }
 {
-    let saved = read_state(rt, alloc, asked.path)?;
-    let opening = Opening::State(&saved);
-    let has_lost_reasons = serve_opening(alloc, opening, asked.request, reader, sinks)?;
-    if has_lost_reasons {
-        return Err(Fault::Service(ServeFault::Write));
+    match served {
+        Ok(true) => Err(Fault::Service(ServeFault::Write)),
+        Ok(false) => Ok(()),
+        Err(cause) => Err(Fault::Service(cause)),
     }
-    Ok(())
 }
 
 // Answers the input for the tenants of the opening, and returns whether reasons could not be written.
@@ -147,6 +125,6 @@ fn serve_opening<I: Source, O: Sink, C: Sink, F: Sink>(
     let mut explainer = Explainer::new(alloc, &mut sinks.reasons, request);
     match serve_watched_from(alloc, reader, &mut sinks.replies, &mut explainer, opening) {
         Ok(()) => Ok(explainer.has_failed()),
-        Err(fault) => Err(fault),
+        Err(cause) => Err(cause),
     }
 }

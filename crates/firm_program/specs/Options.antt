@@ -30,37 +30,42 @@ pub record IsOption (rule : Rule) (option : Arg) : Type 0 where
   pub delimiter : option.val_delim ≡ None
   pub least : 1 ≤ least_values option
 
--- the path that words give with an option of this name, if they have it: the first value that `clap`'s rule finds
-abbrev pub path_given : App → List ℕ → List (List ℕ) → Option (List ℕ)
-path_given app name words = first_of name (matches_of app words)
+-- an argument of this rule, which belongs to no subcommand
+pub record HasRule (rule : Rule) (option : Arg) : Type 0 where
+  pub rules : rule_of option ≡ rule
+  pub global : option.global ≡ false
+
+-- what words give with an option of this name, if they have it: the first value that `clap`'s rule finds
+abbrev pub value_given : App → List ℕ → List (List ℕ) → Option (List ℕ)
+value_given app name words = first_of name (matches_of app words)
 
 -- the words have no fault, and give the path of a roster, and none of a state
 pub record NamesRoster (app : App) (words : List (List ℕ)) : Type 0 where
   pub well : fault_of app words ≡ []
-  pub given : is_some (path_given app (codes "roster") words) ≡ true
-  pub alone : path_given app (codes "state") words ≡ None
+  pub given : is_some (value_given app (codes "roster") words) ≡ true
+  pub alone : value_given app (codes "state") words ≡ None
 
 -- the other way round
 pub record NamesState (app : App) (words : List (List ℕ)) : Type 0 where
   pub well : fault_of app words ≡ []
-  pub given : is_some (path_given app (codes "state") words) ≡ true
-  pub alone : path_given app (codes "roster") words ≡ None
+  pub given : is_some (value_given app (codes "state") words) ≡ true
+  pub alone : value_given app (codes "roster") words ≡ None
 
 -- the words have no fault by `clap`'s rule, but give the paths of both, or of none
 pub record NamesNotOne (app : App) (words : List (List ℕ)) : Type 0 where
   pub well : fault_of app words ≡ []
-  pub alike : is_some (path_given app (codes "roster") words) ≡ is_some (path_given app (codes "state") words)
+  pub alike : is_some (value_given app (codes "roster") words) ≡ is_some (value_given app (codes "state") words)
 
 -- the words name the file to open with
 abbrev pub NamesFile : App → List (List ℕ) → Named → Type 0
 NamesFile app words (Roster path) = NamesRoster app words
 NamesFile app words (State path) = NamesState app words
 
--- a path as it is given
-abbrev pub path_of : Option (Bor (List ℕ)) → Option (List ℕ)
-path_of given = option_map (λ (path : Bor (List ℕ)). path.now) given
+-- a value as it is given
+abbrev pub text_of : Option (Bor (List ℕ)) → Option (List ℕ)
+text_of given = option_map (λ (value : Bor (List ℕ)). value.now) given
 
 -- the words give these paths of a roster and of a state
 pub record GivesPaths (app : App) (words : List (List ℕ)) (roster state : Option (Bor (List ℕ))) : Type 0 where
-  pub roster_path : path_of roster ≡ path_given app (codes "roster") words
-  pub state_path : path_of state ≡ path_given app (codes "state") words
+  pub roster_path : text_of roster ≡ value_given app (codes "roster") words
+  pub state_path : text_of state ≡ value_given app (codes "state") words

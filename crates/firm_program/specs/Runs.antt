@@ -1,6 +1,12 @@
--- What a program takes, and what it leaves as it was.
-use Rattle.std.specs.Prelude.{◌≡◌, ℕ, false}
-use Rattle.firm_table.specs.Service.{Device}
+-- What a program takes, what it leaves as it was, and how a service that it opens with a file ends.
+use Rattle.std.specs.Prelude.{◌≡◌, ℕ, List, false}
+use Rattle.firm_table.specs.Places.{Place}
+use Rattle.firm_table.specs.Service.{Device, ServedFrom, StoppedFrom}
+use Rattle.firm_table.specs.declared.faults.ServeFault.{ServeFault}
+use Rattle.firm_program.specs.Files.{Opens, RefusesFile}
+use Rattle.firm_program.specs.declared.faults.Fault.{Fault}
+use Rattle.firm_program.specs.declared.faults.Fault.TheVariants.{Service}
+use Rattle.firm_program.specs.declared.words.Named.{Named}
 
 -- the most bytes of input that a program takes: 2 to the 32nd
 abbrev pub most_input : ℕ
@@ -22,3 +28,27 @@ pub record IsUntouched (reader writer : Device) : Type 0 where
   pub unwritten : writer.after ≡ writer.before
   pub reads : reader.failed ≡ false
   pub writes : writer.failed ≡ false
+
+-- a service opened with the file that is named, and came to the end of the input with its output written
+pub record ServesFile (named : Named) (reader writer : Device) : Type 0 where
+  pub places : List Place
+  pub opens : Opens named places
+  pub served : ServedFrom places most_input reader writer
+
+-- a service with these places before its first line stopped, for the fault's cause
+pub record StopsFrom (places : List Place) (reader writer : Device) (fault : Fault) : Type 0 where
+  pub cause : ServeFault
+  pub is : fault ≡ Service cause
+  pub stopped : StoppedFrom places most_input reader writer cause
+
+-- a service opened with the file that is named, and stopped
+pub record StopsService (named : Named) (reader writer : Device) (fault : Fault) : Type 0 where
+  pub places : List Place
+  pub opens : Opens named places
+  pub stopped : StopsFrom places reader writer fault
+
+-- how a program stops that serves with the file that is named: the file is refused, or memory before the service, and
+-- nothing was read or written; or the service stopped
+pub data StopsFile (named : Named) (reader writer : Device) (fault : Fault) : Type 0 where
+  NotOpened : RefusesFile named fault → IsUntouched reader writer → StopsFile named reader writer fault
+  NotServed : StopsService named reader writer fault → StopsFile named reader writer fault

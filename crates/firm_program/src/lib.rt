@@ -3,7 +3,8 @@
 //!
 //! A roster and a state as the lists that firm_text and firm_saved have, a `Fault`, and the kinds of fault that the
 //! kit's `clap` finds in words (`specs/Files.antt`, `Faults.antt`, `Words.antt`, `Options.antt`); what a program left
-//! as it was (`Runs.antt`).
+//! as it was, and how a service ends that it opens with a file (`Runs.antt`). `Laws.antt` has what the programs' proofs
+//! use of these.
 //!
 //! # What is proved
 //!
@@ -12,7 +13,7 @@
 //! - `option`, `roster_option`, `state_option`: the rule of an option with a value; its words name a file as
 //!   `NamesFile` has it
 //! - `Named::one_of`: the one path that is given; else a fault with status 2
-//! - `Fault::status`, `tell`: the status (docs/USING.md) of a fault, whatever becomes of its line
+//! - `Fault::status`, `tell`: the status (docs/FORMATS.md) of a fault, whatever becomes of its line
 //! - `answer_words`, `refuse_words`: the status of words that ask for a text, are at fault, or find no memory; only a
 //!   text that was asked for is written
 //!

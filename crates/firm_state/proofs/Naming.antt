@@ -1,17 +1,16 @@
 -- What the words ask for.
-use Rattle.std.proofs.Common.{◌≡◌, ◌∙◌, ◌+◌, ◌<◌, ◌++◌, ◌∷◌, [], ℕ, List, All, ap, ap₂, arith, length, refl, subst}
+use Rattle.std.proofs.Common.{◌≡◌, ◌∙◌, ◌+◌, ◌<◌, ◌++◌, ◌∷◌, [], ℕ, List, All, ap, arith, length, refl, subst}
 use Rattle.std.proofs.Common.{sym, take}
 use Rattle.std.proofs.Common.{true, false}
 use Rattle.std.specs.Prelude.{IfOk, Option, Some, None, Result, Ok, Err, get_or, if◌then◌else◌, option_map, unwrap_or}
 use Rattle.std.specs.Borrow.{Bor}
 use Rattle.std.proofs.lemmas.List.{length-map, take-map, take_more}
 use Rattle.std.proofs.lemmas.List.Elements.{All-push}
-use Rattle.clap.proofs.WalkLemmas.{first_value-rows, raw_values-rows}
-use Rattle.clap.specs.Words.{AddsArg, FailsBy, HasMatchesOf, all_of, app_of, fault_of, first_of, first_value, found_of}
-use Rattle.clap.specs.Words.{is_simple, is_simple_and_free, matched_of, matches_of, raw_values, rows_of, with_rule}
+use Rattle.clap.proofs.WalkLemmas.{raw_values-rows}
+use Rattle.clap.specs.Words.{AddsArg, all_of, app_of, found_of}
+use Rattle.clap.specs.Words.{is_simple, is_simple_and_free, matched_of, matches_of, raw_values, rows_of}
 use Rattle.clap.specs.declared.builder.arg.Arg.{Arg}
 use Rattle.clap.specs.declared.builder.command.Command.{Command}
-use Rattle.clap.specs.declared.error.Error.{Error}
 use Rattle.clap.specs.declared.parser.matches.ArgMatches.{ArgMatches}
 use Rattle.firm_rules.specs.Names.{is_name, name_of}
 use Rattle.firm_state.specs.CommandLine.{AskAmiss, AskFor, Gives, HasNoName, NoNames, NotOneFile, NotTenants}
@@ -19,54 +18,30 @@ use Rattle.firm_state.specs.CommandLine.{command_line, faults_in, merge_option, 
 use Rattle.firm_state.specs.CommandLine.{versioned_app}
 use Rattle.firm_state.specs.declared.options.Given.{Given}
 use Rattle.firm_state.specs.declared.options.Request.{Request}
-use Rattle.firm_state.specs.inner.Options.{AreNames, AsksFor, IsCommandLine, IsRepeated, MisasksFor, NotNames}
+use Rattle.firm_state.specs.inner.Options.{AreNames, AsksFor, IsCommandLine, MisasksFor, NotNames}
 use Rattle.firm_state.specs.inner.Options.{NotOne, asked_by}
-use Rattle.firm_program.specs.Options.{IsOption, path_given, path_of, roster_option, state_option}
-use Rattle.firm_program.proofs.Naming.{names_file, names_not_one}
+use Rattle.firm_program.specs.Options.{HasRule, roster_option, state_option}
+use Rattle.firm_program.specs.Laws.{adds_option, names_file, names_not_one}
 use Rattle.firm_program.specs.declared.faults.Fault.{Fault}
 
 -- a command of no argument, to which these four are added in turn
 pub is_command_line : (bare one two three : Command) (roster state merge tenant : Arg) {E : Type 0}
-    (result : Result Command E) → app_of bare ≡ versioned_app → IsOption roster_option roster
-    → IsOption state_option state → IsRepeated merge_option merge → IsRepeated tenant_option tenant
+    (result : Result Command E) → app_of bare ≡ versioned_app → HasRule roster_option roster
+    → HasRule state_option state → HasRule merge_option merge → HasRule tenant_option tenant
     → AddsArg bare roster one → AddsArg one state two → AddsArg two merge three
     → IfOk result (AddsArg three tenant)
     → IfOk result IsCommandLine
 is_command_line bare one two three roster state merge tenant (Err error) app r s m t first second third fourth = tt
 is_command_line bare one two three roster state merge tenant (Ok command) app r s m t first second third fourth =
-    fourth.shape t.global
-    ∙ ap₂ with_rule (third.shape m.global
-    ∙ ap₂ with_rule (second.shape s.global
-    ∙ ap₂ with_rule (first.shape r.global ∙ ap₂ with_rule app r.rules) s.rules) m.rules) t.rules
+    adds_option _ tenant_option three command tenant (adds_option _ merge_option two three merge
+    (adds_option _ state_option one two state (adds_option _ roster_option bare one roster app r first) s second)
+    m third) t fourth
 
-simple_and_free : is_simple_and_free command_line ≡ true
+pub simple_and_free : is_simple_and_free command_line ≡ true
 simple_and_free = refl
 
--- a parse by that command line fails by its faults
-pub fails_by_faults : (command : Command) → app_of command ≡ command_line
-    → {T : Type 0} (words : List (List ℕ)) (result : Result T Error)
-    → (is_simple_and_free (app_of command) ≡ true → FailsBy (fault_of (app_of command) words) result)
-    → FailsBy (faults_in words) result
-fails_by_faults command same words result told =
-    subst (λ app. FailsBy (fault_of app words) result) same
-    (told (subst (λ app. is_simple_and_free app ≡ true) (sym same) simple_and_free))
-
-simple : is_simple command_line ≡ true
+pub simple : is_simple command_line ≡ true
 simple = refl
-
--- and it finds what the crate's rule finds
-pub finds : (command : Command) → app_of command ≡ command_line → (words : List (List ℕ)) (m : ArgMatches)
-    → HasMatchesOf (app_of command) words m
-    → rows_of (found_of m) ≡ matches_of command_line words
-finds command same words m told =
-    (told (subst (λ app. is_simple app ≡ true) (sym same) simple)).0 ∙ ap (λ app. matches_of app words) same
-
--- what the getters read of a path
-pub finds_path : (words : List (List ℕ)) (m : ArgMatches) (name : List ℕ) (o : Option (Bor (List ℕ)))
-    → rows_of (found_of m) ≡ matches_of command_line words → path_of o ≡ first_value (found_of m) name
-    → path_of o ≡ path_given command_line name words
-finds_path words m name o found got =
-    got ∙ (first_value-rows (found_of m) name ∙ ap (first_of name) found)
 
 -- all values of an option
 pub finds_all : (words : List (List ℕ)) (m : ArgMatches) (name : List ℕ)

@@ -1,5 +1,5 @@
 -- How the program stops.
-use Rattle.std.proofs.Common.{◌≡◌, ◌++◌, ℕ, List, Vec, Global, [], append-nil, false, inr, refl, subst, sym}
+use Rattle.std.proofs.Common.{◌≡◌, ◌∙◌, ap, ℕ, List, Vec, Global, [], append-nil, false, inr, refl, subst, sym}
 use Rattle.std.specs.Prelude.{Bool, Option, MatchResult, Result, Ok, Err}
 use Rattle.std.specs.Borrow.{Bor}
 use Rattle.std.specs.Io.KnownBytes.{Consumes}
@@ -8,20 +8,21 @@ use Rattle.firm_saved.specs.Saved.{IsSoundSaved}
 use Rattle.firm_saved.specs.StateText.{state_text}
 use Rattle.firm_saved.specs.declared.saved.SavedPlace.{SavedPlace}
 use Rattle.firm_table.specs.Ends.{ServedTo, tenants_state}
-use Rattle.firm_table.specs.Places.{Place, opening_places, restored_places}
+use Rattle.firm_table.specs.Places.{MarkedLine, Place, after_lines, opening_places, restored_places, saved_after}
 use Rattle.firm_table.specs.Service.{Device, StoppedFrom, device}
 use Rattle.firm_table.specs.Tenants.{TenantsState}
 use Rattle.firm_table.specs.declared.faults.ServeFault.{ServeFault}
 use Rattle.firm_table.specs.declared.faults.ServeFault.TheVariants.{Memory}
-use Rattle.firm_program.specs.Runs.{IsUnread, IsUntouched, IsUnwritten, most_input}
+use Rattle.firm_program.specs.Runs.{most_input}
 use Rattle.firm_program.specs.declared.faults.Fault.{Fault}
 use Rattle.firm_program.specs.declared.faults.Fault.TheVariants.{Service}
-use Rattle.firm_program.specs.Files.{RefusesRoster, RefusesState}
+use Rattle.firm_program.specs.Laws.{opens_roster, opens_state}
+use Rattle.firm_program.specs.Files.{Opens, RefusesRoster, RefusesState}
 use Rattle.firm_program.specs.declared.words.Named.{Named}
 use Rattle.firm_program.specs.declared.words.Named.TheVariants.{Roster, State}
 use Rattle.firm_state.specs.CommandLine.{Asked}
-use Rattle.firm_state.specs.Program.{CannotWrite, Folds, FoldsFile, FoldsText, FoldsTo, HalfWritten, NoChange, NoFold}
-use Rattle.firm_state.specs.Program.{NoText, NotChanged, NotFolded, NotOpened, Opens, RefusesFile, Stopped}
+use Rattle.firm_state.specs.Program.{CannotWrite, Folds, FoldsText, FoldsTo, HalfWritten, NoChange, NoFold}
+use Rattle.firm_state.specs.Program.{NoText, NotChanged, NotOpened, Stopped}
 use Rattle.firm_state.specs.Program.{StopsReading, StopsState, TellsState, Unwritten, WritesState, Wrote}
 
 -- a service that wrote its replies nowhere stopped
@@ -71,7 +72,7 @@ pub from_roster : (path : Bor (List ℕ)) (reader : Device) (text : List ℕ) (r
     → MatchResult result (λ text. FoldsText (Roster path) reader text.items) (NoFold (Roster path) reader)
 from_roster path reader text roster judged result to =
     folds_or_stops (Roster path) reader (opening_places roster)
-    (record { text = text; roster = roster; judged = judged; places_are = refl }) result to
+    (opens_roster path text roster judged) result to
 
 pub from_state : (path : Bor (List ℕ)) (reader : Device) (saved : List SavedPlace) → IsSoundSaved saved
     → (result : Result (Vec ℕ Global) Fault)
@@ -79,7 +80,7 @@ pub from_state : (path : Bor (List ℕ)) (reader : Device) (saved : List SavedPl
     → MatchResult result (λ text. FoldsText (State path) reader text.items) (NoFold (State path) reader)
 from_state path reader saved sound result to =
     folds_or_stops (State path) reader (restored_places saved)
-    (record { saved = saved; sound = sound; places_are = refl }) result to
+    (opens_state path saved sound) result to
 
 module _ (path : Bor (List ℕ)) (left : Option (List ℕ)) (failed : Bool) (reads : failed ≡ false) (fault : Fault) where
   -- the file is refused
@@ -125,7 +126,6 @@ folds_served places reader writer after ended = record {
   at_end = ended.served.at_end;
   within = ended.served.within;
   reads = ended.served.reads;
-  lines = ended.served.answers.lines;
-  are_lines = ended.served.answers.are_lines;
-  state = ended.state;
+  state = ended.state
+      ∙ ap (λ (lines : List MarkedLine). saved_after (after_lines places lines)) ended.granted;
 }

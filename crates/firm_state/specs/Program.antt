@@ -1,63 +1,37 @@
 -- What the program's exit status says of what it read and wrote.
 use Rattle.std.specs.Prelude.{◌≡◌, ◌≤◌, ◌<◌, ◌++◌, ℕ, All, List, [], ◌∷◌, Result, Ok, Err, true, false, get_or, is_some}
-use Rattle.std.specs.Prelude.{length, take}
+use Rattle.std.specs.Prelude.{length, map, take}
 use Rattle.std.specs.Io.KnownBytes.{Appends, Consumes, IsAtEnd}
 use Rattle.firm_text.specs.Commands.{◌>>=◌}
-use Rattle.firm_text.specs.Rosters.{RosterRow, roster_of}
+use Rattle.firm_text.specs.Inputs.{input_lines}
 use Rattle.firm_text.specs.declared.operator.OperatorRefusal.TheVariants.{NoSuchTenant}
 use Rattle.firm_parts.specs.Parts.{book_in, cut_to, joined}
 use Rattle.firm_parts.specs.declared.joining.JoinFault.{JoinFault}
 use Rattle.firm_saved.specs.Saved.{IsSoundSaved}
 use Rattle.firm_saved.specs.StateText.{state_text}
 use Rattle.firm_saved.specs.declared.saved.SavedPlace.{SavedPlace}
-use Rattle.firm_table.specs.Output.{AreLinesFrom}
-use Rattle.firm_table.specs.Places.{MarkedLine, Place, after_lines, opening_places, restored_places, saved_after}
+use Rattle.firm_table.specs.Output.{unmarked}
+use Rattle.firm_table.specs.Places.{Place, after_lines, saved_after}
 use Rattle.firm_table.specs.Service.{AreWholeLines, Device, IsCause}
 use Rattle.firm_table.specs.declared.faults.ServeFault.{ServeFault}
 use Rattle.firm_table.specs.declared.faults.ServeFault.TheVariants.{Memory, Write}
 use Rattle.firm_program.specs.Faults.{status_of}
-use Rattle.firm_program.specs.Files.{RefusesRoster, RefusesState}
+use Rattle.firm_program.specs.Files.{Opens, RefusesFile, RefusesState}
 use Rattle.firm_program.specs.Runs.{IsUnread, IsUntouched, IsUnwritten, most_input}
 use Rattle.firm_program.specs.Words.{AnswersWords}
 use Rattle.firm_program.specs.declared.faults.Fault.{Fault}
 use Rattle.firm_program.specs.declared.faults.Fault.TheVariants.{Service, Tenant}
 use Rattle.firm_program.specs.declared.words.Named.{Named}
-use Rattle.firm_program.specs.declared.words.Named.TheVariants.{Roster, State}
 use Rattle.firm_state.specs.CommandLine.{AskAmiss, AskFor, Asked, faults_in}
 
--- a text was a roster, and these are the places of its tenants
-pub record OpensRoster (places : List Place) : Type 0 where
-  pub text : List ℕ
-  pub roster : List RosterRow
-  pub judged : roster_of text ≡ Ok roster
-  pub places_are : places ≡ opening_places roster
-
--- these are the places of a sound state
-pub record OpensState (places : List Place) : Type 0 where
-  pub saved : List SavedPlace
-  pub sound : IsSoundSaved saved
-  pub places_are : places ≡ restored_places saved
-
--- the places that a service opens with, by the file that is named
-abbrev pub Opens : Named → List Place → Type 0
-Opens (Roster path) places = OpensRoster places
-Opens (State path) places = OpensState places
-
--- that file is refused
-abbrev pub RefusesFile : Named → Fault → Type 0
-RefusesFile (Roster path) fault = RefusesRoster fault
-RefusesFile (State path) fault = RefusesState fault
-
--- everything left to read was read, and this is the state after its lines
+-- everything left to read was read, and this is the state after its lines, memory being refused to none of them
 pub record Folds (places : List Place) (reader : Device) (saved : List SavedPlace) : Type 0 where
   pub input : List ℕ
   pub read : Consumes reader.before reader.after input
   pub at_end : IsAtEnd reader.after
   pub within : length input ≤ most_input
   pub reads : reader.failed ≡ false
-  pub lines : List MarkedLine
-  pub are_lines : AreLinesFrom places input lines
-  pub state : saved ≡ saved_after (after_lines places lines)
+  pub state : saved ≡ saved_after (after_lines places (map unmarked (input_lines input)))
 
 -- and this is its text
 pub record FoldsTo (places : List Place) (reader : Device) (text : List ℕ) : Type 0 where

@@ -23,9 +23,8 @@
 //! By the law `tenants_go_on` (`specs/Laws.antt`) a tenant replies from a state on as from its own: the state is its
 //! own cut to it, its own to which others are joined, or another to which its own is joined.
 //!
-//! No contract says which state is read for which path, or that memory was refused to none of the lines: `Folds` allows
-//! any marks. That last is tested: the program ends with status 6 where a reply says that memory was refused
-//! (`Discard`), since the state of the service that was given the line may be another.
+//! No contract says which state is read for which path. Where memory is refused to a line, the program ends with status
+//! 6, since the state of the service that was given the line may be another.
 //!
 //! # How it works
 //!

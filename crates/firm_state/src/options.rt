@@ -4,7 +4,8 @@
 ghost use Rattle.std.specs.Prelude.{◌≡◌, [], IfOk, MatchResult, map, option_map, unwrap_or};
 ghost use Rattle.clap.specs.Words.{FailsBy, found_of, matched_of, raw_values};
 ghost use Rattle.firm_state.specs.CommandLine.{faults_in, Gives, NoNames, merge_option, tenant_option, texts};
-ghost use Rattle.firm_state.specs.inner.Options.{AreNames, AsksFor, IsCommandLine, IsRepeated, MisasksFor};
+ghost use Rattle.firm_program.specs.Options.{HasRule};
+ghost use Rattle.firm_state.specs.inner.Options.{AreNames, AsksFor, IsCommandLine, MisasksFor};
 
 use clap::{Arg, ArgAction, ArgMatches, Command, Error};
 use firm_program::{Fault, Named, VERSION, WordsFault, option, roster_option, state_option};
@@ -20,8 +21,8 @@ replies are left out. Output: the state after them, a text. After a fault
 nothing is written, unless writing itself failed; a state without its last
 line, rows N, is a fault in turn.
 
-In firm's repository docs/USING.md says what states are for, docs/FORMATS.md
-what stands in them.";
+In firm's repository docs/FORMATS.md says what states are for, and what stands
+in them.";
 
 /// What the words of the command line give.
 #[derive(Drop)]
@@ -132,7 +133,7 @@ fn command_line<'a>(alloc: Global) -> Result<Command<'a>, AllocError>
 }
 
 fn merge_option<'a>(alloc: Global) -> Arg<'a>
-    ensures { IsRepeated merge_option result }
+    ensures { HasRule merge_option result }
 {
     option(
         alloc,
@@ -145,7 +146,7 @@ fn merge_option<'a>(alloc: Global) -> Arg<'a>
 }
 
 fn tenant_option<'a>(alloc: Global) -> Arg<'a>
-    ensures { IsRepeated tenant_option result }
+    ensures { HasRule tenant_option result }
 {
     option(
         alloc,

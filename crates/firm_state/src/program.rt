@@ -145,7 +145,7 @@ fn text_after<R: Files, I: Source>(
     }
 }
 
-// The text of the state after the input. Where memory was refused to a line, the state of the service that was given it
+// The text of the state after the input. Where memory is refused to a line, the state of the service that was given it
 // may be another, so that is a fault.
 fn fold<I: Source>(alloc: Global, opening: Opening<'_>, reader: &mut I) -> Result<Vec<u8>, Fault>
     requires { I.read_failed reader.old ≡ false }
@@ -154,14 +154,10 @@ fn fold<I: Source>(alloc: Global, opening: Opening<'_>, reader: &mut I) -> Resul
         (device (I.left reader.old) (I.left reader.new) (I.read_failed reader.new)) text.items)
         (StopsReading (device (I.left reader.old) (I.left reader.new) (I.read_failed reader.new))) }
 {
-    let mut replies = Discard::new();
-    let tenants = match serve_to_state(alloc, reader, &mut replies, opening, MOST_INPUT) {
+    let tenants = match serve_to_state(alloc, reader, &mut Discard, opening, MOST_INPUT) {
         Ok(tenants) => tenants,
         Err(fault) => return Err(Fault::Service(fault)),
     };
-    if replies.lacks_memory() {
-        return Err(Fault::Service(ServeFault::Memory));
-    }
     let mut text = Vec::new(alloc);
     match tenants.put_state(&mut text) {
         Ok(()) => Ok(text),

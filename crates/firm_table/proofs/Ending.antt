@@ -13,7 +13,7 @@ use Rattle.firm_table.specs.Telling.{ToldToTheEnd}
 use Rattle.firm_table.specs.Ends.{named_book, state_with, tenants_state, ServedTo}
 use Rattle.firm_table.specs.Tenants.{TenantsState}
 use Rattle.firm_table.specs.inner.Line.{State, books_of}
-use Rattle.firm_table.specs.inner.Progress.{Told}
+use Rattle.firm_table.specs.inner.Granting.{ToldGranted}
 
 named_stay : (stay : Option Stay)
     → named_book (option_map (λ (s : Stay). s.name) stay) (option_map book_of stay)
@@ -32,10 +32,10 @@ state_at (place ∷ rest) =
 -- all was read, and nothing is still to be written
 ends_with : (state : State) (most : ℕ) (reader writer : Device) (after : TenantsState)
     → after ≡ state.tenants → state.pending ≡ []
-    → ToldToTheEnd (Told state) most reader writer → ServedFrom state.opening most reader writer
+    → ToldToTheEnd (ToldGranted state) most reader writer → ServedFrom state.opening most reader writer
     → ServedTo state.opening most reader writer after
 ends_with state most reader writer after is none end served =
-    let t = end.told.told in
+    let t = end.told.told.told in
     let places : List Place = after_lines state.opening t.lines in
     let whole : t.sent ≡ output_from state.opening t.lines =
     sym (append-nil t.sent) ∙ ap (λ (l : List ℕ). t.sent ++ l) (sym none) ∙ t.whole in
@@ -54,6 +54,7 @@ ends_with state most reader writer after is none end served =
         reads = served.reads;
         writes = served.writes;
       };
+      granted = end.told.told.granted;
       state =
           ap tenants_state is
           ∙ ap (λ (register : List Entry). state_with register state.tenants.books) (sym t.shows.register)
@@ -64,7 +65,7 @@ ends_with state most reader writer after is none end served =
 -- the same of the places that a body knows to be these
 pub served_to : (opening : List Place) (state : State) (most : ℕ) (reader writer : Device) (after : TenantsState)
     → state.opening ≡ opening → after ≡ state.tenants → state.pending ≡ []
-    → ToldToTheEnd (Told state) most reader writer → ServedFrom opening most reader writer
+    → ToldToTheEnd (ToldGranted state) most reader writer → ServedFrom opening most reader writer
     → ServedTo opening most reader writer after
 served_to opening state most reader writer after same is none end served =
     subst (λ (places : List Place). ServedTo places most reader writer after) same

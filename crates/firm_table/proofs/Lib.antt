@@ -31,3 +31,4 @@ mod Seating
 mod Opened
 mod Seated
 mod Moves
+mod Granting

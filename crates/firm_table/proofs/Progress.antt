@@ -98,16 +98,26 @@ one_more state text after written now tenants pending line p more a =
           ∙ ap (λ (x : LineAnswer). answers_from state.opening p.lines ++ x ∷ []) here,
     )
 
--- the front of what was to be written was
+-- the front of what was to be written was, and the lines are the same
+pub front_written_of_lines : (state : State) (text : List ℕ) (written now later : Option (List ℕ))
+    (front held : List ℕ)
+    → (p : Told state text written now) → state.pending ≡ front ++ held → Appends now later front
+    → (told : Told (state_is state.opening state.tenants held) text written later) × (told.lines ≡ p.lines)
+front_written_of_lines state text written now later front held p parts wrote = (
+  record {
+    lines = p.lines;
+    are_lines = p.are_lines;
+    shows = p.shows;
+    sent = p.sent ++ front;
+    wrote = Appends-trans written now later p.sent front p.wrote wrote;
+    whole = append_assoc p.sent front held ∙ ap (λ (l : List ℕ). p.sent ++ l) (sym parts) ∙ p.whole;
+  },
+  refl,
+)
+
 pub front_written : FrontIsWritten
-front_written state text written now later front held p parts wrote = record {
-  lines = p.lines;
-  are_lines = p.are_lines;
-  shows = p.shows;
-  sent = p.sent ++ front;
-  wrote = Appends-trans written now later p.sent front p.wrote wrote;
-  whole = append_assoc p.sent front held ∙ ap (λ (l : List ℕ). p.sent ++ l) (sym parts) ∙ p.whole;
-}
+front_written state text written now later front held p parts wrote =
+    (front_written_of_lines state text written now later front held p parts wrote).0
 
 -- what was sent begins what follows it
 begins_with : (places : List Place) (text : List ℕ) (written now : Option (List ℕ)) (lines : List MarkedLine)

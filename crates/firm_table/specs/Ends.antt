@@ -1,8 +1,10 @@
 -- The state in which a service ends.
-use Rattle.std.specs.Prelude.{◌≡◌, ℕ, List, [], ◌∷◌, Option, Some, None}
+use Rattle.std.specs.Prelude.{◌≡◌, ℕ, List, [], ◌∷◌, Option, Some, None, map}
 use Rattle.firm_rules.specs.Book.{Book}
+use Rattle.firm_text.specs.Inputs.{input_lines}
 use Rattle.firm_text.specs.declared.registers.Entry.{Entry}
 use Rattle.firm_saved.specs.declared.saved.SavedPlace.{SavedPlace}
+use Rattle.firm_table.specs.Output.{unmarked}
 use Rattle.firm_table.specs.Places.{Place, saved_after, after_lines}
 use Rattle.firm_table.specs.Service.{Device, ServedFrom}
 use Rattle.firm_table.specs.Tenants.{TenantsState}
@@ -27,8 +29,9 @@ state_with (entry ∷ rest) (book ∷ books) = place_with entry book ∷ state_w
 abbrev pub tenants_state : TenantsState → List SavedPlace
 tenants_state tenants = state_with tenants.register tenants.books
 
--- everything left to read was read, what was written is the output for it, and the tenants that are left have the state
--- after its lines
+-- everything left to read was read, what was written is the output for it, memory was refused to none of its lines, and
+-- the tenants that are left have the state after them
 pub record ServedTo (places : List Place) (most : ℕ) (reader writer : Device) (after : TenantsState) : Type 0 where
   pub served : ServedFrom places most reader writer
+  pub granted : served.answers.lines ≡ map unmarked (input_lines served.input)
   pub state : tenants_state after ≡ saved_after (after_lines places served.answers.lines)

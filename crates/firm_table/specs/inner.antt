@@ -6,3 +6,4 @@ pub mod Adding
 pub mod Seats
 pub mod Tables
 pub mod Events
+pub mod Granting

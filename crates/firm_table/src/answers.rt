@@ -4,10 +4,10 @@ ghost use Rattle.std.specs.Prelude.{◌≡◌, ◌++◌, OnOk};
 ghost use Rattle.std.specs.Io.{StartsWith};
 ghost use Rattle.firm_text.specs.OperatorReplies.{text_of_operator_reply};
 ghost use Rattle.firm_text.specs.Replies.{text_of_reply};
-ghost use Rattle.firm_table.specs.Answers.{ended, text_of_answer};
+ghost use Rattle.firm_table.specs.Answers.{ended, tells_memory, text_of_answer};
 
-use firm_rules::{Name, Outcome, Reply};
-use firm_text::{OperatorReply, put_operator_reply, put_reply};
+use firm_rules::{Name, Outcome, Refusal, Reply};
+use firm_text::{OperatorRefusal, OperatorReply, put_operator_reply, put_reply};
 use std::alloc::AllocError;
 
 /// The answer to a line.
@@ -33,6 +33,20 @@ impl LineAnswer {
                 Outcome::Round { .. } => true,
                 _ => false,
             },
+            _ => false,
+        }
+    }
+
+    // Whether this says that memory was refused to the line.
+    pub(crate) fn tells_memory(&self) -> bool
+        ensures { result ≡ tells_memory self.now }
+    {
+        match self {
+            LineAnswer::Replied(_, reply) => match &reply.outcome {
+                Outcome::Refused(Refusal::Memory) => true,
+                _ => false,
+            },
+            LineAnswer::ToOperator(OperatorReply::Refused(OperatorRefusal::Memory)) => true,
             _ => false,
         }
     }

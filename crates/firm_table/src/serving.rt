@@ -1,14 +1,19 @@
 //! The service on one thread: the lines of an input are answered in turn.
 
 ghost use Rattle.std.specs.Prelude.{◌≡◌, ◌≤◌, ◌^◌, [], false, option_map, OnOk, IfOk, IfErr};
+ghost use Rattle.std.specs.Io.{StartsWith};
 ghost use Rattle.firm_table.specs.Ends.{ServedTo};
 ghost use Rattle.firm_table.specs.Openings.{places_opened};
 ghost use Rattle.firm_table.specs.Service.{Answers, Served, Stopped, UpToDate, device};
 ghost use Rattle.firm_table.specs.Service.{AnswersFrom, ServedFrom, StoppedFrom};
 ghost use Rattle.firm_table.specs.declared.faults.ServeFault.TheVariants.{Read};
+ghost use Rattle.firm_table.specs.inner.Granting.{IsGranted};
 ghost use Rattle.firm_table.specs.inner.Line.{book_named, state_is, tenants_at};
 ghost use Rattle.firm_table.specs.inner.Progress.{Told, state_of};
 
+mod granting;
+
+use self::granting::Granting;
 use crate::clerk::Clerk;
 use crate::faults::ServeFault;
 use crate::openings::Opening;
@@ -82,7 +87,8 @@ pub fn serve_one_from<R: Source, W: Sink>(
     serve_lines(reader, writer, &mut service, most)
 }
 
-/// The same as `serve_one_from`, but at the end of the input it returns the tenants, in the state after all lines.
+/// The same as `serve_one_from`, but at the end of the input it returns the tenants, in the state after all lines. It
+/// also ends with `Memory` where memory is refused to a line, which is then not answered.
 pub fn serve_to_state<R: Source, W: Sink>(
     alloc: Global,
     reader: &mut R,
@@ -104,11 +110,12 @@ pub fn serve_to_state<R: Source, W: Sink>(
         (device (R.left reader.old) (R.left reader.new) (R.read_failed reader.new))
         (device (W.written writer.old) (W.written writer.new) (W.write_failed writer.new))) }
 {
-    let Ok(mut service) = Service::open(alloc, opening) else {
+    let Ok(service) = Service::open(alloc, opening) else {
         return Err(ServeFault::Memory);
     };
-    match serve_lines(reader, writer, &mut service, most) {
-        Ok(()) => Ok(service.into_tenants()),
+    let mut granting = Granting { service };
+    match serve_lines(reader, writer, &mut granting, most) {
+        Ok(()) => Ok(granting.service.into_tenants()),
         Err(fault) => Err(fault),
     }
 }
@@ -142,6 +149,16 @@ impl<'a> Service<'a> {
     {
         let Service { tenants, .. } = self;
         tenants
+    }
+
+    // Adds the answer to a line to what is to be written, unless it says that memory was refused.
+    fn put_granted(&mut self, line: Line) -> Result<(), AllocError>
+        ensures kept { StartsWith self.new.output.items self.old.output.items }
+        ensures answered { OnOk result
+            (IsGranted self.old.tenants self.new.tenants line self.old.output.items self.new.output.items) }
+        ensures opening { self.new.opening ≡ self.old.opening }
+    {
+        self.tenants.put_granted(self.alloc, &mut self.output, line)
     }
 
     // Whether the last line was answered by a solved round.

@@ -11,6 +11,7 @@ ghost use Rattle.firm_saved.specs.StateText.{place_rows, row_text, state_text};
 ghost use Rattle.firm_table.specs.declared.answers.LineAnswer.TheVariants.{ToOperator};
 ghost use Rattle.firm_table.specs.Ends.{place_with, tenants_state};
 ghost use Rattle.firm_table.specs.Openings.{places_opened};
+ghost use Rattle.firm_table.specs.inner.Granting.{IsGranted};
 ghost use Rattle.firm_table.specs.inner.Line.{IsAnswer, IsRight, book_named, books_of, tenants_at};
 
 use crate::answers::LineAnswer;
@@ -67,6 +68,25 @@ impl Tenants {
     {
         let answer = self.answer(alloc, line);
         self.has_solved = answer.is_round();
+        answer.put(output)
+    }
+
+    // Adds the answer to a line, unless that says that memory was refused. Fails then, and if memory for the text is
+    // refused; part of the text may then have been added.
+    pub(crate) fn put_granted(
+        &mut self,
+        alloc: Global,
+        output: &mut Vec<u8>,
+        line: Line,
+    ) -> Result<(), AllocError>
+        ensures kept { StartsWith output.new.items output.old.items }
+        ensures answered { OnOk result (IsGranted self.old self.new line output.old.items output.new.items) }
+    {
+        let answer = self.answer(alloc, line);
+        self.has_solved = answer.is_round();
+        if answer.tells_memory() {
+            return Err(AllocError);
+        }
         answer.put(output)
     }
 

@@ -2,10 +2,10 @@
 use super::rows::{with_job, with_machine, with_task};
 use super::{limits, name, slots, weight};
 use firm_rents::{
-    Case, Class, LevelRents, Parts, Rents, cheapest_other, high_rents, lost_by_slot, low_rents,
-    parts_of, placement_of, saved_by_machine, saved_by_slot, shows_first, shows_least,
+    Class, LevelRents, Parts, Rents, cheapest_other, high_rents, lost_by_slot, low_rents, parts_of,
+    placement_of, saved_by_machine, saved_by_slot, shows_first, shows_least,
 };
-use firm_rules::{Choice, Preferred, Rows};
+use firm_rules::{Case, Choice, Preferred, Rows};
 use std::alloc::{AllocError, Global};
 use std::process::Abort;
 use std::test::Fail;

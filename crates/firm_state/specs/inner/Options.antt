@@ -1,7 +1,6 @@
--- The options as the parser's own arguments, and what is made of the words that they give.
-use Rattle.std.specs.Prelude.{◌≡◌, ℕ, List, All, false, length, true}
-use Rattle.clap.specs.Words.{Rule, app_of, rule_of}
-use Rattle.clap.specs.declared.builder.arg.Arg.{Arg}
+-- The command line as the parser's own command, and what is made of the words that its options give.
+use Rattle.std.specs.Prelude.{◌≡◌, ℕ, List, All, length, true}
+use Rattle.clap.specs.Words.{app_of}
 use Rattle.clap.specs.declared.builder.command.Command.{Command}
 use Rattle.firm_rules.specs.Names.{is_name}
 use Rattle.firm_program.specs.Faults.{status_of}
@@ -10,11 +9,6 @@ use Rattle.firm_program.specs.declared.faults.Fault.{Fault}
 use Rattle.firm_state.specs.CommandLine.{Asked, NoNames, command_line, texts}
 use Rattle.firm_state.specs.declared.options.Given.{Given}
 use Rattle.firm_state.specs.declared.options.Request.{Request}
-
--- an argument of this rule, which belongs to no subcommand
-pub record IsRepeated (rule : Rule) (option : Arg) : Type 0 where
-  pub rules : rule_of option ≡ rule
-  pub global : option.global ≡ false
 
 -- the parser's own command is this command line
 abbrev pub IsCommandLine : Command → Type 0

@@ -7,9 +7,6 @@ use Rattle.firm_state.proofs.program.fold.Goals as goal
 pub returns-in-Err : goal.returns-in-Err
 returns-in-Err g c = stops_reading _ _ _ _ _ c.in-Err.ensures.stopped
 
-pub returns-then-lacks_memory : goal.returns-then-lacks_memory
-returns-then-lacks_memory g c = lacks_memory _ _ _ (folds_served _ _ _ _ c.in-Ok.ensures.served)
-
 pub returns-in-Ok-put_state : goal.returns-in-Ok-put_state
 returns-in-Ok-put_state g c = record {
   saved = tenants_state c.in-Ok.tenants;

@@ -1,5 +1,3 @@
-use Rattle.std.proofs.Common.{subst}
-use Rattle.std.specs.Prelude.{MatchResult}
 use Rattle.std.proofs.lemmas.Result.{err_from_is_err_and}
 use Rattle.firm_state.proofs.Stopping.{stops_unwritten, writes_or_stops}
 use Rattle.firm_state.proofs.program.write_state.Goals as goal

@@ -1,7 +1,7 @@
 use Rattle.std.proofs.Common.{◌≡◌, ◌∙◌, ap, arith, length, ℕ, List}
 use Rattle.std.specs.Prelude.{set}
 use Rattle.firm_text.specs.declared.registers.Entry.{Entry}
-use Rattle.firm_saved.specs.Saved.{register_of, entry_of}
+use Rattle.firm_saved.specs.Saved.{register_of}
 use Rattle.firm_saved.specs.declared.saved.SavedPlace.{SavedPlace}
 use Rattle.firm_table.proofs.Saving.{all_entered, entries_to, next_entry, saved_entry, saved_wide}
 use Rattle.firm_table.proofs.openings.restored_register.Goals as goal

@@ -3,10 +3,12 @@ use Rattle.std.proofs.KnownBytes.{Consumes-nil}
 use Rattle.firm_table.specs.declared.faults.ServeFault.TheVariants.{Memory}
 use Rattle.firm_table.specs.Openings.{places_opened}
 use Rattle.firm_table.specs.inner.Line.{State}
-use Rattle.firm_table.specs.inner.Progress.{Told, state_of}
+use Rattle.firm_table.specs.inner.Granting.{ToldGranted}
+use Rattle.firm_table.specs.inner.Progress.{state_of}
 use Rattle.firm_table.proofs.Ending.{served_to}
 use Rattle.firm_table.proofs.Pieces.{ended_none}
-use Rattle.firm_table.proofs.Progress.{nothing_told, answers_up_to_date}
+use Rattle.firm_table.proofs.Granting.{nothing_granted, told_up_to_date}
+use Rattle.firm_table.proofs.Progress.{answers_up_to_date}
 use Rattle.firm_table.proofs.Stops.{stopped_within}
 use Rattle.firm_table.proofs.Written.{nothing_written}
 use Rattle.firm_table.proofs.serving.serve_to_state.Goals as goal
@@ -25,15 +27,16 @@ returns-in_default-clause-stopped g c =
 
 pub serve_lines-requires-clause-opening : goal.serve_lines-requires-clause-opening
 serve_lines-requires-clause-opening g c =
-    subst (λ (state : State). Told state [] (g.W.Sink.written c.args.writer.now) (g.W.Sink.written c.args.writer.now))
-    (sym c.in-Ok.ensures) (nothing_told (places_opened c.args.opening) _).0
+    subst
+    (λ (state : State). ToldGranted state [] (g.W.Sink.written c.args.writer.now) (g.W.Sink.written c.args.writer.now))
+    (sym c.in-Ok.ensures) (nothing_granted (places_opened c.args.opening) _)
 
 pub returns-in-Ok-serve_lines-clause-served : goal.returns-in-Ok-serve_lines-clause-served
 returns-in-Ok-serve_lines-clause-served g c =
     let began = ap (λ (state : State). state.opening) c.in-Ok.ensures in
     let same = c.serve_lines.ensures.opening ∙ began in
     let e = c.in-Ok-serve_lines.ensures in
-    served_to (places_opened c.args.opening) (state_of c.serve_lines.new.clerk) c.args.most _ _ _ same
+    served_to (places_opened c.args.opening) (state_of c.serve_lines.new.clerk.service) c.args.most _ _ _ same
     c.into_tenants.ensures e.finished e.told
     (rw began at e.served)
 
@@ -41,4 +44,5 @@ pub returns-in-Err-clause-in_full : goal.returns-in-Err-clause-in_full
 returns-in-Err-clause-in_full g c reading =
     let same = c.serve_lines.ensures.opening ∙ ap (λ (state : State). state.opening) c.in-Ok.ensures in
     let told = c.in-Err.ensures.waiting reading in
-    answers_up_to_date (places_opened c.args.opening) (state_of c.serve_lines.new.clerk) _ _ same told.0 told.1
+    answers_up_to_date (places_opened c.args.opening) (state_of c.serve_lines.new.clerk.service) _ _ same told.0
+    (told_up_to_date _ _ _ told.1)

@@ -1,0 +1,88 @@
+-- What the words ask for, and how the program ends.
+use Rattle.std.proofs.Common.{◌≡◌, ℕ, List, [], codes, refl, subst}
+use Rattle.std.specs.Prelude.{◌^◌, Bool, true, IfErr, IfOk, IfSome, MatchResult, OnOk, Option, Result, Ok, Err}
+use Rattle.clap.specs.Words.{AddsArg, app_of, is_simple, is_simple_and_free, new_app}
+use Rattle.clap.specs.declared.builder.arg.Arg.{Arg}
+use Rattle.clap.specs.declared.builder.command.Command.{Command}
+use Rattle.firm_rules.specs.Names.{is_name}
+use Rattle.firm_table.specs.Places.{Place}
+use Rattle.firm_table.specs.Service.{Device, ServedFrom, StoppedFrom}
+use Rattle.firm_table.specs.declared.faults.ServeFault.{ServeFault}
+use Rattle.firm_program.specs.Faults.{status_of}
+use Rattle.firm_program.specs.Files.{Opens}
+use Rattle.firm_program.specs.Laws.{adds_option, names_file, names_not_one}
+use Rattle.firm_program.specs.Options.{HasRule, roster_option, state_option}
+use Rattle.firm_program.specs.Runs.{NotServed, ServesFile}
+use Rattle.firm_program.specs.declared.faults.Fault.{Fault}
+use Rattle.firm_program.specs.declared.words.Named.{Named}
+use Rattle.firm_explain.specs.CommandLine.{AskAmiss, AskFor, Gives, IsNoName, NoTask, NoTenant, NotOneFile}
+use Rattle.firm_explain.specs.CommandLine.{all_option, command_line, faults_in, machine_option, tenant_option}
+use Rattle.firm_explain.specs.CommandLine.{why_option}
+use Rattle.firm_explain.specs.Program.{LosesReasons, StopsExplaining, StopsServing}
+use Rattle.firm_explain.specs.declared.options.Given.{Given}
+use Rattle.firm_explain.specs.inner.Asking.{AsksFor, EndsAs, IsCommandLine, MisasksFor, NotOne, NoTaskNamed}
+use Rattle.firm_explain.specs.inner.Asking.{NoTenantNamed}
+
+-- a command of no argument, to which these six are added in turn
+pub is_command_line : (bare one two three four five : Command) (roster state tenant why machine all : Arg) {E : Type 0}
+    (result : Result Command E) → app_of bare ≡ new_app (codes "firm_explain")
+    → HasRule roster_option roster → HasRule state_option state → HasRule tenant_option tenant
+    → HasRule why_option why → HasRule machine_option machine → HasRule all_option all
+    → AddsArg bare roster one → AddsArg one state two → AddsArg two tenant three → AddsArg three why four
+    → AddsArg four machine five → IfOk result (AddsArg five all)
+    → IfOk result IsCommandLine
+is_command_line bare one two three four five roster state tenant why machine all (Err error) app
+    r s t w m a first second third fourth fifth last = tt
+is_command_line bare one two three four five roster state tenant why machine all (Ok command) app
+    r s t w m a first second third fourth fifth last =
+    let named = adds_option _ why_option three four why (adds_option _ tenant_option two three tenant
+    (adds_option _ state_option one two state (adds_option _ roster_option bare one roster app r first) s second)
+    t third) w fourth in
+    adds_option _ all_option five command all (adds_option _ machine_option four five machine named m fifth) a last
+
+pub simple_and_free : is_simple_and_free command_line ≡ true
+simple_and_free = refl
+
+pub simple : is_simple command_line ≡ true
+simple = refl
+
+-- what the words ask for
+pub asks : (words : List (List ℕ)) (given : Given) (named : Named) → faults_in words ≡ []
+    → Gives words given.roster given.state given.tenant given.why → AsksFor given named → AskFor words named
+asks words given named well gives asked = record {
+  file = names_file command_line words given.roster given.state well gives.paths named asked.named_is;
+  tenant = subst (λ (word : Option (List ℕ)). IfSome word (λ word. is_name word ≡ true)) gives.tenant_is asked.tenant;
+  task = subst (λ (word : Option (List ℕ)). IfSome word (λ word. is_name word ≡ true)) gives.task_is asked.task;
+}
+
+-- or they ask for nothing
+pub misasks : (words : List (List ℕ)) (given : Given) (fault : Fault) → faults_in words ≡ []
+    → Gives words given.roster given.state given.tenant given.why → MisasksFor given fault → AskAmiss words
+misasks words given fault well gives (NotOne alike status) =
+    NotOneFile (names_not_one command_line words given.roster given.state well gives.paths alike)
+misasks words given fault well gives (NoTenantNamed none status) = NoTenant (subst IsNoName gives.tenant_is none)
+misasks words given fault well gives (NoTaskNamed none status) = NoTask (subst IsNoName gives.task_is none)
+
+-- with status 2
+pub misasked : (given : Given) (fault : Fault) → MisasksFor given fault → status_of fault ≡ 2
+misasked given fault (NotOne alike status) = status
+misasked given fault (NoTenantNamed none status) = status
+misasked given fault (NoTaskNamed none status) = status
+
+-- what becomes of a service that opened with the file that is named
+pub explains_or_stops : (named : Named) (reader replies : Device) (places : List Place) → Opens named places
+    → (served : Result Bool ServeFault) {A : Type 0} (result : Result A Fault)
+    → OnOk served (ServedFrom places (2 ^ 32) reader replies)
+    → IfErr served (StoppedFrom places (2 ^ 32) reader replies) → EndsAs served result
+    → MatchResult result (λ _. ServesFile named reader replies) (StopsExplaining named reader replies)
+explains_or_stops named reader replies places opens (Ok has_lost) (Ok done) serves stops ends =
+    record { places = places; opens = opens; served = serves }
+explains_or_stops named reader replies places opens (Ok has_lost) (Err fault) serves stops ends =
+    LosesReasons ends.1 (record { places = places; opens = opens; served = serves })
+explains_or_stops named reader replies places opens (Err cause) (Ok done) serves stops ends = absurd ends
+explains_or_stops named reader replies places opens (Err cause) (Err fault) serves stops ends =
+    StopsServing (NotServed (record {
+      places = places;
+      opens = opens;
+      stopped = record { cause = cause; is = ends; stopped = stops };
+    }))

@@ -1,0 +1,53 @@
+use Rattle.std.proofs.Common.{◌≡◌, ◌∙◌, rules, ap, refl, take, length, ℕ}
+use Rattle.std.proofs.lemmas.Result.{err_from_is_err_and}
+use Rattle.firm_table.specs.Openings.{places_opened}
+use Rattle.firm_table.proofs.Granting.{all_granted_now, one_more_granted}
+use Rattle.firm_table.proofs.Progress.{all_written_now, one_more_begins, partly_written, told_begins}
+use Rattle.firm_table.proofs.serving.granting.GrantingClerk.answer.Goals as goal
+
+pub returns-in_err-write_held-clause-begins : goal.returns-in_err-write_held-clause-begins
+returns-in_err-write_held-clause-begins g c =
+    let p = err_from_is_err_and c.from_residual.result c.from_residual.ensures.1 in
+    let before : c.len-before.result ≡ length c.args.self.now.service.output.items = search rules in
+    let kept : c.truncate.new.self.items ≡ c.args.self.now.service.output.items =
+    c.truncate.ensures.items ∙ ap (λ (n : ℕ). take n c.put_granted.new.self.output.items) before
+    ∙ c.put_granted.ensures.kept in
+    let part = rw kept at c.in_err-write_held.ensures.err in
+    rw p.1 (λ text after written more told.
+    one_more_begins c.unmarked_steps_are_granted.ensures c.refuses_for_the_form.ensures _ text after written _
+    c.args.line (partly_written _ text written _ _ part.0 told.told part.2) more)
+
+pub returns-in_default-clause-begins : goal.returns-in_default-clause-begins
+returns-in_default-clause-begins g c text after written more told =
+    let before : c.len-before.result ≡ length c.args.self.now.service.output.items = search rules in
+    let kept : c.truncate.new.self.items ≡ c.args.self.now.service.output.items =
+    c.truncate.ensures.items ∙ ap (λ (n : ℕ). take n c.put_granted.new.self.output.items) before
+    ∙ c.put_granted.ensures.kept in
+    one_more_begins c.unmarked_steps_are_granted.ensures c.refuses_for_the_form.ensures _ text after written
+    _ c.args.line
+    (all_written_now _ text _ written _ _ told.told
+    (rw kept at c.in_ok-write_held.ensures.ok) c.in_ok-write_held.ensures.empty) more
+
+pub returns-in_err-write_held-2-clause-begins : goal.returns-in_err-write_held-2-clause-begins
+returns-in_err-write_held-2-clause-begins g c =
+    let p =
+    err_from_is_err_and c.from_residual-in_err-write_held-2.result c.from_residual-in_err-write_held-2.ensures.1 in
+    let part = c.in_err-write_held-2.ensures.err in
+    let answered = c.in-Ok.ensures.answered in
+    rw p.1 (λ text after written more told.
+    told_begins _ after written _
+    (partly_written _ after written _ _ part.0
+    (one_more_granted _ text after written _ _ _ _ c.args.line refl told more answered).told part.2))
+
+pub returns-in_ok-write_held-2-clause-told : goal.returns-in_ok-write_held-2-clause-told
+returns-in_ok-write_held-2-clause-told g c text after written more told =
+    let same = ap places_opened c.put_granted.ensures.opening in
+    all_granted_now _ after _ written _ _
+    (one_more_granted _ text after written _ (places_opened c.put_granted.new.self.opening) _ _ c.args.line same told
+    more c.in-Ok.ensures.answered) c.in_ok-write_held-2.ensures.ok c.in_ok-write_held-2.ensures.empty
+
+pub returns-else-len-ge-FULL-clause-told : goal.returns-else-len-ge-FULL-clause-told
+returns-else-len-ge-FULL-clause-told g c text after written more told =
+    let same = ap places_opened c.put_granted.ensures.opening in
+    one_more_granted _ text after written _ (places_opened c.put_granted.new.self.opening) _ _ c.args.line same told
+    more c.in-Ok.ensures.answered
