@@ -1,6 +1,6 @@
 -- A round that comes back leaves what was told.
 use Rattle.std.proofs.Common.{◌≡◌, ℕ, ◌<◌, List, [], ◌∷◌, ◌++◌, length, set, get_or, refl, sym, ap, ◌∙◌, subst, arith}
-use Rattle.std.specs.Prelude.{map, Option, Some, None, true}
+use Rattle.std.specs.Prelude.{map, Option, Some, None, true, false}
 use Rattle.std.specs.List.{flat_map}
 use Rattle.std.proofs.lemmas.List.{get_or_default, set-get_or}
 use Rattle.std.proofs.lemmas.Bool.{eqb-true}
@@ -17,10 +17,10 @@ use Rattle.firm_rounds.specs.Passes.{QueueId}
 use Rattle.firm_table.specs.Tenants.{tenants_are}
 use Rattle.firm_table.specs.inner.Line.{State, state_is}
 use Rattle.firm_hall.specs.Desks.{DeskIs, IsStep}
-use Rattle.firm_hall.specs.inner.Held.{FirstIsFor, OneWaits, filled, held_text}
+use Rattle.firm_hall.specs.inner.Held.{FirstIsFor, NoneWaits, OneWaits, filled, held_text}
 use Rattle.firm_hall.specs.inner.Held.{waits_for}
 use Rattle.firm_hall.specs.inner.Held.{HeldIs, held_is}
-use Rattle.firm_hall.specs.inner.DeskStates.{IsPresent, IsAway, IsTurned}
+use Rattle.firm_hall.specs.inner.DeskStates.{IsPresent, IsAway, IsBack, IsTurned}
 use Rattle.firm_hall.specs.inner.Serving.{book_at, asked_at, desk_state_counts, AreDeskStates, IsPlaced, ArePlaced}
 use Rattle.firm_hall.specs.inner.Serving.{DeskStateIs, Tells, TellsParts}
 use Rattle.firm_hall.specs.inner.Serving.{ServingIs, Stands, Follows, IsOpen, Keeps, serving_is}
@@ -117,6 +117,10 @@ present queue place answers (Away asked) is = tt
 present queue place answers (Empty empty) is = tt
 present queue place answers Gone is = absurd is
 
+none_first : (place : ℕ) (answers : List HeldAnswer) → NoneWaits place answers → FirstIsFor place answers → ⊥
+none_first place [] none here = here
+none_first place (answer ∷ rest) none here = let both : true ≡ false = sym here ∙ none.0 in cc
+
 waits_low : (place : ℕ) (answer : HeldAnswer) → waits_for place answer ≡ true → IsPlaced answer → place < most_places
 waits_low place (Known answer) here is = cc
 waits_low place (Waiting at name asked) here is = subst (λ (p : ℕ). p < most_places) (eqb-true at place here) is
@@ -173,7 +177,11 @@ came_back queue register desk_states held place before last default reply stands
         fits = (turn_of []).counts ∙ stands.fits;
         placed = (turn_of []).placed;
       };
-      follows = record { same_hall = refl; fewer = omega (arith, length_filled place reply held.answers) };
+      follows = record {
+        same_hall = refl;
+        same_register = refl;
+        fewer = omega (arith, length_filled place reply held.answers);
+      };
       keeps = λ opening text written now told. (turn_of opening).keeps held.output text written now told;
     }
 
@@ -187,9 +195,25 @@ stayed_away desk_states place before last default at same =
 -- one change behind another
 pub follows_then : {old between new : ServingIs} → Follows old between → Follows between new → Follows old new
 follows_then first second =
-    record { same_hall = second.same_hall ∙ first.same_hall; fewer = omega (arith, first.fewer, second.fewer) }
+    record {
+      same_hall = second.same_hall ∙ first.same_hall;
+      same_register = second.same_register ∙ first.same_register;
+      fewer = omega (arith, first.fewer, second.fewer);
+    }
 
--- a service with no answer more held is open still
+-- a service that went on is open still
 pub stays_open : {id : QueueId} {old new : ServingIs} → Follows old new → IsOpen id old → IsOpen id new
-stays_open follows before =
-    record { same_hall = follows.same_hall ∙ before.same_hall; room = omega (arith, follows.fewer, before.room) }
+stays_open follows before = follows.same_hall ∙ before
+
+-- nothing followed
+pub follows_same : {old new : ServingIs} → new ≡ old → Follows old new
+follows_same same =
+    rw same (record { same_hall = refl; same_register = refl; fewer = omega arith })
+
+-- no round is back at the place for which the first answer waits
+pub first_away : (queue : QueueId) (place : ℕ) (answers : List HeldAnswer) (desk_state : DeskState)
+    → DeskStateIs queue place answers desk_state → FirstIsFor place answers → IsBack desk_state → ⊥
+first_away queue place answers (Home desk) is here back = none_first place answers is.2 here
+first_away queue place answers (Away asked) is here back = back
+first_away queue place answers (Empty empty) is here back = none_first place answers is.2 here
+first_away queue place answers Gone is here back = is

@@ -1,29 +1,26 @@
 -- Known answers are taken off the front, and written.
-use Rattle.std.proofs.Common.{◌≡◌, ℕ, ◌<◌, ◌≤◌, List, [], ◌∷◌, ◌++◌, length, take, get_or, refl, sym, ap, ◌∙◌, subst}
-use Rattle.std.proofs.Common.{arith, append_assoc, append-nil}
-use Rattle.std.specs.Prelude.{Bool, true, false, ◌==◌, map, Option, Result, Ok, Err, OnErr, OnOk}
+use Rattle.std.proofs.Common.{◌≡◌, ℕ, ◌≤◌, List, [], ◌∷◌, ◌++◌, length, take, get_or, refl, sym, ap, ◌∙◌, subst}
+use Rattle.std.proofs.Common.{append_assoc, append-nil}
+use Rattle.std.specs.Prelude.{Bool, false, map, Option, Result, Ok, Err, OnErr, OnOk}
 use Rattle.std.proofs.Math.Seq.{take-length}
 use Rattle.std.specs.Io.KnownBytes.{Appends}
 use Rattle.std.proofs.KnownBytes.{Appends-nil}
 use Rattle.firm_text.specs.declared.registers.Entry.{Entry}
 use Rattle.firm_table.specs.Places.{Place}
 use Rattle.firm_table.specs.Answers.{text_of_answer}
-use Rattle.firm_table.specs.Service.{AnswersFrom, BeginsAnswersFrom}
+use Rattle.firm_table.specs.Service.{AnswersFrom}
 use Rattle.firm_table.specs.Tenants.{tenants_are}
 use Rattle.firm_table.specs.inner.Line.{state_is}
 use Rattle.firm_rounds.specs.Rounds.{weigh}
 use Rattle.firm_rounds.specs.Passes.{QueueId}
-use Rattle.firm_hall.specs.inner.Held.{FirstIsKnown, NoneWaits, answer_in, held_text}
-use Rattle.firm_hall.specs.inner.DeskStates.{IsBack}
+use Rattle.firm_hall.specs.inner.Held.{FirstIsKnown, answer_in, held_text}
 use Rattle.firm_hall.specs.inner.Held.{HeldIs}
-use Rattle.firm_hall.specs.inner.Serving.{ServingIs, Stands, Keeps, Passes, Begins, serving_is}
+use Rattle.firm_hall.specs.inner.Serving.{ServingIs, Stands, Keeps, Passes, Begins, Begun, serving_is}
 use Rattle.firm_hall.specs.inner.Serving.{book_at, asked_at, state_with, AreDeskStates, ArePlaced}
-use Rattle.firm_hall.specs.inner.Serving.{DeskStateIs, Tells, TellsParts, AllBack}
+use Rattle.firm_hall.specs.inner.Serving.{DeskStateIs, Tells, TellsParts}
 use Rattle.firm_hall.specs.declared.desk_states.DeskState.{DeskState}
-use Rattle.firm_hall.specs.declared.desk_states.DeskState.TheVariants.{Home, Away, Empty, Gone}
 use Rattle.firm_hall.specs.declared.held.HeldAnswer.{HeldAnswer}
-use Rattle.firm_hall.specs.declared.held.HeldAnswer.TheVariants.{Known, Waiting}
-use Rattle.firm_hall.proofs.HeldAnswers.{is_place, known_waits}
+use Rattle.firm_hall.proofs.HeldAnswers.{known_waits}
 use Rattle.firm_hall.proofs.DeskStates.{desk_state_pop}
 use Rattle.firm_hall.proofs.Telling.{tells_begins, tells_written}
 
@@ -67,34 +64,34 @@ popped_tells opening register desk_states answers rest answer output later is ad
 abbrev unmarked : ℕ → Bool
 unmarked place = false
 
--- what was written begins the output
+-- what was written is part of the output
 pub begun : (opening : List Place) (register : List Entry) (desk_states : List DeskState) (answers : List HeldAnswer)
     (output text : List ℕ) (written now : Option (List ℕ))
     → TellsParts opening register desk_states answers output text written now
-    → BeginsAnswersFrom opening text written now
+    → Begun opening text written now
 begun opening register desk_states answers output text written now told =
     tells_begins (state_with unmarked opening register desk_states answers output)
     (weigh asked_at desk_states) text written now now 0
-    [] (output ++ held_text unmarked answers) (told unmarked) refl (omega arith) (Appends-nil now)
+    [] (output ++ held_text unmarked answers) (told unmarked) refl (Appends-nil now)
 
 -- and so it does where some of what was to be written was
 pub partly : (opening : List Place) (register : List Entry) (desk_states : List DeskState)
     (answers : List HeldAnswer)
-    (output text : List ℕ) (written now later : Option (List ℕ)) (count : ℕ) → count ≤ length output
+    (output text : List ℕ) (written now later : Option (List ℕ)) (count : ℕ)
     → Appends now later (take count output) → TellsParts opening register desk_states answers output text written now
-    → BeginsAnswersFrom opening text written later
-partly opening register desk_states answers output text written now later count few wrote told =
+    → Begun opening text written later
+partly opening register desk_states answers output text written now later count wrote told =
     tells_begins (state_with unmarked opening register desk_states answers output)
     (weigh asked_at desk_states) text written now later
-    count output (held_text unmarked answers) (told unmarked) refl few wrote
+    count output (held_text unmarked answers) (told unmarked) refl wrote
 
 pub wholly : (opening : List Place) (register : List Entry) (desk_states : List DeskState)
     (answers : List HeldAnswer)
     (output text : List ℕ) (written now later : Option (List ℕ))
     → Appends now later output → TellsParts opening register desk_states answers output text written now
-    → BeginsAnswersFrom opening text written later
+    → Begun opening text written later
 wholly opening register desk_states answers output text written now later wrote told =
-    partly opening register desk_states answers output text written now later (length output) (omega arith)
+    partly opening register desk_states answers output text written now later (length output)
     (subst (Appends now later) (sym (take-length output)) wrote) told
 
 -- all that was to be written was
@@ -110,30 +107,6 @@ written_all opening register desk_states answers output held text written now la
     (weigh asked_at desk_states) text written later) same
     (tells_written (state_with marks opening register desk_states answers output)
     (weigh asked_at desk_states) text written now later output (held_text marks answers) (told marks) refl wrote)
-
--- where no round is away, each answer is known
-pub all_known : (queue : QueueId) (answers : List HeldAnswer) (desk_states : List DeskState)
-    → AreDeskStates queue answers desk_states
-    → ArePlaced answers → AllBack desk_states → 0 < length answers
-    → FirstIsKnown answers
-all_known queue [] desk_states are placed back some = absurd (omega arith)
-all_known queue (Known answer ∷ rest) desk_states are placed back some = tt
-all_known queue (Waiting place name asked ∷ rest) desk_states are placed back some =
-    let none = waits_none (get_or desk_states place Gone) (back place Gone placed.0)
-    (are.each place Gone placed.0) in
-    let here = is_place place place refl in
-    absurd (not_both here none.0)
-  where
-    waits_none : (desk_state : DeskState) → IsBack desk_state
-        → DeskStateIs queue place (Waiting place name asked ∷ rest) desk_state
-        → NoneWaits place (Waiting place name asked ∷ rest)
-    waits_none (Home desk) is_back is = is.2
-    waits_none (Away other) is_back is = absurd is_back
-    waits_none (Empty empty) is_back is = is.2
-    waits_none Gone is_back is = absurd is_back
-
-    not_both : (place == place) ≡ true → (place == place) ≡ false → ⊥
-    not_both e f = let g : true ≡ false = sym e ∙ f in cc
 
 -- nothing is still to be written: what was is the output
 pub answers_all : (opening : List Place) (register : List Entry) (desk_states : List DeskState)
@@ -183,7 +156,7 @@ wrote (Ok x) queue register desk_states held after now later all none same part 
 wrote (Err e) queue register desk_states held after now later all none same part = record {
   passes = tt;
   begins = λ opening text written told.
-      partly opening register desk_states held.answers held.output text written now later part.0 part.1 part.2 told;
+      partly opening register desk_states held.answers held.output text written now later part.0 part.2 told;
 }
 
 -- nothing is written yet

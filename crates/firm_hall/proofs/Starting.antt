@@ -14,7 +14,7 @@ use Rattle.firm_table.specs.inner.Adding.{NothingIsTold}
 use Rattle.firm_table.specs.Places.{MarkedLine, Stay, Place, unused_place, book_of, register_of}
 use Rattle.firm_table.specs.Output.{answers_from}
 use Rattle.firm_hall.specs.Counts.{Counted}
-use Rattle.firm_hall.specs.inner.DeskStates.{IsPresent}
+use Rattle.firm_hall.specs.inner.DeskStates.{IsBack}
 use Rattle.firm_hall.specs.inner.Ending.{IsOf}
 use Rattle.firm_hall.specs.inner.Serving.{book_at, opened_at, opening_state, opening_states, asked_at}
 use Rattle.firm_hall.specs.inner.Serving.{desk_state_counts, place_counts, AreDeskStates, Fits, DeskStateIs, Tells}
@@ -169,26 +169,26 @@ tells_open nothing id places desk_states answers output is none empty written ma
     (state_is places (tenants_are (register_of places) bs) []) 0 [] written written)
     (sym (books_open marks id places)) t))
 
--- what stands at each place is of this hall
-desk_state_of : (id : QueueId) (place : ℕ) (answers : List HeldAnswer) (desk_state : DeskState)
-    → DeskStateIs id place answers desk_state
+-- where no answer is held, each desk of this hall is home
+desk_state_of : (id : QueueId) (place : ℕ) (desk_state : DeskState) → DeskStateIs id place [] desk_state
     → IsOf id desk_state
-desk_state_of id place answers (Home desk) is = is.0
-desk_state_of id place answers (Away asked) is = is.0
-desk_state_of id place answers (Empty empty) is = is.0
-desk_state_of id place answers Gone is = absurd is
+desk_state_of id place (Home desk) is = is.0
+desk_state_of id place (Away asked) is = absurd is.2
+desk_state_of id place (Empty empty) is = is.0
+desk_state_of id place Gone is = absurd is
 
-pub all_of : (id : QueueId) (answers : List HeldAnswer) (desk_states : List DeskState)
-    → AreDeskStates id answers desk_states
-    → All (IsOf id) desk_states
-all_of id answers desk_states are place default low =
-    desk_state_of id place answers (get_or desk_states place default) (are.each place default (omega (arith, are.long)))
+pub all_of : (id : QueueId) (answers : List HeldAnswer) (desk_states : List DeskState) → answers ≡ []
+    → AreDeskStates id answers desk_states → All (IsOf id) desk_states
+all_of id answers desk_states none are place default low =
+    desk_state_of id place (get_or desk_states place default)
+    (subst (λ (held : List HeldAnswer). DeskStateIs id place held (get_or desk_states place default)) none
+    (are.each place default (omega (arith, are.long))))
 
-pub present_of : (id : QueueId) (desk_state : DeskState) → IsOf id desk_state → IsPresent desk_state
-present_of id (Home desk) is = tt
-present_of id (Away asked) is = tt
-present_of id (Empty empty) is = tt
-present_of id Gone is = absurd is
+pub back_of : (id : QueueId) (desk_state : DeskState) → IsOf id desk_state → IsBack desk_state
+back_of id (Home desk) is = tt
+back_of id (Away asked) is = absurd is
+back_of id (Empty empty) is = tt
+back_of id Gone is = absurd is
 
 -- the desk of one more place is put away
 pub asked_more : (all rest : List DeskState) (desk_state : DeskState) (rounds asked total : ℕ) → all ≡ desk_state ∷ rest

@@ -1,26 +1,27 @@
 -- What is told, as one line more is answered, and as rounds come back.
-use Rattle.std.proofs.Common.{◌≡◌, ℕ, ◌+◌, ◌≤◌, List, [], ◌∷◌, ◌++◌, length, take, sym, ap, ◌∙◌, subst, arith}
+use Rattle.std.proofs.Common.{◌≡◌, ℕ, ◌+◌, ◌≤◌, List, [], ◌∷◌, ◌++◌, drop, length, take, refl, sym, ap, ◌∙◌, subst}
+use Rattle.std.proofs.Common.{arith}
 use Rattle.std.proofs.Common.{append_assoc, append-nil}
 use Rattle.std.specs.Prelude.{Bool, map, Option}
 use Rattle.std.specs.List.{flat_map}
 use Rattle.std.specs.Io.KnownBytes.{Appends}
 use Rattle.std.proofs.KnownBytes.{Appends-trans}
 use Rattle.std.proofs.lemmas.Grind.{flat_map-append}
-use Rattle.std.proofs.lemmas.List.{length-map, map-append, take-append-le}
-use Rattle.std.proofs.Math.Seq.{take-append-add}
+use Rattle.std.proofs.lemmas.List.{length-map, map-append, take-append-drop}
+use Rattle.std.proofs.Math.Seq.{take-append_seam}
 use Rattle.firm_text.specs.Inputs.{input_lines}
 use Rattle.firm_text.specs.declared.inputs.Line.{Line}
-use Rattle.firm_table.specs.Places.{MarkedLine}
+use Rattle.firm_table.specs.Places.{MarkedLine, Place}
 use Rattle.firm_table.specs.Answers.{tells_memory, text_of_answer}
 use Rattle.firm_table.specs.declared.answers.LineAnswer.{LineAnswer}
 use Rattle.firm_table.specs.Output.{answers_from, output_from}
 use Rattle.firm_table.specs.Service.{BeginsAnswersFrom}
 use Rattle.firm_table.specs.Tenants.{TenantsState}
 use Rattle.firm_table.specs.inner.Line.{State, IsAnswer, state_is}
-use Rattle.firm_table.specs.inner.Adding.{OneMoreIsTold}
+use Rattle.firm_table.specs.inner.Adding.{OneMoreBegins, OneMoreIsTold}
 use Rattle.firm_hall.specs.Counts.{rounds_in, round_of, refusal_in, refusals_in}
 use Rattle.firm_hall.specs.inner.Held.{answer_in, held_text}
-use Rattle.firm_hall.specs.inner.Serving.{Tells}
+use Rattle.firm_hall.specs.inner.Serving.{Begun, Tells}
 use Rattle.firm_hall.specs.declared.held.HeldAnswer.{HeldAnswer}
 
 -- the counts, with one line more
@@ -87,24 +88,49 @@ held_push marks answers answer =
 -- some of what is still to be written was
 pub tells_begins : (state : State) (asked : ℕ) (text : List ℕ) (written now later : Option (List ℕ)) (count : ℕ)
     (front held : List ℕ) → Tells state asked text written now
-    → state.pending ≡ front ++ held → count ≤ length front → Appends now later (take count front)
-    → BeginsAnswersFrom state.opening text written later
-tells_begins state asked text written now later count front held tells both few wrote = record {
-  lines = tells.told.lines;
-  are_lines = tells.told.are_lines;
-  count = length tells.told.sent + count;
-  wrote =
-      let sent = tells.told.sent in
-      let cut_off : take (length sent + count) (output_from state.opening tells.told.lines) ≡ sent ++ take count front =
-      ap (take (length sent + count)) (sym tells.told.whole ∙ ap (λ (l : List ℕ). sent ++ l) both)
-      ∙ take-append-add sent (front ++ held) count
-      ∙ ap (λ (l : List ℕ). sent ++ l) (take_front count front held few) in
-      subst (Appends written later) (sym cut_off)
-      (Appends-trans written now later sent (take count front) tells.told.wrote wrote);
-}
-  where
-    take_front : (n : ℕ) (xs ys : List ℕ) → n ≤ length xs → take n (xs ++ ys) ≡ take n xs
-    take_front n xs ys low = take-append-le n xs ys low
+    → state.pending ≡ front ++ held → Appends now later (take count front) → Begun state.opening text written later
+tells_begins state asked text written now later count front held tells both wrote =
+    let t = tells.told in
+    let rest = drop count front ++ held in
+    let cut : take count front ++ rest ≡ state.pending =
+    sym (append_assoc (take count front) (drop count front) held)
+    ∙ ap (λ (l : List ℕ). l ++ held) (take-append-drop count front) ∙ sym both in
+    record {
+      state = state_is state.opening state.tenants rest;
+      opened = refl;
+      told = record {
+        lines = t.lines;
+        are_lines = t.are_lines;
+        shows = t.shows;
+        sent = t.sent ++ take count front;
+        wrote = Appends-trans written now later t.sent (take count front) t.wrote wrote;
+        whole = append_assoc t.sent (take count front) rest ∙ ap (λ (l : List ℕ). t.sent ++ l) cut ∙ t.whole;
+      };
+    }
+
+-- what was written begins the output for the answered lines
+pub begun_answers : (opening : List Place) (text : List ℕ) (written now : Option (List ℕ))
+    → Begun opening text written now → BeginsAnswersFrom opening text written now
+begun_answers opening text written now begun =
+    let t = begun.told in
+    let front : take (length t.sent) (output_from begun.state.opening t.lines) ≡ t.sent =
+    ap (take (length t.sent)) (sym t.whole) ∙ take-append_seam t.sent begun.state.pending in
+    subst (λ (places : List Place). BeginsAnswersFrom places text written now) begun.opened
+    (record {
+      lines = t.lines;
+      are_lines = t.are_lines;
+      count = length t.sent;
+      wrote = subst (Appends written now) (sym front) t.wrote;
+    })
+
+-- and that for one more line
+pub begun_more : OneMoreBegins
+    → (opening : List Place) (text after : List ℕ) (written now : Option (List ℕ)) (line : Line)
+    → input_lines after ≡ input_lines text ++ line ∷ [] → Begun opening text written now
+    → BeginsAnswersFrom opening after written now
+begun_more short opening text after written now line more begun =
+    subst (λ (places : List Place). BeginsAnswersFrom places after written now) begun.opened
+    (short begun.state text after written now line begun.told more)
 
 -- the front of it was
 pub tells_written : (state : State) (asked : ℕ) (text : List ℕ) (written now later : Option (List ℕ))

@@ -11,7 +11,10 @@ const LOOKS_BEFORE_REST: u32 = 16;
 
 const LOOKS_OF_LAST: u32 = 512;
 
-// How many rounds may wait in the queue, which has room for 8, before each further one wakes a worker.
+// How many rounds the queue has room for.
+const ROOM: u64 = 8;
+
+// How many of them may wait before each further one wakes a worker.
 const MOST_UNCALLED: u64 = 4;
 
 /// Wakes workers. A round wakes one at once only if all rest or `MOST_UNCALLED` rounds already wait. Otherwise the
@@ -61,9 +64,14 @@ impl Bell {
         }
     }
 
-    /// Called once a round is taken.
-    pub(crate) fn took(&self) {
-        self.waiting.fetch_sub(1, Ordering::SeqCst);
+    /// Whether the queue has room for one more round. If so, and no other thread puts rounds, a put does not wait.
+    pub(crate) fn has_room(&self) -> bool {
+        self.waiting.load(Ordering::SeqCst) < ROOM
+    }
+
+    /// Called once a round is taken. Returns whether the queue was full until then.
+    pub(crate) fn took(&self) -> bool {
+        self.waiting.fetch_sub(1, Ordering::SeqCst) == ROOM
     }
 
     /// Wakes a worker if one is owed and a round waits.

@@ -13,13 +13,11 @@ use crate::empty::EmptyDesk;
 use crate::ending::Ended;
 use crate::serving::Serving;
 use crate::setting::Setting;
-use crossbeam_utils::sync::Key;
+use crate::waiting::{End, Input};
 use firm_rounds::PutPass;
 use firm_table::{Clerk, ServeFault};
 use firm_text::{Line, PLACES, Sink, Source};
-use firm_tray::LOOKS_BEFORE_SLEEP;
 use std::alloc::AllocError;
-use std::hint::spin_loop;
 use std::sync::Wait;
 
 /// A serving hall, and the room reserved for its desks at the end.
@@ -60,20 +58,21 @@ impl<'h, R: Wait> HallClerk<'h, R> {
         })
     }
 
-    /// Ends the service once each desk is home.
+    /// Ends the service, all of whose desks are home.
     pub(crate) fn end(self) -> Ended
         requires open { IsOpen self.setting.hall.now.id self.serving }
+        requires finished { IsFinished self.serving }
         ensures of { AreOf self.entry.setting.hall.now.id result.desks.items result.empty.items }
         ensures all { length result.desks.items + length result.empty.items ≡ most_places }
         ensures rounds { result.rounds ≡ weigh asked_at self.entry.serving.desk_states }
     {
         let HallClerk {
-            setting,
             serving,
             desks,
             empty,
+            ..
         } = self;
-        serving.end(setting.rt, desks, empty)
+        serving.end(desks, empty)
     }
 }
 
@@ -97,40 +96,16 @@ impl<'h, R: Wait> Clerk for HallClerk<'h, R> {
         self.serving.answer(&self.setting, writer, line)
     }
 
-    // If an answer is missing, looks again; after some looks in vain, sleeps until there is an answer or input.
     fn write_out<S: Source, W: Sink>(
         &mut self,
         reader: &S,
         writer: &mut W,
     ) -> Result<(), ServeFault> {
-        let rt = self.setting.rt;
-        let answers = self.setting.hall.answers();
-        let mut looks = 0u32;
         self.setting.hall.bell().ring();
-        for _ in rt.forever() {
-            // Whatever this look misses, answer or input, arrives after the announcement and so ends the sleep.
-            let announced = (LOOKS_BEFORE_SLEEP <= looks).then(|| answers.prepare_wait());
-            self.serving.write_out(writer)?;
-            let waker = announced.is_some().then_some(answers);
-            if self.serving.is_idle() || reader.is_ready(waker) {
-                return Ok(());
-            }
-            looks = rest(rt, announced, looks);
-        }
-        unreachable!()
+        self.serving.wait(&self.setting, writer, &Input { reader })
     }
 
     fn finish<W: Sink>(&mut self, writer: &mut W) -> Result<(), ServeFault> {
-        self.serving.finish(&self.setting, writer)
+        self.serving.wait(&self.setting, writer, &End)
     }
-}
-
-// Sleeps if a sleep was announced. Returns the number of looks in vain since the last sleep.
-fn rest<R: Wait>(rt: &R, announced: Option<Key<'_>>, looks: u32) -> u32 {
-    let Some(key) = announced else {
-        spin_loop();
-        return looks.saturating_add(1);
-    };
-    key.wait(rt);
-    0
 }

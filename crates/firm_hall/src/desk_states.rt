@@ -1,6 +1,5 @@
 //! What stands at a tenant's place while the hall serves.
-ghost use Rattle.std.specs.Prelude.{◌≡◌, MatchBool, Some};
-ghost use Rattle.firm_hall.specs.Desks.{IsStep};
+ghost use Rattle.std.specs.Prelude.{◌≡◌, IsSome, MatchBool};
 ghost use Rattle.firm_hall.specs.inner.DeskStates.{IsPresent, IsBack, IsAway, IsHome, IsHomeOf, IsFree, IsTurned};
 ghost use Rattle.firm_hall.specs.inner.DeskStates.{IsAdmitted, IsRetired, IsTaken, IsTakenAt};
 ghost use Rattle.firm_rules.specs.declared.commands.Command.TheVariants.{Round};
@@ -41,24 +40,11 @@ impl DeskState {
         }
     }
 
-    // Waits for the round that is away, brings its desk home and returns its reply.
-    pub(crate) fn come_home<R: Wait>(&mut self, setting: &Setting<'_, R>) -> Reply
-        requires { IsAway self.old }
-        ensures turned { IsTurned self.old self.new (Some result) }
-        ensures back { IsBack self.new }
-    {
-        let DeskState::Away(asked) = mem::replace(self, DeskState::Gone) else {
-            unreachable!()
-        };
-        let (desk, reply) = wait(setting, asked);
-        let _gone = mem::replace(self, DeskState::Home(desk));
-        reply
-    }
-
-    // The same without waiting: if the round is not answered yet, changes nothing.
+    // If the round that is away is answered, brings its desk home and returns its reply; otherwise changes nothing.
     pub(crate) fn look(&mut self) -> Option<Reply>
         requires { IsAway self.old }
-        ensures { IsTurned self.old self.new result }
+        ensures turned { IsTurned self.old self.new result }
+        ensures back { IsSome result → IsBack self.new }
     {
         let DeskState::Away(asked) = mem::replace(self, DeskState::Gone) else {
             unreachable!()
@@ -156,18 +142,5 @@ fn ask<R: Wait>(
             DeskState::Home(desk),
             HeldAnswer::Known(LineAnswer::Replied(name, reply)),
         ),
-    }
-}
-
-// The desk with the reply to its round. If the round is still away after some looks, wakes a worker if one is owed.
-fn wait<R: Wait>(setting: &Setting<'_, R>, asked: Asked) -> (Desk, Reply)
-    ensures { IsStep asked Round result.1 result.0 }
-{
-    match asked.look_awhile() {
-        AskedPoll::Back(desk, reply) => (desk, reply),
-        AskedPoll::Not(asked) => {
-            setting.hall.bell().ring();
-            asked.wait(setting.rt)
-        }
     }
 }

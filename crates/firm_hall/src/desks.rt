@@ -15,12 +15,8 @@ use firm_rules::{Command, Limits, Reply};
 use firm_tenant::{Tenant, steps_count_once};
 use firm_tray::{AskSide, Polled, Solved, Tray};
 use std::alloc::{AllocError, Global};
-use std::hint::spin_loop;
 use std::marker::Model;
 use std::sync::Wait;
-
-// How many times to look for a round that is away before waking a worker for those that wait: some microseconds.
-const LOOKS_BEFORE_RING: u32 = 256;
 
 /// A tenant at home, owned by the desk's holder. Contracts see its hall, its place, how many rounds all tenants of the
 /// place asked, how often the place was given, and the tenant's book.
@@ -187,21 +183,6 @@ impl Asked {
             ),
             Polled::Not(side) => AskedPoll::Not(Asked { side, place }),
         }
-    }
-
-    // The same, but looks several times before it gives back the token.
-    pub(crate) fn look_awhile(self) -> AskedPoll
-        ensures { IsAskedPoll self result }
-    {
-        let mut asked = self;
-        for _ in 0..LOOKS_BEFORE_RING {
-            match asked.poll() {
-                AskedPoll::Not(same) => asked = same,
-                back => return back,
-            }
-            spin_loop();
-        }
-        AskedPoll::Not(asked)
     }
 
     /// Waits for the round; returns the desk with its reply. Takes no memory.

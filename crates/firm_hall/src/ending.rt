@@ -4,14 +4,13 @@ ghost use Rattle.firm_text.specs.Rosters.{most_places};
 ghost use Rattle.firm_rounds.specs.Passes.{QueueId};
 ghost use Rattle.firm_rounds.specs.Rounds.{weigh};
 ghost use Rattle.firm_hall.specs.inner.Ending.{AreOf, IsOf};
-ghost use Rattle.firm_hall.specs.inner.DeskStates.{IsPresent};
-ghost use Rattle.firm_hall.specs.inner.Serving.{IsReserved, asked_at};
+ghost use Rattle.firm_hall.specs.inner.DeskStates.{IsBack};
+ghost use Rattle.firm_hall.specs.inner.Serving.{IsFinished, IsReserved, asked_at};
 
 use crate::desk_states::DeskState;
 use crate::desks::Desk;
 use crate::empty::EmptyDesk;
 use crate::serving::Serving;
-use std::sync::Wait;
 
 /// What a service leaves: its desks, all home, its empty ones, and how many rounds were asked at all of them.
 #[derive(Drop)]
@@ -22,8 +21,10 @@ pub(crate) struct Ended {
 }
 
 impl Serving {
-    /// Ends the service once each desk is home. The desks go into these vectors, reserved for them.
-    pub(crate) fn end<R: Wait>(self, rt: &R, room: Vec<Desk>, empty_room: Vec<EmptyDesk>) -> Ended
+    /// Ends the service, all of whose desks are home since no answer is held. The desks go into these vectors, reserved
+    /// for them.
+    pub(crate) fn end(self, room: Vec<Desk>, empty_room: Vec<EmptyDesk>) -> Ended
+        requires finished { IsFinished self }
         requires room { IsReserved room.items (vec_capacity room) }
         requires empty_room { IsReserved empty_room.items (vec_capacity empty_room) }
         ensures of { AreOf self.queue result.desks.items result.empty.items }
@@ -35,7 +36,7 @@ impl Serving {
         let mut empty = empty_room;
         let mut rounds = 0;
         for desk_state in desk_states {
-            rounds += put_away(rt, desk_state, &mut desks, &mut empty);
+            rounds += put_away(desk_state, &mut desks, &mut empty);
         }
         Ended {
             desks,
@@ -45,15 +46,9 @@ impl Serving {
     }
 }
 
-// Puts a desk, once it is home, with the others, or an empty one with the empty ones. Returns how many rounds were
-// asked there.
-fn put_away<R: Wait>(
-    rt: &R,
-    desk_state: DeskState,
-    desks: &mut Vec<Desk>,
-    empty: &mut Vec<EmptyDesk>,
-) -> u64
-    requires present { IsPresent desk_state }
+// Puts a desk with the others, or an empty one with the empty ones. Returns how many rounds were asked there.
+fn put_away(desk_state: DeskState, desks: &mut Vec<Desk>, empty: &mut Vec<EmptyDesk>) -> u64
+    requires back { IsBack desk_state }
     requires room { vec_len desks.old < vec_capacity desks.old }
     requires empty_room { vec_len empty.old < vec_capacity empty.old }
     ensures of { (id : QueueId) → IsOf id desk_state → AreOf id desks.old.items empty.old.items
@@ -66,16 +61,12 @@ fn put_away<R: Wait>(
 {
     match desk_state {
         DeskState::Home(desk) => put_desk(desks, desk),
-        DeskState::Away(asked) => {
-            let (desk, _) = asked.wait(rt);
-            put_desk(desks, desk)
-        }
         DeskState::Empty(place) => {
             let rounds = place.asked();
             empty.push_reserved(place);
             rounds
         }
-        DeskState::Gone => unreachable!(),
+        DeskState::Away(_) | DeskState::Gone => unreachable!(),
     }
 }
 

@@ -28,7 +28,8 @@ pub struct Hall {
     stop: CachePadded<AtomicU64>,
     // Workers without a round sleep until it rings.
     bell: Bell,
-    // Notified of each solved round. The clerk sleeps on it, for an answer or for input.
+    // Notified of each solved round, and of room in a queue that was full. The clerk sleeps on it, for these or for
+    // input.
     answers: Arc<EventCount, Global>,
 }
 
@@ -105,9 +106,14 @@ impl Hall {
         &self.bell
     }
 
-    // Notified of each solved round.
+    // Notified of each solved round, and of room in a queue that was full.
     pub(crate) fn answers(&self) -> &Arc<EventCount, Global> {
         &self.answers
+    }
+
+    // Whether the queue has room for one more round.
+    pub(crate) fn has_room(&self) -> bool {
+        self.bell.has_room()
     }
 
     // Puts a round. If others wait or are being solved, possibly no worker is woken until the bell rings.
@@ -128,7 +134,9 @@ impl Hall {
             (λ job. pass.new ≡ pop_is pass.old.queue (pass.old.got ++ job.ticket ∷ [])) }
     {
         let job = self.queue.pop(rt, pass)?;
-        self.bell.took();
+        if self.bell.took() {
+            self.answers.notify_one();
+        }
         Some(job)
     }
 

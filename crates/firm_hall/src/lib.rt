@@ -25,23 +25,25 @@
 //!
 //! # How it works
 //!
-//! A line waits for its tenant's round, even one that retires the tenant. At most 1,024 answers are held; then the
-//! first is waited for. Before each read all known answers are written; while one is missing and the read would wait
-//! (`Source::is_ready`), each is written once known. The writer is flushed at the end alone.
+//! The clerk waits in one loop alone (`waiting.rt`): for input, while an answer is missing and a read would wait
+//! (`Source::is_ready`); for the turn of a line; and at the end for all answers. A line has its turn when its tenant's
+//! round is back, even one that retires the tenant; when fewer than 1,024 answers are held; and, if it is a round, when
+//! the queue has room. Each time before it rests, the clerk has written all answers that are known with none missing
+//! before them: a clause of the one function that rests (`Serving::rest`). The writer is flushed at the end alone.
 //!
 //! A worker without a round looks 16 times, the last one awake 512 times, the clerk 1,024 times. Then they sleep:
 //!
 //! - a worker without a round: sleeps until it is called for a round, or the hall is shut; woken by the hall's `Bell`;
 //!   `shut` wakes all
-//! - a line of a tenant whose round is away: sleeps until the round is solved; woken by its tray
-//! - a round at a full queue: sleeps until a worker takes one; woken by the queue
-//! - `serve`, before a read, with an answer missing: sleeps until the answer arrives, or input; woken by the worker
-//!   that solved a round, or the source
+//! - the clerk: sleeps until a round is solved, a full queue has room, or input is there; woken by the worker that
+//!   solved a round or took one from a full queue, or by the source
+//! - `Asked::wait`: sleeps until the round is solved; woken by its tray
+//! - `Desk::ask` at a full queue: sleeps until a worker takes a round; woken by the queue
 //!
 //! A round wakes a worker at once only if all workers rest or four rounds wait; else a wake is owed (why:
-//! docs/DECISIONS.md). `Desk::ask` *rings* at once; the clerk rings before each read, and after 256 looks for a round
-//! whose tenant's line waits: if a wake is owed and a round still waits, one worker wakes. One that takes a round right
-//! after its sleep calls another while rounds wait. So after a ring no worker sleeps on while a round waits.
+//! docs/DECISIONS.md). `Desk::ask` *rings* at once; the clerk rings before each read, and after 256 looks in any wait:
+//! if a wake is owed and a round still waits, one worker wakes. One that takes a round right after its sleep calls
+//! another while rounds wait. So after a ring no worker sleeps on while a round waits.
 //!
 //! A sleeper announces its sleep on an event count (the bell's for workers, `answers` for the clerk) and then looks
 //! once more. A change that this look misses follows the announcement, so its notification ends the sleep, even one not
@@ -66,6 +68,7 @@ mod serving;
 mod setting;
 mod team;
 mod tenancy;
+mod waiting;
 mod workers;
 
 pub use close::{CloseFault, Totals};

@@ -26,9 +26,10 @@ use std::thread::Threads;
 /// Answers the lines of an input of at most `most` bytes, 2^32 at most, for the tenants of the roster, which are
 /// admitted first, and for those that the operator admits later, up to 64 at a time. 1 to 8 workers solve their rounds,
 /// each on its own thread and each round after passing the gate. Answers are written in the order of their lines. Waits
-/// for a round only if the next line is for its tenant or retires it, if 1,024 answers are held, at the end of the
-/// input, or before a read for which the reader is not ready. Flushes the writer only at the end, so a buffering writer
-/// holds replies back until then.
+/// for a round only if the next line is for its tenant or retires it, if 1,024 answers are held, if the next line is a
+/// round and 8 rounds wait for workers, at the end of the input, or before a read for which the reader is not ready;
+/// meanwhile it writes each answer once it and those before it are known. Flushes the writer only at the end, so a
+/// buffering writer holds replies back until then.
 ///
 /// On `Ok` a read has found the end of the input, and what was written is the output for all of it. After a fault it is
 /// a prefix of the output for the bytes that were read. `Read` and `Write` mean that a call of the reader or the writer

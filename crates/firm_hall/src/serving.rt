@@ -1,6 +1,6 @@
 //! Lines are answered in order at the desks, while rounds are away.
-ghost use Rattle.std.specs.Prelude.{◌≡◌, ℕ, ◌<◌, ◌++◌, ◌∷◌, All, IfErr, IfOk, List, MatchBool, OnErr, OnOk, Option};
-ghost use Rattle.std.specs.Prelude.{Some, [], false, length};
+ghost use Rattle.std.specs.Prelude.{◌≡◌, ℕ, ◌<◌, ◌++◌, ◌∷◌, All, IfErr, IfOk, IfSome, IsSome, List, MatchBool, OnErr};
+ghost use Rattle.std.specs.Prelude.{OnOk, Option, Some, [], false, length, true};
 ghost use Rattle.firm_text.specs.Inputs.{input_lines};
 ghost use Rattle.firm_text.specs.Registers.{IsRegister, place_in};
 ghost use Rattle.firm_text.specs.Rosters.{most_places};
@@ -10,20 +10,21 @@ ghost use Rattle.firm_table.specs.Openings.{places_opened};
 ghost use Rattle.firm_table.specs.Service.{BeginsAnswersFrom};
 ghost use Rattle.firm_table.specs.inner.Faults.{IsWritingFault};
 ghost use Rattle.firm_rounds.specs.Passes.{new_puts};
-ghost use Rattle.firm_hall.specs.inner.Held.{FirstIsKnown, FirstWaits};
-ghost use Rattle.firm_hall.specs.inner.Serving.{AllBack, Begins, Follows, IsBackAt, IsFinished, IsOpen, IsWrittenOut};
-ghost use Rattle.firm_hall.specs.inner.Serving.{Keeps, Passes, Takes, TellsAll};
+ghost use Rattle.firm_hall.specs.inner.Held.{FirstIsKnown, FirstWaits, most_answers_held};
+ghost use Rattle.firm_hall.specs.inner.Serving.{Begins, Follows, HasTurn, IsBackAt, IsOpen, IsWrittenOut, Keeps};
+ghost use Rattle.firm_hall.specs.inner.Serving.{Passes, Takes, TellsAll, place_of_line};
 
 use crate::desk_states::DeskState;
 use crate::halls::Hall;
 use crate::held::{First, Held, HeldAnswer};
 use crate::seating::open_states;
 use crate::setting::Setting;
+use crate::waiting::Turn;
 use firm_rounds::PutPass;
 use firm_rules::{Command, Name};
 use firm_table::{LineAnswer, ServeFault, answers_add_up};
 use firm_tenant::replies_tell_their_marks;
-use firm_text::{Line, Register, Sink};
+use firm_text::{Line, OperatorLine, Register, Sink};
 use std::alloc::AllocError;
 use std::marker::Model;
 use std::snapshot::Snapshot;
@@ -73,7 +74,7 @@ impl Serving {
         })
     }
 
-    /// Answers one more line; waits for a round if the line's tenant is away or 1,024 answers are held.
+    /// Answers one more line, once it has its turn.
     pub(crate) fn answer<R: Wait, W: Sink>(
         &mut self,
         setting: &Setting<'_, R>,
@@ -94,13 +95,60 @@ impl Serving {
         ensures well { OnOk result (W.write_failed writer.new ≡ false) }
         ensures open { IsOpen setting.now.hall.now.id self.new }
     {
-        self.take_line(setting, line);
-        self.make_room(setting, writer)
+        // Laws: of one more line.
+        answers_add_up();
+        let place = self.place_of(&line);
+        let turn = Turn {
+            place,
+            is_round: matches!(line, Line::For(_, Command::Round)),
+            hall: setting.hall,
+        };
+        self.take_turn(setting, writer, &turn)?;
+        self.take_line(setting, line, place);
+        Ok(())
     }
 
-    // Takes a line and holds its answer.
-    fn take_line<R: Wait>(&mut self, setting: &Setting<'_, R>, line: Line)
-        requires { IsOpen setting.now.hall.now.id self.old }
+    // The place that a line is for, if a tenant has it.
+    fn place_of(&self, line: &Line) -> Option<usize>
+        ensures place { result ≡ place_of_line self.now.register line.now }
+        ensures within { IfSome result (λ place. place < most_places) }
+        ensures sound { IsSome result → IsRegister self.now.register }
+    {
+        match line {
+            Line::For(name, _) => self.register.place_of(*name),
+            Line::Operator(OperatorLine::Retire(name)) => self.register.place_of(*name),
+            _ => None,
+        }
+    }
+
+    // Waits for the turn, if it has not come.
+    fn take_turn<R: Wait, W: Sink>(
+        &mut self,
+        setting: &Setting<'_, R>,
+        writer: &mut W,
+        turn: &Turn<'_>,
+    ) -> Result<(), ServeFault>
+        requires { W.write_failed writer.old ≡ false }
+        ensures told { OnOk result (Passes self.old self.new (W.written writer.old) (W.written writer.new)) }
+        ensures come { OnOk result (HasTurn turn.now.place self.new) }
+        ensures begins { Begins self.old (W.written writer.old) (W.written writer.new) }
+        ensures cause { IfErr result (λ fault. IsWritingFault fault (W.write_failed writer.new)) }
+        ensures well { OnOk result (W.write_failed writer.new ≡ false) }
+        ensures follows { Follows self.old self.new }
+    {
+        if turn.is_there(self) {
+            return Ok(());
+        }
+        self.wait(setting, writer, turn)
+    }
+
+    // Takes a line, whose turn it is, and holds its answer.
+    fn take_line<R: Wait>(&mut self, setting: &Setting<'_, R>, line: Line, place: Option<usize>)
+        requires open { IsOpen setting.now.hall.now.id self.old }
+        requires place { place ≡ place_of_line self.old.register line }
+        requires within { IfSome place (λ at. at < most_places) }
+        requires sound { IsSome place → IsRegister self.old.register }
+        requires turn { HasTurn place self.old }
         ensures takes { Takes self.old self.new line }
         ensures hall { self.new.queue ≡ self.old.queue }
     {
@@ -110,15 +158,12 @@ impl Serving {
             Line::Nothing => {}
             Line::Long => self.held.push(HeldAnswer::Known(LineAnswer::LineTooLong)),
             Line::Nameless => self.held.push(HeldAnswer::Known(LineAnswer::UnknownTenant)),
-            Line::For(name, command) => match self.register.place_of(name) {
+            Line::For(name, command) => match place {
                 None => self.held.push(HeldAnswer::Known(LineAnswer::UnknownTenant)),
-                Some(place) => {
-                    self.come_home(setting, place);
-                    self.command(setting, place, name, command);
-                }
+                Some(place) => self.command(setting, place, name, command),
             },
             Line::Operator(request) => {
-                let reply = self.obey(setting, request);
+                let reply = self.obey(setting.alloc, request);
                 self.held
                     .push(HeldAnswer::Known(LineAnswer::ToOperator(reply)));
             }
@@ -138,6 +183,7 @@ impl Serving {
         requires sound { IsRegister self.old.register }
         requires found { place_in self.old.register name ≡ Some place }
         requires back { IsBackAt place self.old.desk_states }
+        requires room { length self.old.answers < most_answers_held }
         ensures takes { Takes self.old self.new (For name command) }
         ensures hall { self.new.queue ≡ self.old.queue }
     {
@@ -161,26 +207,12 @@ impl Serving {
         }
     }
 
-    // Waits until the first held answer is known.
-    fn first_comes_home<R: Wait>(&mut self, setting: &Setting<'_, R>)
-        requires { 0 < length self.old.answers }
-        ensures follows { Follows self.old self.new }
-        ensures keeps { Keeps self.old self.new }
-        ensures first { FirstIsKnown self.new.answers }
-    {
-        match self.held.first() {
-            First::Missing => unreachable!(),
-            First::Ready => {}
-            First::Waits(place) => self.come_home(setting, place),
-        }
-    }
-
     // Puts the first held answer, which is known, after the text to be written.
     fn put_first(&mut self) -> Result<(), AllocError>
         requires { FirstIsKnown self.old.answers }
         ensures keeps { OnOk result (Keeps self.old self.new) }
         ensures hall { self.new.queue ≡ self.old.queue }
-        ensures desk_states { self.new.desk_states ≡ self.old.desk_states }
+        ensures register { self.new.register ≡ self.old.register }
         ensures fewer { length self.new.answers < length self.old.answers }
     {
         self.held.put_first()
@@ -196,42 +228,6 @@ impl Serving {
             self.put_first()?;
         }
         Ok(())
-    }
-
-    // The same for all answers, all of which are known.
-    fn put_all(&mut self) -> Result<(), AllocError>
-        requires { AllBack self.old.desk_states }
-        ensures follows { Follows self.old self.new }
-        ensures keeps { OnOk result (Keeps self.old self.new) }
-        ensures none { OnOk result (self.new.answers ≡ []) }
-    {
-        while !self.held.is_empty() {
-            self.put_first()?;
-        }
-        Ok(())
-    }
-
-    // If 1,024 answers are held, waits for the first and writes all that are then known.
-    fn make_room<R: Wait, W: Sink>(
-        &mut self,
-        setting: &Setting<'_, R>,
-        writer: &mut W,
-    ) -> Result<(), ServeFault>
-        requires { W.write_failed writer.old ≡ false }
-        ensures told { OnOk result (Passes self.old self.new (W.written writer.old) (W.written writer.new)) }
-        ensures begins { Begins self.old (W.written writer.old) (W.written writer.new) }
-        ensures cause { IfErr result (λ fault. IsWritingFault fault (W.write_failed writer.new)) }
-        ensures well { OnOk result (W.write_failed writer.new ≡ false) }
-        ensures open { IsOpen self.old.queue self.new }
-    {
-        if !self.held.is_full() {
-            return Ok(());
-        }
-        self.first_comes_home(setting);
-        let Ok(()) = self.put_first() else {
-            return Err(ServeFault::Memory);
-        };
-        self.write_out(writer)
     }
 
     /// Writes the known answers, up to the first that waits for a round.
@@ -257,24 +253,19 @@ impl Serving {
         self.held.is_empty()
     }
 
-    /// Waits for all rounds that are away, and writes all answers.
-    pub(crate) fn finish<R: Wait, W: Sink>(
-        &mut self,
-        setting: &Setting<'_, R>,
-        writer: &mut W,
-    ) -> Result<(), ServeFault>
-        requires { W.write_failed writer.old ≡ false }
-        ensures told { OnOk result (Passes self.old self.new (W.written writer.old) (W.written writer.new)) }
-        ensures finished { OnOk result (IsFinished self.new) }
-        ensures begins { Begins self.old (W.written writer.old) (W.written writer.new) }
-        ensures cause { IfErr result (λ fault. IsWritingFault fault (W.write_failed writer.new)) }
-        ensures well { OnOk result (W.write_failed writer.new ≡ false) }
-        ensures follows { Follows self.old self.new }
+    /// Whether as many answers are held as may be.
+    pub(crate) fn is_full(&self) -> bool
+        ensures { MatchBool result (length self.now.answers ≡ most_answers_held)
+            (length self.now.answers < most_answers_held) }
     {
-        self.all_come_home(setting);
-        let Ok(()) = self.put_all() else {
-            return Err(ServeFault::Memory);
-        };
-        self.held.write(writer)
+        self.held.is_full()
+    }
+
+    /// Whether no round is away from the place.
+    pub(crate) fn is_back(&self, place: usize) -> bool
+        requires { place < most_places }
+        ensures { result ≡ true → IsBackAt place self.now.desk_states }
+    {
+        self.desk_states[place].is_back()
     }
 }

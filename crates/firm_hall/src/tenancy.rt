@@ -1,37 +1,33 @@
-//! Which tenant has which place: tenants are admitted, come home with their rounds and leave.
-ghost use Rattle.std.specs.Prelude.{◌≡◌, ◌<◌, MatchBool, Some, ℕ};
+//! Which tenant has which place: tenants are admitted, come home with their rounds and leave. Nothing here waits.
+ghost use Rattle.std.specs.Prelude.{◌≡◌, ◌<◌, MatchBool, Some};
 ghost use Rattle.firm_text.specs.Registers.{place_in};
 ghost use Rattle.firm_text.specs.Rosters.{most_places};
 ghost use Rattle.firm_text.specs.declared.operator.OperatorLine.TheVariants.{Admit, Retire};
 ghost use Rattle.firm_text.specs.declared.operator.OperatorReply.TheVariants.{Retired};
 ghost use Rattle.firm_hall.specs.inner.Held.{FirstIsFor, FirstIsKnown, FirstWaits};
-ghost use Rattle.firm_hall.specs.inner.Serving.{AllBack, Follows, IsBackAt, Keeps, Obeys};
+ghost use Rattle.firm_hall.specs.inner.Serving.{Follows, IsBackAt, IsBackIf, Keeps, Obeys, place_of_request};
 
 use crate::serving::Serving;
-use crate::setting::Setting;
 use firm_rules::{Limits, Name};
 use firm_table::answers_add_up;
-use firm_text::{OperatorLine, OperatorRefusal, OperatorReply, PLACES};
+use firm_text::{OperatorLine, OperatorRefusal, OperatorReply};
 use std::alloc::Global;
-use std::sync::Wait;
 
 impl Serving {
     // Does what the operator asks for, if it can be done. The reply is still to be held. Out of line, so that a
     // tenant's line does not pay for its locals.
     #[inline(never)]
-    pub(crate) fn obey<R: Wait>(
-        &mut self,
-        setting: &Setting<'_, R>,
-        request: OperatorLine,
-    ) -> OperatorReply
+    pub(crate) fn obey(&mut self, alloc: Global, request: OperatorLine) -> OperatorReply
+        requires back { IsBackIf (place_of_request self.old.register request) self.old.desk_states }
         ensures obeys { Obeys self.old self.new request result }
-        ensures follows { Follows self.old self.new }
+        ensures hall { self.new.queue ≡ self.old.queue }
+        ensures answers { self.new.answers ≡ self.old.answers }
     {
         // Laws: of one more line.
         answers_add_up();
         match request {
-            OperatorLine::Admit(name, limits) => self.admit(setting.alloc, name, limits),
-            OperatorLine::Retire(name) => self.retire(setting, name),
+            OperatorLine::Admit(name, limits) => self.admit(alloc, name, limits),
+            OperatorLine::Retire(name) => self.retire(name),
             OperatorLine::Faulty(refusal) => OperatorReply::Refused(refusal),
         }
     }
@@ -39,7 +35,8 @@ impl Serving {
     // Admits a tenant. If memory is refused, the place stays empty and no admission is used.
     fn admit(&mut self, alloc: Global, name: Name, limits: Limits) -> OperatorReply
         ensures obeys { Obeys self.old self.new (Admit name limits) result }
-        ensures follows { Follows self.old self.new }
+        ensures hall { self.new.queue ≡ self.old.queue }
+        ensures answers { self.new.answers ≡ self.old.answers }
     {
         // Laws: of one more line.
         answers_add_up();
@@ -54,17 +51,18 @@ impl Serving {
         OperatorReply::Refused(OperatorRefusal::Memory)
     }
 
-    // Retires a tenant, once none of its rounds is away.
-    fn retire<R: Wait>(&mut self, setting: &Setting<'_, R>, name: Name) -> OperatorReply
+    // Retires a tenant, none of whose rounds is away.
+    fn retire(&mut self, name: Name) -> OperatorReply
+        requires back { IsBackIf (place_in self.old.register name) self.old.desk_states }
         ensures obeys { Obeys self.old self.new (Retire name) result }
-        ensures follows { Follows self.old self.new }
+        ensures hall { self.new.queue ≡ self.old.queue }
+        ensures answers { self.new.answers ≡ self.old.answers }
     {
         // Laws: of one more line.
         answers_add_up();
         let Some(place) = self.register.place_of(name) else {
             return OperatorReply::Refused(OperatorRefusal::NoSuchTenant);
         };
-        self.come_home(setting, place);
         self.leave(place, name);
         OperatorReply::Retired(name)
     }
@@ -75,7 +73,8 @@ impl Serving {
         requires found { place_in self.old.register name ≡ Some place }
         requires back { IsBackAt place self.old.desk_states }
         ensures obeys { Obeys self.old self.new (Retire name) (Retired name) }
-        ensures follows { Follows self.old self.new }
+        ensures hall { self.new.queue ≡ self.old.queue }
+        ensures answers { self.new.answers ≡ self.old.answers }
     {
         // Laws: of one more line.
         answers_add_up();
@@ -85,45 +84,23 @@ impl Serving {
         self.desk_states[place].retire();
     }
 
-    // Waits for the round that is away from the place, if any; the answer that waited for it is then known.
-    pub(crate) fn come_home<R: Wait>(&mut self, setting: &Setting<'_, R>, place: usize)
+    // Whether no round is away from the place, after a look at one that is. If it was answered, the answer that waited
+    // for it is then known; if not, nothing changes.
+    pub(crate) fn look_at(&mut self, place: usize) -> bool
         requires { place < most_places }
+        ensures back { MatchBool result (IsBackAt place self.new.desk_states) (self.new ≡ self.old) }
         ensures follows { Follows self.old self.new }
         ensures keeps { Keeps self.old self.new }
-        ensures register { self.new.register ≡ self.old.register }
-        ensures back { IsBackAt place self.new.desk_states }
-        ensures others { (other : ℕ) → IsBackAt other self.old.desk_states → IsBackAt other self.new.desk_states }
-        ensures first { FirstIsFor place self.old.answers → FirstIsKnown self.new.answers }
+        ensures first { FirstIsFor place self.old.answers
+            → MatchBool result (FirstIsKnown self.new.answers) (FirstWaits self.new.answers) }
     {
         if self.desk_states[place].is_back() {
-            return;
+            return true;
         }
-        let reply = self.desk_states[place].come_home(setting);
-        self.held.fill(place, reply);
-    }
-
-    // The same without waiting: if the round is not answered yet, changes nothing. Returns whether it was answered.
-    pub(crate) fn look_at(&mut self, place: usize) -> bool
-        requires { FirstIsFor place self.old.answers }
-        ensures follows { Follows self.old self.new }
-        ensures keeps { Keeps self.old self.new }
-        ensures first { MatchBool result (FirstIsKnown self.new.answers) (FirstWaits self.new.answers) }
-    {
         let Some(reply) = self.desk_states[place].look() else {
             return false;
         };
         self.held.fill(place, reply);
         true
-    }
-
-    // Waits for all rounds that are away.
-    pub(crate) fn all_come_home<R: Wait>(&mut self, setting: &Setting<'_, R>)
-        ensures follows { Follows self.old self.new }
-        ensures keeps { Keeps self.old self.new }
-        ensures back { AllBack self.new.desk_states }
-    {
-        for place in 0..PLACES {
-            self.come_home(setting, place);
-        }
     }
 }

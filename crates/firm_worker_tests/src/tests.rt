@@ -9,6 +9,7 @@ mod counts;
 mod held;
 mod inputs;
 mod lives;
+mod neighbours;
 mod queues;
 mod restarts;
 mod services;

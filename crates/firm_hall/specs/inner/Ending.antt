@@ -10,10 +10,10 @@ use Rattle.firm_hall.specs.declared.ending.Ended.{Ended}
 use Rattle.firm_hall.specs.declared.desk_states.DeskState.{DeskState}
 use Rattle.firm_hall.specs.declared.desk_states.DeskState.TheVariants.{Home, Away, Empty, Gone}
 
--- what stands at a place is of this hall
+-- what stands at a place is of this hall, and no round is away from it
 abbrev pub IsOf : QueueId → DeskState → Type 0
 IsOf id (Home desk) = desk.queue ≡ id
-IsOf id (Away asked) = asked.queue ≡ id
+IsOf id (Away asked) = ⊥
 IsOf id (Empty place) = place.queue ≡ id
 IsOf id Gone = ⊥
 

@@ -6,15 +6,16 @@ use Rattle.firm_rules.specs.Book.{Book}
 use Rattle.firm_rules.specs.declared.commands.Command.TheVariants.{Round}
 use Rattle.firm_tenant.specs.Step.{step}
 use Rattle.firm_text.specs.Inputs.{input_lines}
+use Rattle.firm_text.specs.Registers.{place_in}
 use Rattle.firm_text.specs.Rosters.{most_places}
 use Rattle.firm_text.specs.declared.inputs.Line.{Line}
-use Rattle.firm_text.specs.declared.inputs.Line.TheVariants.{Operator}
+use Rattle.firm_text.specs.declared.inputs.Line.TheVariants.{Nothing, Long, Nameless, For, Operator}
 use Rattle.firm_text.specs.declared.operator.OperatorLine.{OperatorLine}
+use Rattle.firm_text.specs.declared.operator.OperatorLine.TheVariants.{Admit, Retire, Faulty}
 use Rattle.firm_text.specs.declared.operator.OperatorReply.{OperatorReply}
 use Rattle.firm_text.specs.declared.registers.Entry.{Entry}
 use Rattle.firm_table.specs.Places.{Place, book_of}
 use Rattle.firm_table.specs.Output.{answers_from}
-use Rattle.firm_table.specs.Service.{BeginsAnswersFrom}
 use Rattle.firm_table.specs.Tenants.{tenants_are}
 use Rattle.firm_table.specs.inner.Line.{State, state_is}
 use Rattle.firm_table.specs.inner.Progress.{Told}
@@ -127,10 +128,9 @@ pub record Stands (serving : ServingIs) : Type 0 where
   pub fits : Fits serving.register serving.desk_states
   pub placed : ArePlaced serving.answers
 
--- a service of this hall with room for one more answer
-pub record IsOpen (id : QueueId) (serving : ServingIs) : Type 0 where
-  pub same_hall : serving.queue ≡ id
-  pub room : length serving.answers < most_answers_held
+-- a service of this hall
+abbrev pub IsOpen : QueueId → ServingIs → Type 0
+IsOpen id serving = serving.queue ≡ id
 
 -- empty so far, with room for each place
 abbrev pub IsReserved : {A : Type 0} → List A → ℕ → Type 0
@@ -154,9 +154,10 @@ abbrev pub TellsAll : List Place → ServingIs → List ℕ → Option (List ℕ
 TellsAll opening serving text written now =
     TellsParts opening serving.register serving.desk_states serving.answers serving.output text written now
 
--- the same hall, with no more answers held
+-- the same hall and tenants, with no more answers held
 pub record Follows (old new : ServingIs) : Type 0 where
   pub same_hall : new.queue ≡ old.queue
+  pub same_register : new.register ≡ old.register
   pub fewer : length new.answers ≤ length old.answers
 
 -- a step that answers no further line
@@ -183,19 +184,46 @@ Obeys old new request reply = (opening : List Place) (text after : List ℕ) (wr
     → TellsParts opening new.register new.desk_states
     (new.answers ++ Known (ToOperator reply) ∷ []) new.output after written now
 
--- the written text begins the output for the answered lines
+-- the lines of this text were answered, and what was written is part of the output for them
+pub record Begun (opening : List Place) (text : List ℕ) (written now : Option (List ℕ)) : Type 0 where
+  pub state : State
+  pub opened : state.opening ≡ opening
+  pub told : Told state text written now
+
+-- so it is, however far the writing of what is held has come
 abbrev pub Begins : ServingIs → Option (List ℕ) → Option (List ℕ) → Type 0
 Begins old now later = (opening : List Place) (text : List ℕ) (written : Option (List ℕ))
-    → TellsAll opening old text written now → BeginsAnswersFrom opening text written later
+    → TellsAll opening old text written now → Begun opening text written later
 
 -- no round is away from the place
 abbrev pub IsBackAt : ℕ → List DeskState → Type 0
 IsBackAt place desk_states = (default : DeskState) → place < most_places
     → IsBack (slice_index_or desk_states place default)
 
--- no round is away from any place
-abbrev pub AllBack : List DeskState → Type 0
-AllBack desk_states = (place : ℕ) → IsBackAt place desk_states
+-- the place whose tenant a request of the operator waits for
+abbrev pub place_of_request : List Entry → OperatorLine → Option ℕ
+place_of_request register (Admit name limits) = None
+place_of_request register (Retire name) = place_in register name
+place_of_request register (Faulty refusal) = None
+
+-- the place whose tenant a line waits for
+abbrev pub place_of_line : List Entry → Line → Option ℕ
+place_of_line register Nothing = None
+place_of_line register Long = None
+place_of_line register Nameless = None
+place_of_line register (For name command) = place_in register name
+place_of_line register (Operator request) = place_of_request register request
+
+-- no round is away from the place, if there is one
+abbrev pub IsBackIf : Option ℕ → List DeskState → Type 0
+IsBackIf None desk_states = Unit {0}
+IsBackIf (Some place) desk_states = IsBackAt place desk_states
+
+-- a line that waits for the tenant of this place, or for none, has its turn: the tenant is home, and its answer can be
+-- held
+pub record HasTurn (place : Option ℕ) (serving : ServingIs) : Type 0 where
+  pub room : length serving.answers < most_answers_held
+  pub back : IsBackIf place serving.desk_states
 
 -- no known answer is left unwritten before the first that waits
 pub record IsWrittenOut (serving : ServingIs) : Type 0 where

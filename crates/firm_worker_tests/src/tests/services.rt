@@ -88,7 +88,7 @@ fn eight_workers_hold_eight_rounds_at_once(rt: HostRuntime) {
 }
 
 /// Twelve tenants of one command each, t01 to t12, their rounds, and the answers to them.
-fn twelve(rt: &impl Abort, alloc: Global) -> (String, String, String) {
+pub fn twelve(rt: &impl Abort, alloc: Global) -> (String, String, String) {
     let mut records = String::new(alloc);
     let mut rounds = String::new(alloc);
     let mut answers = String::new(alloc);
@@ -230,8 +230,9 @@ fn reads_on<'a, R: Alloc<A = Global> + Abort + Threads + Wait + Sync>(
     gate.read_on.was_reached()
 }
 
-/// A round, six lines of others, `more` lines of one tenant, and a round of that one; and the answers.
-fn held_lines(rt: &impl Abort, alloc: Global, more: u64) -> (String, String) {
+/// A round, six lines of others, `more` lines of one tenant, a round of that one, and lines `behind` it; and the
+/// answers.
+fn held_lines(rt: &impl Abort, alloc: Global, more: u64, behind: (&str, &str)) -> (String, String) {
     let mut lines = String::new(alloc);
     let mut answers = String::new(alloc);
     put(rt, &mut lines, String::from_str(alloc, LINES));
@@ -251,6 +252,8 @@ fn held_lines(rt: &impl Abort, alloc: Global, more: u64) -> (String, String) {
         &mut answers,
         format!(in alloc; "b {number} ok round cost 0\n"),
     );
+    put(rt, &mut lines, String::from_str(alloc, behind.0));
+    put(rt, &mut answers, String::from_str(alloc, behind.1));
     (lines, answers)
 }
 
@@ -274,17 +277,20 @@ c 1 ok round cost 0
 + no 26 no-such-tenant
 ";
 
-/// Numbers of further lines that are held, of the gate's looks once the last line was taken, and whether the input is
-/// read on meanwhile. With 1,015 lines there is room for one answer more, with 1,016 for none.
-const HELD: [(u64, u32, bool); 2] = [(1_015, LOOKS, true), (1_016, 5_000, false)];
+/// A line behind those for whose answers there is room, with its answer; how often the gate looks for a read; and
+/// whether the input is read on meanwhile. With 1,016 lines more there is room for no further answer.
+const HELD: [((&str, &str), u32, bool); 2] = [
+    (("", ""), LOOKS, true),
+    (("nobody\n", "! unknown-tenant\n"), 5_000, false),
+];
 
 #[test]
 fn only_a_lack_of_room_for_answers_waits_for_a_round_of_another(rt: HostRuntime) {
-    for (more, looks, wanted) in HELD {
-        let (lines, answers) = held_lines(&rt, rt.alloc(), more);
+    for (behind, looks, wanted) in HELD {
+        let (lines, answers) = held_lines(&rt, rt.alloc(), 1_016, behind);
         let gate = HoldsUntilRead::new(1, true, looks);
         let has_read_on = reads_on(&rt, &gate, lines.as_bytes(), b"", answers.as_bytes());
-        assert_eq!(rt; has_read_on, wanted, "{more}");
+        assert_eq!(rt; has_read_on, wanted, "{}", behind.0);
     }
 }
 
@@ -347,8 +353,8 @@ impl Source for OneByOne<'_> {
 
 /// Counts the lines that are written.
 #[derive(Drop)]
-struct CountsLines<'a> {
-    written: &'a Count,
+pub struct CountsLines<'a> {
+    pub written: &'a Count,
 }
 
 impl Sink for CountsLines<'_> {
@@ -396,10 +402,10 @@ impl Source for EndsBehind<'_> {
     }
 }
 
-/// Holds the second tenant's round until a line is written.
+/// Holds the second tenant's rounds until a line is written.
 #[derive(Drop)]
-struct HoldsSecond<'a> {
-    written: &'a Count,
+pub struct HoldsSecond<'a> {
+    pub written: &'a Count,
 }
 
 impl Gate for HoldsSecond<'_> {

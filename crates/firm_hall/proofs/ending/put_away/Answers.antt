@@ -1,22 +1,13 @@
-use Rattle.std.proofs.Common.{◌≡◌, ◌∙◌, ap}
+use Rattle.std.proofs.Common.{◌≡◌}
 use Rattle.firm_hall.specs.Desks.{DeskIs}
 use Rattle.firm_hall.proofs.Alls.{all_push}
 use Rattle.firm_hall.proofs.ending.put_away.Goals as goal
 
 pub returns-in-Home-clause-of : goal.returns-in-Home-clause-of
-returns-in-Home-clause-of g c id is are =
+returns-in-Home-clause-of c id is are =
     let of = rw c.in-Home.is at is in
     record {
       each = all_push (λ (d : DeskIs). d.queue ≡ id) _ _ _ c.put_desk.ensures.items are.each of;
       places =
           are.places;
-    }
-
-pub returns-in-Away-clause-of : goal.returns-in-Away-clause-of
-returns-in-Away-clause-of g c id is are =
-    let of = rw c.in-Away.is at is in
-    record {
-      each = all_push (λ (d : DeskIs). d.queue ≡ id) _ _ _ c.put_desk-in-Away.ensures.items are.each
-          (ap (λ (d : DeskIs). d.queue) c.wait-desk.ensures.same_desk ∙ of);
-      places = are.places;
     }

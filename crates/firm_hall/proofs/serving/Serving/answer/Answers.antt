@@ -1,23 +1,25 @@
-use Rattle.std.proofs.Common.{◌∙◌}
-use Rattle.std.proofs.lemmas.Result.{on_ok_weaker}
+use Rattle.std.proofs.Common.{◌≡◌, ℕ, List, ◌++◌, ◌∷◌, []}
+use Rattle.std.specs.Prelude.{Option}
+use Rattle.firm_text.specs.Inputs.{input_lines}
+use Rattle.firm_table.specs.Places.{Place}
+use Rattle.firm_table.specs.Service.{BeginsAnswersFrom}
+use Rattle.firm_hall.specs.inner.Serving.{TellsAll}
 use Rattle.firm_hall.proofs.Giving.{on_err_always}
+use Rattle.firm_hall.proofs.Telling.{begun_more}
 use Rattle.firm_hall.proofs.serving.Serving.answer.Goals as goal
 
+pub returns-in_err-take_turn-clause-begins : goal.returns-in_err-take_turn-clause-begins
+returns-in_err-take_turn-clause-begins g c =
+    let begins : (opening : List Place) (text after : List ℕ) (written : Option (List ℕ))
+    → input_lines after ≡ input_lines text ++ c.args.line ∷ []
+    → TellsAll opening c.args.self.now text written (g.W.Sink.written c.args.writer.now)
+    → BeginsAnswersFrom opening after written (g.W.Sink.written c.take_turn.new.writer) =
+    λ opening text after written more told.
+    begun_more c.answers_add_up.ensures.short opening text after written _ c.args.line more
+    (c.in_err-take_turn.ensures.begins opening text written told) in
+    on_err_always _ begins
+
 pub returns-clause-told : goal.returns-clause-told
-returns-clause-told g c =
-    on_ok_weaker c.make_room.result
-    (λ passes. λ opening text after written more told. passes opening after written
-    (c.take_line.ensures.takes opening text after written _ more told))
-    c.make_room.ensures.told
-
-pub returns-clause-begins : goal.returns-clause-begins
-returns-clause-begins g c =
-    on_err_always c.make_room.result
-    (λ opening text after written more told.
-    c.make_room.ensures.begins opening after written
-    (c.take_line.ensures.takes opening text after written _ more told))
-
-pub returns-clause-open : goal.returns-clause-open
-returns-clause-open g c =
-    let room = c.make_room.ensures.open in
-    record { same_hall = room.same_hall ∙ c.take_line.ensures.hall ∙ c.requires.open.same_hall; room = room.room }
+returns-clause-told g c opening text after written more told =
+    c.take_line.ensures.takes opening text after written _ more
+    (c.in_ok-take_turn.ensures.told opening text written told)

@@ -10,7 +10,7 @@ take-answer-requires g c =
     let s = c.self.inside in
     let found : place_in s.register c.args.name ≡ Some c.args.place = rw (← c.self.view_is) at c.requires.found in
     let back : IsBackAt c.args.place s.desk_states.items = rw (← c.self.view_is) at c.requires.back in
-    let same = c.requires.open.same_hall in
+    let same = c.requires.open in
     rw (← same, ← c.self.view_is)
     (home_of s.hall.value.id s.register s.held.answers s.desk_states.items c.self.invariant.desk_states
     c.self.invariant.fits

@@ -7,7 +7,7 @@ use Rattle.firm_hall.specs.inner.Serving.{asked_at}
 use Rattle.firm_hall.proofs.serving.Serving.end.Given as goal
 
 abbrev pub invariant-loop-desk_state : goal.invariant-loop-desk_state
-invariant-loop-desk_state g l = record {
+invariant-loop-desk_state l = record {
   desk_states : All (IsOf l.fn.self.queue) (into_iter_items l.desk_state-iterator);
   desks : AreOf l.fn.self.queue l.desks.items l.empty.items;
   asked : l.rounds + weigh asked_at (into_iter_items l.desk_state-iterator) ≡ weigh asked_at l.fn.self.desk_states;

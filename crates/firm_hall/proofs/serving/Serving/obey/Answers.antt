@@ -6,18 +6,18 @@ use Rattle.firm_hall.proofs.Obeying.{faulty_told}
 use Rattle.firm_hall.proofs.serving.Serving.obey.Goals as goal
 
 pub returns-in-Faulty-clause-obeys : goal.returns-in-Faulty-clause-obeys
-returns-in-Faulty-clause-obeys g c opening text after written now more told =
+returns-in-Faulty-clause-obeys c opening text after written now more told =
     let s = c.args.self.now in
     faulty_told c.answers_add_up.ensures.one_more opening s.register s.desk_states s.answers s.output
     c.in-Faulty.refusal text after written now
     (more ∙ ap (λ (request : OperatorLine). input_lines text ++ Operator request ∷ []) c.in-Faulty.is) told
 
 pub returns-in-Admit-clause-obeys : goal.returns-in-Admit-clause-obeys
-returns-in-Admit-clause-obeys g c opening text after written now more told =
+returns-in-Admit-clause-obeys c opening text after written now more told =
     c.admit.ensures.obeys opening text after written now (more
     ∙ ap (λ (request : OperatorLine). input_lines text ++ Operator request ∷ []) c.in-Admit.is) told
 
 pub returns-in-Retire-clause-obeys : goal.returns-in-Retire-clause-obeys
-returns-in-Retire-clause-obeys g c opening text after written now more told =
+returns-in-Retire-clause-obeys c opening text after written now more told =
     c.retire.ensures.obeys opening text after written now (more
     ∙ ap (λ (request : OperatorLine). input_lines text ++ Operator request ∷ []) c.in-Retire.is) told

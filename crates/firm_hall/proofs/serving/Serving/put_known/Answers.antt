@@ -24,7 +24,7 @@ returns-in_err-put_first-clause-follows c =
     let put = c.in_err-put_first.ensures in
     follows_then c.loop-self.invariant.follows
     (follows_then c.first_is_known.ensures.follows
-    (record { same_hall = put.hall; fewer = omega (arith, put.fewer) }))
+    (record { same_hall = put.hall; same_register = put.register; fewer = omega (arith, put.fewer) }))
 
 pub loop-self-preserved : goal.loop-self-preserved
 loop-self-preserved c =
@@ -33,7 +33,8 @@ loop-self-preserved c =
     let put = c.in_ok-put_first.ensures in
     record {
       follows = follows_then i.follows
-          (follows_then looked.follows (record { same_hall = put.hall; fewer = omega (arith, put.fewer) }));
+          (follows_then looked.follows
+          (record { same_hall = put.hall; same_register = put.register; fewer = omega (arith, put.fewer) }));
       keeps = λ opening text written now told. put.keeps opening text written now
           (looked.keeps opening text written now (i.keeps opening text written now told));
     }

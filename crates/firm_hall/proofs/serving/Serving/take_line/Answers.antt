@@ -1,8 +1,10 @@
-use Rattle.std.proofs.Common.{◌∙◌, ap, sym, refl, ◌++◌, ◌∷◌, []}
+use Rattle.std.proofs.Common.{◌≡◌, ◌∙◌, ap, subst, sym, refl, ◌++◌, ◌∷◌, []}
 use Rattle.firm_text.specs.Inputs.{input_lines}
+use Rattle.firm_text.specs.Registers.{place_in}
 use Rattle.firm_text.specs.declared.inputs.Line.{Line}
 use Rattle.firm_table.specs.declared.answers.LineAnswer.TheVariants.{LineTooLong, ToOperator, UnknownTenant}
 use Rattle.firm_hall.specs.declared.held.HeldAnswer.TheVariants.{Known}
+use Rattle.firm_hall.specs.inner.Serving.{place_of_line}
 use Rattle.firm_hall.proofs.Taking.{known_stands, long_follows, nameless_follows, nothing_follows, stranger_follows}
 use Rattle.firm_hall.proofs.serving.Serving.take_line.Goals as goal
 
@@ -43,24 +45,26 @@ invariant_of-self-in-Nameless g c =
 
 pub returns-in-None-clause-takes : goal.returns-in-None-clause-takes
 returns-in-None-clause-takes g c =
-    let s = c.self-in-For.inside in
-    rw (← c.self-in-For.view_is, c.push-in-None.ensures)
+    let s = c.self-in-None.inside in
+    let here : c.args.place ≡ place_in c.args.self.now.register c.in-For.name =
+    subst (λ (l : Line). c.args.place ≡ place_of_line c.args.self.now.register l) c.in-For.is c.requires.place in
+    let found : c.args.place ≡ place_in s.register c.in-For.name = rw (← c.self-in-None.view_is) at here in
+    rw (← c.self-in-None.view_is, c.push-in-None.ensures)
     (λ opening. stranger_follows c.answers_add_up.ensures.one_more opening s.register s.desk_states.items
     s.held.answers _ s.held.output c.args.line c.answers_add_up.ensures.unknown c.in-For.name c.in-For.command
-    c.in-For.is (sym c.place_of.ensures.place ∙ c.in-None.is) refl)
+    c.in-For.is (sym found ∙ c.in-None.is) refl)
 
 pub invariant_of-self-in-None : goal.invariant_of-self-in-None
 invariant_of-self-in-None g c =
-    let s = c.self-in-For.inside in
+    let s = c.self-in-None.inside in
     rw c.push-in-None.ensures
     (known_stands s.hall.value.id s.register s.desk_states.items s.held (Known UnknownTenant) (λ place. refl) tt
-    c.self-in-For.invariant)
+    c.self-in-None.invariant)
 
 pub returns-in-Some-clause-takes : goal.returns-in-Some-clause-takes
 returns-in-Some-clause-takes g c opening text after written now more told =
     c.command.ensures.takes opening text after written now
-    (more ∙ ap (λ (l : Line). input_lines text ++ l ∷ []) c.in-For.is)
-    (c.come_home.ensures.keeps opening text written now told)
+    (more ∙ ap (λ (l : Line). input_lines text ++ l ∷ []) c.in-For.is) told
 
 pub returns-in-Operator-clause-takes : goal.returns-in-Operator-clause-takes
 returns-in-Operator-clause-takes g c opening text after written now more told =

@@ -40,7 +40,8 @@ returns-clause-begins g c opening text written told =
 pub returns-clause-follows : goal.returns-clause-follows
 returns-clause-follows g c =
     follows_then {between = c.put_known.new.self} c.put_known.ensures.follows
-    (rw (← c.self.view_is) (record { same_hall = refl; fewer = rw c.write.ensures.answers (omega arith) }))
+    (rw (← c.self.view_is)
+    (record { same_hall = refl; same_register = refl; fewer = rw c.write.ensures.answers (omega arith) }))
 
 pub returns-clause-written_out : goal.returns-clause-written_out
 returns-clause-written_out g c =

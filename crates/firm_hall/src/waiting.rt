@@ -1,0 +1,156 @@
+//! Waiting: until what it waits for has come, the clerk writes what it knows, looks, and rests.
+ghost use Rattle.std.specs.Prelude.{◌≡◌, ◌<◌, IfErr, MatchBool, OnOk, false, length, true};
+ghost use Rattle.std.specs.Option.{ForSome};
+ghost use Rattle.firm_text.specs.Rosters.{most_places};
+ghost use Rattle.firm_table.specs.inner.Faults.{IsWritingFault};
+ghost use Rattle.firm_hall.specs.inner.Held.{most_answers_held};
+ghost use Rattle.firm_hall.specs.inner.Serving.{Begins, Follows, HasTurn, IsFinished, IsWrittenOut, Keeps, Passes};
+ghost use Rattle.firm_hall.specs.inner.Serving.{ServingIs};
+
+use crate::halls::Hall;
+use crate::serving::Serving;
+use crate::setting::Setting;
+use crossbeam_utils::sync::{EventCount, Key};
+use firm_table::ServeFault;
+use firm_text::{Sink, Source};
+use firm_tray::LOOKS_BEFORE_SLEEP;
+use std::alloc::Global;
+use std::hint::spin_loop;
+use std::sync::{Arc, Wait};
+
+// After this many looks in vain, some microseconds, a worker is woken for the rounds in the queue if a wake is owed.
+const LOOKS_BEFORE_RING: u32 = 256;
+
+/// What the clerk waits for.
+pub(crate) trait Awaited {
+    /// What holds once it has come.
+    ghost has_come: { Self → ServingIs → Type 0 };
+
+    /// Whether it has come, after a look. If not, nothing has changed, and what makes it come notifies `answers` of the
+    /// hall, or the waker.
+    fn look(&self, serving: &mut Serving, waker: Option<&Arc<EventCount, Global>>) -> bool
+        requires { IsWrittenOut serving.old }
+        ensures come { MatchBool result (has_come self.now serving.new) (serving.new ≡ serving.old) }
+        ensures follows { Follows serving.old serving.new }
+        ensures keeps { Keeps serving.old serving.new };
+}
+
+/// The turn of a line: its answer can be held, no round is away from the place that it is for, if it is for one, and a
+/// round finds room in the queue.
+#[derive(Drop)]
+pub(crate) struct Turn<'h> {
+    pub(crate) place: Option<usize>,
+    pub(crate) is_round: bool,
+    pub(crate) hall: &'h Hall,
+    ghost within: { ForSome place (λ at. at < most_places) },
+}
+
+/// Input, while answers are held: a read need not wait.
+#[derive(Drop)]
+pub(crate) struct Input<'r, S> {
+    pub(crate) reader: &'r S,
+}
+
+/// The end: each answer was written.
+#[derive(Drop)]
+pub(crate) struct End;
+
+impl Turn<'_> {
+    /// Whether it has come, as far as can be known without a look at a round.
+    pub(crate) fn is_there(&self, serving: &Serving) -> bool
+        ensures { result ≡ true → HasTurn self.now.place serving.now }
+    {
+        if !self.has_room(serving) {
+            return false;
+        }
+        match self.place {
+            None => true,
+            Some(place) => serving.is_back(place),
+        }
+    }
+
+    // Whether there is room for the answer and, if it is a round, in the queue. That stays so: nobody else puts rounds.
+    fn has_room(&self, serving: &Serving) -> bool
+        ensures { result ≡ true → length serving.now.answers < most_answers_held }
+    {
+        !serving.is_full() && (!self.is_round || self.hall.has_room())
+    }
+}
+
+impl Awaited for Turn<'_> {
+    ghost has_come = { λ turn serving. HasTurn turn.place serving };
+
+    fn look(&self, serving: &mut Serving, _waker: Option<&Arc<EventCount, Global>>) -> bool {
+        if !self.has_room(serving) {
+            return false;
+        }
+        match self.place {
+            None => true,
+            Some(place) => serving.look_at(place),
+        }
+    }
+}
+
+impl<S: Source> Awaited for Input<'_, S> {
+    ghost has_come = { λ _ serving. IsWrittenOut serving };
+
+    fn look(&self, serving: &mut Serving, waker: Option<&Arc<EventCount, Global>>) -> bool {
+        serving.is_idle() || self.reader.is_ready(waker)
+    }
+}
+
+impl Awaited for End {
+    ghost has_come = { λ _ serving. IsFinished serving };
+
+    fn look(&self, serving: &mut Serving, _waker: Option<&Arc<EventCount, Global>>) -> bool {
+        serving.is_idle()
+    }
+}
+
+impl Serving {
+    /// Waits for this. Meanwhile writes each answer once it and all before it are known.
+    pub(crate) fn wait<R: Wait, W: Sink, A: Awaited>(
+        &mut self,
+        setting: &Setting<'_, R>,
+        writer: &mut W,
+        awaited: &A,
+    ) -> Result<(), ServeFault>
+        requires { W.write_failed writer.old ≡ false }
+        ensures told { OnOk result (Passes self.old self.new (W.written writer.old) (W.written writer.new)) }
+        ensures come { OnOk result (A.has_come awaited.now self.new) }
+        ensures begins { Begins self.old (W.written writer.old) (W.written writer.new) }
+        ensures cause { IfErr result (λ fault. IsWritingFault fault (W.write_failed writer.new)) }
+        ensures well { OnOk result (W.write_failed writer.new ≡ false) }
+        ensures follows { Follows self.old self.new }
+    {
+        let answers = setting.hall.answers();
+        let mut looks = 0u32;
+        for _ in setting.rt.forever() {
+            // Whatever the looks that follow miss comes after the announcement and so ends the sleep.
+            let announced = (LOOKS_BEFORE_SLEEP <= looks).then(|| answers.prepare_wait());
+            self.write_out(writer)?;
+            let waker = announced.is_some().then_some(answers);
+            if awaited.look(self, waker) {
+                return Ok(());
+            }
+            looks = self.rest(setting, announced, looks);
+        }
+        unreachable!()
+    }
+
+    // Rests between two looks; sleeps if a sleep was announced. The clerk rests nowhere else, and here each answer that
+    // could be written by its order has been written. Returns the number of looks in vain since the last sleep.
+    fn rest<R: Wait>(&self, setting: &Setting<'_, R>, announced: Option<Key<'_>>, looks: u32) -> u32
+        requires { IsWrittenOut self.now }
+    {
+        let Some(key) = announced else {
+            if looks == LOOKS_BEFORE_RING {
+                setting.hall.bell().ring();
+            }
+            spin_loop();
+            return looks.saturating_add(1);
+        };
+        key.wait(setting.rt);
+        0
+    }
+}
