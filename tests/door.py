@@ -40,7 +40,7 @@ from etcd_kit import (
     require_programs,
     until,
 )  # noqa: E402
-from harness.checks import count_ends, passes, require, run_script  # noqa: E402
+from harness.checks import Skipped, count_ends, passes, require, run_script  # noqa: E402
 from harness.deployed import SERVICE  # noqa: E402
 from harness.guard import guard  # noqa: E402
 from harness.program import add_program  # noqa: E402
@@ -48,6 +48,7 @@ from harness.program import add_program  # noqa: E402
 from firm_service.door.moving import Move  # noqa: E402
 from firm_service.door.table import Table, TableError  # noqa: E402
 from firm_service.door.writing import map_text, write  # noqa: E402
+from firm_service.programs import program_of  # noqa: E402
 from firm_service.view_client import Service  # noqa: E402
 
 HEADING = "tenant,nodes,arcs,life,spread,churn\n"
@@ -69,6 +70,11 @@ operator = "{folder}/{name}.operator"
 state = "{folder}/{name}"
 replicas = {{ {replicas} }}
 """
+
+
+def require_state_program() -> None:
+    if not program_of("firm_state").exists():
+        raise Skipped("firm_state is not built, which writes states")
 
 
 class Shut(Exception):
@@ -301,18 +307,16 @@ def length(size: int) -> bytes:
 
 
 def moves(program: str) -> None:
-    """A tenant moves with its rows while it works; clients of others notice nothing; what can't be done is refused."""
+    """A tenant moves with its placements, waits and numbers while it works; clients of others notice nothing; what
+    can't be done is refused."""
+    require_state_program()
     with two_shards(program) as here, here.visit("beta") as beta, here.visit("alpha") as alpha:
         beta.ask("beta machine m1 1")
-        for line in (
-            "alpha machine m1 2",
-            "alpha job web 10",
-            "alpha task web a",
-            "alpha task web b m1",
-            "alpha round",
-        ):
+        for line in WORK:
             require(" ok" in alpha.ask(line), line)
-        shown = alpha.ask("alpha show").split(" ", 2)[2]
+        waiting = [alpha.ask(line) for line in ("alpha task web c", "alpha round", "alpha where c")]
+        require("waits 1" in waiting[-1], waiting)
+        number = int(waiting[-1].split()[1])
         for words, status, text in (
             (("move", "beta", "--to", "two"), 1, "has no socket at a shard two"),
             (("move", "delta", "--to", "two"), 1, "has no socket"),
@@ -320,19 +324,46 @@ def moves(program: str) -> None:
             done = here.control(*words)
             require(done.returncode == status and text in done.stderr, done)
         done = here.control("move", "alpha", "--to", "two")
-        require(done.returncode == 0 and "alpha is at two, by 4 lines" in done.stdout, done)
-        try:
-            require(False, f"its client was left connected: {alpha.ask('alpha show')}")
-        except Shut:
-            pass
+        require((done.returncode, done.stdout) == (0, "alpha is at two, its tasks run and wait on\n"), done)
+        require_moved(here, alpha)
+        moved = here.ask("alpha", "alpha where a", "alpha where c", "alpha round")
+        first = int(moved[0].split()[1])
+        require(first > number and [int(reply.split()[1]) for reply in moved] == [first, first + 1, first + 2], moved)
+        require("at m1" in moved[0] and "waits 1" in moved[1], moved)
+        require(beta.ask("beta show").startswith("beta "), "beta's client is still connected")
+        require(here.control("move", "alpha", "--to", "two").stdout == "alpha is at two\n", "again")
+        done = here.control("move", "alpha", "--to", "one", "--json")
+        require(done.returncode == 0 and '"lines": null' in done.stdout, done)
         until(lambda: here.serves("alpha"), "alpha is served again")
+        require("waits 2" in here.ask("alpha", "alpha where c")[0], "it has waited for another round")
+
+
+WORK = ("alpha machine m1 2", "alpha job web 10", "alpha task web a", "alpha task web b m1", "alpha round")
+
+
+def require_moved(here: Door, alpha: Visitor) -> None:
+    """Asks that alpha is at two, and that its client of before is not connected any more."""
+    try:
+        require(False, f"its client was left connected: {alpha.ask('alpha show')}")
+    except Shut:
+        pass
+    until(lambda: here.serves("alpha"), "alpha is served again")
+    require((here.folder / "tenants.map").read_text() == "alpha two\nbeta one\ngamma two\n", "the map is kept")
+
+
+def moves_by_lines(program: str) -> None:
+    """By lines a tenant moves with its rows, and all its tasks wait again."""
+    with two_shards(program) as here, here.visit("alpha") as alpha:
+        for line in WORK:
+            require(" ok" in alpha.ask(line), line)
+        shown = alpha.ask("alpha show").split(" ", 2)[2]
+        done = here.control("move", "alpha", "--to", "two", "--by-lines")
+        require(done.returncode == 0 and "alpha is at two, by 4 lines" in done.stdout, done)
+        require_moved(here, alpha)
         moved = here.ask("alpha", "alpha show", "alpha where a", "alpha round", "alpha where a")
         require(moved[0].split(" ", 2)[2] == shown.replace("running 2", "running 0"), (moved, shown))
         require("waits" in moved[1] and "at m1" in moved[3], moved)
-        require(beta.ask("beta show").startswith("beta "), "beta's client is still connected")
-        require((here.folder / "tenants.map").read_text() == "alpha two\nbeta one\ngamma two\n", "the map is kept")
-        require(here.control("move", "alpha", "--to", "two").stdout == "alpha is at two\n", "again")
-        done = here.control("move", "alpha", "--to", "one", "--json")
+        done = here.control("move", "alpha", "--to", "one", "--by-lines", "--json")
         require(done.returncode == 0 and '"lines": 4' in done.stdout, done)
 
 
@@ -357,6 +388,16 @@ def late_rows(program: str) -> None:
 
 def killed_moves(program: str) -> None:
     """A move that is killed at any moment is ended by the next one: the tenant has all its rows, at one shard alone."""
+    require_state_program()
+    kill_moves(program)
+
+
+def killed_moves_by_lines(program: str) -> None:
+    """The same of moves by lines."""
+    kill_moves(program, "--by-lines")
+
+
+def kill_moves(program: str, *how: str) -> None:
     draw = random.Random(9)
     with two_shards(program) as here:
         lines = ["machine m1 2", "job web 10", *[f"task web t{number} m1" for number in range(12)]]
@@ -364,7 +405,7 @@ def killed_moves(program: str) -> None:
         record, middle, at, killed = here.folder / "tenants.map.move", 0.0, "one", 0
         for number in range(KILLED_MOVES):
             to = "one" if at == "two" else "two"
-            words: list[Any] = [SERVICE / "firmctl", "move", "alpha", "--to", to, "--door", here.table]
+            words: list[Any] = [SERVICE / "firmctl", "move", "alpha", "--to", to, "--door", here.table, *how]
             with subprocess.Popen(words, stdout=subprocess.DEVNULL, stderr=subprocess.DEVNULL) as move:
                 until(lambda: record.exists() or move.poll() is not None, "the move has begun")
                 began = time.monotonic()
@@ -376,7 +417,7 @@ def killed_moves(program: str) -> None:
             if number % 3 == 0:
                 here.restart("door")  # it has what its map's file says
             at = draw.choice(["one", "two"])
-            done = here.control("move", "alpha", "--to", at)
+            done = here.control("move", "alpha", "--to", at, *how)
             require(done.returncode == 0, done)
             until(lambda: here.serves("alpha"), "alpha is served")
             shown = here.ask("alpha", "alpha show")[0]
@@ -406,8 +447,10 @@ def refused_moves(program: str) -> None:
         spares = [f"spare{number},2,0,1000,0,0" for number in range(63)]
         for row in spares:
             require(operator_says(operator, f"+ admit {row}").startswith("+ ok"), row)
-        done = here.control("move", "alpha", "--to", "two")
+        done = here.control("move", "alpha", "--to", "two", "--by-lines")
         require(done.returncode == 1 and "operator-full" in done.stderr, done)
+        done = here.control("move", "alpha", "--to", "two")
+        require(done.returncode == 1 and "the shard two: " in done.stderr, done)
         until(lambda: here.serves("alpha"), "alpha is served")
         require("machines 1" in here.ask("alpha", "alpha show")[0], "its rows are there")
 
@@ -521,7 +564,8 @@ def written_files() -> None:
 
 
 RULES: list[Callable[[], None]] = [faulty_tables, written_files]
-CHECKS: list[Callable[[str], None]] = [rights, names, moves, late_rows, killed_moves, refused_moves, leaders]
+CHECKS: list[Callable[[str], None]] = [rights, names, moves, moves_by_lines, late_rows, killed_moves]
+CHECKS += [killed_moves_by_lines, refused_moves, leaders]
 
 
 def main() -> int:

@@ -1,7 +1,11 @@
-"""`firmctl move`: a tenant goes to another shard, by the lines that give it the same rows there.
+"""`firmctl move`: a tenant goes to another shard, with its placements, waits and numbers.
 
-Lines can't say where a task runs, for how long it has waited or how many commands there were: so all tasks wait again.
-`carry` is what a state that firm writes and reads would replace.
+The firmd that has it holds its lines and tells its state, and the other one takes that in (moves.py); then the first
+retires it. A record beside the door's map tells of a move from its beginning to its end, so the next one ends it: the
+tenant is at the new shard if that has taken it, and otherwise at the old one.
+
+By lines (`--by-lines`), as for shards of replicas, all its tasks wait again: lines can't say where a task runs, for how
+long it has waited or how many commands there were.
 """
 
 from __future__ import annotations
@@ -9,10 +13,14 @@ from __future__ import annotations
 import argparse
 import csv
 import fcntl
+import json
+import secrets
 import socket
 import time
-from collections.abc import Callable
-from dataclasses import dataclass
+from collections.abc import Callable, Iterator
+from contextlib import contextmanager
+from dataclasses import dataclass, replace
+from functools import partial
 from pathlib import Path
 
 from ..command_line import NO_SERVICE, NOT_THERE, USAGE, Failure, show
@@ -22,23 +30,25 @@ from .table import NOWHERE, Shard, Table, TableError
 from .writing import map_text, read_map
 
 ANSWER_SECONDS = 20.0
+STATE_SECONDS = 3_600.0  # for a state to be made, or taken in
 MOST_QUIET_SECONDS = 15.0  # until no client is connected, and until the rows are as answered
 LOOK_SECONDS = 0.05
 UNKNOWN = "! unknown-tenant"  # firm's reply where a tenant is not there
+MOVES = "moves"  # firmd's socket for moves, in its state's folder
 
 Lines = Callable[[str, str], Row]  # of a tenant, by the state folder of its firmd
 
 
-def ask(path: Path, lines: list[str]) -> list[str]:
+def ask(path: Path, lines: list[str], seconds: float = ANSWER_SECONDS) -> list[str]:
     """The replies of a socket of firmd, in turn."""
     try:
         with socket.socket(socket.AF_UNIX) as connected:
-            connected.settimeout(ANSWER_SECONDS)
+            connected.settimeout(seconds)
             connected.connect(str(path))
-            with connected.makefile("rwb", buffering=0) as stream:
+            with connected.makefile("rb") as stream:
                 replies = []
                 for line in lines:
-                    stream.write(line.encode() + b"\n")
+                    connected.sendall(line.encode() + b"\n")
                     replies.append(stream.readline().decode(errors="replace").rstrip("\n"))
     except OSError as error:
         raise Failure(NO_SERVICE, f"no firmd answers at {path}: {error.strerror or error}") from error
@@ -108,7 +118,8 @@ class Record:
             raise Failure(NO_SERVICE, "another move is under way") from None
 
     def read(self) -> list[str]:
-        """The tenant of a move that did not end, the shard that has all its rows, and the other."""
+        """Of a move that did not end: its tenant, and two shards. By lines that which has all its rows, and the other;
+        otherwise the old one and the new one, and the move's name."""
         return self._path.read_text().split() if self._path.exists() else []
 
     def keep(self, *words: str) -> None:
@@ -121,6 +132,8 @@ class Record:
 
 @dataclass(frozen=True)
 class Move:
+    """By lines."""
+
     tenant: str
     old: Shard
     new: Shard
@@ -169,6 +182,46 @@ class Move:
         return int(words[1])
 
 
+@dataclass(frozen=True)
+class WholeMove:
+    """With placements, waits and numbers."""
+
+    tenant: str
+    old: Shard
+    new: Shard
+    name: str  # that no other move has
+
+    def require_served(self) -> None:
+        """Asks that both shards do what a move needs, by one that is never made."""
+        probe = replace(self, name=secrets.token_hex(8))
+        probe._ask(self.new, "taken")
+        probe._ask(self.old, "release")
+
+    def carry(self) -> None:
+        """Has the old shard hold the tenant, and the new one take it."""
+        state = self._ask(self.old, "hold")["state"]
+        self._ask(self.new, "take", state=state)
+
+    def finish(self, proxy: Proxy) -> None:
+        """Has the shard alone serve it that has it, and the door know."""
+        if self._ask(self.new, "taken")["taken"]:
+            proxy.point(self.tenant, self.new.name)
+            self._ask(self.old, "give")
+        else:
+            self._ask(self.old, "release")
+            proxy.point(self.tenant, self.old.name)
+
+    def _ask(self, shard: Shard, what: str, **more: str) -> Row:
+        if shard.state is None:
+            raise Failure(USAGE, f"the table has no state of the shard {shard.name}")
+        request = json.dumps({"ask": what, "tenant": self.tenant, "move": self.name, **more})
+        (text,) = ask(shard.state / MOVES, [request], STATE_SECONDS)
+        answer: Row = json.loads(text)
+        if "error" in answer:
+            raise Failure(NOT_THERE, f"the shard {shard.name}: {answer['text']}")
+        return answer
+
+
 def move(options: argparse.Namespace, lines: Lines) -> None:
     try:
         table = Table.read(options.door)
@@ -188,30 +241,67 @@ def move(options: argparse.Namespace, lines: Lines) -> None:
         return show(options, {"tenant": tenant, "shard": to, "lines": 0}, lambda _: f"{tenant} is at {to}\n")
     moved = Move(tenant, table.shards[now], table.shards[to])
     moved.require_room()
-    record.keep(tenant, now, to)
-    proxy.point(tenant, NOWHERE)
-    try:
-        proxy.end_sessions(tenant, moved.old)
-        count = moved.carry(lines)
-    except BaseException:
-        finish(table, record, proxy)
-        raise
-    record.keep(tenant, to, now)
+    if options.by_lines:
+        count = move_by_lines(moved, lines, record, proxy)
+    else:
+        move_whole(moved, record, proxy)
+        count = None
     finish(table, record, proxy)
-    answer = {"tenant": tenant, "shard": to, "lines": count}
-    show(options, answer, lambda _: f"{tenant} is at {to}, by {count:,} lines; all its tasks wait again\n")
+    told = "its tasks run and wait on" if count is None else f"by {count:,} lines; all its tasks wait again"
+    show(options, {"tenant": tenant, "shard": to, "lines": count}, lambda _: f"{tenant} is at {to}, {told}\n")
+
+
+def move_whole(moved: Move, record: Record, proxy: Proxy) -> None:
+    """Has the new shard have the tenant, though the old one has it still."""
+    whole = WholeMove(moved.tenant, moved.old, moved.new, secrets.token_hex(8))
+    whole.require_served()
+    record.keep(moved.tenant, moved.old.name, moved.new.name, whole.name)
+    with taken_back(moved, whole.finish, record, proxy):
+        whole.carry()
+
+
+def move_by_lines(moved: Move, lines: Lines, record: Record, proxy: Proxy) -> int:
+    """The same by so many lines."""
+    back = Move(moved.tenant, moved.new, moved.old)
+    record.keep(moved.tenant, moved.old.name, moved.new.name)
+    with taken_back(moved, partial(finish_by_lines, back), record, proxy):
+        count = moved.carry(lines)
+    record.keep(moved.tenant, moved.new.name, moved.old.name)
+    return count
+
+
+@contextmanager
+def taken_back(moved: Move, end: Callable[[Proxy], None], record: Record, proxy: Proxy) -> Iterator[None]:
+    """While nobody is connected to the tenant; what fails there ends the move."""
+    proxy.point(moved.tenant, NOWHERE)
+    try:
+        proxy.end_sessions(moved.tenant, moved.old)
+        yield
+    except BaseException:
+        end(proxy)
+        record.drop()
+        raise
 
 
 def finish(table: Table, record: Record, proxy: Proxy) -> None:
-    """Ends a move, however far it came: the tenant is at the shard that has all its rows, and not at the other."""
+    """Ends a move, however far it came."""
     words = record.read()
     if not words:
         return
-    tenant, here, other = words
-    for shard in (here, other):
+    tenant, one, two, *names = words
+    for shard in (one, two):
         if shard not in table.shards:
             raise Failure(NOT_THERE, f"{table.path} lacks the shard {shard}, where a move of {tenant} did not end")
-    moved = Move(tenant, table.shards[other], table.shards[here])
+    if names:
+        WholeMove(tenant, table.shards[one], table.shards[two], *names).finish(proxy)
+    else:
+        finish_by_lines(Move(tenant, table.shards[two], table.shards[one]), proxy)
+    record.drop()
+
+
+def finish_by_lines(moved: Move, proxy: Proxy) -> None:
+    """The tenant is at the shard that has all its rows, and not at the other."""
+    tenant, here, other = moved.tenant, moved.new.name, moved.old.name
     (reply,) = ask(moved.operator(moved.new), [f"{tenant} show"])
     if reply == UNKNOWN:
         raise Failure(NOT_THERE, f"the shard {here} has {tenant} no more, which was to have all its rows")
@@ -219,4 +309,3 @@ def finish(table: Table, record: Record, proxy: Proxy) -> None:
     _, reply = ask(moved.operator(moved.old), [f"+ retire {tenant}", f"{tenant} show"])
     if reply != UNKNOWN:
         raise Failure(NOT_THERE, f"the shard {other} still has {tenant}: {reply}")
-    record.drop()

@@ -1,0 +1,410 @@
+"""Moves of tenants between services, each with its placements, waits and numbers: `moves` in a state's folder.
+
+Who moves a tenant, `firmctl move`, asks the firmd that has it and the one that is to have it, over this socket, which
+is for firmd's own user alone. A request is an object of JSON on a line, and so is its answer; each names the tenant and
+the move, by a name that no other move has:
+
+    {"ask": "hold", "tenant": T, "move": M} -> {"state": TEXT}: firm gets no line of the tenant from here on, and its
+        state is this. It stays so over restarts, by the file `moving`, until `give` or `release`.
+    {"ask": "take", "tenant": T, "move": M, "state": TEXT} -> {}: the tenant is here, and stays.
+    {"ask": "taken", "tenant": T, "move": M} -> {"taken": BOOL}: whether it has come by this move. After false it never
+        will.
+    {"ask": "give", "tenant": T, "move": M} -> {}: it is retired here, as it has come elsewhere.
+    {"ask": "release", "tenant": T, "move": M} -> {}: firm gets its lines again. This move never holds it again.
+
+Each may be asked again. An error is {"error": NAME, "text": WORDS}. So the tenant is the new service's from the moment
+at which `joined` is there (joined.py), and the old one's before that; the old one answers none of its lines meanwhile.
+"""
+
+from __future__ import annotations
+
+import asyncio
+import json
+import re
+import socket
+from collections.abc import Callable
+from contextlib import suppress
+from dataclasses import dataclass
+from functools import partial
+from pathlib import Path
+from typing import Any, NamedTuple, TypeVar
+
+from .books import Book, Books
+from .faults import Exit, Fault, Faults, reason, say
+from .feeder import Feeder
+from .files import replace_synced, sync_folder
+from .joined import KEPT_MOVES, Joined, clear_texts
+from .kept import found_now, kept_lines
+from .kept_books import UNKNOWN, book_of, books_text, opening_books, rows_of
+from .lanes import OPERATORS, Share
+from .lines import first_word, is_name
+from .logs import INFO
+from .past import told
+from .programs import NotBuilt
+from .records import Base
+from .recovery import Found
+from .register import Register
+from .rounds import Rounds
+from .snapshots import Snapshot, Unusable, opening_of
+from .snapshotting import Change, Snapshots
+from .state import State
+from .states import Opening, Part, StateError, TenantRows, digest, fold, state_file, tenants_of
+from .stream import Stopping, Stream
+
+SOCKET, MOVING = "moves", "moving"
+LONGEST_REQUEST = 2**27  # bytes: a state has at most 40 MiB
+MOST_LINES = 20_000  # behind a snapshot, that a fresh firm is given; else a further one is made first
+QUIET_SECONDS = 0.002  # between two looks whether all lines of a tenant are answered
+RETIRED = b"+ ok retired "
+Json = dict[str, Any]
+Result = TypeVar("Result")
+
+_MOVE = re.compile(r"[0-9a-f]{8,64}")
+
+
+class Refused(Exception):
+    """What is asked for is not done."""
+
+    def __init__(self, name: str, text: str) -> None:
+        super().__init__(text)
+        self.name = name
+
+
+class Held(NamedTuple):
+    """A tenant that is about to go elsewhere."""
+
+    tenant: str
+    move: str
+
+
+def read_held(folder: Path) -> Held | None:
+    path = folder / MOVING
+    try:
+        found = json.loads(path.read_bytes())
+        return Held(str(found["tenant"]), str(found["move"]))
+    except FileNotFoundError:
+        return None
+    except OSError as error:
+        raise Fault(Exit.STATE, f"cannot read {path}: {reason(error)}") from error
+    except (ValueError, KeyError, TypeError) as error:
+        raise Fault(Exit.JOURNAL, f"{path}: this is not what was written: {error!r}") from error
+
+
+def keep_held(folder: Path, held: Held) -> None:
+    replace_synced(folder / MOVING, json.dumps(held._asdict()).encode() + b"\n", 0o600)
+
+
+def drop_held(folder: Path) -> None:
+    (folder / MOVING).unlink(missing_ok=True)
+    sync_folder(folder)
+
+
+@dataclass(frozen=True, slots=True)
+class Parts:
+    """The parts of firmd that a move concerns."""
+
+    state: State
+    stream: Stream
+    books: Books
+    register: Register
+    snapshots: Snapshots | None  # None: none are made
+    faults: Faults
+
+
+def held_at_start(parts: Parts) -> Held | None:
+    """The tenant that was held before; none where it has been retired since."""
+    held = read_held(parts.state.folder)
+    if held is None or held.tenant in parts.books.tenants:
+        return held
+    with suppress(OSError):  # so the next start does this
+        drop_held(parts.state.folder)
+    return None
+
+
+class Retirement:
+    """Owns the line that retires a tenant which has come elsewhere."""
+
+    sender, socket = b"firmd", None
+
+    def __init__(self) -> None:
+        self.reply: asyncio.Future[bytes] = asyncio.get_running_loop().create_future()
+
+    def given(self, share: Share, reply: bytes | None) -> None:
+        if reply is not None:
+            self.answered(reply, 1)
+
+    def answered(self, replies: bytes, count: int) -> None:
+        if not self.reply.done():
+            self.reply.set_result(replies)
+
+    def drop(self) -> None:
+        self.answered(b"", 1)
+
+
+class Moves:
+    """Answers who moves tenants. What takes long is done by the thread of the snapshots, one thing after another."""
+
+    def __init__(self, parts: Parts, rounds: Rounds, feeder: Feeder) -> None:
+        self._parts, self._rounds, self._feeder = parts, rounds, feeder
+        self._folder = parts.state.folder
+        clear_texts(self._folder, parts.state.joined)  # not before the journal is compared with it
+        self._held = held_at_start(parts)
+        self._released: set[str] = set()  # moves that hold nothing any more
+        self._refused: set[str] = set()  # moves by which no tenant comes any more
+        self._lock = asyncio.Lock()  # for what changes which tenant is held
+        self._server: asyncio.Server | None = None
+        self._tasks: set[asyncio.Task[None]] = set()
+        if self._held is not None:
+            parts.stream.hold(self._held.tenant.encode())
+            say(f"{self._held.tenant} is held, as it moves: firmctl move ends that", INFO)
+
+    async def listen(self, listening: socket.socket) -> None:
+        """Takes connections from here on."""
+        self._server = await asyncio.start_unix_server(self._begin, sock=listening, limit=LONGEST_REQUEST)
+
+    def _begin(self, reader: asyncio.StreamReader, writer: asyncio.StreamWriter) -> None:
+        task = asyncio.get_running_loop().create_task(self._serve(reader, writer))
+        self._tasks.add(task)
+        task.add_done_callback(self._tasks.discard)
+
+    async def close(self) -> None:
+        if self._server is not None:
+            self._server.close()
+        for task in self._tasks:
+            task.cancel()
+        await asyncio.gather(*self._tasks, return_exceptions=True)
+
+    async def _serve(self, reader: asyncio.StreamReader, writer: asyncio.StreamWriter) -> None:
+        try:
+            while line := await reader.readline():
+                writer.write(json.dumps(await self._answer(line)).encode() + b"\n")
+                await writer.drain()
+        except (OSError, ValueError):  # it is gone, or sends without an end
+            pass
+        except Exception as error:
+            self._parts.faults.note("moves", error)
+        finally:
+            writer.close()
+
+    async def _answer(self, line: bytes) -> Json:
+        try:
+            match json.loads(line):
+                case {"ask": "hold", "tenant": str(tenant), "move": str(move)}:
+                    return {"state": await self._hold(named(tenant, move))}
+                case {"ask": "take", "tenant": str(tenant), "move": str(move), "state": str(text)}:
+                    return await self._by_thread(partial(self._take, named(tenant, move), text.encode()))
+                case {"ask": "taken", "tenant": str(tenant), "move": str(move)}:
+                    return {"taken": await self._by_thread(partial(self._has_taken, named(tenant, move)))}
+                case {"ask": "give", "tenant": str(tenant), "move": str(move)}:
+                    return await self._give(named(tenant, move))
+                case {"ask": "release", "tenant": str(tenant), "move": str(move)}:
+                    return await self._release(named(tenant, move))
+            raise Refused("bad-request", "nothing that can be asked")
+        except Refused as refusal:
+            return {"error": refusal.name, "text": str(refusal)}
+        except (Fault, Unusable, StateError, NotBuilt, OSError, ValueError) as error:
+            return {"error": "failed", "text": str(error)}
+        except Stopping:
+            return {"error": "stopping", "text": "firmd ends"}
+
+    async def _by_thread(self, work: Callable[[], Result]) -> Result:
+        """Has the snapshots' thread do it."""
+        loop = asyncio.get_running_loop()
+        done: asyncio.Future[Result] = loop.create_future()
+
+        def settle(set_it: Callable[[Any], None], found: object) -> None:
+            if not done.done():
+                set_it(found)
+
+        def run() -> None:
+            try:
+                found = work()
+            except Exception as error:
+                self._parts.stream.tell_loop(settle, done.set_exception, error)
+            else:
+                self._parts.stream.tell_loop(settle, done.set_result, found)
+
+        self._snapshots.wish(run)
+        return await done
+
+    @property
+    def _snapshots(self) -> Snapshots:
+        if self._parts.snapshots is None:
+            raise Refused("no-snapshots", "a tenant moves with a firmd that makes snapshots, and is no replica")
+        return self._parts.snapshots
+
+    # The service that has the tenant.
+
+    async def _hold(self, asked: Held) -> str:
+        parts, name = self._parts, asked.tenant.encode()
+        async with self._lock:
+            if asked.move in self._released:
+                raise Refused("released", "this move has been given up")
+            if self._held not in (None, asked):
+                raise Refused("moving", f"another move of {self._held.tenant if self._held else ''} is under way")
+            if asked.tenant not in parts.books.tenants:
+                raise Refused("no-tenant", f"there is no tenant {asked.tenant}")
+            if self._held is None:
+                await asyncio.to_thread(keep_held, self._folder, asked)
+                self._held = asked
+            parts.stream.hold(name)
+            while not parts.stream.lanes.is_quiet(name):
+                await asyncio.sleep(QUIET_SECONDS)
+            if asked.tenant not in parts.books.tenants:
+                raise Refused("no-tenant", f"{asked.tenant} was retired")
+            rows = rows_of(parts.books.tenants[asked.tenant])
+        return await self._by_thread(partial(self._part, rows))
+
+    def _part(self, rows: TenantRows) -> str:
+        """The state that has one tenant alone, as firm_state makes it of its own lines, and as the replies say."""
+        snapshot, state = self._snapshots.last(), self._parts.state
+        base, opening = state.base, state.opening
+        if snapshot is not None:
+            base, opening = snapshot.base, opening_of(state, snapshot)
+        lines = told(found_now(self._folder, base), rows.limits.tenant)
+        text = fold(opening, (line.text + b"\n" for line in lines), Part(tenants=(rows.limits.tenant,)))
+        if tenants_of(text) != [rows]:
+            raise Unusable(f"firm_state has other rows of {rows.limits.tenant} than the replies made")
+        return text.decode("ascii")
+
+    async def _give(self, asked: Held) -> Json:
+        async with self._lock:
+            is_there = asked.tenant in self._parts.books.tenants
+            if self._held != asked:
+                if is_there:
+                    raise Refused("not-held", f"{asked.tenant} is served here, and not held by this move")
+                return {}
+            if is_there:
+                await self._retire(asked.tenant)
+            await self._drop()
+            return {}
+
+    async def _retire(self, tenant: str) -> None:
+        owner = Retirement()
+        self._parts.stream.take(Share(owner, b"+ retire %b\n" % tenant.encode(), 1, OPERATORS))
+        reply = await owner.reply
+        if not reply.startswith(RETIRED):
+            raise Refused("failed", f"firm replies {reply.decode(errors='replace').strip()!r} to its retirement")
+
+    async def _release(self, asked: Held) -> Json:
+        async with self._lock:
+            self._released.add(asked.move)
+            if asked in (self._held, read_held(self._folder)):  # a hold that failed may have left the file
+                await self._drop()
+            return {}
+
+    async def _drop(self) -> None:
+        """Holds nothing from here on; what waits is given to firm, or refused where the tenant has gone."""
+        await asyncio.to_thread(drop_held, self._folder)
+        held, self._held = self._held, None
+        if held is not None:
+            self._parts.stream.release(held.tenant.encode())
+
+    # The service that is to have it.
+
+    def _has_taken(self, asked: Held) -> bool:
+        joined = self._parts.state.joined
+        if joined is not None and asked.move in joined.moves:
+            return True
+        self._refused.add(asked.move)
+        return False
+
+    def _take(self, asked: Held, text: bytes) -> Json:
+        """Takes a tenant in; by the snapshots' thread."""
+        state, tenant = self._parts.state, asked.tenant
+        if state.joined is not None and asked.move in state.joined.moves:
+            return {}
+        if asked.move in self._refused:
+            raise Refused("refused", "this move has been given up")
+        if tenant.encode() in self._parts.register:
+            raise Refused("tenant-exists", f"there is a tenant {tenant} already")
+        snapshot = self._snapshots.last()
+        found = found_now(self._folder, state.base if snapshot is None else snapshot.base)
+        if found.lines - found.base.lines > MOST_LINES or speaks_of(found, tenant.encode()) is not None:
+            snapshot = self._snapshots.behind_all()
+        former = former_of(state, snapshot)
+        joined, merged, book = joined_of(asked, former, text)
+        commit = partial(self._require_silent, tenant.encode())
+        on_switch = partial(self._join, book)
+        self._snapshots.join(joined, merged, Change(joined.opening(self._folder), former.base, commit, on_switch))
+        say(f"the tenant {tenant} has come from another service", INFO)
+        return {}
+
+    def _require_silent(self, tenant: bytes, found: Found) -> None:
+        """Asks that nothing was said of the tenant behind the state that has it; it would be obeyed there."""
+        line = speaks_of(found, tenant)
+        if line is not None:
+            raise Unusable(f"meanwhile somebody said {line.decode(errors='replace')!r}")
+        if tenant in self._parts.register:
+            raise Unusable(f"there is a tenant {tenant.decode()} by now")
+
+    def _join(self, book: Book) -> None:
+        """Has all parts know the tenant; by the loop, before the firm is heard that has it."""
+        name = book.limits.tenant
+        self._parts.books.put(book)
+        self._parts.register.join(name.encode())
+        self._feeder.tell_joined(book)
+        self._rounds.joined(name)
+
+
+def speaks_of(found: Found, tenant: bytes) -> bytes | None:
+    """A line of a tenant, or one of the operator's that names it; None where there is none."""
+    named = re.compile(rb"[ \t,]%b([ \t,]|$)" % tenant)
+    for kept in kept_lines(found):
+        for line in kept.lines:
+            word = first_word(line)
+            if word == tenant or word == OPERATORS and named.search(line.rstrip(b"\r")):
+                return line
+    return None
+
+
+class Former(NamedTuple):
+    """What a service goes on from before a tenant joins it."""
+
+    base: Base
+    opening: Opening
+    rows: list[TenantRows]
+    books: Json  # what firmd knows beside firm
+    sums: tuple[int, ...]  # the checksums of what it went on from before, and does without a snapshot
+    moves: tuple[str, ...]  # by which tenants have come before
+
+
+def former_of(state: State, snapshot: Snapshot | None) -> Former:
+    """That behind a snapshot, or what it began with."""
+    sums, moves = (state.joined.former, state.joined.moves) if state.joined is not None else ((), ())
+    sums = (*sums, state.roster_sum)
+    if snapshot is not None:
+        rows, opening = tenants_of(snapshot.state), opening_of(state, snapshot)
+        return Former(snapshot.base, opening, rows, json.loads(snapshot.books), sums, moves)
+    books = opening_books(state, state.read_opening())
+    rows = [rows_of(book) for book in books.tenants.values()]
+    return Former(state.base, state.opening, rows, json.loads(books_text(books)), sums, moves)
+
+
+def joined_of(asked: Held, former: Former, part: bytes) -> tuple[Joined, bytes, Book]:
+    """What it goes on from then, the state's text, and the tenant's book."""
+    rows = tenants_of(part)
+    if [tenant.limits.tenant for tenant in rows] != [asked.tenant]:
+        raise Refused("bad-state", f"the state is not that of {asked.tenant} alone")
+    with state_file(part) as one:
+        text = fold(former.opening, (), Part(merged=(one.path,)))
+    if by_name(tenants_of(text)) != by_name(former.rows + rows):
+        raise Unusable("firm_state has joined other rows than it was given")
+    # A line up to here, so no other task of this tenant and name was ever submitted by it.
+    kept = {**UNKNOWN, "lines": [former.base.lines] * len(rows[0].tasks)}
+    books = {**former.books, "tenants": {**former.books["tenants"], asked.tenant: kept}}
+    moves = (*former.moves, asked.move)[-KEPT_MOVES:]
+    joined = Joined(former.sums, former.base, len(text), digest(text), moves, books)
+    return joined, text, book_of(rows[0], kept)
+
+
+def by_name(rows: list[TenantRows]) -> list[TenantRows]:
+    return sorted(rows, key=lambda tenant: tenant.limits.tenant)
+
+
+def named(tenant: str, move: str) -> Held:
+    if not is_name(tenant.encode()):
+        raise Refused("bad-request", f"{tenant!r} is no name of a tenant")
+    if _MOVE.fullmatch(move) is None:
+        raise Refused("bad-request", f"{move!r} is no name of a move")
+    return Held(tenant, move)
