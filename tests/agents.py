@@ -10,6 +10,7 @@ measures what a number of agents with tasks each take, in place of the checks.
 from __future__ import annotations
 
 import argparse
+import asyncio
 import contextlib
 import json
 import os
@@ -18,18 +19,21 @@ import resource
 import signal
 import subprocess
 import sys
+import tempfile
 import time
 from concurrent.futures import ThreadPoolExecutor
 from functools import partial
 from pathlib import Path
+from types import SimpleNamespace
 
 from agent_kit import AGENT, LIMIT_SECONDS, SOON_SECONDS, SSH, WAITS_FOR_GO, Case, is_there
 from harness.checks import Check, Missed, Skipped, count_ends, passes, print_skipped, require, run_script
-from harness.deployed import NotAllowed, supervisor, work_of
+from harness.deployed import NotAllowed, agent_machines, agent_queue, supervisor, work_of
 from queue_stand_in import QueueStandIn, Row, clock
 
 AT_A_TIME = 8  # checks, which mostly wait
 LEASE_SECONDS = 3.0
+TURNS = 16  # of a loop: a lost connection is taken in within fewer
 NOBODY = 65534
 ONCE = (  # the lock is that of all its processes, and gone with the last
     "exec 9> $FIRM_TASK.lock; flock -n 9 || echo $FIRM_TASK >> doubled; "
@@ -494,6 +498,42 @@ def whose_work() -> None:
     raise Missed("work of root's is taken from a queue that is not root's")
 
 
+def stopped_as_its_queue_goes() -> None:
+    """An agent's conversation with its queue ends when it is told to, however close that is to the queue's own end."""
+    with tempfile.TemporaryDirectory() as name:
+        lost = [turns for turns in range(TURNS) if not asyncio.run(ends_behind(Path(name, f"queue{turns}"), turns))]
+    require(not lost, f"told to end these turns of the loop after the queue, it went on: {lost}")
+
+
+async def ends_behind(path: Path, turns: int) -> bool:
+    """Whether a conversation ends that is cancelled so many turns of the loop after its queue has gone."""
+    there: list[asyncio.StreamWriter] = []
+
+    async def serve(reader: asyncio.StreamReader, writer: asyncio.StreamWriter) -> None:
+        there.append(writer)
+        answers = {"status": {"tenant": "alpha"}, "register": {"lease": 60, "beat": 20, "end": [], "keep": []}}
+        while line := await reader.readline():
+            ask = json.loads(line)["ask"]
+            writer.write(json.dumps({ask: answers[ask]}).encode() + b"\n")
+
+    async with await asyncio.start_unix_server(serve, path):
+        source = agent_queue.QueueSource(path, "a1", agent_machines.read_machines("m1=1"), path.parent)
+        changed = asyncio.Event()
+        history = SimpleNamespace(name="a1", runs={})
+        agent = SimpleNamespace(history=history, changed=changed, state=SimpleNamespace(unwritten=[]))
+        serving, *others = map(asyncio.create_task, source.begin(agent))  # type: ignore[arg-type]
+        await changed.wait()  # it is registered
+        there[0].transport.abort()
+        for _ in range(turns):
+            await asyncio.sleep(0)
+        serving.cancel()
+        await asyncio.wait([serving], timeout=SOON_SECONDS)
+        has_ended = serving.done()
+        for task in (serving, *others):  # one that has lost its first end hears of another
+            task.cancel()
+        return has_ended
+
+
 def can_limit() -> bool:
     """Whether runs may have a limit of memory here."""
     try:
@@ -698,6 +738,7 @@ QUICK = [
     queue_away,
     time_limit,
     killed_supervisor,
+    stopped_as_its_queue_goes,
     told_by_the_queue,
     other_user,
     whose_work,

@@ -33,7 +33,7 @@ import queue_kills
 import queue_tables
 from harness import program
 from harness.checks import Check, Skipped, count_ends, passes, require, run_script
-from harness.deployed import SERVICE
+from harness.deployed import SERVICE, columns
 from queue_kit import FOREVER, Case, Client, Json, Setup, Size, asked_of_firm, claim_place
 
 CHECKS_AT_A_TIME = 8  # they mostly wait
@@ -63,6 +63,30 @@ def life(setup: Setup) -> None:
         (row,) = client.ask("history")
         require((row["task"], row["outcome"], row["job"], row["user"]) == ("1", "done", "web", "root"), row)
         case.stop()
+
+
+def table_of_tasks(setup: Setup) -> None:
+    """`ps` is the table of what `tasks` tells, whatever state the tasks are in."""
+    with setup.case().start() as case, case.client() as client, case.firmd.client() as firm:
+        for line in (b"job j 3", b"task j mine"):
+            require(firm.ask(b"alpha " + line).endswith(b" ok"), line)
+        client.submit(*FOREVER, array=[1, 3])
+        client.submit(*FOREVER, "a b", "it's", array=[4, 6], hold=True)
+        client.submit("0.01", after=["1"], job="late")
+        client.submit("1" * 40, array=[0, 20])
+        client.ask("hold", tasks=["4_7"])
+        case.agent("a1", m1=2)
+        case.until(lambda: len(case.world.running()) == 2, "two run")
+        wanted = {"foreign", "running", "waiting", "held", "blocked"}
+        case.until(lambda: {row["state"] for row in client.ask("tasks")} >= wanted, "all states are there")
+
+        def are_alike() -> bool:  # unless a second has passed, or a state changed, between the two
+            return bool(client.ask("ps") == columns.table(client.ask("tasks")))
+
+        case.until(are_alike, "the table is that of the rows")
+        lines = client.ask("ps").splitlines()
+        names = [line.split()[0] for line in lines[1:]]
+        require(names == ["1_1", "1_2", "1_3", "2_[4-6]", "3", "4_[0-6]", "4_7", "4_[8-20]", "mine"], names)
 
 
 def jobs_of(case: Case) -> list[str]:
@@ -660,6 +684,7 @@ def submit_many(client: Client, count: int, at_once: int) -> None:
 CHECKS: tuple[Callable[[Setup], None], ...] = (
     *(
         life,
+        table_of_tasks,
         outcomes,
         arrays,
         keys,

@@ -277,7 +277,8 @@ def quick_ps(found: Cluster) -> None:
         subprocess.run(words, cwd=SERVICE, env=environment, capture_output=True, text=True, timeout=60).stdout
         for words in (whole, [firmctl, "ps"], [firmctl, "--queue", str(found.socket), "ps"])
     ]
-    shown = [[line for line in text.splitlines() if " quick " in line] for text in texts]
+    # Tasks of other checks may widen a column meanwhile.
+    shown = [[line.split() for line in text.splitlines() if " quick " in line] for text in texts]
     require(len(shown[0]) == 4 and shown[0] == shown[1] == shown[2], texts)
     require("\N{FIRE}" in texts[0] and "_[1-9]" in texts[0], texts[0])
     done = subprocess.run([firmctl, "ps", "--queue", "/nonexistent"], capture_output=True, text=True, timeout=60)

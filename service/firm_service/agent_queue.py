@@ -88,23 +88,29 @@ class QueueSource:
         """Keeps the agent registered, through restarts of the queue."""
         pause = SHORTEST_PAUSE
         while True:
-            try:
-                link = await Link.open(self.path)
-                async with asyncio.TaskGroup() as group:
-                    group.create_task(link.hear(self._hear))
-                    group.create_task(self._converse(link))
-            except OSError as error:
-                self._tell_once(f"{self.path}: {error}")
-            except ExceptionGroup as errors:
-                faults, others = errors.split((OSError, ValueError, Refusal))
+            # A group of tasks that fails while it is cancelled raises its own errors alone (up to Python 3.12), so an
+            # end of the agent that is asked for at that moment would be lost here; `gather` raises it all the same.
+            (fault,) = await asyncio.gather(self._connect(), return_exceptions=True)
+            if isinstance(fault, ExceptionGroup):
+                faults, others = fault.split((OSError, ValueError, Refusal))
                 if others is not None or faults is None:
-                    raise
+                    raise fault
                 if self._link is not None:
                     pause = SHORTEST_PAUSE
-                self._tell_once(f"{self.path}: {first_of(faults)}")
+                fault = first_of(faults)
+            elif not isinstance(fault, OSError):
+                raise fault or RuntimeError("a connection without an end")
+            self._tell_once(f"{self.path}: {fault}")
             self._link = None
             await asyncio.sleep(pause)
             pause = min(2 * pause, LONGEST_PAUSE)
+
+    async def _connect(self) -> None:
+        """One connection, until it is lost; that raises OSError, or a group of errors."""
+        link = await Link.open(self.path)
+        async with asyncio.TaskGroup() as group:
+            group.create_task(link.hear(self._hear))
+            group.create_task(self._converse(link))
 
     def _tell_once(self, why: str) -> None:
         if why != self._told:

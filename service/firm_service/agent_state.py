@@ -1,4 +1,12 @@
-"""What an agent knows of its runs: a file of events, each written before it is acted on, and what follows from them."""
+"""What an agent knows of its runs: a file of events, each written before it is acted on, and what follows from them.
+
+Notes of open runs stand beside it, a file for each, so a lost file of events loses no run. To ask all machines at each
+start instead would have every task wait for a machine that doesn't answer. Notes are not synced: they matter only where
+the events alone are lost.
+
+A run's folder is `runs/NAME/TASK.RUN`: NAME is drawn with the first event, RUN counts all runs. It may be removed once
+the run has ended.
+"""
 
 from __future__ import annotations
 

@@ -97,7 +97,7 @@ class Core:
     def facts(self, task: Task) -> Facts:
         """What the task's state follows from, by what is known of firm now."""
         rows = self.firm.rows
-        row = rows.tasks.get(task.name.firm) if rows is not None and task.outcome is None else None
+        row = rows.tasks.get(task.firm) if rows is not None and task.outcome is None else None
         attempt = task.open_attempt
         return Facts(
             task.outcome,

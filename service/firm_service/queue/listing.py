@@ -4,14 +4,16 @@ from __future__ import annotations
 
 import time
 from collections import Counter
-from collections.abc import Iterable
+from collections.abc import Iterable, Iterator
 from dataclasses import asdict
-from itertools import islice
+from itertools import groupby, islice
 from typing import Any
 
+from ..tables import duration
 from . import states
 from .agents import Agents
 from .backlog import used
+from .columns import Line, cell_of, command_cell
 from .core import Core
 from .fields import Json
 from .rows import SINGLE, Attempt, Name, Submission, Task
@@ -33,19 +35,19 @@ class Lists:
 
     def row(self, task: Task) -> Json:
         """A task, as `tasks` shows it."""
-        submission, attempt, facts = task.submission, task.attempt, self._core.facts(task)
-        state, name, is_open = states.state_of(facts), task.name, facts.attempt_machine is not None
+        submission, attempt = task.submission, task.attempt
+        state, machine, reason = self._seen(task)
         return {
-            "task": str(name),
-            "firm": name.firm,
+            "task": str(task.name),
+            "firm": task.firm,
             "number": submission.number,
             "index": None if task.index == SINGLE else task.index,
             "user": name_of(submission.user),
             "job": submission.job,
             "weight": submission.weight,
-            "state": state.value,
-            "reason": "" if state is State.RUNNING else self._reason(task, state, facts.machine),
-            "machine": facts.attempt_machine if is_open else facts.machine or last_machine(task),
+            "state": state,
+            "reason": reason,
+            "machine": machine,
             "agent": attempt.agent if attempt is not None else None,
             "attempt": task.attempts,
             "submitted": submission.sent,
@@ -56,6 +58,26 @@ class Lists:
             "time": submission.spec.time,
             "command": submission.spec.command,
         }
+
+    def lines(self, tasks: Iterable[Task]) -> Iterator[Line]:
+        """Tasks as the table has them: the cells of their rows, of which those of a submission are made once."""
+        for submission, group in groupby(tasks, lambda task: task.submission):
+            user, job = cell_of(name_of(submission.user)), cell_of(submission.job)
+            command = command_cell(submission.spec.command)
+            for task in group:
+                state, machine, reason = self._seen(task)
+                index = None if task.index == SINGLE or machine is not None or task.attempts else task.index
+                took = duration(seconds_of(task.attempt))
+                cells = (task.shown, user, job, state, cell_of(machine), took, command, cell_of(reason))
+                yield Line(submission.number, index, cells)
+
+    def _seen(self, task: Task) -> tuple[State, str | None, str]:
+        """A task's state, the machine where it is or was, and why it is not further."""
+        facts = self._core.facts(task)
+        state, machine = states.state_of(facts), facts.attempt_machine
+        if machine is None:
+            machine = facts.machine or last_machine(task)
+        return state, machine, "" if state is State.RUNNING else self._reason(task, state, facts.machine)
 
     def _reason(self, task: Task, state: State, machine: str | None) -> str:
         if task.outcome is not None:

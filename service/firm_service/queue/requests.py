@@ -193,7 +193,7 @@ from typing import Any, Protocol
 
 from . import queries
 from .agents import CORDONED, DRAINED, Agents, Session
-from .columns import table
+from .columns import Line, line_of, text_of
 from .core import Core
 from .fields import MOST_KEY, Fields, Json, Refused, Submit, bad, submit_of
 from .listing import VERSION, Lists
@@ -249,8 +249,7 @@ class Chosen:
         submission = task.submission
         if self.user not in (None, submission.user) or self.job not in (None, submission.job):
             return False
-        whole = Name(submission.number)
-        return self.names is None or task.name in self.names or whole in self.names
+        return self.names is None or task.name in self.names or Name(submission.number) in self.names
 
 
 class Requests:
@@ -355,29 +354,38 @@ class Requests:
     async def _tasks(self, caller: Caller, given: Json) -> Any:
         fields = Fields(given, ["ask", "user", "job", "states", "tasks", "limit"])
         chosen = self._chosen(fields)
-        tasks = [task for task in self._visible(caller.user) if chosen.has(task)]
-        if chosen.states is not None:
-            tasks = [task for task in tasks if self._lists.state_of(task) in chosen.states]
-            tasks += await self._ended(caller.user, chosen)
-        tasks.sort(key=lambda task: (task.submission.number, task.index))
-        rows = await self._rows(tasks[: chosen.limit])
-        is_foreign = chosen.states is None or "foreign" in chosen.states
-        if caller.user.is_operator and is_foreign and chosen.names is None and chosen.user is None:
-            rows += [row for row in self._lists.foreign() if chosen.job in (None, row["job"])]
+        tasks = await self._chosen_tasks(caller.user, chosen)
+        rows: list[Json] = []
+        async for some in in_turns(tasks[: chosen.limit]):
+            rows += map(self._lists.row, some)
+        rows += self._foreign(caller.user, chosen)
         return Listed(rows[: chosen.limit], max(0, len(tasks) - chosen.limit))
 
     async def _ps(self, caller: Caller, given: Json) -> Any:
         Fields(given, ["ask"])
-        rows = await self._tasks(caller, {"ask": "tasks", "limit": MOST_ROWS})
-        return Shown(table(rows), rows.more)
+        chosen = Chosen(None, None, None, None, MOST_ROWS)
+        tasks = await self._chosen_tasks(caller.user, chosen)
+        lines: list[Line] = []
+        async for some in in_turns(tasks[:MOST_ROWS]):
+            lines += self._lists.lines(some)
+        lines += map(line_of, self._foreign(caller.user, chosen))
+        return Shown(text_of(lines[:MOST_ROWS]), max(0, len(tasks) - MOST_ROWS))
 
-    async def _rows(self, tasks: list[Task]) -> list[Json]:
-        """Their rows, some in each turn of the loop."""
-        rows: list[Json] = []
-        for at in range(0, len(tasks), ROWS_AT_ONCE):
-            rows += map(self._lists.row, tasks[at : at + ROWS_AT_ONCE])
-            await asyncio.sleep(0)
-        return rows
+    async def _chosen_tasks(self, user: User, chosen: Chosen) -> list[Task]:
+        """The tasks of a list, by number and index."""
+        tasks = [task for task in self._visible(user) if chosen.has(task)]
+        if chosen.states is not None:
+            tasks = [task for task in tasks if self._lists.state_of(task) in chosen.states]
+            tasks += await self._ended(user, chosen)
+        tasks.sort(key=lambda task: (task.submission.number, task.index))
+        return tasks
+
+    def _foreign(self, user: User, chosen: Chosen) -> list[Json]:
+        """Tasks in firm that are of a list, and that the queue has not submitted."""
+        is_asked = chosen.states is None or "foreign" in chosen.states
+        if not (user.is_operator and is_asked and chosen.names is None and chosen.user is None):
+            return []
+        return [row for row in self._lists.foreign() if chosen.job in (None, row["job"])]
 
     def _chosen(self, fields: Fields) -> Chosen:
         wanted = fields.get("states")
@@ -662,6 +670,13 @@ class Shown(str):
         found = super().__new__(cls, text)
         found.more = more
         return found
+
+
+async def in_turns(tasks: Sequence[Task]) -> AsyncIterator[Sequence[Task]]:
+    """Tasks of which rows are made, some in each turn of the loop."""
+    for at in range(0, len(tasks), ROWS_AT_ONCE):
+        yield tasks[at : at + ROWS_AT_ONCE]
+        await asyncio.sleep(0)
 
 
 def name_from(text: str) -> Name:

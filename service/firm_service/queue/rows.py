@@ -125,6 +125,18 @@ class Task:
         return Name(self.submission.number, self.index)
 
     @property
+    def shown(self) -> str:
+        """The name as people write it."""
+        number = self.submission.number
+        return f"{number}" if self.index == SINGLE else f"{number}_{self.index}"
+
+    @property
+    def firm(self) -> str:
+        """The name in firm."""
+        number = self.submission.number
+        return f"{number}" if self.index == SINGLE else f"{number}-{self.index}"
+
+    @property
     def is_live(self) -> bool:
         return self.outcome is None
 

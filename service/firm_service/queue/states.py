@@ -5,6 +5,7 @@ from __future__ import annotations
 from collections.abc import Iterable
 from dataclasses import dataclass
 from enum import StrEnum
+from typing import NamedTuple
 
 MOST_LOST = 5  # attempts in a row of which nobody knows how they ended, after which a task is given up
 FIRST_PAUSE, LONGEST_PAUSE = 1.0, 60.0  # seconds before a further attempt
@@ -32,9 +33,8 @@ ENDED = frozenset({State.DONE, State.FAILED, State.TIMEOUT, State.CANCELLED, Sta
 REASONS = frozenset({"preempted", "moved", "drained", "removed", "lease", "told"})
 
 
-@dataclass(frozen=True, slots=True)
-class Facts:
-    """What a task's state follows from."""
+class Facts(NamedTuple):
+    """What a task's state follows from; made for each row of a list, so it is a tuple."""
 
     outcome: str | None = None
     is_held: bool = False

@@ -1,0 +1,103 @@
+#!/usr/bin/env python3
+"""Measures how long a submission takes to become a process: by firmd, firm-queue and firm-agent, as a user has them.
+
+usage: bench/submits.py [--firm FILE] [--count N]
+One client submits a command, waits until that has ended, and submits the next. Prints the milliseconds from `submit` to
+the first instruction of the process, which tells the clock's time, with the load of the host.
+"""
+
+from __future__ import annotations
+
+import argparse
+import os
+import statistics
+import subprocess
+import sys
+import tempfile
+import time
+from collections.abc import Iterator
+from contextlib import contextmanager
+from pathlib import Path
+
+from shared import ROOT, built, compile_source, program_file, require, run_script
+
+SERVICE = ROOT / "service"
+ROSTER = "tenant,nodes,arcs,life,spread,churn\nalpha,60,400,1000000000,0,1000\n"
+SECONDS = 60.0  # for all to be there
+# A process that says when it began, with as little before that as can be.
+SOURCE = """\
+#include <stdio.h>
+#include <time.h>
+int main(void) {
+    struct timespec now;
+    clock_gettime(CLOCK_MONOTONIC, &now);
+    printf("%lld.%09ld\\n", (long long)now.tv_sec, now.tv_nsec);
+}
+"""
+
+
+@contextmanager
+def started(*commands: list[str]) -> Iterator[None]:
+    """Programs that run until the `with` block ends."""
+    processes = [subprocess.Popen(words, stdin=subprocess.DEVNULL, stderr=subprocess.DEVNULL) for words in commands]
+    try:
+        yield
+    finally:
+        for process in processes:
+            process.terminate()
+        for process in processes:
+            process.wait()
+
+
+def firmctl(queue: Path, *words: str) -> str:
+    done = subprocess.run(
+        [sys.executable, SERVICE / "firmctl", *words, "--queue", queue], capture_output=True, text=True
+    )
+    require(done.returncode == 0, f"{words}: {done.stderr}")
+    return done.stdout
+
+
+def measure(firm: str, count: int, folder: Path) -> None:
+    (folder / "roster.csv").write_text(ROSTER)
+    (folder / "clock.c").write_text(SOURCE)
+    clock = folder / "clock"
+    compile_source(["cc", "-O1", "-o", str(clock), str(folder / "clock.c")])
+    lines, view, queue = folder / "lines", folder / "state" / "view", folder / "queue"
+    words = [[str(SERVICE / "firmd"), "--firm", firm, "--roster", f"{folder}/roster.csv", "--state", f"{folder}/state"]]
+    words[0] += ["--socket", str(lines)]
+    words += [[str(SERVICE / "firm-queue"), "run", "--tenant", "alpha", "--socket", str(queue)]]
+    words[1] += ["--state", f"{folder}/queue-state", "--firm", str(lines), "--view", str(view)]
+    words += [[str(SERVICE / "firm-agent"), "run", "--queue", str(queue), "--view", str(view), "--name", "a1"]]
+    words[2] += ["--machines", "m1=4", "--state", f"{folder}/agent"]
+    with started(*words):
+        ends = time.monotonic() + SECONDS
+        while not queue.exists() or " up " not in firmctl(queue, "machines"):
+            require(time.monotonic() < ends, "they are not there in time")
+            time.sleep(0.2)
+        sys.path.insert(0, str(SERVICE))
+        from firm_service.queue.client import Queue, Submission
+
+        took = []
+        with Queue(queue) as client:
+            for _ in range(count):
+                sent = time.monotonic()
+                number = client.submit(Submission(command=(str(clock),), dir=str(folder))).id
+                client.wait([number])
+                took.append(1_000 * (float(b"".join(client.log(number))) - sent))
+    load = ", ".join(f"{one:.1f}" for one in os.getloadavg())
+    middle, least, most = statistics.median(took), min(took), max(took)
+    print(f"{count} submissions: {middle:.0f} ms by median, {least:.0f} at least, {most:.0f} at most; load {load}")
+
+
+def main() -> int:
+    parser = argparse.ArgumentParser(description=(__doc__ or "").splitlines()[0])
+    parser.add_argument("--firm", type=program_file, default=str(built("firm")), metavar="FILE")
+    parser.add_argument("--count", type=int, default=25)
+    options = parser.parse_args()
+    with tempfile.TemporaryDirectory(prefix="firm-") as name:
+        measure(options.firm, options.count, Path(name))
+    return 0
+
+
+if __name__ == "__main__":
+    run_script(main)
