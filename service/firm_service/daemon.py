@@ -1,6 +1,6 @@
 """firmd: firm as a service for many clients.
 
-It runs one firm, keeps a journal of its lines, and listens on Unix sockets. docs/SERVICE.md says how to use it.
+It runs one firm, keeps a journal of its lines, and listens on Unix sockets. docs/OPERATING.md says how to use it.
 """
 
 from __future__ import annotations
@@ -32,10 +32,13 @@ from .faults import Exit, Fault, Faults, reason, say
 from .feeder import Feeder, Told
 from .firm_process import Firm
 from .journal import Journal, Room
-from .kept_books import read_books, start_books
+from .kept_books import opening_books, read_books
 from .lanes import Bounds as LaneBounds
+from .files import PRIVATE
 from .lines import is_name
 from .measure import load_of
+from .moves import SOCKET as MOVES
+from .moves import Moves, Parts
 from .observers import WARNED_SHARE, Status
 from .register import Register
 from .relief import SHORTAGES, Relief
@@ -43,7 +46,6 @@ from .replicated.journal import ReplicatedJournal
 from .replicated.options import Replica, add_options, require_lone
 from .replicated.point import Point, has_point, point_of
 from .rights import Rights
-from .recovery import BEGINNING
 from .rounds import Rounds, Times
 from .serving import Serving
 from .sight import Door
@@ -95,6 +97,7 @@ class Daemon:
             self._opened = self._state.begin(options.opening, self._program)
         else:
             self._opened = self._replica.begin(self._state, self._program)
+        self._snapshots: Snapshots | None = None
         self._names = Names()
         self._faults = Faults()
         self._has_warned = False
@@ -104,7 +107,7 @@ class Daemon:
         started = time.time()
         snapshot = last(self._state) if self._replica is None else last(self._state, fits=has_point)
         room = Room(self._options.segment_bytes, self._options.snapshot_lines or None)
-        own = Journal(self._state, room, snapshot.base if snapshot is not None else BEGINNING)
+        own = Journal(self._state, room, snapshot.base if snapshot is not None else self._state.base)
         point = point_of(snapshot) if snapshot is not None else None
         self._replicated = self._replica.open(own, point or Point()) if self._replica is not None else None
         opening = opening_of(self._state, snapshot) if snapshot is not None else self._state.opening
@@ -167,7 +170,7 @@ class Daemon:
     def _begin_books(self, snapshot: Snapshot | None) -> Books:
         """The books before the lines of the replay."""
         if snapshot is None:
-            return start_books(self._state.opening, self._opened)
+            return opening_books(self._state, self._opened)
         try:
             return read_books(snapshot.state, snapshot.books, snapshot.base.lines)
         except ValueError as error:
@@ -185,7 +188,8 @@ class Daemon:
                 options.firm_timeout,
                 options.log_format,
             )
-            Snapshots(self._stream, journal, settings, self._faults).start(snapshot)
+            self._snapshots = Snapshots(self._stream, journal, settings, self._faults)
+            self._snapshots.start(snapshot)
 
     async def _serve(self) -> None:
         together = Bounds(self._options.most_unread_of_socket, self._options.most_unread_in_all)
@@ -200,8 +204,10 @@ class Daemon:
         self._stream.on_stop = partial(self._stop_taking, clients, rounds)
         servers: list[Acceptor] = []
         feeder: Feeder | None = None
+        moves: Moves | None = None
         try:
             feeder = Feeder(Told(self._books, self._status, self._faults, self._state.id or ""), self._served())
+            moves = await self._serve_moves(rounds, feeder)
             servers = self._listen(clients)
             self._stream.observe(feeder)
             feeder.start()
@@ -209,13 +215,7 @@ class Daemon:
             seconds = time.time() - self._status.started
             say(f"ready: {self._status.replayed_lines:,} lines replayed in {seconds:.1f} s", logs.INFO)
             notify(b"READY=1")
-            ticking = [
-                asyncio.create_task(self._repeat(partial(self._tell_status, clients, feeder), TICK_SECONDS)),
-                asyncio.create_task(self._repeat(partial(self._tell_load, clients, feeder), LOAD_SECONDS)),
-            ]
-            await asyncio.wait([self._stream.ended])
-            for task in ticking:
-                task.cancel()
+            await self._tick(clients, feeder)
         except Fault as fault:
             self._stream.fail(fault)
         finally:
@@ -223,8 +223,29 @@ class Daemon:
             for server in servers:
                 server.close()
             await clients.close()
+            if moves is not None:
+                await moves.close()
             if feeder is not None:
                 await feeder.close()
+
+    async def _tick(self, clients: Clients, feeder: Feeder) -> None:
+        """Looks at status and load until the stream ends."""
+        ticking = [
+            asyncio.create_task(self._repeat(partial(self._tell_status, clients, feeder), TICK_SECONDS)),
+            asyncio.create_task(self._repeat(partial(self._tell_load, clients, feeder), LOAD_SECONDS)),
+        ]
+        await asyncio.wait([self._stream.ended])
+        for task in ticking:
+            task.cancel()
+
+    async def _serve_moves(self, rounds: Rounds, feeder: Feeder) -> Moves:
+        """What moves tenants; one that was on its way is held from now on."""
+        snapshots = self._snapshots if self._replicated is None else None
+        register = self._accounts.register
+        parts = Parts(self._state, self._stream, self._books, register, snapshots, self._faults)
+        moves = Moves(parts, rounds, feeder)
+        await moves.listen(self._names.listen(self._state.folder / MOVES, PRIVATE))
+        return moves
 
     def _listen(self, clients: Clients) -> list[Acceptor]:
         servers: list[Acceptor] = []
@@ -310,7 +331,7 @@ class Daemon:
         if self._has_warned and not has_warned:
             say(
                 f"warning: the journal has {used:,} of {most:,} bytes that firm reads, and no fresh one goes on yet; "
-                "docs/SERVICE.md says from what"
+                "'Snapshots' in docs/OPERATING.md says when"
             )
         feeder.tell_status()
 
@@ -455,7 +476,7 @@ def add_snapshots(group: argparse._ArgumentGroup) -> None:
 def parser() -> argparse.ArgumentParser:
     found = argparse.ArgumentParser(
         prog="firmd",
-        description="firm as a service for many clients; docs/SERVICE.md says more",
+        description="firm as a service for many clients; docs/OPERATING.md says more",
         epilog=EXITS,
         formatter_class=argparse.RawDescriptionHelpFormatter,
     )

@@ -1,7 +1,9 @@
 """How far the journal reaches, in a file beside its segments, so that an end that was lost is missed.
 
-Each write of lines brings it up to date without a sync of its own: what a power cut leaves may be older than the
-journal, never newer. It is synced when a segment begins and at a stop.
+Each write of lines brings it up to date without a sync of its own, which would double the syncs: what a power cut
+leaves may be half a minute older than the journal, never newer. It is synced when a segment begins and at a stop. Each
+record says how much before it was not synced when it was written, which parts a torn write from a damage behind an old
+extent.
 """
 
 from __future__ import annotations

@@ -2,7 +2,8 @@
 
 A message is its kind and the length of its text, and the text. Rows begin with BEGIN, which names the tenants; then
 each of these has a TENANT, or was retired meanwhile; END follows the last. LINES come from BEGIN on: those of a tenant
-whose rows are still to come are in them already. STATUS and LOAD come at any time.
+whose rows are still to come are in them already. STATUS and LOAD come at any time, as does the TENANT of one that has
+joined the service.
 
 Most texts are written by `marshal`, in a fifth of JSON's time: firmd serves nobody else meanwhile, and the viewer is of
 the same Python.

@@ -65,7 +65,7 @@ def rows(columns: Sequence[Column], key: str) -> Callable[[argparse.Namespace], 
 def status_text(answer: Row) -> str:
     status: dict[str, Any] = answer["status"]
     part = status["journal_bytes"] / status["journal_limit"]
-    warning = "; no fresh firm goes on yet: see 'Snapshots' in docs/SERVICE.md" if part > WARNED_SHARE else ""
+    warning = "; no fresh firm goes on yet: see 'Snapshots' in docs/OPERATING.md" if part > WARNED_SHARE else ""
     return (
         f"firmd runs for {tables.duration(time.time() - status['started'])}, firm is process {status['firm_process']}\n"
         f"clients {status['clients']}, unread replies {status['unread_replies']:,} bytes\n"
@@ -230,6 +230,8 @@ def parser(only: str | None = None) -> argparse.ArgumentParser:
     command.add_argument("tenant", metavar="TENANT")
     command.add_argument("--to", required=True, metavar="SHARD")
     command.add_argument("--door", type=Path, required=True, metavar="TABLE", help="as firm-door has it")
+    told = "give the shard its rows alone, as where one of them is of replicas: all its tasks wait again"
+    command.add_argument("--by-lines", action="store_true", help=told)
     add("dashboard", dashboard, "a dashboard of the metrics, for Grafana's import")
     return found
 

@@ -1,7 +1,14 @@
 """The journal: each line that firm is given, on the disk before firm has it.
 
-It is a folder of segments, NUMBER.lines, in the form that records.py describes, and their extent. Segments of an older
-firmd are read as they are; what comes is written behind them in today's form.
+It is a folder of segments, NUMBER.lines, in the form that records.py describes, and their extent. After a failed write
+or sync it takes nothing more: what the disk has is not known, and a record behind it could make the extent say more
+than is there. A refusal of memory is a record behind its line, so a start looks through all segments for such records
+before it gives firm a line.
+
+Segments of an older firmd, without headings, are read as they are; what comes is written behind them in today's form.
+Of the old ones only what has a digest in NUMBER.blocks is compared, until the first new segment seals them all.
+`firm-journal rewrite` writes them anew with a checksum for each record (times and senders are not known), and leaves
+the old ones in `journal.old`. An older firmd refuses today's segments.
 """
 
 from __future__ import annotations
@@ -21,8 +28,8 @@ from .extent import Extent, ExtentFile
 from .faults import Exit, Fault, reason
 from .files import require_room, sync_folder
 from .pieces import Piece, Place, pieces_of
-from .records import Batch, Block, Header, refusals
-from .recovery import BEGINNING, Base, Found, Segment, damaged, extent_path, find, segment_path, whole_text
+from .records import BEGINNING, Base, Batch, Block, Header, refusals
+from .recovery import Found, Segment, damaged, extent_path, find, segment_path, whole_text
 from .relief import SHORTAGES, Spare
 from .state import ID_BYTES, NEW_JOURNAL, OLD_ID_BYTES, OLD_JOURNAL, State
 

@@ -1,4 +1,4 @@
-"""Prints a journal's lines and its snapshots, or writes it anew. docs/SERVICE.md says when."""
+"""Prints a journal's lines and its snapshots, or writes it anew. docs/OPERATING.md says when."""
 
 from __future__ import annotations
 
@@ -18,8 +18,8 @@ from .lines import first_word
 from .logs import ERROR, add_form, begin
 from .pieces import pieces_of
 from .programs import NotBuilt
-from .records import Batch
-from .recovery import BEGINNING, Found
+from .records import BEGINNING, Batch
+from .recovery import Found
 from .snapshots import Snapshot, last, opening_of, remove_all, segments_of, usable
 from .state import NEW_JOURNAL, OLD_JOURNAL, State, StateFolder
 from .states import Part, Refused, StateError, fold
@@ -51,7 +51,8 @@ def opened(path: Path) -> tuple[State, Journal]:
 
 def print_lines(options: argparse.Namespace) -> None:
     """As firm gets them in a replay, or as they were sent."""
-    found = found_now(options.state)
+    state = StateFolder(options.state)
+    found = found_now(options.state, None if options.senders or state.joined is None else state.base)
     for kept in kept_lines(found):
         if options.senders:
             sys.stdout.buffer.write(b"".join(described(kept, found.refused)))
@@ -80,6 +81,8 @@ def rewrite(options: argparse.Namespace) -> None:
     if source.is_of_today and not options.forget_replies and not options.obey:
         print(f"{source.folder}: all segments have today's form already")
         return
+    if state.joined is not None:
+        raise Fault(Exit.STATE, f"{source.folder}: a tenant has joined the service, whose state is of these segments")
     if source.found.base != BEGINNING:
         raise Fault(Exit.STATE, f"{source.folder}: the first lines are archived or deleted: put them back")
     for number in options.obey:
@@ -136,7 +139,7 @@ def write_state(options: argparse.Namespace) -> None:
     state = existing(options.state)
     state.read_opening()
     snapshot = last(state)
-    base, opening = BEGINNING, state.opening
+    base, opening = state.base, state.opening
     if snapshot is not None:
         base, opening = snapshot.base, opening_of(state, snapshot)
     lines = (piece.effective() for piece in pieces_of(found_now(options.state, base)))

@@ -1,4 +1,7 @@
-"""A state's journal as others than its firmd read it, while that goes on: lines with their times and senders."""
+"""A state's journal as others than its firmd read it, while that goes on: lines with their times and senders.
+
+It is compared as at a start, and no part of a damaged one is used: lines left out would number the others wrong.
+"""
 
 from __future__ import annotations
 
@@ -9,8 +12,8 @@ from pathlib import Path
 
 from .extent import Extent
 from .faults import Exit, Fault
-from .records import LINES, UNKNOWN, record_at
-from .recovery import BEGINNING, Base, Found, damaged, extent_path, find, numbers_of, read_header, segment_path
+from .records import BEGINNING, LINES, UNKNOWN, Base, record_at
+from .recovery import Found, damaged, extent_path, find, numbers_of, read_header, segment_path
 from .state import JOURNAL, StateFolder
 
 TRIES = 4  # as firmd may begin a segment meanwhile

@@ -1,4 +1,12 @@
-"""Books from the state of a service, and what is kept beside it: what firmd knows and firm doesn't."""
+"""Books from the state of a service, and what is kept beside it: what firmd knows and firm doesn't.
+
+    {"refusals":{},"tenants":{"alpha":{"rounds":2,"refused":{},"costs":[0,10],"lines":[3,5]}}}
+
+These are the refusals of lines that are no tenant's, and of each tenant, in the order of admission, its rounds, its
+refusals by their text, the last 120 costs, and of each task the number of the line that submitted it, 0 where another
+service had it. A replica's has under `replica` the CRC-32 of all lines, the digest of all replies up to a multiple of
+256 lines, and those since.
+"""
 
 from __future__ import annotations
 
@@ -9,6 +17,7 @@ from typing import Any
 from .books import COSTS_KEPT, Book, Books, Task
 from .faults import Exit, Fault
 from .roster import RosterError
+from .state import StateFolder
 from .states import Opening, TaskRow, TenantRows, tenants_of
 
 COSTS_OF_STATE = 8  # of a tenant's last rounds
@@ -26,6 +35,16 @@ def start_books(opening: Opening, text: bytes) -> Books:
         return books
     except (RosterError, ValueError) as error:
         raise Fault(Exit.ROSTER, f"{opening.path}: {error}") from error
+
+
+def opening_books(state: StateFolder, text: bytes) -> Books:
+    """The books before any line behind the opening, by its text."""
+    if state.joined is None:
+        return start_books(state.opening, text)
+    try:
+        return read_books(text, json.dumps(state.joined.books).encode(), state.base.lines)
+    except ValueError as error:
+        raise Fault(Exit.JOURNAL, f"{state.opening.path} is of another version of firmd: {error}") from error
 
 
 def books_text(books: Books, more: dict[str, Any] | None = None) -> bytes:

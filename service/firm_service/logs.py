@@ -1,7 +1,10 @@
 """What the programs tell their operator: by Python's `logging`, on standard error, in one form.
 
 No message steers a terminal, or looks like another one: control characters are escaped, and further lines belong to
-their message by indentation. Where standard error is systemd's journal, each line begins with its priority.
+their message by indentation. Where standard error is systemd's journal, each line begins with its priority. Messages in
+words have no time: systemd's journal adds it. An object of JSON has `time`, `level` (`info` to `critical`), `program`,
+`message`, and where they are known `part` (as `firm_faults_total` has it), `run`, `task`, `job`, `machine`, `host` and
+`traceback`.
 """
 
 from __future__ import annotations

@@ -21,7 +21,8 @@ from .faults import Fault
 from .kept import first_base, found_now, kept_lines
 from .lines import first_word, is_round
 from .programs import NotBuilt, program_of
-from .recovery import BEGINNING, Base, Found
+from .records import Base
+from .recovery import Found
 from .refused import Refused
 from .snapshots import Snapshot, opening_of, usable
 from .state import StateFolder
@@ -55,14 +56,14 @@ class Start:
 
 
 def starts(folder: Path) -> Iterator[Start]:
-    """The newest first: snapshots, and what the service began with if the journal's beginning is kept."""
+    """The newest first: snapshots, and what the service goes on from if the journal behind that is kept."""
     state = StateFolder(folder)
     text = state.read_opening()
     for snapshot in usable(state):
         if isinstance(snapshot, Snapshot):
             yield Start(opening_of(state, snapshot), snapshot.base, snapshot.state)
-    if first_base(folder) == BEGINNING:
-        yield Start(state.opening, BEGINNING, text if state.opening.is_state else b"")
+    if first_base(folder).segment <= state.base.segment:
+        yield Start(state.opening, state.base, text if state.opening.is_state else b"")
 
 
 def before(folder: Path, tenant: str, number: int) -> Row:

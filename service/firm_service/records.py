@@ -11,6 +11,7 @@ SUM is the CRC-32 of the heading's other text and the lines below it. It is to f
 write a digest as well; it takes a nanosecond a byte. Lines are numbered from 1, and their bytes from 0, over all
 segments and without headings, as firm reads them: so a record can stand in a segment of any other cut. Times are
 milliseconds since 1970, 0 where they are not known. No line that is kept begins with `#`, as such a line gets no reply.
+Headings that are not text would save some 15 bytes of 55.
 """
 
 from __future__ import annotations
@@ -106,6 +107,23 @@ class Header:
     def text(self) -> bytes:
         fields = f"{self.state} {self.number} {self.roster:08x} {self.lines} {self.size} {self.chain:08x} {self.time}"
         return sealed(HEADER, fields.encode())
+
+
+class Base(NamedTuple):
+    """What stands before the first segment that is read."""
+
+    segment: int  # the number of the last one
+    lines: int
+    size: int  # bytes of these lines
+    chain: int  # the checksum of these segments, as they are on the disk
+
+    @classmethod
+    def before(cls, header: Header) -> Base:
+        """What stands before a segment with this header."""
+        return cls(header.number - 1, header.lines, header.size, header.chain)
+
+
+BEGINNING = Base(0, 0, 0, 0)
 
 
 @dataclass(frozen=True, slots=True)

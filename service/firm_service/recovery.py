@@ -1,7 +1,14 @@
 """What a start finds in the journal: all segments are read and compared before firm has a line of them.
 
 A segment's checksum stands in the header of the next one, and that of the last one in the extent, so each is compared
-at once; its records are looked at one by one only to name the place of a damage, and behind the extent.
+at once; its records are looked at one by one only to name the place of a damage, and behind the extent. So a replay
+pays for headings alone: where each of 300,000 lines has its own, 2.1 seconds of processor in place of 1.5.
+
+Damage is told from a crash so: up to the extent each byte is compared, and none may be missing. Behind it, the first
+record that isn't whole was torn while it was written, and is cut off: nothing of it was answered. But where a whole
+record of a later write follows, it was answered, as a write begins only when all before it is synced: that is damage.
+A state with an id, but without its roster, segments or extent, has lost them; segments without a roster are a loss too.
+The oldest may be away where a snapshot stands for them.
 """
 
 from __future__ import annotations
@@ -10,19 +17,21 @@ import re
 from dataclasses import dataclass, field
 from hashlib import blake2b
 from pathlib import Path
-from typing import NamedTuple, NoReturn
+from typing import NoReturn
 from zlib import crc32
 
 from .extent import Extent
 from .faults import RESTORE, Exit, Fault, reason
 from .lines import gets_reply
 from .records import (
+    BEGINNING,
     DIGEST_BYTES,
     HEADER,
     HEADER_BEGINS,
     LINES,
     REFUSED,
     REPLIES,
+    Base,
     Block,
     Header,
     Record,
@@ -44,23 +53,6 @@ class Segment:
     lines: int  # of all segments before
     size: int  # bytes of these lines
     chain: int  # the checksum of all segments before, as they are on the disk
-
-
-class Base(NamedTuple):
-    """What stands before the first segment that is read."""
-
-    segment: int  # the number of the last one
-    lines: int
-    size: int  # bytes of these lines
-    chain: int  # the checksum of these segments, as they are on the disk
-
-    @classmethod
-    def before(cls, header: Header) -> Base:
-        """What stands before a segment with this header."""
-        return cls(header.number - 1, header.lines, header.size, header.chain)
-
-
-BEGINNING = Base(0, 0, 0, 0)
 
 
 @dataclass(slots=True)
@@ -155,8 +147,9 @@ def find_today(state: StateFolder, folder: Path, there: tuple[list[int], Extent]
     take_old_segments(found, [segment_path(folder, number) for number in old], may_be_torn=False)
     for number in headers:
         take_segment(found, segment_path(folder, number), extent, headers.get(number + 1))
-    if headers[last].roster != state.roster_sum:
-        damaged(f"{state.roster_path}: this is not the roster that the state began with")
+    if headers[last].roster not in state.sums:
+        what = "the roster that the state began with" if state.joined is None else "what the state goes on from"
+        damaged(f"{state.opening.path}: this is not {what}")
     if headers[last].state != found.state:
         damaged(f"{extent_path(folder)}: it is that of the state {found.state}, not {headers[last].state}")
     if state.id is None and found.lines:  # one without lines may have none yet: it is written last

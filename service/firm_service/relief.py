@@ -1,4 +1,8 @@
-"""Where descriptors or memory run out, the newest connection of the socket that has most is closed, and no other."""
+"""Where descriptors or memory run out, the newest connection of the socket that has most is closed, and no other.
+
+It is the likeliest cause, and the others keep what they have. The socket that has most may be an honest tenant's, if a
+hostile one spreads its own over several; on a socket that both share, the newest may be anyone's.
+"""
 
 from __future__ import annotations
 

@@ -1,4 +1,8 @@
-"""Rounds that nobody asked for: every so often, and soon after a change, for tenants with something waiting."""
+"""Rounds that nobody asked for: every so often, and soon after a change, for tenants with something waiting.
+
+Changes meanwhile share the round after a change. It comes even after one that a client asked for meanwhile, if a task
+still waits. A tenant has at most one such round under way, and none once it is worn. They are lines of the journal.
+"""
 
 from __future__ import annotations
 
@@ -64,6 +68,10 @@ class Rounds:
             self._timer = self._loop.call_later(self._times.every_seconds, self._ask_all, self._times.every_seconds)
         for tenant in self._books.tenants:
             self._changed(tenant)
+
+    def joined(self, tenant: str) -> None:
+        """Takes in that a tenant has come: what waits of it has changed."""
+        self._changed(tenant)
 
     def stop(self) -> None:
         for timer in [self._timer, *self._awaited.values()]:

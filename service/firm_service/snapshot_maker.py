@@ -19,10 +19,11 @@ from .faults import Exit, Fault, say
 from .firm_process import Firm
 from .journal import milliseconds
 from .kept import found_now
-from .kept_books import books_text, difference, read_books, start_books
+from .kept_books import books_text, difference, opening_books, read_books
 from .pieces import pieces_of
 from .programs import NotBuilt
-from .recovery import BEGINNING, Base, Found
+from .records import Base
+from .recovery import Found
 from .rehearsal import Rehearsal
 from .replicated.point import Point, has_point, point_of
 from .snapshots import Snapshot, last, opening_of, write
@@ -51,8 +52,8 @@ def beginning(state: StateFolder, before: int) -> Beginning:
     if found is not None:
         books = read_books(found.state, found.books, found.base.lines)
         return Beginning(found.base, opening_of(state, found), books, point_of(found) if is_replica else None)
-    books = start_books(state.opening, state.read_opening())
-    return Beginning(BEGINNING, state.opening, books, Point() if is_replica else None)
+    books = opening_books(state, state.read_opening())
+    return Beginning(state.base, state.opening, books, Point() if is_replica else None)
 
 
 def cut_at(found: Found, segment: int) -> Found:

@@ -6,7 +6,8 @@ behind it and tells whose it is, what it stands for, its digest, and what firmd 
     #firm-snapshot 1 SUM STATE SEGMENT ROSTER LINES BYTES CHAIN TIME LENGTH DIGEST
 
 SEGMENT is the last segment that is in it. LINES, BYTES and CHAIN are those of the next one's header, by which it is
-known that the snapshot is of this journal; the other fields are as in records.py.
+known that the snapshot is of this journal. TIME is in milliseconds since 1970, LENGTH and DIGEST (BLAKE2b, 16 bytes)
+are those of the state, and the other fields are as in records.py.
 """
 
 from __future__ import annotations
@@ -20,8 +21,8 @@ from pathlib import Path
 from .extent import Extent
 from .faults import RESTORE, Exit, Fault, say
 from .files import PRIVATE, make_folder, replace_synced, require_room
-from .records import sealed
-from .recovery import Base, extent_path, read_header, segment_path
+from .records import Base, sealed
+from .recovery import extent_path, read_header, segment_path
 from .state import StateFolder
 from .states import Opening, digest
 

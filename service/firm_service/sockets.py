@@ -1,4 +1,9 @@
-"""The names of Unix sockets: each is removed by the process that made it alone, and taken from the dead alone."""
+"""The names of Unix sockets: each is removed by the process that made it alone, and taken from the dead alone.
+
+They are removed before firmd stops listening: until then nobody takes them, and their files' numbers are not given
+again. They are taken under a lock of the folder. As everyone who may read that can keep it locked, firmd waits
+LOCK_SECONDS at most, for all folders together.
+"""
 
 from __future__ import annotations
 

@@ -1,4 +1,10 @@
-"""The state's folder: its lock, its id, the roster or the state of a service that it began with, and the journal."""
+"""The state's folder: its lock, its id, the roster or the state of a service that it began with, and the journal.
+
+The id is kept behind the extent, and a new one behind the segment that begins with it, so it tells how far a beginning
+or a renewal came. An older firmd kept it first, so ids of today are longer, 20 characters in place of 16. A state with
+an old one alone is begun anew; one with a roster too, but without segments, has lost them: remove its id if no line of
+it was ever answered.
+"""
 
 from __future__ import annotations
 
@@ -13,6 +19,9 @@ from zlib import crc32
 
 from .faults import RESTORE, Exit, Fault, reason
 from .files import PRIVATE, make_folder, replace_synced, sync_folder, write_synced
+from .joined import Joined, require_same
+from .joined import read as read_joined
+from .records import BEGINNING, Base
 from .states import MOST_BYTES, Opening
 
 ROSTER, LOCK, JOURNAL, VIEW, ID = "roster.csv", "lock", "journal", "view", "id"
@@ -30,21 +39,43 @@ class StateFolder:
         self.folder = folder
         self.roster_path, self.journal_path, self.view_path = folder / ROSTER, folder / JOURNAL, folder / VIEW
         self.id_path, self.restored_path, self.snapshots_path = folder / ID, folder / RESTORED, folder / SNAPSHOTS
-        self.had_roster = self.opening.path.exists()  # so a start came as far as the journal
-        self.roster_sum = 0  # of what it began with, once that is read
+        self.had_roster = self.first.path.exists()  # so a start came as far as the journal
+        self.joined = read_joined(folder)  # what it goes on from, if a tenant has joined it
+        self.roster_sum = 0  # of what it began with, or goes on from since a tenant has joined it, once that is read
         self.id = self._read_id()  # None before the first start is through
 
     @property
-    def opening(self) -> Opening:
+    def first(self) -> Opening:
         """What it began with: a roster, or the state of a service that goes on here."""
         is_restored = self.restored_path.exists()
         return Opening(self.restored_path if is_restored else self.roster_path, is_restored)
 
+    @property
+    def opening(self) -> Opening:
+        """What a start without a snapshot goes on from."""
+        return self.first if self.joined is None else self.joined.opening(self.folder)
+
+    @property
+    def base(self) -> Base:
+        """What stands before the lines that follow the opening."""
+        return BEGINNING if self.joined is None else self.joined.base
+
+    @property
+    def sums(self) -> set[int]:
+        """What the last segment's header may have as the checksum of the opening."""
+        return {self.roster_sum, *(self.joined.former if self.joined is not None else ())}
+
     def read_opening(self) -> bytes:
-        """The kept roster or state, whose checksum is known from then on."""
+        """The text of the opening, whose checksum is known from then on."""
         text = read(self.opening)
+        if self.joined is not None:
+            require_same(self.joined, text, self.opening.path)
         self.roster_sum = crc32(text)
         return text
+
+    def go_on_from(self, joined: Joined, text: bytes) -> None:
+        """Takes in that a tenant has joined it."""
+        self.joined, self.roster_sum = joined, crc32(text)
 
     @property
     def is_of_today(self) -> bool:
@@ -72,11 +103,13 @@ class State(StateFolder):
         super().__init__(folder)
 
     def begin(self, given: Opening | None, firm: Sequence[str], agreed: bytes | None = None) -> bytes:
-        """What the state began with. The first that firm accepts is kept; another is refused from then on.
+        """What the state goes on from. The first that firm accepts is kept; another is refused from then on.
 
         Other replicas may have agreed on a roster, which a new state takes.
         """
         text = self._choose(given, firm) if agreed is None else self._take(agreed, given, firm)
+        if self.joined is not None:
+            return self.read_opening()
         self.roster_sum = crc32(text)
         return text
 
@@ -90,7 +123,7 @@ class State(StateFolder):
             raise Fault(Exit.STATE, f"cannot keep an id in {self.folder}: {reason(error)}") from error
 
     def _choose(self, given: Opening | None, firm: Sequence[str]) -> bytes:
-        kept = read(self.opening) if self.opening.path.exists() else None
+        kept = read(self.first) if self.first.path.exists() else None
         if kept is None:
             self._require_new()
         if given is None:
@@ -104,19 +137,19 @@ class State(StateFolder):
             what = "state" if given.is_state else "roster"
             raise Fault(
                 Exit.ROSTER,
-                f"changed-{what}: {given.path} is not the {what} that the state began with, {self.opening.path};"
+                f"changed-{what}: {given.path} is not the {what} that the state began with, {self.first.path};"
                 " admit and retire tenants with the operator's lines, or begin a new state",
             )
         return text
 
     def _take(self, agreed: bytes, given: Opening | None, firm: Sequence[str]) -> bytes:
-        if not self.opening.path.exists():
+        if not self.first.path.exists():
             self._require_new()
             self._keep(agreed, given or Opening(self.roster_path), firm)
         if given is not None and read(given) != agreed:
             what = f"changed-roster: {given.path} is not the roster that the other replicas began with"
             raise Fault(Exit.ROSTER, what)
-        return read(self.opening)
+        return read(self.first)
 
     def _require_new(self) -> None:
         """Asks that no start came as far as the journal; only an older firmd kept the id before a roster."""

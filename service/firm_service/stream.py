@@ -33,8 +33,7 @@ from .load import SYNC_SECONDS, Histogram
 from .logs import ERROR, tell
 from .observers import Observer, Status
 from .pieces import Piece, Place
-from .records import UNKNOWN, Answered, Batch, Block
-from .recovery import Base
+from .records import UNKNOWN, Answered, Base, Batch, Block
 
 BLOCK_LINES = 1_024  # at least, in a block of the journal
 GROUP_BYTES = 1_048_576  # of lines that are written and synced together, unless one share has more
@@ -86,6 +85,7 @@ class Successor(NamedTuple):
 
     firm: Firm
     base: Base
+    on_switch: Callable[[], None] = lambda: None  # called by the loop, before it hears this firm
 
 
 class Stopping(Exception):
@@ -181,6 +181,14 @@ class Stream:
     @property
     def is_stopping(self) -> bool:
         return self._is_stopping
+
+    def hold(self, tenant: bytes) -> None:
+        """Gives firm no line of a tenant until it is released; those that are under way are answered."""
+        self.lanes.hold(tenant)
+
+    def release(self, tenant: bytes) -> None:
+        self.lanes.release(tenant)
+        self._hand_over_soon()
 
     def order(self, order: Order) -> None:
         """Has the writer do something between two writes; called by any thread."""
@@ -387,6 +395,7 @@ class Stream:
         """Hears the successor from now on; nothing is owed by the former firm, which ends."""
         former, self._firm = self._firm, successor.firm
         self._loop.remove_reader(former.output)
+        successor.on_switch()
         self._loop.add_reader(self._firm.output, self._reader)
         self._heard = self._loop.time()
         self.status.firm_process = self._firm.process.pid
@@ -525,7 +534,8 @@ class Stream:
             f"{path}, line {below}, {line.decode(errors='replace')!r}: an older firmd took its reply, which may end "
             "with `move no 14 memory`, for a refusal of memory. To have the line obeyed, run "
             f"`firm-journal rewrite --obey {number} {path.parents[1]}`, and start firmd again. If firmd was restarted "
-            "since the mistake, what it answered from then on may rest on the wrong state: see docs/SERVICE.md"
+            "since the mistake, it answered some lines on a wrong state, and the start may end with 5 for these: then "
+            "`--forget-replies` goes on with what firm makes of all lines"
         )
 
     def _answer_share(self, share: Share, replies: list[bytes]) -> None:

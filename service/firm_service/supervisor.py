@@ -5,7 +5,8 @@ further line asks for the end of the run, but `lease T` extends its lease, and t
 standard output each event of the run is a line of JSON: `running`, and one of `ended`, `lost` (the supervisor was
 killed, and what it had started is ended now) and `void` (the run was never begun, and never will be). Before them come
 `foreign`, one for each run of this task that the agent does not know, as where its events were put back from a copy: it
-is ended before anything else is done.
+is ended before anything else is done, not taken over, since it may be of another task of that name. A claim names a
+token of its start, as such events give out the same numbers under the same name.
 
 A run with a lease ends by itself at the time T, by this machine's CLOCK_BOOTTIME, and is not begun before it has one.
 `clock` says that clock: at first, which asks for a lease, and after each one.
@@ -15,7 +16,8 @@ neither a full disk nor one that hangs lets a run outlive its lease) and, once n
 
 Where a cgroup v2 can be written, the command and all that it starts are in one of their own, so that nothing of it
 outlives a killed supervisor unseen. It is made below the supervisor's own cgroup; where that is not this user's to
-change, systemd is asked for a scope first, and the supervisor begins in it.
+change, systemd is asked for a scope first, and the supervisor begins in it: that needs a bus to systemd and another
+start of Python. The supervisor stands beside its run's cgroup, so it can have the kernel kill all in it at once.
 """
 
 from __future__ import annotations

@@ -44,12 +44,18 @@ def duration(seconds: float | None) -> str:
 
 def table(columns: Sequence[Column], rows: Iterable[Row]) -> str:
     """The rows below their heads, each line with its end."""
-    cells = [[column.head for column in columns]]
-    cells += [[str(column.cell(row)) for column in columns] for row in rows]
-    widths = [max(map(len, column)) for column in zip(*cells)]
-    sides = [">" if column.is_number else "<" for column in columns]
-    line = "  ".join(f"{{:{side}{width}}}" for side, width in zip(sides, widths))
-    return "".join(line.format(*row).rstrip() + "\n" for row in cells)
+    return aligned(columns, ([str(column.cell(row)) for column in columns] for row in rows))
+
+
+def aligned(columns: Sequence[Column], lines: Iterable[Sequence[str]]) -> str:
+    """The same of cells. A column is padded as a whole: this is asked for with thousands of lines."""
+    padded = []
+    for column, cells in zip(columns, zip([column.head for column in columns], *lines)):
+        width = max(map(len, cells))
+        padded.append(
+            [cell.rjust(width) for cell in cells] if column.is_number else [cell.ljust(width) for cell in cells]
+        )
+    return "".join(["  ".join(line).rstrip() + "\n" for line in zip(*padded)])
 
 
 def printable(line: str) -> str:

@@ -2,7 +2,8 @@
 
 In each turn of the loop a socket's clients are read up to some bytes, comments and faulty lines among them: as many as
 take about a fifth of a millisecond. What more they have sent waits in the system, and further turns go round among
-those that were not read to their end.
+those that were not read to their end. A turn is a time, not a size: comments and lines of nobody cost more for a byte
+than commands do.
 """
 
 from __future__ import annotations

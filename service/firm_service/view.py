@@ -17,7 +17,9 @@ A client is shown the tenants that its user may see (`sight.py`), as if there we
 
 `number` counts the lines with a reply since the journal's beginning. A task's `line` is the number of its submission,
 which no other task of this state has. A request without an answer gives {"error": NAME, "text": ..}; one of more than
-65,536 bytes closes its connection. So does {"error": "behind", ..}, which tells a watcher that lines are missing.
+65,536 bytes closes its connection. So does {"error": "behind", ..}, which tells a watcher that lines are missing. A
+reader that leaves 4 MiB unread, reads nothing of an answer for half a minute, or has most of 64 MiB that are unread in
+all, is dropped without a word: a reason would wait behind what it has not read, and its place with it.
 """
 
 from __future__ import annotations

@@ -1,4 +1,8 @@
-"""Why a task is where it is: firm_explain's reasons for a round from a state, and trials of what would change it."""
+"""Why a task is where it is: firm_explain's reasons for a round from a state, and trials of what would change it.
+
+The least weight by which a task runs follows from firm_explain's exact number, and one trial or two, for a tie; trials
+by bisection would take twenty.
+"""
 
 from __future__ import annotations
 

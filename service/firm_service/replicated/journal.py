@@ -17,8 +17,7 @@ from .. import logs
 from ..faults import Exit, Fault, say
 from ..journal import Journal, milliseconds
 from ..pieces import Piece, Place
-from ..records import Batch, Block
-from ..recovery import Base
+from ..records import Base, Batch, Block
 from .digests import Digest, Digests
 from .entries import Agreed, Append, Entry, Keys, Position, another_history, parts_of
 from .etcd import Condition, Denied, EtcdError, Full, Put, Row, Unsure, after

@@ -6,7 +6,7 @@ import json
 from collections.abc import Sequence
 from typing import Any
 
-from ..recovery import Base
+from ..records import Base
 from ..snapshots import Snapshot
 from .digests import Chain, Digest
 from .entries import Position
