@@ -3,7 +3,7 @@
 
 usage: ./firm --unproved (--roster FILE | --state FILE) [OPTION..] < COMMANDS
 
-This is a first look, for whoever has no proved program yet: `rt try` runs the sources. No answer is sent before all
+This is a first look before a proved program is there: `rt try` runs the sources. No answer is sent before all
 commands are there, so it serves no live client. Exit status: the program's own; 2 where it can't be asked so, 70 where
 no answer came, 128 plus the number of a signal.
 """

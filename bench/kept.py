@@ -11,6 +11,7 @@ from shared import ROOT, CannotRun
 
 FOLDER = ROOT / "out" / "bench"
 ROUNDS = "rounds.jsonl"
+SEARCHED = "searched.jsonl"
 RATES = "workers.jsonl"
 
 
@@ -25,11 +26,16 @@ class RoundRecord:
     arcs: int
     cost: int
     searches: int
-    looks: int
+    looks: int  # of the searches
+    proposed: int  # looks of the proposal
     firm: float
     beside: float | None
     simplex: float | None = None
     scaling: float | None = None
+
+    @property
+    def all_looks(self) -> int:
+        return self.looks + self.proposed
 
     @property
     def ratio(self) -> float | None:

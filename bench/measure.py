@@ -31,10 +31,11 @@ class Round(NamedTuple):
 
 
 class Counts(NamedTuple):
-    """The searches of a round, and the looks at arcs."""
+    """The searches of a round, the looks at arcs that they took, and the looks of its proposal."""
 
     searches: int
     looks: int
+    proposed: int
 
 
 class Solved(NamedTuple):
@@ -53,13 +54,13 @@ class Measured(NamedTuple):
 
 
 class Served:
-    """The program with one worker, over a roster; each run reads a file and writes a file."""
+    """A program, given by its first words, over a roster; each run reads a file and writes a file."""
 
-    def __init__(self, program: str, roster: str) -> None:
+    def __init__(self, words: list[str], roster: str) -> None:
         self.file = tempfile.NamedTemporaryFile("w", suffix=".csv")
         self.file.write(roster)
         self.file.flush()
-        self.words = [program, "--workers", "1", "--roster", self.file.name]
+        self.words = [*words, "--roster", self.file.name]
 
     def run(self, lines: list[str]) -> tuple[list[str], float]:
         """The replies to these lines, and the processor time of the whole run."""
@@ -81,13 +82,13 @@ def pair_of(served: Served, lines: list[str]) -> tuple[list[str], float]:
     return replies, behind - before
 
 
-def run_repeatedly(programs: list[str], stream: Stream, repeats: int) -> list[Measured]:
+def run_repeatedly(programs: list[list[str]], stream: Stream, repeats: int) -> list[Measured]:
     """Runs a stream part by part, by each program in turn.
 
     A round's time is the middle of some pairs of runs, to the round's end and to the line before it; of more pairs
     where they are short, of fewer where they take long.
     """
-    services = [Served(program, stream.roster) for program in programs]
+    services = [Served(words, stream.roster) for words in programs]
     begun, measured = time.monotonic(), [Measured([], []) for _ in programs]
     lines: list[str] = []
     for part in stream.parts:
@@ -105,9 +106,9 @@ def run_repeatedly(programs: list[str], stream: Stream, repeats: int) -> list[Me
     return measured
 
 
-def run_stream(program: str, other: str | None, stream: Stream, repeats: int) -> list[Round]:
+def run_stream(words: list[str], other: list[str] | None, stream: Stream, repeats: int) -> list[Round]:
     """The rounds of a stream, with their times; those of the other program, if there is one, must be the same."""
-    measured, *beside = run_repeatedly([program, *([other] if other else [])], stream, repeats)
+    measured, *beside = run_repeatedly([words, *([other] if other else [])], stream, repeats)
     others: list[float | None] = [None] * len(measured.seconds)
     if beside:
         require(beside[0].replies == measured.replies, "the two programs gave two outputs")
@@ -122,15 +123,15 @@ def run_stream(program: str, other: str | None, stream: Stream, repeats: int) ->
     return rounds
 
 
-def read_counts(program: str, stream: Stream) -> list[Counts]:
-    """The counts of each round, by the program that writes them behind the replies."""
+def read_counts(words: list[str], stream: Stream) -> list[Counts]:
+    """The counts of each round, by the program of these words that writes them behind the replies."""
     lines = [line for part in stream.parts for line in (*part, ROUND)]
     text = "".join(line + "\n" for line in lines).encode()
     with Roster(stream.roster.encode()) as path:
-        done = run([program, "--counts"], path, text)
-    require(done.status == 0, f"{program}: {done.faults.decode()}")
+        done = run([*words, "--counts"], path, text)
+    require(done.status == 0, f"{words[0]}: {done.faults.decode()}")
     counted = done.output.decode().splitlines()[len(lines) :]
-    require(len(counted) == len(stream.parts), f"{program}: counts of {len(counted)} rounds of {len(stream.parts)}")
+    require(len(counted) == len(stream.parts), f"{words[0]}: counts of {len(counted)} rounds of {len(stream.parts)}")
     return [Counts(*map(int, line.split()[1:])) for line in counted]
 
 

@@ -147,7 +147,7 @@ def draw_growth(folder: Path) -> str:
     """What a cold round takes for each arc, in time and in looks, by the arcs of its network."""
     records = read_rounds(folder)
     times = cold_curves(records, lambda record: record.firm * 1e6)
-    looks = cold_curves(records, lambda record: record.looks)
+    looks = cold_curves(records, lambda record: record.all_looks)
     marks = [*title("Cold rounds by the arcs of their networks", "a level line is linear in the arcs")]
     marks += draw_curves(times, 0, "microseconds for each arc")
     marks += draw_curves(looks, WIDTH / 2 + 10, "looks for each arc")

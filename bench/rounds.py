@@ -2,10 +2,18 @@
 """Measures rounds of the built program, with LEMON's solvers on the same networks beside it where LEMON is installed.
 
 usage: bench/rounds.py [--program FILE] [--measure FILE] [--beside FILE] [--sizes 100x20,..] [--kinds fresh,..]
-                       [--repeats N] [--seed S] [--all-rounds] [--last] [--keep]
-Prints tables in Markdown and keeps each round as a line of JSON in out/bench/rounds.jsonl. Times are processor times,
+                       [--repeats N] [--seed S] [--all-rounds] [--last] [--keep] [--search]
+Prints tables in Markdown and keeps each round as a line of JSON in out/bench/rounds.jsonl; with `--search`, which times
+rounds found by searches alone, in out/bench/searched.jsonl. Times are processor times,
 the middle of some runs. Every placement is checked to be legal and to cost what the reply says, and that cost against
-LEMON's optimum; the exit status is 1 where one is wrong. docs/PERFORMANCE.md says what the figures mean.
+LEMON's optimum; the exit status is 1 where one is wrong.
+
+A round's time, with one worker, from file to file, is the processor time of a run that ends with the round, less that
+of a run that ends one line earlier; the median of such pairs. It includes the way to the worker and back, the net, the
+flow, the choice among equal costs, the changes and their text. LEMON's time is `run()` of `NetworkSimplex` and
+`CostScaling` on the same network, without building it (as long again or less) or choosing among equal costs. Times are
+good to about a third, those below 0.3 ms to less: at 100 x 20 the paired runs differ by more than LEMON's time, and a
+figure may be negative. Looks and instructions are exact.
 """
 
 from __future__ import annotations
@@ -26,6 +34,7 @@ from measure import build_lemon, read_counts, run_stream, solve
 from shared import BUILT, CannotRun, Missed, built, kinds, program_file, require, run_script
 
 SIZES = "100x20,500x100,2000x500,3000x1000"
+ONE_WORKER = ("--workers", "1")
 
 
 @dataclass(frozen=True)
@@ -40,12 +49,19 @@ class Options:
     all_rounds: bool
     last: bool
     keep: bool
+    search: bool
+
+    @property
+    def kept(self) -> str:
+        """The file of the records."""
+        return kept.SEARCHED if self.search else kept.ROUNDS
 
 
 def row(record: RoundRecord, timed: Iterable[str]) -> str:
     """The record as a row of the table, with these of its times."""
     cells = [record.kind, record.size, str(record.round + 1), str(record.tasks), str(record.arcs)]
-    cells += [f"{record.searches:,}", f"{record.looks:,}", f"{record.looks / record.arcs:.1f}"]
+    cells += [f"{record.searches:,}", f"{record.looks:,}", f"{record.proposed:,}"]
+    cells += [f"{record.all_looks / record.arcs:.1f}"]
     cells += [milliseconds(record.times()[name]) for name in timed]
     return "| " + " | ".join([*cells, "" if record.ratio is None else f"{record.ratio:.2f}"]) + " |"
 
@@ -56,11 +72,20 @@ def milliseconds(seconds: float | None) -> str:
     return f"{seconds * 1000:,.0f}" if seconds >= 0.1 else f"{seconds * 1000:.3g}"
 
 
+def words_of(options: Options) -> tuple[list[str], list[str]]:
+    """The first words of the program whose rounds are timed, and of the one that counts."""
+    if options.search:
+        return [options.measure, "--search"], [options.measure, "--search"]
+    return [options.program, *ONE_WORKER], [options.measure]
+
+
 def measure_stream(options: Options, lemon: str | None, kind: str, size: str) -> list[RoundRecord]:
     """One record for each round of a stream."""
     stream = kinds.make(kind, *kinds.read_size(size), options.seed)
-    records, counts = [], read_counts(options.measure, stream)
-    for place, found in enumerate(run_stream(options.program, options.beside, stream, options.repeats)):
+    served, measure = words_of(options)
+    beside = [options.beside, *ONE_WORKER] if options.beside else None
+    records, counts = [], read_counts(measure, stream)
+    for place, found in enumerate(run_stream(served, beside, stream, options.repeats)):
         solved = solve(lemon, found.network, options.repeats) if lemon else {}
         for name, answer in solved.items():
             fault = f"{kind} {size}, round {place}: cost {found.cost}, and LEMON's {name} finds {answer.cost}"
@@ -74,6 +99,7 @@ def measure_stream(options: Options, lemon: str | None, kind: str, size: str) ->
             cost=found.cost,
             searches=counts[place].searches,
             looks=counts[place].looks,
+            proposed=counts[place].proposed,
             firm=found.seconds,
             beside=found.beside,
             **{name: answer.seconds for name, answer in solved.items()},
@@ -95,7 +121,7 @@ def names_of(found: Iterable[str]) -> list[str]:
 def print_table(records: list[RoundRecord], sizes: list[str], all_rounds: bool) -> None:
     """A row for each stream's cold round and for the worst that follows."""
     timed = [name for name, seconds in records[0].times().items() if seconds is not None]
-    heads = ("kind", "size", "round", "tasks", "arcs", "searches", "looks", "looks / arc")
+    heads = ("kind", "size", "round", "tasks", "arcs", "searches", "looks", "proposed", "looks / arc")
     print("| " + " | ".join(heads) + " | " + "".join(f"{name} ms | " for name in timed) + "firm / faster |")
     print("| --- | --- |" + " ---: |" * (len(timed) + len(heads) - 1))
     for size in reversed(sizes):
@@ -140,7 +166,7 @@ def print_tables(records: list[RoundRecord], all_rounds: bool) -> None:
     print("\nMicroseconds of the cold round for each arc:\n")
     print_growth(records, sizes, lambda record: record.firm * 1e6)
     print("\nLooks of the cold round for each arc:\n")
-    print_growth(records, sizes, lambda record: record.looks)
+    print_growth(records, sizes, lambda record: record.all_looks)
 
 
 def measure_all(options: Options, lemon: str | None, file: TextIO) -> tuple[list[RoundRecord], int]:
@@ -174,18 +200,20 @@ def read_options() -> Options:
     parser.add_argument("--all-rounds", action="store_true", help="a row for each round")
     parser.add_argument("--last", action="store_true", help="measure nothing, print the tables of the last run")
     parser.add_argument("--keep", action="store_true", help=results.HELP)
+    search = "the rounds of the program that counts, found by searches alone"
+    parser.add_argument("--search", action="store_true", help=search)
     return Options(**vars(parser.parse_args()))
 
 
 def show(options: Options) -> int:
     """Measures and prints; the exit status."""
     if options.last:
-        print_tables(kept.read(kept.ROUNDS, RoundRecord), options.all_rounds)
+        print_tables(kept.read(options.kept, RoundRecord), options.all_rounds)
         return 0
     for path in (options.program, options.measure):
         if not os.access(path, os.X_OK):
             raise CannotRun(f"there is no program {path}")
-    with tempfile.TemporaryDirectory(prefix="firm-") as folder, kept.begin(kept.ROUNDS) as file:
+    with tempfile.TemporaryDirectory(prefix="firm-") as folder, kept.begin(options.kept) as file:
         records, wrong = measure_all(options, build_lemon(folder), file)
     if records:
         print_tables(records, options.all_rounds)
@@ -195,7 +223,8 @@ def show(options: Options) -> int:
 
 def main() -> int:
     options = read_options()
-    return results.show_and_keep("rounds", options.keep, partial(show, options))
+    page = "searched" if options.search else "rounds"
+    return results.show_and_keep(page, options.keep, partial(show, options))
 
 
 if __name__ == "__main__":

@@ -40,7 +40,7 @@ from harness.deployed import (
     book_of,
     past,
     past_rounds,
-    recovery,
+    records,
     service_states,
     text_of,
     trials,
@@ -654,8 +654,8 @@ def snapshots_go() -> None:
         (folder / "roster.csv").write_bytes(ROSTER)
         (journal / "00000001.lines").write_bytes(b"alpha machine m 1\nalpha round\n")
         (folder / "id").write_text("0123456789abcdef\n")
-        gone = past.Start(service_states.Opening(folder / "gone", True), recovery.Base(7, 9, 99, 0), b"")
-        opened = past.Start(service_states.Opening(folder / "roster.csv"), recovery.BEGINNING, b"")
+        gone = past.Start(service_states.Opening(folder / "gone", True), records.Base(7, 9, 99, 0), b"")
+        opened = past.Start(service_states.Opening(folder / "roster.csv"), records.BEGINNING, b"")
         found = iter([[gone], [opened]])
         past.starts = lambda folder: iter(next(found))
         try:

@@ -3,8 +3,10 @@
 
 usage: tests/explain.py [--quick] [--program FILE] [--explain FILE] [WORD..]
 Reasons of each kind of stream at 3,000 tasks and 1,000 machines are accepted, also with --all, --why and --machine, and
-outputs with one number or comment line changed are not; also --tenant, statuses, pieces, failed writes, refused and
-constant memory, and time. With words only the checks whose names have one of them. Each check has a line; the exit
+those of 3,000 random streams and of 400 with noise; 1,000 outputs with one number changed are not, nor by --claims a
+comment line removed, doubled, moved or with another word. Numbers that docs/EXPLAIN.md calls exact are, by a search
+over all placements of 300 streams. Also --tenant, statuses, pieces, failed writes, refused and constant memory, and
+time. With words only the checks whose names have one of them. Each check has a line; the exit
 status is 1 where one failed. The long run takes some ten minutes. It needs a C compiler for refuse.c.
 """
 

@@ -89,11 +89,11 @@ MANY = "; ".join(
     + ["show", "where t149", "task j0 t150", "drain m3", "show"]
 )
 
-# A table's first row takes 4 requests; the graph's lists take 2 for a machine (its slots are one), 1 for a job, 6 for a
-# task.
-OF_FIRST_ROWS = {b"alpha machine m1 2": 6, b"alpha job j 5": 5, b"alpha task j a": 10}
-# Both blocks of the tenant's net among them.
-OF_AN_ADMISSION = {b"+ admit b,6,20,5,0,0": 27}
+# A table's first row takes 4 requests, the case's list of machines or tasks 1; the graph's lists take 2 for a machine
+# (its slots are one), 1 for a job, 4 for a task.
+OF_FIRST_ROWS = {b"alpha machine m1 2": 7, b"alpha job j 5": 5, b"alpha task j a": 9}
+# Both blocks of the tenant's net among them, and the tables in which its rounds are proposed.
+OF_AN_ADMISSION = {b"+ admit b,6,20,5,0,0": 77}
 
 STREAMS = {
     "one round": Stream(b"alpha,9,24,100,1,2\n", for_tenant("alpha", SPREAD)),

@@ -834,13 +834,11 @@ def metrics_are_those_of_the_books() -> None:
         require(buckets == [1, 1, 2, 2, 3] and samples["firm_round_seconds_count", ""] == 3, buckets)
         require(abs(samples["firm_round_seconds_sum", ""] - 100.0004) < 1e-6, samples["firm_round_seconds_sum", ""])
         require(not [key for key in samples if "tenant=beta" in key[1]], "series of a tenant that is retired")
-        names = {
-            re.sub("_(bucket|count|sum)$", "", name)
-            for name, _ in samples
-            if not name.startswith(("process_", "firm_process_", "firm_viewer_process_"))
-        }
-        told = (ROOT / "docs" / "SERVICE.md").read_text()
-        require(not [name for name in names if f"`{name}" not in told], f"{names} and docs/SERVICE.md")
+        names = set(re.findall("^# TYPE (\\S+)", http_ask(started.port, "/metrics")[2].decode(), re.M))
+        page = (ROOT / "docs" / "OPERATING.md").read_text()
+        section = page.partition("### Metrics and the page\n")[2].partition("\n#")[0]
+        named = set(re.findall("`(firm_[a-z_]+)`", section))
+        require(named and named <= names, f"docs/OPERATING.md names {named - names}")
 
 
 def http_only_reads() -> None:

@@ -49,7 +49,7 @@ class Lines:
 
 
 def records_of(data: bytes) -> list[Lines]:
-    """The records of lines of a segment, each checksum of which is compared, by docs/SERVICE.md alone."""
+    """The records of lines of a segment, each checksum of which is compared, by the forms of records.py alone."""
     found, place = list[Lines](), 0
     while place < len(data):
         heading = data[place : data.index(b"\n", place) + 1]
@@ -188,7 +188,7 @@ def other_pieces(setup: Setup) -> None:
     """A state with a piece of another one, or one that is older, is not served."""
     with setup.daemon("--segment-bytes", "4000") as daemon, setup.daemon("--segment-bytes", "4000") as other:
         said = answered(daemon, True)
-        shutil.copytree(daemon.state, daemon.folder / "copy", ignore=shutil.ignore_patterns("view", "lock"))
+        shutil.copytree(daemon.state, daemon.folder / "copy", ignore=shutil.ignore_patterns("view", "moves", "lock"))
         more = [b"alpha show"] * 200
         daemon.start()
         ask_all(daemon, more)
@@ -613,7 +613,7 @@ def random_damage(setup: Setup, part: int, trials: int) -> None:
         said = answered(daemon, is_killed, 200)
         alone = setup.alone(ROSTER, b"".join(line + b"\n" for line in [*said, *QUESTIONS]))[len(said) :]
         kept = daemon.folder / "kept"
-        shutil.copytree(daemon.state, kept, ignore=shutil.ignore_patterns("view"))
+        shutil.copytree(daemon.state, kept, ignore=shutil.ignore_patterns("view", "moves"))
         told = 0
         for trial in range(trials):
             shutil.rmtree(daemon.state)

@@ -258,7 +258,7 @@ def newer_documents(place: Place) -> None:
     place.build()
     others = [f"crates/{crate}/{source(crate)}" for crate in set(place.crates) - place.needed]
     edits = ["crates/firm_net/must-fail/one.edit", "crates/firm_net/more-edits/two.edit"]
-    for name in ["README.md", "docs/USING.md", "tests/quick", "crates/firm/stdin", *edits, *others]:
+    for name in ["README.md", "docs/FORMATS.md", "tests/quick", "crates/firm/stdin", *edits, *others]:
         place.write(name, TWO_LINES)
     (place.top / "crates.txt").touch()
     require_quiet_reply(place.run())

@@ -651,7 +651,7 @@ if '"watch"' in sys.argv[-1]:
 
 @contextmanager
 def host_of_tenants(setup: Setup) -> Iterator[Daemon]:
-    """A service as docs/SERVICE.md installs it: folders and groups of tenants, of operators and of the view."""
+    """A service as docs/OPERATING.md installs it: folders and groups of tenants, of operators and of the view."""
     if os.geteuid() != 0 or shutil.which("setpriv") is None:
         raise Skipped("rights of others need root and setpriv")
     with setup.daemon("--socket-mode", "660") as daemon:

@@ -1,5 +1,5 @@
 #!/usr/bin/env python3
-"""Makes a release of the built programs, installs it into an empty root, and runs what it brings, without a kit.
+"""Makes a release of the built programs, installs it into an empty root, and plays the tutorial there, without a kit.
 
 usage: tests/release.py
 Each check has a line; the last line is 'N passed, M failed', and the exit status is 1 where one failed. It needs
@@ -23,6 +23,7 @@ from types import ModuleType
 
 import firmd
 import launcher
+from harness import sessions
 from harness.checks import Check, Skipped, count_ends, passes, require, run_script
 from harness.program import ROOT, built
 
@@ -30,6 +31,7 @@ TOOL = ROOT / "tools" / "release"
 NEEDED = ("dpkg-deb", "dpkg", "help2man")
 SECONDS = 120
 EXAMPLES = ROOT / "examples"
+TUTORIAL = ROOT / "docs" / "TUTORIAL.md"
 PROOFS = "firm_rules\tsum\tlogic=proved\n"
 
 
@@ -74,6 +76,8 @@ def installed() -> None:
         files_are_there(release, root)
         programs_answer(root)
         serves(root)
+        if os.geteuid() == 0:  # as which the tutorial is written
+            plays_tutorial(root)
 
 
 def packs_alike(release: ModuleType, folder: Path, version: object) -> None:
@@ -131,9 +135,21 @@ def programs_answer(root: Path) -> None:
     require(said([f"{path}/firm_state", *opened], commands, PATH=path).startswith(b"firm state"), "the state")
 
 
+def path_of(root: Path) -> str:
+    """The programs of a root, then the system's."""
+    return f"{root}/usr/bin:{Path(sys.executable).parent}:/usr/bin:/bin"
+
+
+def plays_tutorial(root: Path) -> None:
+    """The tutorial is played by the installed programs, but for its first console, which installs others."""
+    installing, *consoles = sessions.consoles_of(TUTORIAL)
+    text = "$ mkdir out\n" + "".join(console.text for console in consoles)
+    sessions.play_console(installing._replace(text=text), path_of(root))
+
+
 def serves(root: Path) -> None:
     """The installed firmd finds the installed firm, and the installed firmctl that firmd."""
-    path = f"{root}/usr/bin:{Path(sys.executable).parent}:/usr/bin:/bin"
+    path = path_of(root)
     with firmd.Setup(f"{root}/usr/bin/firm", True, 1).daemon() as daemon:
         daemon.words = [f"{root}/usr/bin/firmd"]
         daemon.start()

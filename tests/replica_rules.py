@@ -22,9 +22,8 @@ from stand_in_etcd import Connection, Memory
 
 from firm_service.faults import Exit, Fault
 from firm_service.journal import Journal, Room
-from firm_service.records import Batch
+from firm_service.records import Base, Batch
 from firm_service.replicated import journal as replicated_journal
-from firm_service.recovery import Base
 from firm_service.replicated.digests import EVERY_LINES, Chain, Digest, Digests
 from firm_service.replicated.entries import Agreed, Entry, Keys, Position, cut_off, parts_of
 from firm_service.replicated.etcd import Access, Denied, Etcd, Full, Member, Put, Size, Unfit, Unsure

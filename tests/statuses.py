@@ -61,9 +61,9 @@ Example:
   beta 1 ok
   alpha 4 ok round cost 0 start a m1
 
-In firm's repository docs/USING.md lists commands, replies and exit statuses;
-docs/PLACEMENT.md says what a round decides, docs/SERVICE.md how to serve many
-clients and keep a journal.
+In firm's repository docs/FORMATS.md lists commands, replies and exit statuses;
+docs/PLACEMENT.md says what a round decides, docs/OPERATING.md how to serve
+many clients and keep a journal.
 """
 VERSION = "firm 0.1.0\n"
 

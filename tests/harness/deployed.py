@@ -15,8 +15,9 @@ import firm_service.slurm.check  # noqa: E402 (found by the line before)
 import firm_service.slurm.differences  # noqa: E402
 import firm_service.slurm.done  # noqa: E402
 import firm_service.slurm.said  # noqa: E402
-from firm_service import archive, books, extent, feed, feeder, kept_books, past, past_rounds, records  # noqa: E402
-from firm_service import recovery, roster, sizes, slurm, snapshots, states as service_states, supervisor  # noqa: E402
+from firm_service import agent_machines, agent_queue, archive, books, extent, feed, feeder, kept_books  # noqa: E402
+from firm_service import past, past_rounds, records  # noqa: E402
+from firm_service import roster, sizes, slurm, snapshots, states as service_states, supervisor  # noqa: E402
 from firm_service import trials, what_if, why, why_text  # noqa: E402
 from firm_service.agent_queue import NotAllowed, work_of  # noqa: E402
 from firm_service.agent_table import TableError  # noqa: E402
@@ -28,7 +29,7 @@ from firm_service.follower import Follower  # noqa: E402
 from firm_service.kept import found_now, kept_lines  # noqa: E402
 from firm_service.lines import gets_reply  # noqa: E402
 from firm_service.observers import Status  # noqa: E402
-from firm_service.queue import async_client, backlog, client, forms, rows, shares, states  # noqa: E402
+from firm_service.queue import async_client, backlog, client, columns, forms, rows, shares, states  # noqa: E402
 from firm_service.queue.firm import Doors, Firm  # noqa: E402
 from firm_service.refused import Refused  # noqa: E402
 from firm_service.roster import Limits  # noqa: E402
@@ -71,6 +72,8 @@ __all__ = [
     "Task",
     "TICK_SECONDS",
     "TableError",
+    "agent_machines",
+    "agent_queue",
     "archive",
     "async_client",
     "backlog",
@@ -78,6 +81,7 @@ __all__ = [
     "books",
     "bound",
     "client",
+    "columns",
     "extent",
     "feed",
     "feeder",
@@ -89,7 +93,6 @@ __all__ = [
     "past",
     "past_rounds",
     "records",
-    "recovery",
     "roster",
     "rows",
     "serve_view",

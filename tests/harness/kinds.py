@@ -48,7 +48,9 @@ KINDS = {
     "dense": Kind("the same with as many arcs as a tenant may have", 50, 400, Range(10_000, 1_000_000), None),
     "overload": Kind("more tasks than slots, any weights", 20, 1_000, Range(500, 1_000_000), Range(0.5, 0.9)),
     "rising": Kind("overload, later tasks weigh more", 15, 60, Range(1_000, 1_000_000), Range(0.6, 0.6)),
-    "steady": Kind("one task of a hundred comes and goes", 50, 400, Range(10_000, 1_000_000), Range(1.5, 2.5)),
+    "steady": Kind(
+        "a task of a hundred comes and goes, a machine is replaced", 50, 400, Range(10_000, 1_000_000), Range(1.5, 2.5)
+    ),
     "levels": Kind("few machines of 64 slots", 900, 250, Range(30_000, 1_000_000), Range(1.0, 1.0)),
     "ties": Kind("nothing but waiting costs, and all alike", 0, 0, Range(12, 12), Range(0.8, 0.8)),
     "close": Kind("costs that differ by one or two", 1, 1, Range(2, 4), Range(0.9, 1.2)),

@@ -4,7 +4,8 @@ A block of `sh` or `python` is run in a folder where ./firm is the launcher, and
 those of the repository; a block of `firm` is the input of ./firm. So are the lines of a table whose first column is
 Line and whose last is Reply. The roster, roster.csv, is the block of `csv` right above, or else the page's first. A
 block of `console` has commands behind `$ `, each with what comes out below it, errors among it; times may differ. A
-block without what comes out is there to be read, and is not run.
+block without what comes out is there to be read, and is not run. `./firm --unproved`, which takes minutes, is run as
+./firm: tests/launcher.py asks for an unproved answer, and the replies are the same.
 """
 
 from __future__ import annotations
@@ -26,7 +27,7 @@ from harness.checks import Skipped, require
 from harness.program import ROOT, built, opened
 
 LIMIT_SECONDS = 300
-CONSOLE_SECONDS = 90  # for what a command of a console gives
+CONSOLE_SECONDS = 180  # for what a command of a console gives, and those before it that give nothing
 FENCE = "```"
 TABLE = re.compile(r"\| Line \|.*\| Reply[^|]*\|")
 FIRST_AND_LAST = re.compile(r"\| `([^`]+)` \|.*\| `([^`]+)`[^|]*\|")
@@ -121,6 +122,7 @@ def sessions_of(page: Path) -> list[Session]:
     return [Session(name, typed, roster_for(typed, text), output) for typed, output in pairs]
 
 
+INSTALLING = "import ensurepip, setuptools, venv, wheel"  # what a session needs that installs the package
 COMMANDS = {
     "sh": ["bash", "-eu"],
     "python": [sys.executable, "-"],
@@ -140,7 +142,7 @@ def play(session: Session) -> None:
             (Path(folder) / "roster.csv").write_text(session.roster)
         done = subprocess.run(
             COMMANDS[session.typed.kind],
-            input=session.typed.text,
+            input=session.typed.text.replace("./firm --unproved", "./firm"),
             cwd=folder,
             capture_output=True,
             text=True,
@@ -155,6 +157,13 @@ def consoles_of(page: Path) -> list[Block]:
     return [block for block in blocks_of(page.read_text()) if block.kind == "console"]
 
 
+def story_of(page: Path) -> Block:
+    """All consoles of a page, one behind the other, as one that a reader types from first to last."""
+    consoles = consoles_of(page)
+    text = "".join(console.text for console in consoles)
+    return consoles[0]._replace(last_line=consoles[-1].last_line, text=text)
+
+
 def commands_of(console: Block) -> Iterator[Pair]:
     """The commands of a console, which may go on behind `> `, each with what comes out."""
     for text in re.split(r"^\$ ", console.text, flags=re.M)[1:]:
@@ -164,19 +173,28 @@ def commands_of(console: Block) -> Iterator[Pair]:
         yield Pair(console._replace(text=typed), "".join(lines[count:]))
 
 
-def play_console(console: Block) -> None:
-    """Types each command once what the page shows of the one before has come."""
+def play_console(console: Block, path: str | None = None) -> None:
+    """Types each command once what the page shows of the one before has come; with a path, by programs of it alone."""
     if "nc -" in console.text and shutil.which("nc") is None:
         raise Skipped("it needs nc (apt-get install netcat-openbsd)")
     if re.search(r"firmctl .*\bwhy\b", console.text) and not built("firm_explain").exists():
         raise Skipped("firm_explain is not built")
+    if "firmctl move" in console.text and not built("firm_state").exists():
+        raise Skipped("firm_state is not built")
     if re.search(r"\broot\b", console.text) and os.geteuid():
         raise Skipped("it shows what root has")
+    is_installing = "pip install" in console.text
+    if is_installing and subprocess.run(["/usr/bin/python3", "-c", INSTALLING], capture_output=True).returncode:
+        raise Skipped("it needs venv, setuptools and wheel (apt-get install python3-venv python3-wheel)")
     with tempfile.TemporaryDirectory(prefix="firm-") as folder:
-        for name in ("firm", "crates", "examples", "service"):
+        for name in () if path else ("firm", "crates", "examples", *([] if is_installing else ["service"])):
             (Path(folder) / name).symlink_to(ROOT / name)
-        pipes: dict[str, Any] = {"stdin": subprocess.PIPE, "stdout": subprocess.PIPE, "stderr": subprocess.STDOUT}
-        with subprocess.Popen(["bash", "-eu"], cwd=folder, start_new_session=True, bufsize=0, **pipes) as shell:
+        if is_installing:  # pip writes beside the sources
+            shutil.copytree(ROOT / "service", Path(folder) / "service", ignore=shutil.ignore_patterns("__pycache__"))
+            shutil.copy(ROOT / "pyproject.toml", folder)
+        how: dict[str, Any] = {"stdin": subprocess.PIPE, "stdout": subprocess.PIPE, "stderr": subprocess.STDOUT}
+        how["env"] = {"PATH": path} if path else None
+        with subprocess.Popen(["/bin/bash", "-eu"], cwd=folder, start_new_session=True, bufsize=0, **how) as shell:
             try:
                 for typed, output in commands_of(console):
                     opened(shell.stdin).write(typed.text.encode())

@@ -1,4 +1,8 @@
-"""Random small streams: rosters and inputs that meet every verb, every refusal and every kind of bad line."""
+"""Random small streams: rosters and inputs that meet every verb, every refusal and every kind of bad line.
+
+They have up to four tenants with six tasks each, all refusals but memory, and names, numbers and lines at the ends of
+their ranges.
+"""
 
 from __future__ import annotations
 
