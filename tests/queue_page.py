@@ -73,7 +73,7 @@ def served(setup: Setup) -> Iterator[tuple[Case, int]]:
         with case.client() as client, case.client() as agent:
             agent.ask("register", agent="a1", id="x", machines={"m1": 4}, runs=[])
             client.submit(*FOREVER, job="web", array=[1, 40])
-            client.submit(*FOREVER, "<img src=x onerror=document.body.remove()>", job="report", after=["1"])
+            client.submit(*FOREVER, "<img src=x onerror=document.body.remove()>", job="report", hold=True)
             run_some(case, agent)
             case.until(lambda: client.states().get("starting") == 2, "others are placed")
             yield case, port
