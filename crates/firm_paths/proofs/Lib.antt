@@ -7,21 +7,11 @@ pub mod Labels
 pub mod Looks
 pub mod Walks
 pub mod Settles
-pub mod Circles
 pub mod Rounds
-pub mod Going
-pub mod Looking
 pub mod Queues
 pub mod Degrees
 pub mod Turns
 pub mod Offsets
 pub mod Raised
 pub mod Spreading
-pub mod Fronts
-pub mod FrontLooks
-pub mod Meetings
-pub mod Ends
-pub mod Splits
-pub mod Credits
-pub mod Within
 mod Examples

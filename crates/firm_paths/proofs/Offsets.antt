@@ -1,9 +1,8 @@
 -- Prices as what they lack to a base.
-use Rattle.std.proofs.Common.{◌≡◌, ℕ, ◌+◌, ◌-◌, ◌<◌, ◌≤◌, true, false, List, length, arith, refl, sym, ap, ◌∙◌, ⊎_elim}
-use Rattle.std.specs.Prelude.{slice_index, slice_set, map}
+use Rattle.std.proofs.Common.{◌≡◌, ℕ, ◌+◌, ◌-◌, ◌<◌, ◌≤◌, true, false, List, length, arith, ⊎_elim}
+use Rattle.std.specs.Prelude.{slice_index, map}
 use Rattle.std.proofs.lemmas.Bool.{cases_lt}
-use Rattle.std.proofs.lemmas.List.{get_or-map, get_or_past, get_or-set_other, length-map, length-set}
-use Rattle.std.proofs.lemmas.Grind.{get_or-set_at}
+use Rattle.std.proofs.lemmas.List.{get_or-map, get_or_past, length-map}
 use Rattle.firm_paths.specs.inner.Search.{settled, label, AreRaised}
 use Rattle.firm_paths.specs.declared.search.NodeState.{NodeState}
 
@@ -55,24 +54,3 @@ raised_below base new_base distance goal less new_less ms lengths listed within 
                 )),
           );
     }
-
--- one price set
-pub set_own : (base : ℕ) (less : List ℕ) (place x : ℕ) → place < length less
-    → slice_index (below base (slice_set less place x)) place ≡ base - x
-set_own base less place x listed =
-    below_at base (slice_set less place x) place (omega (arith, listed, length-set less place x))
-    ∙ ap (λ (l : ℕ). base - l) (get_or-set_at less place place x 0 refl listed)
-
-pub set_other : (base : ℕ) (less : List ℕ) (place x v : ℕ) → (v ≡ place → ⊥)
-    → slice_index (below base (slice_set less place x)) v ≡ slice_index (below base less) v
-set_other base less place x v other =
-    let size = length-set less place x in
-    ⊎_elim
-    (λ (l : v < length less).
-    below_at base (slice_set less place x) v (omega (arith, l, size))
-    ∙ (ap (λ (l : ℕ). base - l) (get_or-set_other less place v x 0 other) ∙ sym (below_at base less v l)))
-    (λ (p : length less ≤ v).
-    get_or_past (below base (slice_set less place x)) v 0
-    (omega (arith, p, size, length-map (slice_set less place x) (λ (l : ℕ). base - l)))
-    ∙ sym (get_or_past (below base less) v 0 (omega (arith, p, length-map less (λ (l : ℕ). base - l)))))
-    (cases_lt v (length less))

@@ -1,6 +1,6 @@
 -- What the search by labels gives: prices that are valid again, a path, or a set that shows that there is none.
 use Rattle.std.proofs.Common.{◌≡◌, ℕ, ◌+◌, ◌*◌, ◌-◌, ◌<◌, ◌≤◌, ◌^◌, true, false, Option, Some, None, List, [], length}
-use Rattle.std.proofs.Common.{arith, sym, ap, subst, ◌∙◌, ⊎_elim}
+use Rattle.std.proofs.Common.{arith, sym, ap, ◌∙◌, ⊎_elim}
 use Rattle.std.specs.Prelude.{slice_index, MatchOption}
 use Rattle.std.proofs.lemmas.Bool.{cases_lt, cases_Bool, both_ways}
 use Rattle.firm_arena.specs.Arena.{capacity_of}
@@ -13,9 +13,10 @@ use Rattle.firm_net.specs.declared.row.Way.TheVariants.{Forward, Backward}
 use Rattle.firm_paths.specs.Network.{AreValid, IsValidAt, StaysInside}
 use Rattle.firm_paths.specs.NetArcs.{arc_of, arcs_of}
 use Rattle.firm_paths.specs.Paths.{IsHighest, IsCut}
-use Rattle.firm_paths.specs.inner.Search.{visit, state, known, settled, label, IsReached, IsEnd, AreRaised}
+use Rattle.firm_paths.specs.Visits.{visit}
+use Rattle.firm_paths.specs.inner.Search.{state, known, settled, label, IsReached, IsEnd, AreRaised}
 use Rattle.firm_paths.specs.inner.Search.{IsRaised, IsNotNegative, start_of, end_of}
-use Rattle.firm_paths.specs.inner.Spread.{IsReachedBy}
+use Rattle.firm_paths.specs.inner.Search.{IsReachedBy}
 use Rattle.firm_paths.specs.declared.search.NodeState.{NodeState}
 use Rattle.firm_paths.specs.declared.search.Visit.{Visit}
 use Rattle.firm_paths.specs.Laws.{all_arcs, at_row}
@@ -33,14 +34,14 @@ module _ (net : Net) (old new : List ℕ) (from goal : ℕ) (ms : List NodeState
   distance = label ms goal - slice_index old goal
 
   far_small : distance ≤ 4095 * 3000000
-  far_small = omega (arith, reached.near_by.below goal reached.is_known, start)
+  far_small = omega (arith, (reached.near_by goal).below reached.is_known, start)
 
   goal_ahead : slice_index old goal + distance ≤ label ms goal
-  goal_ahead = reached.near_by.beyond goal reached.is_known reached.is_open
+  goal_ahead = (reached.near_by goal).beyond reached.is_known reached.is_open
 
   -- a settled place is that of a node, and so no higher than the goal
   low : (v : ℕ) → settled ms v ≡ true → slice_index old v ≤ slice_index old goal
-  low v s = go (state ms v).node (reached.named v (reached.near_by.within v s).0)
+  low v s = go (state ms v).node ((reached.near_by v).named ((reached.near_by v).within s).0)
     where
       go : (o : Option NodeId) → MatchOption o ⊥ (λ n. IsNode net n × (n.id.place ≡ v))
           → slice_index old v ≤ slice_index old goal
@@ -51,7 +52,7 @@ module _ (net : Net) (old new : List ℕ) (from goal : ℕ) (ms : List NodeState
       → slice_index new n.id.place ≡ label ms n.id.place
   at_settled n there s =
       lifted.at_settled n.id.place (omega (arith, node_listed net n there, lengths.0)) s
-      (omega (arith, (reached.near_by.within n.id.place s).2, highest n there))
+      (omega (arith, ((reached.near_by n.id.place).within s).2, highest n there))
 
   at_open : (n : NodeId) → IsNode net n → settled ms n.id.place ≡ false
       → slice_index new n.id.place ≡ slice_index old n.id.place + distance
@@ -68,7 +69,7 @@ module _ (net : Net) (old new : List ℕ) (from goal : ℕ) (ms : List NodeState
   at_most : (n : NodeId) → IsNode net n → slice_index new n.id.place ≤ slice_index old n.id.place + distance
   at_most n there = ⊎_elim
       (λ (s : settled ms n.id.place ≡ true).
-      omega (arith, at_settled n there s, (reached.near_by.within n.id.place s).2))
+      omega (arith, at_settled n there s, ((reached.near_by n.id.place).within s).2))
       (λ (s : settled ms n.id.place ≡ false). omega (arith, at_open n there s))
       (cases_Bool (settled ms n.id.place))
 
@@ -84,25 +85,20 @@ module _ (net : Net) (old new : List ℕ) (from goal : ℕ) (ms : List NodeState
       let a : NodeId = start_of way row in
       let b : NodeId = end_of way row in
       let there = ends_there way id row is in
-      let far : slice_index old a.id.place + distance ≤ slice_index new a.id.place
-      → IsNotNegative way (slice_index new) row = λ rose.
-      not_negative_kept way row (slice_index old) (slice_index new) (omega (arith, rose, at_most b there.1)) valid in
       ⊎_elim
       (λ (sa : settled ms a.id.place ≡ true).
       let new_a = at_settled a there.0 sa in
-      ⊎_elim
-      (λ (nearer : label ms a.id.place < slice_index old a.id.place + distance).
-      let f = reached.followed way id row is nearer sa open_ in
+      let f = reached.followed way id row is sa open_ in
       not_negative_kept way row (label ms) (slice_index new)
       (⊎_elim
       (λ (sb : settled ms b.id.place ≡ true). omega (arith, new_a, at_settled b there.1 sb))
       (λ (sb : settled ms b.id.place ≡ false).
-      omega (arith, new_a, at_open b there.1 sb, reached.near_by.beyond b.id.place f.0 sb))
+      omega (arith, new_a, at_open b there.1 sb, (reached.near_by b.id.place).beyond f.0 sb))
       (cases_Bool (settled ms b.id.place)))
       f.1)
-      (λ (edge : slice_index old a.id.place + distance ≤ label ms a.id.place). far (omega (arith, edge, new_a)))
-      (cases_lt (label ms a.id.place) (slice_index old a.id.place + distance)))
-      (λ (sa : settled ms a.id.place ≡ false). far (omega (arith, at_open a there.0 sa)))
+      (λ (sa : settled ms a.id.place ≡ false).
+      not_negative_kept way row (slice_index old) (slice_index new)
+      (omega (arith, at_open a there.0 sa, at_most b there.1)) valid)
       (cases_Bool (settled ms a.id.place))
 
   raised_valid : AreValid (arcs_of net) (slice_index old) → AreValid (arcs_of net) (slice_index new)
@@ -117,7 +113,7 @@ module _ (net : Net) (old new : List ℕ) (from goal : ℕ) (ms : List NodeState
   raised_rises : (n : NodeId) → IsNode net n → slice_index old n.id.place ≤ slice_index new n.id.place
   raised_rises n there = ⊎_elim
       (λ (s : settled ms n.id.place ≡ true).
-      omega (arith, at_settled n there s, (reached.near_by.within n.id.place s).1))
+      omega (arith, at_settled n there s, ((reached.near_by n.id.place).within s).1))
       (λ (s : settled ms n.id.place ≡ false). omega (arith, at_open n there s))
       (cases_Bool (settled ms n.id.place))
 
@@ -128,12 +124,12 @@ module _ (net : Net) (old new : List ℕ) (from goal : ℕ) (ms : List NodeState
         lifted.at_settled (visit vs i).place
         (omega (
           arith,
-          known_listed ms (visit vs i).place (reached.near_by.within (visit vs i).place s).0,
+          known_listed ms (visit vs i).place ((reached.near_by (visit vs i).place).within s).0,
           lengths.0,
           lengths.1,
         ))
         s
-        (omega (arith, (reached.near_by.within (visit vs i).place s).2, low (visit vs i).place s)))
+        (omega (arith, ((reached.near_by (visit vs i).place).within s).2, low (visit vs i).place s)))
         (λ (e : (visit vs i).place ≡ goal). ap (slice_index new) e
         ∙ (let at : slice_index new goal ≡ label ms goal =
         omega (arith, at_goal, goal_ahead) in at ∙ ap (label ms) (sym e)))
@@ -141,32 +137,12 @@ module _ (net : Net) (old new : List ℕ) (from goal : ℕ) (ms : List NodeState
     last = reached.last;
   }
 
-  all_raised : AreValid (arcs_of net) (slice_index old) → IsRaised net old new goal
-  all_raised valid =
-      record { valid = raised_valid valid; highest = raised_highest; rises = raised_rises; bound = raised_bound }
-
--- the same, told by the nodes
-pub raise_found : (net : Net) (old new : List ℕ) (from to : NodeId) (place goal : ℕ) (ms : List NodeState)
-    (vs : List Visit) (number : ℕ) → place ≡ from.id.place → goal ≡ to.id.place → IsNet net → IsNode net from
-    → (length old ≡ capacity_of net.nodes) × (length ms ≡ capacity_of net.nodes) → goal < capacity_of net.nodes
-    → IsReached net (slice_index old) place goal ms vs number
-    → AreRaised old ms goal (label ms goal - slice_index old goal) new
-    → AreValid (arcs_of net) (slice_index old) → IsHighest net (slice_index old) to.id.place
-    → slice_index old to.id.place ≤ 2 ^ 60
-    → IsRaised net old new to.id.place
-    × IsReachedBy net (slice_index new) [] from.id.place to.id.place vs number
-raise_found net old new from to place goal ms vs number is_from is_to net_is there lengths listed reached raises
-    valid highest room =
-    let high : IsHighest net (slice_index old) goal = subst (IsHighest net (slice_index old)) (sym is_to) highest in
-    let start : slice_index old place ≤ slice_index old goal =
-    omega (arith, high from there, ap (slice_index old) is_from) in
-    let low : slice_index old goal ≤ 2 ^ 60 = omega (arith, room, ap (slice_index old) is_to) in (
-      subst (IsRaised net old new) is_to
-          (all_raised net old new place goal ms vs number net_is lengths reached raises start listed high low valid),
-      subst (λ (f : ℕ). IsReachedBy net (slice_index new) [] f to.id.place vs number) is_from
-          (subst (λ (t : ℕ). IsReachedBy net (slice_index new) [] place t vs number) is_to
-          (raised_reached net old new place goal ms vs number net_is lengths reached raises start listed high low)),
-    )
+  pub raise_found : AreValid (arcs_of net) (slice_index old)
+      → IsRaised net old new goal × IsReachedBy net (slice_index new) [] from goal vs number
+  raise_found valid = (
+    record { valid = raised_valid valid; highest = raised_highest; rises = raised_rises; bound = raised_bound },
+    raised_reached,
+  )
 
 -- the known nodes are a cut
 pub end_cut : (net : Net) (from goal : ℕ) (ms : List NodeState) → IsEnd net from goal ms

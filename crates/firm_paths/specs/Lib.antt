@@ -1,12 +1,9 @@
 pub mod Network
 pub mod NetArcs
 pub mod Paths
+pub mod Visits
 pub mod Laws
 pub mod PriceTable
 pub mod Workspace
-pub mod Credit
-pub mod Classes
-pub mod ClassLaws
-pub mod CreditLaws
 pub mod Lending
 pub mod inner

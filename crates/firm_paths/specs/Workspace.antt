@@ -1,15 +1,16 @@
 -- What a contract sees of a `Scratch`, and how searches are counted.
 use Rattle.std.specs.Prelude.{◌≡◌, ℕ, List, ◌+◌, ◌-◌, ◌*◌, ◌^◌, ◌<◌, ◌≤◌}
+use Rattle.firm_paths.specs.declared.search.Visit.{Visit}
 
 -- the limits of the net for whose searches the room was reserved, how often `begin` was called, how many searches and
--- looks, and how many looks of proposals, were counted since, and the class of the node at each place
+-- looks, and how many looks of proposals, were counted since, and the visits of the last search for tight paths
 pub record Workspace : Type 0 where
   pub limits : ℕ × ℕ
   pub begins : ℕ
   pub searches : ℕ
   pub looks : ℕ
   pub proposed : ℕ
-  pub classes : List ℕ
+  pub visits : List Visit
 
 -- a counter grew by this number where there was room for it below 2^64; else it stands at 2^64 - 1, and did not fall
 pub record HasCounted (old new more : ℕ) : Type 0 where

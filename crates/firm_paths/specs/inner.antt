@@ -3,7 +3,3 @@ pub mod Search
 pub mod Spread
 pub mod Walk
 pub mod Queue
-pub mod Turn
-pub mod Going
-pub mod Front
-pub mod Meeting

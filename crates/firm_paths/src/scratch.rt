@@ -1,16 +1,16 @@
 //! The room in which the searches work.
-ghost use Rattle.std.specs.Prelude.{◌≡◌, ◌↔◌, ℕ, IfOk, IsTrue};
+ghost use Rattle.std.specs.Prelude.{◌≡◌, ℕ, IfOk, IfSome, IfNone, Some, None};
+ghost use Rattle.std.specs.Borrow.{sem};
 ghost use Rattle.firm_net.specs.Net.{IsNode};
-ghost use Rattle.firm_paths.specs.Classes.{AreTogether};
+ghost use Rattle.firm_paths.specs.Lending.{RestsAsItWas};
+ghost use Rattle.firm_paths.specs.Visits.{paths_of};
 ghost use Rattle.firm_paths.specs.Workspace.{HasCounted};
 ghost use Rattle.firm_paths.specs.NetArcs.{limits_of};
 
-use crate::classes::Classes;
 use crate::queue::Queue;
-use crate::search::{NodeState, Step};
+use crate::search::{NodeState, Step, walk_on};
 use crate::shortest::Labels;
 use crate::tight::Reach;
-use crate::turn::Turn;
 use firm_net::{Net, NodeId};
 use std::alloc::{AllocError, Global};
 use std::marker::Model;
@@ -25,7 +25,6 @@ pub struct Scratch {
     proposed: u64,
     pub(crate) labels: Labels,
     pub(crate) reach: Reach,
-    pub(crate) classes: Classes,
     pub(crate) steps: Vec<Step>,
 }
 
@@ -33,8 +32,7 @@ impl Model for Scratch {
     ghost use Rattle.std.specs.Prelude.{◌≡◌, ◌≤◌, length, vec_capacity};
     ghost use Rattle.firm_paths.specs.Workspace.{Workspace};
     ghost use Rattle.firm_paths.specs.inner.Queue.{IsIdle};
-    ghost use Rattle.firm_paths.specs.inner.Spread.{AreMarked};
-    ghost use Rattle.firm_paths.specs.inner.Meeting.{AreFit};
+    ghost use Rattle.firm_paths.specs.inner.Spread.{Agree};
 
     ghost Value = { Workspace };
 
@@ -44,14 +42,14 @@ impl Model for Scratch {
       searches = s.searches;
       looks = s.looks;
       proposed = s.proposed;
-      classes = s.classes.of.items;
+      visits = s.reach.visits.items;
     } };
 
     ghost invariant = { λ s. (length s.labels.states.items ≡ s.limits.0)
-        × (length s.labels.turns.items ≡ s.limits.0) × (length s.reach.seen.items ≡ s.limits.0)
-        × IsIdle s.labels.states.items s.labels.queue × AreMarked s.reach.seen.items s.reach.visits.items 0
+        × (length s.reach.seen.items ≡ s.limits.0)
+        × IsIdle s.labels.states.items s.labels.queue × Agree s.reach.seen.items s.reach.visits.items
         × (s.limits.0 ≤ vec_capacity s.labels.visits) × (s.limits.0 ≤ vec_capacity s.reach.visits)
-        × (s.limits.0 ≤ vec_capacity s.steps) × AreFit s.limits.0 s.classes };
+        × (s.limits.0 ≤ vec_capacity s.steps) };
 }
 
 impl Scratch {
@@ -65,7 +63,6 @@ impl Scratch {
         let nodes = limits.0 as usize;
         let labels = Labels {
             states: vec![in alloc; NodeState::UNKNOWN; nodes]?,
-            turns: vec![in alloc; Turn::NONE; nodes]?,
             queue: Queue::new(alloc, limits.0)?,
             visits: Vec::with_capacity(alloc, nodes)?,
             looks: 0,
@@ -75,7 +72,6 @@ impl Scratch {
             visits: Vec::with_capacity(alloc, nodes)?,
             looks: 0,
         };
-        let classes = Classes::new(alloc, nodes)?;
         Ok(Scratch {
             limits,
             begins: 0,
@@ -84,7 +80,6 @@ impl Scratch {
             proposed: 0,
             labels,
             reach,
-            classes,
             steps: Vec::with_capacity(alloc, nodes)?,
         })
     }
@@ -139,27 +134,22 @@ impl Scratch {
         self.proposed
     }
 
-    /// Puts all nodes into one class. The paths that are asked for inside classes from then on split it, and what is
-    /// split is joined by no other call.
-    pub fn join_nodes(&mut self)
-        ensures limits { self.new.limits ≡ self.old.limits }
-        ensures counts { (self.new.begins ≡ self.old.begins) × (self.new.searches ≡ self.old.searches)
-            × (self.new.looks ≡ self.old.looks) }
-        ensures proposed { self.new.proposed ≡ self.old.proposed }
-        ensures together { (a b : ℕ) → AreTogether self.new a b }
+    /// The path from a node that the last search of `tight_paths` found. `None` only where it found none. Takes no
+    /// memory.
+    pub fn path_from(&mut self, net: &Net, node: NodeId) -> Option<&[Step]>
+        requires node { IsNode net.now node }
+        requires made_for { self.old.limits ≡ limits_of net.now }
+        ensures* rests { sem 𝓛 (RestsAsItWas self.entry) }
+        ensures path { IfSome result (λ steps. paths_of self.old.visits node.id.place ≡ Some steps.now) }
+        ensures none { IfNone result (paths_of self.old.visits node.id.place ≡ None) }
     {
-        self.classes.join();
-    }
-
-    /// Whether two nodes have one class.
-    pub fn are_together(&self, net: &Net, a: NodeId, b: NodeId) -> bool
-        requires nodes { IsNode net.now a × IsNode net.now b }
-        requires made_for { self.now.limits ≡ limits_of net.now }
-        ensures { IsTrue result ↔ AreTogether self.now a.id.place b.id.place }
-    {
-        let (Some(a), Some(b)) = (net.place(a), net.place(b)) else {
+        let Some(place) = net.place(node) else {
             unreachable!()
         };
-        self.classes.are_together(a as usize, b as usize)
+        let Some(number) = self.reach.number_at(place as usize) else {
+            return None;
+        };
+        walk_on(&self.reach.visits, number, &mut self.steps);
+        Some(&self.steps[..])
     }
 }

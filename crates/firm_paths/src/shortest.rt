@@ -1,44 +1,36 @@
 //! Prices raised until a tight path leads from one node to another.
 ghost use Rattle.std.specs.Prelude.{◌≡◌, ◌≢◌, ℕ, ◌+◌, ◌-◌, ◌*◌, ◌<◌, ◌≤◌, ◌^◌, ◌++◌, ◌∷◌, Bool, true, false};
-ghost use Rattle.std.specs.Prelude.{[], length, Contains, ◌↔◌, IsTrue};
+ghost use Rattle.std.specs.Prelude.{[], length};
 ghost use Rattle.std.specs.Prelude.{Some, None, is_some, IfSome, IfNone, slice_index, slice_set, vec_capacity};
 ghost use Rattle.std.specs.Borrow.{sem};
 ghost use Rattle.firm_arena.specs.Arena.{capacity_of};
-ghost use Rattle.firm_net.specs.Row.{Row};
 ghost use Rattle.firm_net.specs.Net.{IsNode, IsNet, arc_count, row_at, rows_of, arcs_on};
 ghost use Rattle.firm_net.specs.declared.links.Side.TheVariants.{Out, In};
 ghost use Rattle.firm_paths.specs.Network.{AreValid};
 ghost use Rattle.firm_paths.specs.NetArcs.{arcs_of, limits_of};
 ghost use Rattle.firm_paths.specs.Paths.{IsTightPath, IsHighest, IsCut};
 ghost use Rattle.firm_paths.specs.PriceTable.{price_of};
-ghost use Rattle.firm_paths.specs.inner.Search.{known, settled, state, offered, start_of};
-ghost use Rattle.firm_paths.specs.inner.Search.{visit, visit_at, with_settled, IsLowered};
-ghost use Rattle.firm_paths.specs.inner.Search.{IsReady, IsReached, IsEnd, IsRaised, Looks};
-ghost use Rattle.firm_paths.specs.inner.Queue.{IsQueued, IsWaiting, KeepsSettled, IsIdle, AreVisited, AreLeft, AreOpen};
-ghost use Rattle.firm_paths.specs.inner.Queue.{waiting_key};
-ghost use Rattle.firm_paths.specs.inner.Going.{IsGoing};
-ghost use Rattle.firm_paths.specs.inner.Spread.{IsReachedBy};
-ghost use Rattle.firm_paths.specs.inner.Turn.{IsTurning, turn_at, steps_from};
+ghost use Rattle.firm_paths.specs.Visits.{visit};
+ghost use Rattle.firm_paths.specs.inner.Search.{known, settled, state, offered, side_of, start_of};
+ghost use Rattle.firm_paths.specs.inner.Search.{visit_at, with_settled, IsLowered};
+ghost use Rattle.firm_paths.specs.inner.Search.{IsStanding, IsReached, IsEnd, IsRaised, Looks, LooksAll, LooksBoth};
+ghost use Rattle.firm_paths.specs.inner.Search.{IsReachedBy, Gives, HasRoom};
+ghost use Rattle.firm_paths.specs.inner.Queue.{IsQueued, IsIdle, AreVisited, AreLeft, AreOpen};
 ghost use Rattle.firm_paths.specs.Lending.{Rests};
 
 use crate::prices::Prices;
 use crate::queue::{ABSENT, Queue};
 use crate::scratch::Scratch;
 use crate::search::{
-    Current, NodeState, Predecessor, Step, Visit, entered, is_residual, walk_back,
+    Current, NodeState, Predecessor, Step, Visit, arcs_leaving, entered, is_residual, walk_back,
 };
-use crate::turn::{Turn, step_round, walk_start};
-use firm_net::{Net, NodeId, Way};
+use firm_net::{ArcRow, Net, NodeId, Way};
 
-/// What the search by labels fills: the state of each place and where its walk stands, the nodes that are open or wait
-/// in the midst of their walks, in a queue, the nodes in the order of their visits, and how many arcs were looked at.
-///
-/// The key of an open node is twice its distance. A node that waits was settled at the distance of the search; its
-/// key is greater by one, so that it goes on only after all nodes as near as it.
+/// What the search by labels fills: the state of each place, the open nodes by their distances, the nodes in the order
+/// of their visits, and how many arcs were looked at.
 #[derive(Drop)]
 pub struct Labels {
     pub states: Vec<NodeState>,
-    pub turns: Vec<Turn>,
     pub queue: Queue,
     pub visits: Vec<Visit>,
     pub looks: u64,
@@ -50,63 +42,46 @@ impl Labels {
         requires place { place < length self.old.states.items }
         requires length { length prices.now.prices ≡ length self.old.states.items }
         requires reached { (is_some reached.node ≡ true) × (reached.settled ≡ false)
-            × (reached.label < 9223372036854775807) }
+            × (reached.label < 18446744073709551615) }
         requires queued { IsQueued (slice_index prices.now.prices) self.old.states.items self.old.queue }
         ensures states { self.new.states.items ≡ offered self.old.states.items place reached }
         ensures queued { IsQueued (slice_index prices.now.prices) self.new.states.items self.new.queue }
-        ensures keeps { KeepsSettled self.old.states.items self.old.queue self.new.queue }
-        ensures others { (self.new.turns ≡ self.old.turns) × (self.new.visits ≡ self.old.visits)
-            × (self.new.looks ≡ self.old.looks) }
+        ensures others { (self.new.visits ≡ self.old.visits) × (self.new.looks ≡ self.old.looks) }
     {
         let state = self.states[place];
         if !state.settled && (state.node.is_none() || reached.label < state.label) {
             self.states[place] = reached;
-            let key = 2 * reached.label.saturating_sub(prices.at(place));
+            let key = reached.label.saturating_sub(prices.at(place));
             self.queue.set(place, key);
         }
     }
 
-    /// Relaxes one arc: labels the node to which a step along it leads from the node where the search stands. Gives the
-    /// place of that node where it now goes before the other.
-    fn relax_arc(
-        &mut self,
-        net: &Net,
-        prices: &Prices,
-        current: Current,
-        step: Step,
-    ) -> Option<usize>
+    /// Relaxes one arc: labels the node to which a step along it leads from the node where the search stands.
+    fn relax_arc(&mut self, net: &Net, prices: &Prices, current: Current, step: Step, row: ArcRow)
         requires length { (length self.old.states.items ≡ capacity_of net.now.nodes)
             × (length prices.now.prices ≡ capacity_of net.now.nodes) }
         requires place { current.place < length self.old.states.items }
-        requires node { current.node.id.place ≡ current.place }
-        requires step { Contains (steps_from net.now current.node) step }
+        requires row { row_at net.now step.arc ≡ Some row }
+        requires start { (start_of step.way row).id.place ≡ current.place }
         requires net { IsNet net.now }
-        requires ready { IsReady net.now current self.old.states.items }
+        requires valid { AreValid (arcs_of net.now) (slice_index prices.now.prices) }
+        requires stands { IsStanding net.now (slice_index prices.now.prices) current self.old.visits.items
+            self.old.states.items }
         requires queued { IsQueued (slice_index prices.now.prices) self.old.states.items self.old.queue }
         ensures lowers { IsLowered self.old.states.items self.new.states.items }
-        ensures looks { (row : Row) → row_at net.now step.arc ≡ Some row
-            → Looks net.now current step.way row self.old.states.items self.new.states.items }
+        ensures looks { Looks net.now (slice_index prices.now.prices) current self.old.visits.items step.way row
+            self.old.states.items self.new.states.items }
         ensures queued { IsQueued (slice_index prices.now.prices) self.new.states.items self.new.queue }
-        ensures keeps { KeepsSettled self.old.states.items self.old.queue self.new.queue }
-        ensures others { (self.new.turns ≡ self.old.turns) × (self.new.visits ≡ self.old.visits)
-            × (self.new.looks ≡ self.old.looks) }
+        ensures others { (self.new.visits ≡ self.old.visits) × (self.new.looks ≡ self.old.looks) }
     {
-        let Some(row) = net.arc(step.arc) else {
-            unreachable!()
-        };
         if !is_residual(row, step.way) {
-            return None;
+            return;
         }
         let node = entered(row, step.way);
         let Some(place) = net.place(node) else {
             unreachable!()
         };
-        let from = self.states[current.place].label;
-        let cost = u64::from(row.cost());
-        let label = match step.way {
-            Way::Forward => from + cost,
-            Way::Backward => from - cost,
-        };
+        let label = label_after(self.states[current.place].label, row.cost(), step.way);
         let after = current.number;
         let reached = NodeState {
             node: Some(node),
@@ -114,112 +89,58 @@ impl Labels {
             settled: false,
             predecessor: Some(Predecessor { step, after }),
         };
-        let place = place as usize;
-        self.relax(prices, place, reached);
-        self.led_on(current.place, place)
+        self.relax(prices, place as usize, reached);
     }
 
-    /// The place to which an arc leads, where its node now goes before the one that the arc leaves.
-    fn led_on(&self, from: usize, to: usize) -> Option<usize>
-        requires places { (from < length self.now.queue) × (to < length self.now.queue) }
-    {
-        if self.queue.key(to) < self.queue.key(from) {
-            return Some(to);
-        }
-        None
-    }
-
-    /// Moves the walk of a node on; a walk that is back where it began is at its end, and the node leaves the queue.
-    fn turn_on(&mut self, place: usize, turn: Turn) -> bool
-        requires place { (place < length self.old.turns.items) × (place < length self.old.queue) }
-        ensures turns { self.new.turns.items ≡ slice_set self.old.turns.items place turn }
-        ensures ended { IsTrue result ↔ (turn.next ≡ turn.first) }
-        ensures leaves { IsTrue result → self.new.queue ≡ slice_set self.old.queue place 18446744073709551615 }
-        ensures stays { result ≡ false → self.new.queue ≡ self.old.queue }
-        ensures others { (self.new.states ≡ self.old.states) × (self.new.visits ≡ self.old.visits)
-            × (self.new.looks ≡ self.old.looks) }
-    {
-        self.turns[place] = turn;
-        if turn.next == turn.first {
-            self.queue.set(place, ABSENT);
-            return true;
-        }
-        false
-    }
-
-    /// With which place to go on after a look: that to which the arc led, else the same until the walk is at its end,
-    /// then that from which the search came.
-    fn place_after(&self, current: Current, led: Option<usize>, ended: bool) -> usize
-        requires { current.place < length self.now.states.items }
-    {
-        if let Some(place) = led {
-            return place;
-        }
-        if !ended {
-            return current.place;
-        }
-        self.place_before(current)
-    }
-
-    /// The place from which the search came to a node that was visited; its own for the start.
-    fn place_before(&self, current: Current) -> usize
-        requires { current.place < length self.now.states.items }
-    {
-        let Some(predecessor) = self.states[current.place].predecessor else {
-            return current.place;
-        };
-        self.visits
-            .get(predecessor.after)
-            .map_or(current.place, |before| before.place)
-    }
-
-    /// Takes one look: along the next arc in the walk of the settled node at a place. Gives the place with which to go
-    /// on, where none has a lower key: the node to which the arc leads on, the same, or the one before it.
-    fn look(&mut self, net: &Net, prices: &Prices, place: usize) -> usize
+    /// Relaxes every arc by which a step this way leaves the node where the search stands.
+    fn relax_arcs(&mut self, net: &Net, prices: &Prices, current: Current, way: Way)
         requires length { (length self.old.states.items ≡ capacity_of net.now.nodes)
-            × (length prices.now.prices ≡ capacity_of net.now.nodes) × (capacity_of net.now.nodes ≤ 4096) }
-        requires net { IsNet net.now }
+            × (length prices.now.prices ≡ capacity_of net.now.nodes) }
+        requires place { current.place < length self.old.states.items }
+        requires node { IsNode net.now current.node × (current.node.id.place ≡ current.place) }
         requires valid { AreValid (arcs_of net.now) (slice_index prices.now.prices) }
-        requires waiting { IsWaiting self.old.states.items self.old.queue place }
-        requires going { (from : ℕ) × (goal : ℕ) × (slice_index prices.now.prices from ≤ 2 ^ 60)
-            × IsGoing net.now (slice_index prices.now.prices) from goal self.old.states.items self.old.turns.items
-            self.old.queue self.old.visits.items self.old.looks }
-        ensures going { (from goal : ℕ) → slice_index prices.now.prices from ≤ 2 ^ 60
-            → IsGoing net.now (slice_index prices.now.prices) from goal self.old.states.items self.old.turns.items
-            self.old.queue self.old.visits.items self.old.looks
-            → IsGoing net.now (slice_index prices.now.prices) from goal self.new.states.items self.new.turns.items
-            self.new.queue self.new.visits.items self.new.looks }
+        requires stands { IsStanding net.now (slice_index prices.now.prices) current self.old.visits.items
+            self.old.states.items }
+        requires queued { IsQueued (slice_index prices.now.prices) self.old.states.items self.old.queue }
+        requires count { self.old.looks ≤ 2 ^ 62 }
         ensures lowers { IsLowered self.old.states.items self.new.states.items }
+        ensures looks { LooksAll net.now (slice_index prices.now.prices) current self.old.visits.items way
+            self.old.states.items self.new.states.items }
+        ensures queued { IsQueued (slice_index prices.now.prices) self.new.states.items self.new.queue }
+        ensures counts { self.new.looks
+            ≡ self.old.looks + length (rows_of net.now (arcs_on (side_of way) net.now current.node)) }
         ensures visits { self.new.visits ≡ self.old.visits }
-        ensures looks { self.new.looks ≡ self.old.looks + 1 }
+        ensures net { IsNet net.now }
     {
-        let turn = self.turns[place];
-        let Some(step) = turn.next else {
-            unreachable!()
-        };
-        let Some(node) = self.states[place].node else {
-            unreachable!()
-        };
-        let current = Current {
-            node,
-            place,
-            number: turn.number,
-        };
-        self.looks += 1;
-        let led = self.relax_arc(net, prices, current, step);
-        let again = if led.is_some() {
-            Some(step)
-        } else {
-            turn.again
-        };
-        let next = step_round(net, node, step);
-        let turn = Turn {
-            next,
-            again,
-            ..turn
-        };
-        let ended = self.turn_on(place, turn);
-        self.place_after(current, led, ended)
+        for (arc, row) in arcs_leaving(net, current.node, way) {
+            self.relax_arc(net, prices, current, Step { arc, way }, row);
+            self.looks += 1;
+        }
+    }
+
+    /// Relaxes every arc by which a step leaves the node where the search stands.
+    fn relax_node(&mut self, net: &Net, prices: &Prices, current: Current)
+        requires length { (length self.old.states.items ≡ capacity_of net.now.nodes)
+            × (length prices.now.prices ≡ capacity_of net.now.nodes) }
+        requires place { current.place < length self.old.states.items }
+        requires node { IsNode net.now current.node × (current.node.id.place ≡ current.place) }
+        requires valid { AreValid (arcs_of net.now) (slice_index prices.now.prices) }
+        requires stands { IsStanding net.now (slice_index prices.now.prices) current self.old.visits.items
+            self.old.states.items }
+        requires queued { IsQueued (slice_index prices.now.prices) self.old.states.items self.old.queue }
+        requires count { self.old.looks ≤ 2 ^ 61 }
+        ensures lowers { IsLowered self.old.states.items self.new.states.items }
+        ensures looks { LooksBoth net.now (slice_index prices.now.prices) current self.old.visits.items
+            self.old.states.items self.new.states.items }
+        ensures queued { IsQueued (slice_index prices.now.prices) self.new.states.items self.new.queue }
+        ensures counts { self.new.looks
+            ≡ self.old.looks + length (rows_of net.now (arcs_on Out net.now current.node))
+            + length (rows_of net.now (arcs_on In net.now current.node)) }
+        ensures visits { self.new.visits ≡ self.old.visits }
+        ensures net { IsNet net.now }
+    {
+        self.relax_arcs(net, prices, current, Way::Forward);
+        self.relax_arcs(net, prices, current, Way::Backward);
     }
 
     /// Forgets every state, and empties the queue.
@@ -230,8 +151,7 @@ impl Labels {
         requires left { AreLeft self.old.states.items self.old.queue self.old.visits.items 0 }
         ensures idle { IsIdle self.new.states.items self.new.queue }
         ensures size { length self.new.states.items ≡ length self.old.states.items }
-        ensures others { (self.new.turns ≡ self.old.turns) × (self.new.visits ≡ self.old.visits)
-            × (self.new.looks ≡ self.old.looks) }
+        ensures others { (self.new.visits ≡ self.old.visits) × (self.new.looks ≡ self.old.looks) }
     {
         forget_visits(&mut self.states, &self.queue, &self.visits);
         forget_queued(&mut self.states, &mut self.queue);
@@ -253,7 +173,6 @@ impl Labels {
         ensures visits { self.new.visits.items ≡ [] }
         ensures capacity { vec_capacity self.new.visits ≡ vec_capacity self.old.visits }
         ensures looks { self.new.looks ≡ 0 }
-        ensures turns { self.new.turns ≡ self.old.turns }
     {
         self.looks = 0;
         self.visits.clear();
@@ -276,8 +195,8 @@ impl Labels {
             ≡ self.old.visits.items ++ visit_at self.old.states.items place current.node ∷ []) }
         ensures unknown { IfNone result ((known self.old.states.items place ≡ false) × (self.new ≡ self.old)) }
         ensures capacity { vec_capacity self.new.visits ≡ vec_capacity self.old.visits }
-        ensures others { (self.new.states ≡ self.old.states) × (self.new.turns ≡ self.old.turns)
-            × (self.new.queue ≡ self.old.queue) × (self.new.looks ≡ self.old.looks) }
+        ensures others { (self.new.states ≡ self.old.states) × (self.new.queue ≡ self.old.queue)
+            × (self.new.looks ≡ self.old.looks) }
     {
         let state = self.states[place];
         let node = state.node?;
@@ -294,38 +213,22 @@ impl Labels {
         })
     }
 
-    /// Settles the node at a place, whose walk begins at `first`; it waits in the queue, unless it has no arcs.
-    fn settle(&mut self, place: usize, number: usize, first: Option<Step>)
-        requires place { (place < length self.old.states.items) × (place < length self.old.queue)
-            × (place < length self.old.turns.items) }
-        requires room { slice_index self.old.queue place < 18446744073709551615 }
+    /// Settles the node at a place, which leaves the queue.
+    fn settle(&mut self, place: usize)
+        requires place { (place < length self.old.states.items) × (place < length self.old.queue) }
         ensures states { self.new.states.items ≡ with_settled self.old.states.items place }
-        ensures turns { self.new.turns.items ≡ slice_set self.old.turns.items place
-            (record { number = number; first = first; next = first; again = first }) }
-        ensures queue { self.new.queue ≡ slice_set self.old.queue place
-            (waiting_key (slice_index self.old.queue place) first) }
+        ensures queue { self.new.queue ≡ slice_set self.old.queue place 18446744073709551615 }
         ensures others { (self.new.visits ≡ self.old.visits) × (self.new.looks ≡ self.old.looks) }
     {
         self.states[place].settled = true;
-        self.turns[place] = Turn {
-            number,
-            first,
-            next: first,
-            again: first,
-        };
-        let key = if first.is_some() {
-            self.queue.key(place) + 1
-        } else {
-            ABSENT
-        };
-        self.queue.set(place, key);
+        self.queue.set(place, ABSENT);
     }
 
-    /// Settles nodes from the start on, nearest first, until the goal is next; says as which number it was visited.
+    /// Settles nodes from the start on, nearest first, until the goal is next; says as which number it was visited. Of
+    /// nodes as near the goal goes first.
     fn dijkstra(&mut self, net: &Net, prices: &Prices, start: Visit, goal: usize) -> Option<usize>
         requires length { (length prices.now.prices ≡ capacity_of net.now.nodes)
-            × (length self.old.states.items ≡ capacity_of net.now.nodes)
-            × (length self.old.turns.items ≡ capacity_of net.now.nodes) }
+            × (length self.old.states.items ≡ capacity_of net.now.nodes) }
         requires room { capacity_of net.now.nodes ≤ vec_capacity self.old.visits }
         requires start { IsNode net.now start.node × (start.node.id.place ≡ start.place) }
         requires goal { (goal < capacity_of net.now.nodes) × (start.place ≢ goal) }
@@ -336,27 +239,20 @@ impl Labels {
         ensures found { IfSome result (IsReached net.now (slice_index prices.now.prices) start.place goal
             self.new.states.items self.new.visits.items) }
         ensures none { IfNone result (IsEnd net.now start.place goal self.new.states.items) }
-        ensures size { (length self.new.states.items ≡ length self.old.states.items)
-            × (length self.new.turns.items ≡ length self.old.turns.items) }
+        ensures size { length self.new.states.items ≡ length self.old.states.items }
         ensures capacity { vec_capacity self.new.visits ≡ vec_capacity self.old.visits }
         ensures visited { AreVisited self.new.states.items self.new.visits.items }
         ensures queued { IsQueued (slice_index prices.now.prices) self.new.states.items self.new.queue }
         ensures counts { self.new.looks ≤ 2 * length (arcs_of net.now) }
     {
         self.open(prices, start);
-        let mut preferred = start.place;
-        while let Some(place) = self.queue.least(preferred) {
-            if self.states[place].settled {
-                preferred = self.look(net, prices, place);
-                continue;
-            }
+        while let Some(place) = self.queue.least(goal) {
             let current = self.visit(place)?;
             if place == goal {
                 return Some(current.number);
             }
-            let first = walk_start(net, current.node, self.turns[place].again);
-            self.settle(place, current.number, first);
-            preferred = place;
+            self.settle(place);
+            self.relax_node(net, prices, current);
         }
         None
     }
@@ -372,8 +268,7 @@ impl Labels {
     ) -> Option<usize>
         requires nodes { IsNode net.now from × IsNode net.now to × (from ≢ to) }
         requires length { (length prices.old.prices ≡ capacity_of net.now.nodes)
-            × (length self.old.states.items ≡ capacity_of net.now.nodes)
-            × (length self.old.turns.items ≡ capacity_of net.now.nodes) }
+            × (length self.old.states.items ≡ capacity_of net.now.nodes) }
         requires capacity { capacity_of net.now.nodes ≤ vec_capacity self.old.visits }
         requires valid { AreValid (arcs_of net.now) (slice_index prices.old.prices) }
         requires highest { IsHighest net.now (slice_index prices.old.prices) to.id.place }
@@ -381,8 +276,7 @@ impl Labels {
         requires idle { IsIdle self.old.states.items self.old.queue }
         ensures counts { self.new.looks ≤ 2 * arc_count net.now }
         ensures idle { IsIdle self.new.states.items self.new.queue }
-        ensures size { (length self.new.states.items ≡ length self.old.states.items)
-            × (length self.new.turns.items ≡ length self.old.turns.items) }
+        ensures size { length self.new.states.items ≡ length self.old.states.items }
         ensures limits { prices.new.limits ≡ prices.old.limits }
         ensures found { IfSome result (λ end. IsRaised net.now prices.old.prices prices.new.prices to.id.place
             × IsReachedBy net.now (slice_index prices.new.prices) [] from.id.place to.id.place
@@ -409,6 +303,19 @@ impl Labels {
         prices.raise(&self.states, &self.visits, goal, distance);
         self.forget();
         Some(end)
+    }
+}
+
+/// The label of the node to which a step leads from a node with a label, along an arc of this cost.
+fn label_after(label: u64, cost: u32, way: Way) -> u64
+    requires { HasRoom way label cost }
+    ensures given { Gives way label cost result }
+    ensures bound { result ≤ label + cost }
+{
+    let cost = u64::from(cost);
+    match way {
+        Way::Forward => label + cost,
+        Way::Backward => label - cost,
     }
 }
 

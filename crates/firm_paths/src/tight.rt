@@ -7,22 +7,24 @@ ghost use Rattle.firm_arena.specs.Arena.{capacity_of};
 ghost use Rattle.firm_net.specs.Net.{IsNode, IsNet, arc_count, row_at, rows_of, arcs_on};
 ghost use Rattle.firm_net.specs.declared.links.Side.TheVariants.{Out, In};
 ghost use Rattle.firm_paths.specs.NetArcs.{arcs_of, limits_of};
-ghost use Rattle.firm_paths.specs.Paths.{IsTightPath, Avoids, IsTightCut};
+ghost use Rattle.firm_paths.specs.Paths.{ArePaths, IsTightPath, Avoids, IsTightCut};
 ghost use Rattle.firm_paths.specs.PriceTable.{price_of};
-ghost use Rattle.firm_paths.specs.inner.Search.{side_of, start_of, visit};
+ghost use Rattle.firm_paths.specs.Visits.{number_of, paths_of, visit};
+ghost use Rattle.firm_paths.specs.inner.Search.{side_of, start_of};
 ghost use Rattle.firm_paths.specs.inner.Queue.{IsVisited};
 ghost use Rattle.firm_paths.specs.inner.Spread.{seen_with, visits_with, IsGrown, IsCounted, Spreads, SpreadsAll};
-ghost use Rattle.firm_paths.specs.inner.Spread.{SpreadsBoth, AreMarked, IsReachedBy, IsSpent};
+ghost use Rattle.firm_paths.specs.inner.Spread.{SpreadsBoth, Agree, IsFoundBy, IsSpent};
+ghost use Rattle.firm_paths.specs.Workspace.{HasSearched};
 ghost use Rattle.firm_paths.specs.Lending.{Rests};
 
 use crate::prices::Prices;
 use crate::scratch::Scratch;
 use crate::search::{
-    Current, Predecessor, Step, Visit, arcs_leaving, entered, is_residual, walk_back,
+    Current, Predecessor, Step, Visit, arcs_leaving, entered, is_residual, opposite, walk_on,
 };
 use firm_net::{ArcId, ArcRow, Net, NodeId, Way};
 
-/// The arcs that a search for a tight path follows: residual ones of a net, of reduced cost 0 by these prices, that are
+/// The arcs that a search for tight paths follows: residual ones of a net, of reduced cost 0 by these prices, that are
 /// not barred.
 #[derive(Clone, Copy)]
 pub struct TightArcs<'a> {
@@ -31,8 +33,8 @@ pub struct TightArcs<'a> {
     pub barred: &'a [ArcId],
 }
 
-/// What the search for a tight path fills: whether the node of each place was seen, the nodes in the order of their
-/// visits, and how many arcs were looked at.
+/// What a search for tight paths fills, from their end on and against the arcs: whether the node of each place was
+/// seen, the nodes in the order of their visits, and how many arcs were looked at.
 #[derive(Drop)]
 pub struct Reach {
     pub seen: Vec<bool>,
@@ -68,7 +70,7 @@ pub fn unmark(seen: &mut [bool], visits: &[Visit])
 impl Reach {
     /// Forgets all visits, and that their nodes were seen.
     fn clear(&mut self)
-        requires { AreMarked self.old.seen.items self.old.visits.items 0 }
+        requires { Agree self.old.seen.items self.old.visits.items }
         ensures none { (v : ℕ) → slice_index_or self.new.seen.items v false ≡ false }
         ensures size { length self.new.seen.items ≡ length self.old.seen.items }
         ensures visits { self.new.visits.items ≡ [] }
@@ -96,38 +98,39 @@ impl Reach {
         }
     }
 
-    /// Follows one arc: visits the node to which a step along it leads, if the step is tight and not barred.
-    fn follow_arc(&mut self, arcs: &TightArcs<'_>, current: Current, step: Step, row: ArcRow)
+    /// Follows one arc: visits the node from which a step along it leads here, if the step is tight and not barred.
+    fn follow_arc(&mut self, arcs: &TightArcs<'_>, current: Current, read: Step, row: ArcRow)
         requires length { (length arcs.now.prices.now.prices ≡ capacity_of arcs.now.net.now.nodes)
             × (length self.old.seen.items ≡ capacity_of arcs.now.net.now.nodes) }
         requires place { current.place < capacity_of arcs.now.net.now.nodes }
         requires counted { IsCounted self.old.seen.items self.old.visits.items (vec_capacity self.old.visits) }
         requires net { IsNet arcs.now.net.now }
-        requires row { row_at arcs.now.net.now step.arc ≡ Some row }
-        requires start { (start_of step.way row).id.place ≡ current.place }
+        requires row { row_at arcs.now.net.now read.arc ≡ Some row }
+        requires start { (start_of read.way row).id.place ≡ current.place }
         ensures grown { IsGrown self.old.seen.items self.old.visits.items self.new.seen.items self.new.visits.items }
         ensures counted { IsCounted self.new.seen.items self.new.visits.items (vec_capacity self.new.visits) }
         ensures spreads { Spreads arcs.now.net.now (slice_index arcs.now.prices.now.prices) arcs.now.barred.now
-            current step.way step.arc row self.old.seen.items self.old.visits.items self.new.seen.items
+            current read.way read.arc row self.old.seen.items self.old.visits.items self.new.seen.items
             self.new.visits.items }
         ensures capacity { vec_capacity self.new.visits ≡ vec_capacity self.old.visits }
         ensures looks { self.new.looks ≡ self.old.looks }
     {
-        if is_barred(arcs.barred, step.arc) || !is_residual(row, step.way) {
+        let way = opposite(read.way);
+        if is_barred(arcs.barred, read.arc) || !is_residual(row, way) {
             return;
         }
-        let node = entered(row, step.way);
+        let node = entered(row, read.way);
         let Some(place) = arcs.net.place(node) else {
             unreachable!()
         };
         let place = place as usize;
         let prices = arcs.prices;
-        let tight = match step.way {
+        let tight = match read.way {
             Way::Forward => is_tight(prices.at(current.place), prices.at(place), row.cost()),
             Way::Backward => is_tight(prices.at(place), prices.at(current.place), row.cost()),
         };
         if tight {
-            let after = current.number;
+            let (step, after) = (Step { arc: read.arc, way }, current.number);
             self.visit_once(Visit {
                 node,
                 place,
@@ -136,7 +139,7 @@ impl Reach {
         }
     }
 
-    /// Follows every arc by which a step this way leaves the node where the search stands.
+    /// Follows every arc that is read this way from the node where the search stands.
     fn follow_arcs(&mut self, arcs: &TightArcs<'_>, current: Current, way: Way)
         requires length { (length arcs.now.prices.now.prices ≡ capacity_of arcs.now.net.now.nodes)
             × (length self.old.seen.items ≡ capacity_of arcs.now.net.now.nodes) }
@@ -158,7 +161,7 @@ impl Reach {
         }
     }
 
-    /// Follows every arc of the residual network that leaves the node where the search stands.
+    /// Follows every arc of the node where the search stands.
     fn follow_node(&mut self, arcs: &TightArcs<'_>, current: Current)
         requires length { (length arcs.now.prices.now.prices ≡ capacity_of arcs.now.net.now.nodes)
             × (length self.old.seen.items ≡ capacity_of arcs.now.net.now.nodes) }
@@ -179,32 +182,38 @@ impl Reach {
         self.follow_arcs(arcs, current, Way::Backward);
     }
 
-    /// Visits nodes from the start on, in the order in which they are found; says as which number the goal was visited.
-    fn breadth_first(&mut self, arcs: &TightArcs<'_>, start: Visit, goal: usize) -> Option<usize>
+    /// Visits nodes from the root on, in the order in which they are found, until it comes to the goal, if there is
+    /// one; says as which number that was visited.
+    fn breadth_first(
+        &mut self,
+        arcs: &TightArcs<'_>,
+        root: Visit,
+        goal: Option<usize>,
+    ) -> Option<usize>
         requires length { (length arcs.now.prices.now.prices ≡ capacity_of arcs.now.net.now.nodes)
             × (length self.old.seen.items ≡ capacity_of arcs.now.net.now.nodes) }
         requires room { capacity_of arcs.now.net.now.nodes ≤ vec_capacity self.old.visits }
-        requires start { IsNode arcs.now.net.now start.node × (start.node.id.place ≡ start.place)
-            × (start.predecessor ≡ None) }
-        requires goal { goal < capacity_of arcs.now.net.now.nodes }
+        requires root { IsNode arcs.now.net.now root.node × (root.node.id.place ≡ root.place)
+            × (root.predecessor ≡ None) }
         requires net { IsNet arcs.now.net.now }
-        requires marked { AreMarked self.old.seen.items self.old.visits.items 0 }
-        ensures marked { AreMarked self.new.seen.items self.new.visits.items 0 }
-        ensures found { IfSome result (IsReachedBy arcs.now.net.now (slice_index arcs.now.prices.now.prices)
-            arcs.now.barred.now start.place goal self.new.visits.items) }
-        ensures few { length self.new.visits.items ≤ capacity_of arcs.now.net.now.nodes }
+        requires agree { Agree self.old.seen.items self.old.visits.items }
+        ensures agree { Agree self.new.seen.items self.new.visits.items }
+        ensures goal { IfSome result (λ number. goal ≡ Some (visit self.new.visits.items number).place) }
+        ensures found { IfSome result (IsFoundBy arcs.now.net.now (slice_index arcs.now.prices.now.prices)
+            arcs.now.barred.now root.place self.new.visits.items) }
         ensures none { IfNone result (IsSpent arcs.now.net.now (slice_index arcs.now.prices.now.prices)
-            arcs.now.barred.now start.place goal self.new.seen.items) }
+            arcs.now.barred.now root.place self.new.seen.items self.new.visits.items) }
+        ensures missed { IfNone result ((v : ℕ) → goal ≡ Some v → slice_index_or self.new.seen.items v false ≡ false) }
         ensures size { length self.new.seen.items ≡ length self.old.seen.items }
         ensures capacity { vec_capacity self.new.visits ≡ vec_capacity self.old.visits }
         ensures counts { self.new.looks ≤ 2 * length (arcs_of arcs.now.net.now) }
     {
         self.clear();
-        self.visit_once(start);
+        self.visit_once(root);
         let mut number = 0;
         while number < self.visits.len() {
             let Visit { node, place, .. } = self.visits[number];
-            if place == goal {
+            if goal == Some(place) {
                 return Some(number);
             }
             let current = Current {
@@ -218,33 +227,47 @@ impl Reach {
         None
     }
 
-    /// Searches as `tight_path` does; says as which number the node at the end was visited.
+    /// Searches from `to` against the arcs, until it comes to the node at the place `goal`, if that is given; says as
+    /// which number that was visited.
     #[tactic(auto, using(crate::proofs::ArcRows::as_many_as_counted))]
-    fn find_tight(&mut self, arcs: &TightArcs<'_>, from: NodeId, to: NodeId) -> Option<usize>
-        requires nodes { IsNode arcs.now.net.now from × IsNode arcs.now.net.now to × (from ≢ to) }
+    fn find(&mut self, arcs: &TightArcs<'_>, to: NodeId, goal: Option<usize>) -> Option<usize>
+        requires node { IsNode arcs.now.net.now to }
         requires length { (length arcs.now.prices.now.prices ≡ capacity_of arcs.now.net.now.nodes)
             × (length self.old.seen.items ≡ capacity_of arcs.now.net.now.nodes) }
         requires room { capacity_of arcs.now.net.now.nodes ≤ vec_capacity self.old.visits }
-        requires marked { AreMarked self.old.seen.items self.old.visits.items 0 }
-        ensures marked { AreMarked self.new.seen.items self.new.visits.items 0 }
-        ensures counts { self.new.looks ≤ 2 * arc_count arcs.now.net.now }
-        ensures found { IfSome result (IsReachedBy arcs.now.net.now (slice_index arcs.now.prices.now.prices)
-            arcs.now.barred.now from.id.place to.id.place self.new.visits.items) }
-        ensures few { length self.new.visits.items ≤ capacity_of arcs.now.net.now.nodes }
-        ensures none { IfNone result ((inside : ℕ → Bool) × IsTightCut arcs.now.net.now
-            (slice_index arcs.now.prices.now.prices) arcs.now.barred.now from.id.place to.id.place inside) }
+        requires agree { Agree self.old.seen.items self.old.visits.items }
+        ensures agree { Agree self.new.seen.items self.new.visits.items }
+        ensures goal { IfSome result (λ number. goal ≡ Some (visit self.new.visits.items number).place) }
+        ensures found { IfSome result (IsFoundBy arcs.now.net.now (slice_index arcs.now.prices.now.prices)
+            arcs.now.barred.now to.id.place self.new.visits.items) }
+        ensures none { IfNone result (IsSpent arcs.now.net.now (slice_index arcs.now.prices.now.prices)
+            arcs.now.barred.now to.id.place self.new.seen.items self.new.visits.items) }
+        ensures missed { IfNone result ((v : ℕ) → goal ≡ Some v → slice_index_or self.new.seen.items v false ≡ false) }
         ensures size { length self.new.seen.items ≡ length self.old.seen.items }
         ensures capacity { vec_capacity self.new.visits ≡ vec_capacity self.old.visits }
+        ensures counts { self.new.looks ≤ 2 * arc_count arcs.now.net.now }
     {
-        let (Some(place), Some(goal)) = (arcs.net.place(from), arcs.net.place(to)) else {
+        let Some(place) = arcs.net.place(to) else {
             unreachable!()
         };
-        let start = Visit {
-            node: from,
+        let root = Visit {
+            node: to,
             place: place as usize,
             predecessor: None,
         };
-        self.breadth_first(arcs, start, goal as usize)
+        self.breadth_first(arcs, root, goal)
+    }
+
+    /// The number as which the node at a place was visited.
+    pub fn number_at(&self, place: usize) -> Option<usize>
+        requires place { place < length self.now.seen.items }
+        requires agree { Agree self.now.seen.items self.now.visits.items }
+        ensures { result ≡ number_of self.now.visits.items place }
+    {
+        if !self.seen[place] {
+            return None;
+        }
+        self.visits.iter().position(|visit| visit.place == place)
     }
 }
 
@@ -274,12 +297,34 @@ pub fn tight_path<'s>(
         prices,
         barred,
     };
-    let found = scratch.reach.find_tight(&arcs, from, to);
+    let Some(goal) = net.place(from) else {
+        unreachable!()
+    };
+    let found = scratch.reach.find(&arcs, to, Some(goal as usize));
     scratch.searches = scratch.searches.saturating_add(1);
     scratch.looks = scratch.looks.saturating_add(scratch.reach.looks);
-    let Some(end) = found else {
+    let Some(start) = found else {
         return None;
     };
-    walk_back(&scratch.reach.visits, end, &mut scratch.steps);
+    walk_on(&scratch.reach.visits, start, &mut scratch.steps);
     Some(&scratch.steps[..])
+}
+
+/// Searches for paths to `to` over residual arcs of reduced cost 0, from all nodes that have one. `Scratch::path_from`
+/// gives them, until the next search. Counts one search, and at most two looks for each arc. Takes no memory.
+pub fn tight_paths(scratch: &mut Scratch, net: &Net, prices: &Prices, to: NodeId)
+    requires node { IsNode net.now to }
+    requires made_for { (prices.now.limits ≡ limits_of net.now) × (scratch.old.limits ≡ limits_of net.now) }
+    ensures searched { HasSearched scratch.old scratch.new 1 (arc_count net.now) }
+    ensures paths { ArePaths net.now (price_of prices.now) to.id.place (paths_of scratch.new.visits) }
+{
+    let _places = prices.places();
+    let arcs = TightArcs {
+        net,
+        prices,
+        barred: &[],
+    };
+    scratch.reach.find(&arcs, to, None);
+    scratch.searches = scratch.searches.saturating_add(1);
+    scratch.looks = scratch.looks.saturating_add(scratch.reach.looks);
 }

@@ -1,9 +1,8 @@
 -- What the ordered queue keeps.
 use Rattle.std.specs.Prelude.{◌≡◌, ℕ, ◌+◌, ◌*◌, ◌-◌, ◌<◌, ◌≤◌, true, false, List, length, slice_index, ◌⊎◌}
-use Rattle.std.specs.Prelude.{Option, Some, None}
-use Rattle.firm_paths.specs.inner.Search.{visit, known, settled, label}
+use Rattle.firm_paths.specs.Visits.{visit}
+use Rattle.firm_paths.specs.inner.Search.{known, settled, label}
 use Rattle.firm_paths.specs.declared.search.NodeState.{NodeState}
-use Rattle.firm_paths.specs.declared.search.Step.{Step}
 use Rattle.firm_paths.specs.declared.search.Visit.{Visit}
 
 -- a node above holds the lesser of its two, one of which it equals
@@ -25,28 +24,13 @@ pub record IsLeastKey (keys : List ℕ) (u : ℕ) : Type 0 where
   pub present : slice_index keys u < 18446744073709551615
   pub least : (v : ℕ) → v < length keys → slice_index keys u ≤ slice_index keys v
 
--- the nodes that are known and not settled stand in the queue by twice their distances, and of the settled ones those
--- that wait, by one more
+-- the nodes that are known and not settled stand in the queue by their distances, and no others
 pub record IsQueued (price : ℕ → ℕ) (ms : List NodeState) (keys : List ℕ) : Type 0 where
   pub size : length keys ≡ length ms
-  pub open_ : (v : ℕ) → known ms v ≡ true → settled ms v ≡ false → slice_index keys v ≡ 2 * (label ms v - price v)
-  pub below : (v : ℕ) → known ms v ≡ true → settled ms v ≡ false → label ms v < 9223372036854775807
-  pub shut : (v : ℕ) → v < length keys → slice_index keys v < 18446744073709551615 → known ms v ≡ true
-  pub waits : (v : ℕ) → v < length keys → slice_index keys v < 18446744073709551615 → settled ms v ≡ true
-      → slice_index keys v ≡ 2 * (label ms v - price v) + 1
-
--- the settled node at `v` is in the midst of its walk
-abbrev pub IsWaiting : List NodeState → List ℕ → ℕ → Type 0
-IsWaiting ms keys v = (settled ms v ≡ true) × (v < length keys) × (slice_index keys v < 18446744073709551615)
-
--- the keys of settled nodes stay
-abbrev pub KeepsSettled : List NodeState → List ℕ → List ℕ → Type 0
-KeepsSettled ms old new = (v : ℕ) → settled ms v ≡ true → slice_index new v ≡ slice_index old v
-
--- the key of an open node once it is settled: it waits, if its walk has a first step
-abbrev pub waiting_key : ℕ → Option Step → ℕ
-waiting_key key None = 18446744073709551615
-waiting_key key (Some _) = key + 1
+  pub open_ : (v : ℕ) → known ms v ≡ true → settled ms v ≡ false → slice_index keys v ≡ label ms v - price v
+  pub below : (v : ℕ) → known ms v ≡ true → settled ms v ≡ false → label ms v < 18446744073709551615
+  pub shut : (v : ℕ) → v < length keys → slice_index keys v < 18446744073709551615
+      → (known ms v ≡ true) × (settled ms v ≡ false)
 
 -- nothing is known, and the queue is empty
 pub record IsIdle (ms : List NodeState) (keys : List ℕ) : Type 0 where

@@ -1,7 +1,7 @@
 -- What the searches keep.
 use Rattle.std.specs.Prelude.{◌≡◌, ℕ, ◌+◌, ◌-◌, ◌*◌, ◌^◌, ◌<◌, ◌≤◌, Bool, true, false, List, [], length, Contains, Some}
 use Rattle.std.specs.Prelude.{None, is_some, MatchOption, ◌⊎◌, slice_index, slice_index_or, slice_set, count_by}
-use Rattle.std.specs.Prelude.{if◌then◌else◌, not, ◌&&◌, ◌||◌, nat_lt, ⊤}
+use Rattle.std.specs.Prelude.{if◌then◌else◌, not, ◌&&◌, ◌||◌, nat_lt}
 use Rattle.firm_net.specs.Row.{Row}
 use Rattle.firm_net.specs.Net.{Net, IsNode, row_at, IsResidual as IsOpen}
 use Rattle.firm_net.specs.declared.links.Side.{Side}
@@ -13,16 +13,11 @@ use Rattle.firm_net.specs.declared.row.Way.TheVariants.{Forward, Backward}
 use Rattle.firm_paths.specs.Network.{Tight, AreValid, IsResidual, leaves, enters}
 use Rattle.firm_paths.specs.NetArcs.{arcs_of, residual_of}
 use Rattle.firm_paths.specs.Paths.{IsHighest}
+use Rattle.firm_paths.specs.Visits.{visit}
 use Rattle.firm_paths.specs.declared.search.Current.{Current}
 use Rattle.firm_paths.specs.declared.search.Predecessor.{Predecessor}
 use Rattle.firm_paths.specs.declared.search.NodeState.{NodeState}
 use Rattle.firm_paths.specs.declared.search.Visit.{Visit}
-
--- the visit of a number
-abbrev pub visit : List Visit → ℕ → Visit
-visit vs i =
-    slice_index_or vs i
-    (record { node = record { id = record { place = 0; stamp = 0 } }; place = 0; predecessor = None })
 
 -- a residual arc of reduced cost 0, not barred, leads from a node that was visited to node `v`
 pub record IsPredecessor (net : Net) (price : ℕ → ℕ) (barred : List ArcId) (vs : List Visit) (v : ℕ)
@@ -34,12 +29,30 @@ pub record IsPredecessor (net : Net) (price : ℕ → ℕ) (barred : List ArcId)
   pub tight : Tight price (residual_of net h.step).arc
   pub free : Contains barred h.step.arc → ⊥
 
--- every visit but that of the start came from an earlier one, and no node was visited twice
-pub record IsTree (net : Net) (price : ℕ → ℕ) (barred : List ArcId) (vs : List Visit) (from : ℕ) : Type 0 where
+-- such an arc leads from node `v` to one that was visited
+pub record IsSuccessor (net : Net) (price : ℕ → ℕ) (barred : List ArcId) (vs : List Visit) (v : ℕ)
+    (h : Predecessor) : Type 0 where
+  pub visited : h.after < length vs
+  pub residual : IsResidual (arcs_of net) (residual_of net h.step)
+  pub start : leaves (residual_of net h.step) ≡ v
+  pub end : enters (residual_of net h.step) ≡ (visit vs h.after).place
+  pub tight : Tight price (residual_of net h.step).arc
+  pub free : Contains barred h.step.arc → ⊥
+
+-- every visit but that of the root came from an earlier one, to which it is linked, and no node was visited twice
+pub record IsTreeBy (Link : List Visit → ℕ → Predecessor → Type 0) (vs : List Visit) (root : ℕ) : Type 0 where
   pub predecessors : (i : ℕ) → i < length vs
-      → MatchOption (visit vs i).predecessor ((visit vs i).place ≡ from)
-      (λ h. (h.after < i) × IsPredecessor net price barred vs (visit vs i).place h)
+      → MatchOption (visit vs i).predecessor ((visit vs i).place ≡ root)
+      (λ h. (h.after < i) × Link vs (visit vs i).place h)
   pub apart : (i j : ℕ) → i < j → j < length vs → (visit vs i).place ≡ (visit vs j).place → ⊥
+
+-- a tree of paths from the root
+abbrev pub IsTree : Net → (ℕ → ℕ) → List ArcId → List Visit → ℕ → Type 0
+IsTree net price barred vs from = IsTreeBy (IsPredecessor net price barred) vs from
+
+-- a tree of paths to the root
+abbrev pub IsTreeTo : Net → (ℕ → ℕ) → List ArcId → List Visit → ℕ → Type 0
+IsTreeTo net price barred vs to = IsTreeBy (IsSuccessor net price barred) vs to
 
 -- the state at a place
 abbrev pub state : List NodeState → ℕ → NodeState
@@ -70,16 +83,17 @@ is_open_to old value = not old.settled && (not (is_some old.node) || nat_lt valu
 abbrev pub offered : List NodeState → ℕ → NodeState → List NodeState
 offered ms v new = if is_open_to (state ms v) new.label then slice_set ms v new else ms
 
--- settled nodes lie within `near`, open ones no nearer, and every label is at most `top`
-pub record IsNearBy (price : ℕ → ℕ) (ms : List NodeState) (near top : ℕ) : Type 0 where
-  pub within : (v : ℕ) → settled ms v ≡ true
-      → (known ms v ≡ true) × (price v ≤ label ms v) × (label ms v ≤ price v + near)
-  pub beyond : (v : ℕ) → known ms v ≡ true → settled ms v ≡ false → price v + near ≤ label ms v
-  pub below : (v : ℕ) → known ms v ≡ true → label ms v ≤ top
+-- the state names the node at its place; settled it lies within `near`, open no nearer, and its label is at most `top`
+pub record IsNearBy (net : Net) (price : ℕ → ℕ) (near top v : ℕ) (m : NodeState) : Type 0 where
+  pub named : is_some m.node ≡ true → MatchOption m.node ⊥ (λ n. IsNode net n × (n.id.place ≡ v))
+  pub within : m.settled ≡ true → (is_some m.node ≡ true) × (price v ≤ m.label) × (m.label ≤ price v + near)
+  pub beyond : is_some m.node ≡ true → m.settled ≡ false → price v + near ≤ m.label
+  pub below : is_some m.node ≡ true → m.label ≤ top
 
 -- what is known of the nodes that were reached, and of those that were visited
-pub record IsLabelled (net : Net) (from : ℕ) (ms : List NodeState) (vs : List Visit) : Type 0 where
-  pub named : (v : ℕ) → known ms v ≡ true → MatchOption (state ms v).node ⊥ (λ n. IsNode net n × (n.id.place ≡ v))
+pub record IsLabelled (net : Net) (price : ℕ → ℕ) (from near top : ℕ) (vs : List Visit) (ms : List NodeState) : Type
+    0 where
+  pub near_by : (v : ℕ) → IsNearBy net price near top v (state ms v)
   pub predecessors : (v : ℕ) → known ms v ≡ true
       → MatchOption (state ms v).predecessor (v ≡ from) (IsPredecessor net (label ms) [] vs v)
   pub tree : IsTree net (label ms) [] vs from
@@ -96,10 +110,24 @@ abbrev pub end_of : Way → Row → NodeId
 end_of Forward row = row.head
 end_of Backward row = row.tail
 
+abbrev pub opposite_of : Way → Way
+opposite_of Forward = Backward
+opposite_of Backward = Forward
+
 -- the side on which a node lists the arcs by which steps this way leave it
 abbrev pub side_of : Way → Side
 side_of Forward = Out
 side_of Backward = In
+
+-- a step from a node with this label, along an arc of this cost, gives another
+abbrev pub Gives : Way → ℕ → ℕ → ℕ → Type 0
+Gives Forward label cost value = value ≡ label + cost
+Gives Backward label cost value = value + cost ≡ label
+
+-- it gives a number of 64 bits
+abbrev pub HasRoom : Way → ℕ → ℕ → Type 0
+HasRoom Forward label cost = label + cost < 2 ^ 64
+HasRoom Backward label cost = cost ≤ label
 
 -- the reduced cost of a step under these prices is not negative
 abbrev pub IsNotNegative : Way → (ℕ → ℕ) → Row → Type 0
@@ -112,11 +140,14 @@ IsFollowed ms way row =
     settled ms (start_of way row).id.place ≡ true → IsOpen way row
     → (known ms (end_of way row).id.place ≡ true) × IsNotNegative way (label ms) row
 
--- so are those out of all settled nodes that lie nearer than `distance`
-abbrev pub NearFollowed : Net → (ℕ → ℕ) → List NodeState → ℕ → Type 0
-NearFollowed net price ms distance =
-    (way : Way) (id : ArcId) (row : Row) → row_at net id ≡ Some row
-    → label ms (start_of way row).id.place < price (start_of way row).id.place + distance → IsFollowed ms way row
+-- those out of all settled nodes
+abbrev pub AllFollowed : Net → List NodeState → Type 0
+AllFollowed net ms = (way : Way) (id : ArcId) (row : Row) → row_at net id ≡ Some row → IsFollowed ms way row
+
+-- those out of `u`, read in one way
+abbrev pub NodeFollowed : Net → List NodeState → ℕ → Way → Type 0
+NodeFollowed net ms u way =
+    (id : ArcId) (row : Row) → row_at net id ≡ Some row → (start_of way row).id.place ≡ u → IsFollowed ms way row
 
 -- labels only fall, those of settled nodes stay, and what was reached stays so
 pub record IsLowered (old new : List NodeState) : Type 0 where
@@ -126,38 +157,29 @@ pub record IsLowered (old new : List NodeState) : Type 0 where
   pub settled : (v : ℕ) → settled new v ≡ settled old v
   pub length : length new ≡ length old
 
+-- no label is higher after these visits: each adds at most what an arc costs
+abbrev pub highest_label : (ℕ → ℕ) → ℕ → List Visit → ℕ
+highest_label price from vs = price from + 3000000 * length vs
+
 -- the search stands at a node that was visited, is settled and lies at the distance `near`
-pub record IsAt (net : Net) (price : ℕ → ℕ) (from : ℕ) (vs : List Visit) (near top : ℕ) (current : Current)
+pub record IsAt (net : Net) (price : ℕ → ℕ) (from near : ℕ) (current : Current) (vs : List Visit)
     (ms : List NodeState) : Type 0 where
-  pub near_by : IsNearBy price ms near top
-  pub labelled : IsLabelled net from ms vs
+  pub labelled : IsLabelled net price from near (highest_label price from vs) vs ms
   pub number : current.number < length vs
   pub place : (visit vs current.number).place ≡ current.place
   pub distance : label ms current.place ≡ price current.place + near
-  pub room : label ms current.place + 3000000 ≤ top
+  pub room : label ms current.place + 3000000 ≤ highest_label price from vs
+  pub small : highest_label price from vs < 2 ^ 63
 
--- a step back along the row needs a label that is not below its cost
-abbrev pub HasEnough : Way → ℕ → Row → Type 0
-HasEnough Forward value row = ⊤
-HasEnough Backward value row = row.low < row.flow → row.cost ≤ value
+-- it stands there, wherever it began
+abbrev pub IsStanding : Net → (ℕ → ℕ) → Current → List Visit → List NodeState → Type 0
+IsStanding net price current vs ms = (from : ℕ) × (near : ℕ) × IsAt net price from near current vs ms
 
--- no step this way out of the node at `u` needs more than the label
-abbrev pub AllEnough : Way → Net → ℕ → ℕ → Type 0
-AllEnough way net u value =
-    (id : ArcId) (row : Row) → row_at net id ≡ Some row → (start_of way row).id.place ≡ u → HasEnough way value row
-
--- where the search stands, the node is settled, its label leaves room for an arc, and suffices for each step back
-pub record IsReady (net : Net) (current : Current) (ms : List NodeState) : Type 0 where
-  pub settled_here : settled ms current.place ≡ true
-  pub room : label ms current.place + 3000001 < 2 ^ 63
-  pub enough : (way : Way) → AllEnough way net current.place (label ms current.place)
-
--- of the places below `n` whose nodes are known and not settled, `u` lies nearest
-pub record IsNearestBelow (price : ℕ → ℕ) (ms : List NodeState) (n u : ℕ) : Type 0 where
-  pub listed : u < n
+-- `u` lies nearest of the nodes that are known and not settled
+pub record IsNearest (price : ℕ → ℕ) (ms : List NodeState) (u : ℕ) : Type 0 where
   pub is_known : known ms u ≡ true
   pub is_open : settled ms u ≡ false
-  pub nearest : (v : ℕ) → v < n → known ms v ≡ true → settled ms v ≡ false → label ms u - price u ≤ label ms v - price v
+  pub nearest : (v : ℕ) → known ms v ≡ true → settled ms v ≡ false → label ms u - price u ≤ label ms v - price v
 
 -- the prices after the settled ones were raised to their labels, and those no higher than the goal's by `distance`
 pub record AreRaised (old : List ℕ) (ms : List NodeState) (goal distance : ℕ) (new : List ℕ) : Type 0 where
@@ -174,23 +196,34 @@ pub record IsRaised (net : Net) (old new : List ℕ) (goal : ℕ) : Type 0 where
   pub bound : slice_index new goal ≤ slice_index old goal + 4095 * 3000000
 
 -- the search stays where it stands, and the row is followed from there
-abbrev pub Looks : Net → Current → Way → Row → List NodeState → List NodeState → Type 0
-Looks net current way row old new =
-    (price : ℕ → ℕ) (from : ℕ) (vs : List Visit) (near top : ℕ) → AreValid (arcs_of net) price
-    → IsAt net price from vs near top current old → IsAt net price from vs near top current new × IsFollowed new way row
+abbrev pub Looks : Net → (ℕ → ℕ) → Current → List Visit → Way → Row → List NodeState → List NodeState → Type 0
+Looks net price current vs way row old new =
+    (from near : ℕ) → IsAt net price from near current vs old
+    → IsAt net price from near current vs new × IsFollowed new way row
+
+-- the same of all rows that leave the node in one way
+abbrev pub LooksAll : Net → (ℕ → ℕ) → Current → List Visit → Way → List NodeState → List NodeState → Type 0
+LooksAll net price current vs way old new =
+    (from near : ℕ) → IsAt net price from near current vs old
+    → IsAt net price from near current vs new × NodeFollowed net new current.place way
+
+-- the same of those that leave it in either way
+abbrev pub LooksBoth : Net → (ℕ → ℕ) → Current → List Visit → List NodeState → List NodeState → Type 0
+LooksBoth net price current vs old new =
+    (from near : ℕ) → IsAt net price from near current vs old
+    → IsAt net price from near current vs new × ((way : Way) → NodeFollowed net new current.place way)
 
 -- the goal is the nearest open node, it was visited last, and all that was settled was followed
 pub record IsReached (net : Net) (price : ℕ → ℕ) (from goal : ℕ) (ms : List NodeState) (vs : List Visit)
     (number : ℕ) : Type 0 where
-  pub near_by : IsNearBy price ms (label ms goal - price goal) (price from + 4095 * 3000000)
-  pub followed : NearFollowed net price ms (label ms goal - price goal)
+  pub near_by : (v : ℕ) → IsNearBy net price (label ms goal - price goal) (price from + 4095 * 3000000) v (state ms v)
+  pub followed : AllFollowed net ms
   pub is_known : known ms goal ≡ true
   pub is_open : settled ms goal ≡ false
   pub tree : IsTree net (label ms) [] vs from
   pub visited : (i : ℕ) → i < length vs → (settled ms (visit vs i).place ≡ true) ⊎ ((visit vs i).place ≡ goal)
   pub last : (number < length vs) × ((visit vs number).place ≡ goal)
   pub few : length vs ≤ length ms
-  pub named : (v : ℕ) → known ms v ≡ true → MatchOption (state ms v).node ⊥ (λ n. IsNode net n × (n.id.place ≡ v))
 
 -- no residual arc leads from a known node to an unknown one, the start is known and the goal is not
 pub record IsEnd (net : Net) (from goal : ℕ) (ms : List NodeState) : Type 0 where
@@ -198,3 +231,9 @@ pub record IsEnd (net : Net) (from goal : ℕ) (ms : List NodeState) : Type 0 wh
       → known ms (start_of way row).id.place ≡ true → IsOpen way row → known ms (end_of way row).id.place ≡ true
   pub from_in : known ms from ≡ true
   pub goal_out : known ms goal ≡ false
+
+-- the goal was visited as this number
+pub record IsReachedBy (net : Net) (price : ℕ → ℕ) (barred : List ArcId) (from goal : ℕ) (vs : List Visit)
+    (number : ℕ) : Type 0 where
+  pub tree : IsTree net price barred vs from
+  pub last : (number < length vs) × ((visit vs number).place ≡ goal)

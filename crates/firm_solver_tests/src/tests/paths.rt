@@ -10,7 +10,7 @@ use super::random::Random;
 use super::worlds::{Link, World, arc, arc_at, build, carrying, has_room, node, read_prices, unit};
 use firm_net::Way::{Backward, Forward};
 use firm_net::{ArcId, ArcRow, NodeId, Way};
-use firm_paths::{Step, arcs_are_rows, raise, searches_add_up, tight_path, tight_within};
+use firm_paths::{Step, arcs_are_rows, raise, searches_add_up, tight_path, tight_paths};
 use std::alloc::Global;
 use std::process::Abort;
 
@@ -377,148 +377,95 @@ fn searches_and_looks_are_counted(rt: HostRuntime) {
     // Three arcs at the start, and two at each of the nodes in the middle; the goal's are not looked at.
     let _ = raised(&rt, alloc, &mut world, start, goal);
     expect_counts(&rt, &world, (0, 1, 7));
-    // The first arc of the middle is tight now, and leads to the goal at once.
+    // The middle's two arcs; the goal is as near now.
     let _ = raised(&rt, alloc, &mut world, middle, goal);
-    expect_counts(&rt, &world, (0, 2, 8));
+    expect_counts(&rt, &world, (0, 2, 9));
     let _ = raised(&rt, alloc, &mut world, alone, goal);
-    expect_counts(&rt, &world, (0, 3, 8));
-    // Three arcs at the start, and two at each of the nodes in the middle, though the goal was seen from the first.
+    expect_counts(&rt, &world, (0, 3, 9));
+    // Three arcs at the goal, and two at each of the nodes in the middle, though the start was seen from the first.
     let _ = tight(&rt, alloc, &mut world, onward, &[]);
-    expect_counts(&rt, &world, (0, 4, 15));
+    expect_counts(&rt, &world, (0, 4, 16));
     world.scratch.begin();
     expect_counts(&rt, &world, (1, 0, 0));
-    // A barred arc is looked at, and the node behind it is not visited.
+    // A barred arc is looked at, and leads to no node.
     let first = arc_at(&rt, &world, 0);
     let _ = tight(&rt, alloc, &mut world, onward, &[first]);
-    expect_counts(&rt, &world, (1, 1, 5));
+    expect_counts(&rt, &world, (1, 1, 7));
     world.scratch.begin();
     expect_counts(&rt, &world, (2, 0, 0));
 }
 
-/// What is asked inside classes, in turn: the numbers of both ends, the path that is found, no steps for none, and how
-/// many searches were made by then.
-struct Query {
-    ends: (usize, usize),
-    path: &'static [(usize, Way)],
-    searches: u64,
+/// The number of a node, and the path from it; no path for none.
+struct Onward {
+    from: usize,
+    path: Option<&'static [(usize, Way)]>,
 }
 
-/// Asks for a path inside classes, and checks it.
-fn expect_within(rt: &impl Abort, alloc: Global, world: &mut World, query: &Query)
+/// Asks for the path from a node that the last search found, and checks it.
+fn expect_onward(rt: &impl Abort, alloc: Global, world: &mut World, onward: &Onward)
     requires limits { (world.old.prices.limits ≡ (8, 16)) × (world.old.scratch.limits ≡ (8, 16)) }
     ensures limits { (world.new.prices.limits ≡ (8, 16)) × (world.new.scratch.limits ≡ (8, 16)) }
 {
-    let (from, to) = (node(rt, world, query.ends.0), node(rt, world, query.ends.1));
-    check_nodes(rt, world, from, to);
-    let steps = tight_within(&mut world.scratch, &world.net, &world.prices, from, to);
+    let from = node(rt, world, onward.from);
+    assert!(rt; has_room(&world.net) && world.net.place(from).is_some());
+    let steps = world.scratch.path_from(&world.net, from);
     let steps = copied(rt, alloc, steps);
-    assert_eq!(rt;
-        world.scratch.searches(),
-        query.searches,
-        "from {} to {}",
-        query.ends.0,
-        query.ends.1
-    );
-    if query.path.is_empty() {
-        expect_no_path(rt, steps);
-    } else {
-        expect_steps(rt, world, steps, query.path);
+    match onward.path {
+        Some(path) => expect_steps(rt, world, steps, path),
+        None => expect_no_path(rt, steps),
     }
 }
 
-fn expect_all_within(
-    rt: &impl Abort,
-    alloc: Global,
-    nodes: u32,
-    links: &[Link],
-    queries: &[Query],
-) {
-    let mut world = build(rt, alloc, nodes, links);
-    world.scratch.join_nodes();
-    for query in queries {
-        expect_within(rt, alloc, &mut world, query);
+/// One search finds the paths from all nodes to one.
+fn expect_all_onward(rt: &impl Abort, alloc: Global, links: &[Link], to: usize, paths: &[Onward]) {
+    let mut world = build(rt, alloc, 5, links);
+    let to = node(rt, &world, to);
+    assert!(rt; has_room(&world.net) && world.net.place(to).is_some());
+    tight_paths(&mut world.scratch, &world.net, &world.prices, to);
+    for onward in paths {
+        expect_onward(rt, alloc, &mut world, onward);
     }
+    assert_eq!(rt; world.scratch.searches(), 1);
 }
 
-/// Three nodes on a cycle, and from the last of them a way to two more on another.
-static TWO_CYCLES: [Query; 8] = [
-    Query {
-        ends: (0, 2),
-        path: &[(0, Forward), (1, Forward)],
-        searches: 1,
+/// To the last of three nodes on a cycle, which a way leaves for two more on another.
+static ROUND_A_CYCLE: [Onward; 4] = [
+    Onward {
+        from: 2,
+        path: Some(&[]),
     },
-    // On no cycle, but nothing has parted its ends yet.
-    Query {
-        ends: (0, 4),
-        path: &[(0, Forward), (1, Forward), (3, Forward), (4, Forward)],
-        searches: 2,
+    Onward {
+        from: 0,
+        path: Some(&[(0, Forward), (1, Forward)]),
     },
-    Query {
-        ends: (4, 1),
-        path: &[],
-        searches: 3,
+    Onward {
+        from: 1,
+        path: Some(&[(1, Forward)]),
     },
-    // The cycles are classes now. No search is made from one to the other, not even along the way between them.
-    Query {
-        ends: (3, 2),
-        path: &[],
-        searches: 3,
-    },
-    Query {
-        ends: (2, 3),
-        path: &[],
-        searches: 3,
-    },
-    Query {
-        ends: (1, 0),
-        path: &[(1, Forward), (2, Forward)],
-        searches: 4,
-    },
-    Query {
-        ends: (4, 3),
-        path: &[(5, Forward)],
-        searches: 5,
-    },
-    Query {
-        ends: (4, 0),
-        path: &[],
-        searches: 5,
+    Onward {
+        from: 4,
+        path: None,
     },
 ];
 
-/// A unit from the second node to the first, a held one from the first to the third, a free way from the second to the
-/// third, and a dear one back.
-static UNITS: [Query; 5] = [
-    Query {
-        ends: (0, 2),
-        path: &[(0, Backward), (1, Forward)],
-        searches: 1,
+/// To the last of three nodes: from the first against a unit and on, and by no arc that is held or dear.
+static AGAINST_A_UNIT: [Onward; 3] = [
+    Onward {
+        from: 0,
+        path: Some(&[(0, Backward), (1, Forward)]),
     },
-    // The dear arc is not tight, and the held unit leads nowhere.
-    Query {
-        ends: (2, 0),
-        path: &[],
-        searches: 2,
+    Onward {
+        from: 1,
+        path: Some(&[(1, Forward)]),
     },
-    Query {
-        ends: (1, 0),
-        path: &[],
-        searches: 3,
-    },
-    Query {
-        ends: (0, 1),
-        path: &[],
-        searches: 3,
-    },
-    Query {
-        ends: (0, 2),
-        path: &[],
-        searches: 3,
+    Onward {
+        from: 3,
+        path: None,
     },
 ];
 
 #[test]
-fn paths_inside_classes(rt: HostRuntime) {
+fn paths_from_all_nodes(rt: HostRuntime) {
     let cycles = [
         unit(0, 1, 0),
         unit(1, 2, 0),
@@ -527,14 +474,14 @@ fn paths_inside_classes(rt: HostRuntime) {
         unit(3, 4, 0),
         unit(4, 3, 0),
     ];
-    expect_all_within(&rt, rt.alloc(), 5, &cycles, &TWO_CYCLES);
+    expect_all_onward(&rt, rt.alloc(), &cycles, 2, &ROUND_A_CYCLE);
     let units = [
         carrying(1, 0, 0),
         unit(1, 2, 0),
-        carrying(0, 2, 1),
-        unit(2, 0, 4),
+        carrying(3, 2, 1),
+        unit(3, 2, 4),
     ];
-    expect_all_within(&rt, rt.alloc(), 3, &units, &UNITS);
+    expect_all_onward(&rt, rt.alloc(), &units, 2, &AGAINST_A_UNIT);
 }
 
 /// An arc between two of five nodes, which may have no room.

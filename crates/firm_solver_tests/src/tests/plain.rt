@@ -13,13 +13,12 @@ use firm_flow::solve;
 use firm_graph::Graph;
 use firm_net::Way::Forward;
 use firm_net::{ArcId, Net, NodeId};
-use firm_paths::{Prices, Scratch, Step, tight_path, tight_within};
+use firm_paths::{Prices, Scratch, Step, tight_path, tight_paths};
 use firm_rules::{Choice, Limits, Name, Preferred, Rows, cost_of, legal};
 use std::alloc::Global;
 use std::process::Abort;
 
-/// Whether there is a tight path. One inside classes is found exactly where there is one and its ends have one class.
-/// It is sought only there, and where none is found the ends have two classes.
+/// Whether there is a tight path. One search for all paths to its end finds it exactly where a search for it does.
 fn is_found(
     rt: &impl Abort,
     scratch: &mut Scratch,
@@ -32,17 +31,16 @@ fn is_found(
 {
     let (from, to) = ends;
     assert!(rt; from != to && net.place(from).is_some() && net.place(to).is_some());
-    let together = scratch.are_together(net, from, to);
     let plain = tight_path(scratch, net, prices, from, to, &[]).is_some();
-    let searches = scratch.searches().saturating_add(u64::from(together));
-    let within = tight_within(scratch, net, prices, from, to).is_some();
-    assert_eq!(rt; within, plain && together);
+    let searches = scratch.searches().saturating_add(1);
+    tight_paths(scratch, net, prices, to);
     assert_eq!(rt; scratch.searches(), searches);
-    assert_eq!(rt; scratch.are_together(net, from, to), within);
+    assert_eq!(rt; scratch.path_from(net, from).is_some(), plain);
+    assert_eq!(rt; scratch.searches(), searches);
     plain
 }
 
-/// The ends of the arc at a place have one class exactly where tight paths join them both ways. Says whether they do.
+/// Whether tight paths join the ends of the arc at a place both ways.
 fn are_joined(
     rt: &impl Abort,
     scratch: &mut Scratch,
@@ -58,12 +56,10 @@ fn are_joined(
     };
     let forward = is_found(rt, scratch, net, prices, (row.tail(), row.head()));
     let back = is_found(rt, scratch, net, prices, (row.head(), row.tail()));
-    let joined = scratch.are_together(net, row.tail(), row.head());
-    assert_eq!(rt; joined, forward && back);
-    joined
+    forward && back
 }
 
-/// Compares the searches along all arcs, and counts those whose ends have one class.
+/// Compares the searches along all arcs, and counts those whose ends are joined both ways.
 fn count_joined(rt: &impl Abort, scratch: &mut Scratch, net: &Net, prices: &Prices) -> u64
     requires made_for { (prices.now.limits ≡ limits_of net.now) × (scratch.old.limits ≡ limits_of net.now) }
     ensures limits { scratch.new.limits ≡ scratch.old.limits }
@@ -75,7 +71,7 @@ fn count_joined(rt: &impl Abort, scratch: &mut Scratch, net: &Net, prices: &Pric
     joined
 }
 
-/// Sends a unit along an idle tight arc and back from its head to its tail, where a way back is left inside classes.
+/// Sends a unit along an idle tight arc and back from its head to its tail, where a way back is left.
 fn turn(rt: &impl Abort, alloc: Global, world: &mut World, arc: ArcId) -> bool
     requires limits { (world.old.prices.limits ≡ (8, 16)) × (world.old.scratch.limits ≡ (8, 16)) }
     ensures limits { (world.new.prices.limits ≡ (8, 16)) × (world.new.scratch.limits ≡ (8, 16)) }
@@ -90,7 +86,8 @@ fn turn(rt: &impl Abort, alloc: Global, world: &mut World, arc: ArcId) -> bool
         return false;
     }
     check_nodes(rt, world, head, tail);
-    let steps = tight_within(&mut world.scratch, &world.net, &world.prices, head, tail);
+    tight_paths(&mut world.scratch, &world.net, &world.prices, tail);
+    let steps = world.scratch.path_from(&world.net, head);
     let Some(steps) = copied(rt, alloc, steps) else {
         return false;
     };
@@ -128,8 +125,8 @@ fn count_joined_in(rt: &impl Abort, world: &mut World) -> u64
     count_joined(rt, &mut world.scratch, &world.net, &world.prices)
 }
 
-/// Compares the searches before and after units go round cycles, which parts classes and joins none. Gives the number
-/// of cycles, and of arcs whose ends have one class in the end.
+/// Compares the searches before and after units go round cycles, which joins no nodes. Gives the number of cycles, and
+/// of arcs whose ends are joined in the end.
 fn compare_world(rt: &impl Abort, alloc: Global, world: &mut World) -> (u64, u64)
     requires limits { (world.old.prices.limits ≡ (8, 16)) × (world.old.scratch.limits ≡ (8, 16)) }
 {
@@ -138,7 +135,6 @@ fn compare_world(rt: &impl Abort, alloc: Global, world: &mut World) -> (u64, u64
     if solve_once(rt, world, &sources, sink).is_err() {
         return (0, 0);
     }
-    world.scratch.join_nodes();
     let before = count_joined_in(rt, world);
     let turned = turn_all(rt, alloc, world);
     let after = count_joined_in(rt, world);
@@ -160,7 +156,7 @@ fn random_links(random: &mut Random) -> [Link; 12] {
 }
 
 #[test]
-fn random_networks_beside_searches_without_classes(rt: HostRuntime) {
+fn random_networks_beside_searches_one_by_one(rt: HostRuntime) {
     let mut random = Random::new(2_026);
     let (mut turned, mut joined) = (0_u64, 0_u64);
     for _ in 0..200 {
@@ -342,15 +338,14 @@ fn check_cost(rt: &impl Abort, alloc: Global, rows: &Rows, links: &[Link], place
     assert_eq!(rt; least_with(rt, alloc, rows, links, &[]), Some(cost));
 }
 
-/// Compares the searches in a least flow of a book, and in the one that its choice leaves, with the choice's classes.
-/// The choice is this placement. Gives the number of arcs whose ends have one class in the first.
+/// Compares the searches in a least flow of a book, and in the one that its choice leaves. The choice is this
+/// placement. Gives the number of arcs whose ends are joined in the first.
 fn compare_book(rt: &impl Abort, alloc: Global, graph: &mut Graph, placement: &[Choice]) -> u64 {
     let mut prices = Prices::new(alloc, graph.net()).expect(rt, "memory");
     let mut scratch = Scratch::new(alloc, graph.net()).expect(rt, "memory");
     assert!(rt; legal(graph.rows(), placement));
     let cost = cost_of(graph.rows(), placement);
     assert_eq!(rt; graph.least(&mut prices, &mut scratch), cost);
-    scratch.join_nodes();
     let joined = count_joined(rt, &mut scratch, graph.net(), &prices);
     let first = first_by_search(alloc, graph, &mut prices, &mut scratch).expect(rt, "memory");
     assert!(rt; first.as_slice() == placement);

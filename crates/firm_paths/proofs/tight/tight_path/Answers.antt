@@ -1,46 +1,57 @@
-use Rattle.std.proofs.Common.{◌≡◌, ℕ, arith, ap, refl, subst, List}
-use Rattle.std.specs.Prelude.{slice_index}
+use Rattle.std.proofs.Common.{◌≡◌, ◌∙◌, ℕ, Some, ap, refl, sym, subst, rules, List}
+use Rattle.std.specs.Prelude.{slice_index, not}
+use Rattle.firm_net.specs.Net.{lists_at}
 use Rattle.firm_paths.specs.Paths.{IsTightPath}
-use Rattle.firm_paths.specs.Workspace.{Workspace}
-use Rattle.firm_paths.specs.inner.Walk.{LeadsTo}
+use Rattle.firm_paths.specs.Visits.{visit, steps_on}
+use Rattle.firm_paths.specs.inner.Spread.{is}
 use Rattle.firm_paths.specs.declared.search.Visit.{Visit}
+use Rattle.firm_paths.proofs.Looks.{place_value}
+use Rattle.firm_paths.proofs.Spreading.{spent_cut}
+use Rattle.firm_paths.proofs.Trees.{path_to}
 use Rattle.firm_paths.proofs.tight.tight_path.Goals as goal
+
+pub returns-in_default-found : goal.returns-in_default-found
+returns-in_default-found c =
+    let net = c.args.net.now in
+    let seen = c.find-found.new.self.seen.items in
+    let from : c.in-Some.goal ≡ c.args.from.id.place =
+    (place_value c.args.from (lists_at net c.args.from) c.in-Some.goal c.in-Some.ensures.value).1 in (
+      search rules,
+      record {
+        rests = tt;
+        path = tt;
+        unbarred = tt;
+        none = (
+          λ u. not (is seen u),
+          spent_cut net (slice_index c.args.prices.now.prices) c.args.barred.now c.args.to.id.place seen
+              c.find-found.new.self.visits.items c.args.from.id.place c.in_default-found.ensures.none
+              (ap (is seen) (sym from) ∙ c.in_default-found.ensures.missed c.in-Some.goal refl),
+        );
+      },
+    )
 
 pub returns : goal.returns
 returns c =
+    let net = c.args.net.now in
     let price = slice_index c.args.prices.now.prices in
-    let from = c.args.from.id.place in
-    let steps = c.walk_back.new.steps.items in
-    let leads : LeadsTo c.find_tight-found.new.self.visits.items c.in-Some.end steps =
-    subst (λ (z : List Visit). LeadsTo z c.in-Some.end steps) c.deref.ensures.value c.walk_back.ensures.path in
-    let found = c.in-Some.ensures.found in
-    let led = leads c.args.net.now price c.args.barred.now from found.tree in
-    let searches : c.scratch.inside.searches ≡ c.args.scratch.now.searches =
-    ap (λ (w : Workspace). w.searches) c.scratch.view_is in
-    let looks : c.scratch.inside.looks ≡ c.args.scratch.now.looks =
-    ap (λ (w : Workspace). w.looks) c.scratch.view_is in (
-      (
-        refl,
-        (λ _. tt),
-        record {
-          limits = ap (λ (w : Workspace). w.limits) c.scratch.view_is;
-          begins = ap (λ (w : Workspace). w.begins) c.scratch.view_is;
-          searches = record {
-            exact = λ room. omega (arith, room, searches, c.saturating_add-scratch-inside.ensures);
-            full = λ small past. omega (arith, small, past, searches, c.saturating_add-scratch-inside.ensures);
-            kept = omega (arith, searches, c.saturating_add-scratch-inside.ensures, c.scratch.ranges);
-            no_more = omega (arith, searches, c.saturating_add-scratch-inside.ensures);
-          };
-          looks_kept = omega (arith, looks, c.saturating_add-scratch-inside-2.ensures, c.scratch.ranges);
-          looks = omega (arith, looks, c.saturating_add-scratch-inside-2.ensures, c.find_tight-found.ensures.counts);
-          proposed = ap (λ (w : Workspace). w.proposed) c.scratch.view_is;
-        },
-      ),
+    let vs = c.find-found.new.self.visits.items in
+    let start = c.in-Some-found.start in
+    let found = c.in-Some-found.ensures.found in
+    let way = path_to net price c.args.barred.now vs c.args.to.id.place found.tree start found.listed in
+    let from : (visit vs start).place ≡ c.args.from.id.place =
+    some_is c.in-Some.goal (visit vs start).place c.in-Some-found.ensures.goal
+    ∙ (place_value c.args.from (lists_at net c.args.from) c.in-Some.goal c.in-Some.ensures.value).1 in
+    let steps : c.deref-2.result.now ≡ steps_on vs start =
+    c.deref-2.ensures.value
+    ∙ (c.walk_on.ensures.path ∙ ap (λ (z : List Visit). steps_on z start) c.deref.ensures.value) in (
+      search rules,
       record {
         rests = tt;
-        path = rw c.deref-2.ensures.value (subst (λ (to : ℕ). IsTightPath c.args.net.now price from to steps)
-            found.last.1 led.0);
-        unbarred = rw c.deref-2.ensures.value led.1;
+        path = rw steps (subst (λ (v : ℕ). IsTightPath net price v c.args.to.id.place (steps_on vs start)) from way.0);
+        unbarred = rw steps way.1;
         none = tt;
       },
     )
+  where
+    some_is : (a b : ℕ) → Some a ≡ Some b → b ≡ a
+    some_is a b e = cc

@@ -6,10 +6,8 @@ pub invariant_of-result : goal.invariant_of-result
 invariant_of-result c = (
   search rules,
   search rules,
-  search rules,
   grind (arith, common_steps),
   grind (arith, common_steps),
-  search rules,
   search rules,
   search rules,
   search rules,

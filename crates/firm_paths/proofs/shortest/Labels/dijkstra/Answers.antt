@@ -1,17 +1,17 @@
-use Rattle.std.proofs.Common.{◌≡◌, ◌<◌, ◌∙◌, ◌++◌, ◌∷◌, [], List, length, set, false, arith, refl, sym, ap, subst}
+use Rattle.std.proofs.Common.{◌≡◌, ◌<◌, ◌-◌, ◌∙◌, ◌++◌, ◌∷◌, [], List, length, arith, refl, sym, ap, subst}
 use Rattle.std.specs.Prelude.{slice_index}
-use Rattle.std.proofs.lemmas.List.{length-set, get_or_default}
-use Rattle.firm_paths.specs.inner.Search.{state, settled, visit_at, with_settled}
-use Rattle.firm_paths.specs.inner.Queue.{IsLeastKey, waiting_key}
+use Rattle.std.proofs.lemmas.List.{length-set}
+use Rattle.firm_paths.specs.inner.Search.{state, label, visit_at, with_settled, IsLowered, IsNearest, LooksBoth}
 use Rattle.firm_paths.specs.declared.search.NodeState.{NodeState}
 use Rattle.firm_paths.specs.declared.search.Visit.{Visit}
-use Rattle.firm_paths.specs.declared.turn.Turn.{Turn}
 use Rattle.firm_paths.proofs.Listed.{node_listed}
-use Rattle.firm_paths.proofs.Rounds.{few_visits, search_reached, named_at}
-use Rattle.firm_paths.proofs.Going.{going_start, going_settled}
-use Rattle.firm_paths.proofs.Settles.{length_push}
-use Rattle.firm_paths.proofs.Degrees.{all_counted}
-use Rattle.firm_paths.proofs.Queues.{visited_start, visited_push, visited_settle, visited_kept}
+use Rattle.firm_paths.proofs.Rounds.{search_start, few_visits, search_reached, search_ended, named_at, round_start}
+use Rattle.firm_paths.proofs.Rounds.{round_done}
+use Rattle.firm_paths.proofs.Settles.{visit_before, visit_last, length_push, fresh}
+use Rattle.firm_paths.proofs.Degrees.{arcs_few}
+use Rattle.firm_paths.proofs.Turns.{turn_counted, turns_counted}
+use Rattle.firm_paths.proofs.Queues.{queue_start, queue_nearest, queue_none, queue_settle, visited_start, visited_push}
+use Rattle.firm_paths.proofs.Queues.{visited_settle, visited_kept}
 use Rattle.firm_paths.proofs.shortest.Labels.dijkstra.Goals as goal
 
 pub loop-place-init : goal.loop-place-init
@@ -24,61 +24,32 @@ loop-place-init c =
       c.requires.length.1,
     ) in
     record {
-      length =
+      size =
           omega (
             arith,
             ap (λ (z : List NodeState). length z) c.open.ensures.states,
             length-set {A = NodeState},
             c.requires.length.1,
           );
-      going = rw (
-        c.open.ensures.visits,
-        c.open.ensures.states,
-        c.open.ensures.queue,
-        c.open.ensures.turns,
-        c.open.ensures.looks,
-      )
-          (going_start c.args.net.now (slice_index c.args.prices.now.prices) c.args.start.place c.args.goal
-          c.args.self.now.states.items c.args.self.now.turns.items c.args.self.now.queue c.args.start.node listed
-          (c.requires.length.2 ∙ sym c.requires.length.1) c.requires.low.0 c.requires.start.0 c.requires.start.1
-          c.requires.idle);
+      searching = rw (c.open.ensures.visits, c.open.ensures.states)
+          (search_start c.args.net.now (slice_index c.args.prices.now.prices) c.args.start.place c.args.goal
+          c.args.self.now.states.items c.args.start.node listed c.requires.start.0 c.requires.start.1
+          c.requires.idle.unknown);
+      counted = omega (arith, c.open.ensures.looks);
+      queued = rw (c.open.ensures.states, c.open.ensures.queue)
+          (queue_start (slice_index c.args.prices.now.prices) c.args.self.now.states.items c.args.self.now.queue
+          c.args.start.place c.args.start.node listed (omega (arith, c.requires.low.0)) c.requires.idle);
       visited = rw (c.open.ensures.visits, c.open.ensures.states)
           (visited_start c.args.self.now.states.items c.args.start.place _ c.requires.idle.unknown refl listed);
       capacity = c.open.ensures.capacity;
     }
 
-pub loop-place-smaller-then-index : goal.loop-place-smaller-then-index
-loop-place-smaller-then-index c =
-    let new =
-    c.look-preferred.ensures.going c.args.start.place c.args.goal c.requires.low.0 c.loop-place.invariant.going in
-    omega (
-      arith,
-      c.look-preferred.ensures.looks,
-      c.look-preferred.ensures.lowers.length,
-      ap (λ v. length v.items) c.look-preferred.ensures.visits,
-      all_counted c.args.net.now c.look-preferred.new.self.states.items c.look-preferred.new.self.looks
-          (omega (arith, new.walking.few)),
-    )
-
-pub loop-place-preserved-then-index : goal.loop-place-preserved-then-index
-loop-place-preserved-then-index c = record {
-  length = omega (arith, c.look-preferred.ensures.lowers.length, c.loop-place.invariant.length);
-  going =
-      c.look-preferred.ensures.going c.args.start.place c.args.goal c.requires.low.0 c.loop-place.invariant.going;
-  visited = rw c.look-preferred.ensures.visits
-      (visited_kept c.loop-place.self.states.items c.look-preferred.new.self.states.items
-      c.loop-place.self.visits.items c.look-preferred.ensures.lowers c.loop-place.invariant.visited);
-  capacity = rw c.look-preferred.ensures.visits c.loop-place.invariant.capacity;
-}
-
 pub visit-requires-clause-room : goal.visit-requires-clause-room
 visit-requires-clause-room c =
     omega (
       arith,
-      few_visits c.args.net.now (slice_index c.args.prices.now.prices) c.args.start.place c.args.goal
-          c.loop-place.invariant.going.near c.loop-place.self.states.items c.loop-place.self.visits.items
-          (omega (arith, c.loop-place.invariant.length, c.requires.goal.0)) c.loop-place.invariant.going.searching,
-      c.loop-place.invariant.length,
+      few_visits c.loop-place.invariant.searching (omega (arith, c.loop-place.invariant.size, c.requires.goal.0)),
+      c.loop-place.invariant.size,
       c.loop-place.invariant.capacity,
       c.requires.room,
     )
@@ -86,12 +57,15 @@ visit-requires-clause-room c =
 pub returns-then-place-goal-clause-found : goal.returns-then-place-goal-clause-found
 returns-then-place-goal-clause-found c =
     let ms = c.loop-place.self.states.items in
+    let vs = c.loop-place.self.visits.items in
+    let price = slice_index c.args.prices.now.prices in
+    let nearest : IsNearest price ms c.args.goal =
+    subst (IsNearest price ms) c.if-place-goal.true
+    (queue_nearest c.loop-place.invariant.queued c.in-Some.ensures) in
     rw (c.visit.ensures.others.0, c.in_ok-current.ensures.visits, c.in_ok-current.ensures.current.2)
-    (search_reached c.args.net.now (slice_index c.args.prices.now.prices) c.args.start.place c.args.goal ms
-    c.loop-place.self.turns.items c.loop-place.self.queue c.loop-place.self.visits.items c.loop-place.self.looks
+    (search_reached c.args.net.now price c.args.start.place c.args.goal ms vs
     (visit_at ms c.in-Some.place c.in_ok-current.current.node)
-    (omega (arith, c.loop-place.invariant.length, c.requires.low.1)) c.loop-place.invariant.going
-    (subst (IsLeastKey c.loop-place.self.queue) c.if-place-goal.true c.in-Some.ensures)
+    (omega (arith, c.loop-place.invariant.size, c.requires.low.1)) c.loop-place.invariant.searching nearest
     c.if-place-goal.true (ap (λ z. (state ms z).predecessor) c.if-place-goal.true))
 
 pub returns-then-place-goal-clause-visited : goal.returns-then-place-goal-clause-visited
@@ -99,17 +73,52 @@ returns-then-place-goal-clause-visited c =
     let ms = c.loop-place.self.states.items in
     rw (c.visit.ensures.others.0, c.in_ok-current.ensures.visits)
     (visited_push ms c.loop-place.self.visits.items (visit_at ms c.in-Some.place c.in_ok-current.current.node)
-    (omega (arith, c.in-Some.ensures.listed, c.loop-place.invariant.going.queued.size)) c.loop-place.invariant.visited)
+    (omega (arith, c.in-Some.ensures.listed, c.loop-place.invariant.queued.size)) c.loop-place.invariant.visited)
+
+pub relax_node-requires-clause-stands : goal.relax_node-requires-clause-stands
+relax_node-requires-clause-stands c =
+    let ms = c.loop-place.self.states.items in
+    let vs = c.loop-place.self.visits.items in
+    let price = slice_index c.args.prices.now.prices in
+    rw (c.settle.ensures.states, c.settle.ensures.others.0, c.in_ok-current.ensures.visits, c.visit.ensures.others.0) (
+      c.args.start.place,
+      label ms c.in-Some.place - price c.in-Some.place,
+      round_start (visit_at ms c.in-Some.place c.in_ok-current.current.node) c.in_ok-current.current
+          c.loop-place.invariant.searching
+          (queue_nearest c.loop-place.invariant.queued c.in-Some.ensures)
+          refl refl c.in_ok-current.ensures.current.1 c.in_ok-current.ensures.current.2
+          (few_visits c.loop-place.invariant.searching (omega (arith, c.loop-place.invariant.size, c.requires.goal.0)))
+          (omega (arith, c.loop-place.invariant.size, c.requires.low.1)) c.requires.low.0,
+    )
+
+pub relax_node-requires-clause-queued : goal.relax_node-requires-clause-queued
+relax_node-requires-clause-queued c =
+    rw (c.settle.ensures.states, c.settle.ensures.queue, c.visit.ensures.others.0, c.visit.ensures.others.1)
+    (queue_settle (slice_index c.args.prices.now.prices) c.loop-place.self.states.items c.loop-place.self.queue
+    c.in-Some.place (omega (arith, c.in-Some.ensures.listed, c.loop-place.invariant.queued.size))
+    c.loop-place.invariant.queued)
+
+pub relax_node-requires-clause-count : goal.relax_node-requires-clause-count
+relax_node-requires-clause-count c =
+    omega (
+      arith,
+      c.settle.ensures.others.1,
+      c.visit.ensures.others.2,
+      turns_counted c.args.net.now c.loop-place.self.visits.items (length c.loop-place.self.visits.items)
+          c.loop-place.self.looks c.loop-place.invariant.counted,
+      arcs_few c.args.net.now,
+      c.requires.net.arc_limit,
+    )
 
 pub loop-place-smaller : goal.loop-place-smaller
 loop-place-smaller c =
     let ms = c.loop-place.self.states.items in
     let vs = c.loop-place.self.visits.items in
-    let few = few_visits c.args.net.now (slice_index c.args.prices.now.prices) c.args.start.place c.args.goal
-    c.loop-place.invariant.going.near ms vs
-    (omega (arith, c.loop-place.invariant.length, c.requires.goal.0)) c.loop-place.invariant.going.searching in
-    let visits : c.settle.new.self.visits.items ≡ vs ++ visit_at ms c.in-Some.place c.in_ok-current.current.node ∷ [] =
-    rw c.settle.ensures.others.0 c.in_ok-current.ensures.visits in
+    let few =
+    few_visits c.loop-place.invariant.searching (omega (arith, c.loop-place.invariant.size, c.requires.goal.0)) in
+    let visits : c.relax_node.new.self.visits.items ≡ vs
+    ++ visit_at ms c.in-Some.place c.in_ok-current.current.node ∷ [] =
+    rw (c.relax_node.ensures.visits, c.settle.ensures.others.0) c.in_ok-current.ensures.visits in
     let states : c.settle.new.self.states.items ≡ with_settled ms c.in-Some.place =
     rw (sym c.visit.ensures.others.0) c.settle.ensures.states in
     omega (
@@ -117,50 +126,75 @@ loop-place-smaller c =
       few,
       ap (λ (z : List Visit). length z) visits,
       length_push vs (visit_at ms c.in-Some.place c.in_ok-current.current.node),
+      c.relax_node.ensures.lowers.length,
       ap (λ (z : List NodeState). length z) states,
       length-set {A = NodeState},
-      c.settle.ensures.others.1,
-      c.visit.ensures.others.3,
     )
 
 pub loop-place-preserved : goal.loop-place-preserved
 loop-place-preserved c =
+    let net = c.args.net.now in
     let ms = c.loop-place.self.states.items in
     let vs = c.loop-place.self.visits.items in
-    let keys = c.loop-place.self.queue in
     let price = slice_index c.args.prices.now.prices in
     let u = c.in-Some.place in
-    let x : Visit = visit_at ms u c.in_ok-current.current.node in
-    let first = c.walk_start-first.result in
-    let g = c.loop-place.invariant.going in
-    let listed : u < length ms = omega (arith, c.in-Some.ensures.listed, g.queued.size) in
-    let visits : c.settle.new.self.visits.items ≡ vs ++ x ∷ [] =
-    rw c.settle.ensures.others.0 c.in_ok-current.ensures.visits in
+    let node = c.in_ok-current.current.node in
+    let x : Visit = visit_at ms u node in
+    let s = c.loop-place.invariant.searching in
+    let nearest = queue_nearest c.loop-place.invariant.queued c.in-Some.ensures in
+    let listed : u < length ms = omega (arith, c.in-Some.ensures.listed, c.loop-place.invariant.queued.size) in
+    let visits : c.relax_node.new.self.visits.items ≡ vs ++ x ∷ [] =
+    rw (c.relax_node.ensures.visits, c.settle.ensures.others.0) c.in_ok-current.ensures.visits in
     let states : c.settle.new.self.states.items ≡ with_settled ms u =
     rw (sym c.visit.ensures.others.0) c.settle.ensures.states in
-    let turn : Turn = record { number = length vs; first = first; next = first; again = first } in
-    let turns : c.settle.new.self.turns.items ≡ set c.loop-place.self.turns.items u turn =
-    rw (sym c.visit.ensures.others.1, sym c.in_ok-current.ensures.current.2) c.settle.ensures.turns in
-    let queue : c.settle.new.self.queue ≡ set keys u (waiting_key (slice_index keys u) first) =
-    rw (sym c.visit.ensures.others.2) c.settle.ensures.queue in
-    let looks : c.settle.new.self.looks ≡ c.loop-place.self.looks =
-    c.settle.ensures.others.1 ∙ c.visit.ensures.others.3 in
-    let here : c.index.result.now ≡ state ms u = c.index.ensures ∙ get_or_default ms u _ _ listed in
-    let open_ : settled ms u ≡ false = ap (λ (m : NodeState). m.settled) (sym here) ∙ c.if-index.false in
+    let lowers : IsLowered (with_settled ms u) c.relax_node.new.self.states.items =
+    subst (λ (z : List NodeState). IsLowered z c.relax_node.new.self.states.items) states c.relax_node.ensures.lowers in
+    let looks : LooksBoth net price c.in_ok-current.current (vs ++ x ∷ []) (with_settled ms u)
+    c.relax_node.new.self.states.items =
+    subst (λ (z : List NodeState).
+    LooksBoth net price c.in_ok-current.current (vs ++ x ∷ []) z c.relax_node.new.self.states.items) states
+    (subst (λ (z : List Visit).
+    LooksBoth net price c.in_ok-current.current z c.settle.new.self.states.items c.relax_node.new.self.states.items)
+    (rw c.settle.ensures.others.0 c.in_ok-current.ensures.visits) c.relax_node.ensures.looks) in
     record {
-      length = omega (
-        arith,
-        c.loop-place.invariant.length,
-        ap (λ (z : List NodeState). length z) states,
-        length-set {A = NodeState},
-      );
-      going = rw (states, turns, queue, visits, looks)
-          (going_settled c.args.net.now price c.args.start.place c.args.goal ms c.loop-place.self.turns.items keys vs
-          c.loop-place.self.looks u x c.in_ok-current.current.node first c.requires.net g c.in-Some.ensures open_ refl
-          refl
-          (named_at c.args.net.now ms u c.in_ok-current.current.node c.in_ok-current.ensures.current.0
-          (g.searching.labelled.named u (g.queued.shut u c.in-Some.ensures.listed c.in-Some.ensures.present)))
-          c.walk_start-first.ensures.start c.if-place-goal.false);
-      visited = rw (states, visits) (visited_settle ms vs x u refl listed c.loop-place.invariant.visited);
-      capacity = rw c.settle.ensures.others.0 (c.visit.ensures.capacity ∙ c.loop-place.invariant.capacity);
+      size = omega (arith, c.loop-place.invariant.size, lowers.length, length-set {A = NodeState});
+      searching = rw visits
+          (round_done x c.in_ok-current.current s nearest refl refl
+          c.in_ok-current.ensures.current.1 c.in_ok-current.ensures.current.2
+          (few_visits s (omega (arith, c.loop-place.invariant.size, c.requires.goal.0)))
+          (omega (arith, c.loop-place.invariant.size, c.requires.low.1)) c.requires.low.0
+          c.relax_node.new.self.states.items c.if-place-goal.false lowers looks);
+      counted =
+          let more =
+          turn_counted net vs (vs ++ x ∷ []) (length vs) (length (vs ++ x ∷ [])) u node c.loop-place.self.looks
+          c.relax_node.ensures.net
+          (named_at net ms u node c.in_ok-current.ensures.current.0
+          ((s.labelled.near_by u).named nearest.is_known)).1
+          (length_push vs x) (ap (λ (y : Visit). y.place) (visit_last vs x))
+          (fresh x s.labelled nearest refl refl)
+          (λ i l. ap (λ (y : Visit). y.place) (visit_before vs x i l)) c.loop-place.invariant.counted in
+          rw visits
+          (omega (arith, more, c.relax_node.ensures.counts, c.settle.ensures.others.1, c.visit.ensures.others.2));
+      queued = c.relax_node.ensures.queued;
+      visited = rw visits
+          (visited_kept _ c.relax_node.new.self.states.items _ lowers
+          (visited_settle ms vs x u refl listed c.loop-place.invariant.visited));
+      capacity = rw (c.relax_node.ensures.visits, c.settle.ensures.others.0)
+          (c.visit.ensures.capacity ∙ c.loop-place.invariant.capacity);
     }
+
+pub relax_node-requires-clause-node : goal.relax_node-requires-clause-node
+relax_node-requires-clause-node c =
+    let ms = c.loop-place.self.states.items in
+    let named =
+    named_at c.args.net.now ms c.in-Some.place c.in_ok-current.current.node c.in_ok-current.ensures.current.0
+    ((c.loop-place.invariant.searching.labelled.near_by c.in-Some.place).named
+    (c.loop-place.invariant.queued.shut c.in-Some.place c.in-Some.ensures.listed c.in-Some.ensures.present).0) in
+    (named.0, omega (arith, named.1, c.in_ok-current.ensures.current.1))
+
+pub returns-clause-none : goal.returns-clause-none
+returns-clause-none c =
+    search_ended c.args.net.now (slice_index c.args.prices.now.prices) c.args.start.place c.args.goal
+    c.loop-place.self.states.items c.loop-place.self.visits.items c.loop-place.invariant.searching
+    (queue_none (slice_index c.args.prices.now.prices) c.loop-place.self.states.items c.loop-place.self.queue
+    c.loop-place.invariant.queued c.in_default.ensures)

@@ -1,20 +1,24 @@
-use Rattle.std.proofs.Common.{◌≡◌, ◌+◌, ◌*◌, ◌-◌, length, vec_capacity}
+use Rattle.std.proofs.Common.{◌≡◌, ◌+◌, ◌≤◌, ◌-◌, length, vec_capacity}
 use Rattle.std.specs.Prelude.{slice_index}
 use Rattle.firm_arena.specs.Arena.{capacity_of}
-use Rattle.firm_paths.specs.NetArcs.{arcs_of}
-use Rattle.firm_paths.specs.inner.Queue.{AreVisited}
-use Rattle.firm_paths.specs.inner.Going.{IsGoing}
+use Rattle.firm_net.specs.declared.row.Way.TheVariants.{Forward, Backward}
+use Rattle.firm_paths.specs.inner.Queue.{IsQueued, AreVisited}
+use Rattle.firm_paths.proofs.Turns.{turned_from}
+use Rattle.firm_paths.proofs.Rounds.{IsSearching}
 use Rattle.firm_paths.proofs.shortest.Labels.dijkstra.Given as goal
 
 abbrev pub invariant-loop-place : goal.invariant-loop-place
 invariant-loop-place l = record {
-  length : length l.self.states.items ≡ capacity_of l.net.nodes;
-  going : IsGoing l.net (slice_index l.prices.prices) l.fn.start.place l.goal l.self.states.items l.self.turns.items
-      l.self.queue l.self.visits.items l.self.looks;
+  size : length l.self.states.items ≡ capacity_of l.net.nodes;
+  searching : IsSearching l.net (slice_index l.prices.prices) l.fn.start.place l.goal l.self.states.items
+      l.self.visits.items;
+  counted : l.self.looks
+      ≤ turned_from Forward l.net l.self.visits.items (length l.self.visits.items)
+      + turned_from Backward l.net l.self.visits.items (length l.self.visits.items);
+  queued : IsQueued (slice_index l.prices.prices) l.self.states.items l.self.queue;
   visited : AreVisited l.self.states.items l.self.visits.items;
   capacity : vec_capacity l.self.visits ≡ vec_capacity l.fn.self.visits;
 }
 
 abbrev pub decreases-loop-place : goal.decreases-loop-place
-decreases-loop-place l =
-    (length l.self.states.items - length l.self.visits.items) + (2 * length (arcs_of l.net) - l.self.looks)
+decreases-loop-place l = length l.self.states.items - length l.self.visits.items

@@ -1,8 +1,8 @@
-use Rattle.std.proofs.Common.{◌≡◌, ℕ, ◌-◌, ◌<◌, ◌∙◌, List, length, arith, ap, subst}
+use Rattle.std.proofs.Common.{◌≡◌, ℕ, ◌-◌, ◌<◌, ◌∙◌, List, [], length, arith, sym, ap, subst}
 use Rattle.std.specs.Prelude.{slice_index}
 use Rattle.firm_net.specs.Net.{lists_at}
-use Rattle.firm_paths.specs.Paths.{IsCut}
-use Rattle.firm_paths.specs.inner.Search.{known, state, label, AreRaised}
+use Rattle.firm_paths.specs.Paths.{IsHighest, IsCut}
+use Rattle.firm_paths.specs.inner.Search.{known, state, label, AreRaised, IsRaised, IsReachedBy}
 use Rattle.firm_paths.specs.declared.search.NodeState.{NodeState}
 use Rattle.std.proofs.lemmas.List.{get_or_default}
 use Rattle.firm_paths.proofs.Looks.{place_value}
@@ -26,39 +26,45 @@ returns-in_default-dijkstra-clause-none c =
 
 pub returns-clause-few : goal.returns-clause-few
 returns-clause-few c =
-    rw c.forget-2.ensures.others.1
-    (omega (arith, c.in-Some.ensures.found.few, c.requires.length.1, c.dijkstra.ensures.size.0))
+    rw c.forget-2.ensures.others.0
+    (omega (arith, c.in-Some.ensures.found.few, c.requires.length.1, c.dijkstra.ensures.size))
 
 pub returns-clause-found : goal.returns-clause-found
 returns-clause-found c =
+    let net = c.args.net.now in
     let old = c.args.prices.now.prices in
     let new = c.raise.new.self.prices in
     let ms = c.dijkstra.new.self.states.items in
     let vs = c.dijkstra.new.self.visits.items in
+    let from = c.in-Some-Some.place in
     let goal = c.in-Some-Some.goal in
+    let end = c.in-Some.end in
+    let from_is : from ≡ c.args.from.id.place =
+    (place_value c.args.from (lists_at net c.args.from) from c.in-Some-Some.ensures.value).1 in
+    let goal_is : goal ≡ c.args.to.id.place =
+    (place_value c.args.to (lists_at net c.args.to) goal c.in-Some-Some.ensures'.value).1 in
+    let highest : IsHighest net (slice_index old) goal =
+    subst (IsHighest net (slice_index old)) (sym goal_is) c.requires.highest in
     let known : goal < length ms =
-    omega (arith, c.in-Some-Some.ensures'.below, c.dijkstra.ensures.size.0, c.requires.length.1) in
+    omega (arith, c.in-Some-Some.ensures'.below, c.dijkstra.ensures.size, c.requires.length.1) in
     let here : c.index.result.now ≡ state ms goal = c.index.ensures ∙ get_or_default ms goal _ _ known in
     let distance : c.index.result.now.label - c.at.result ≡ label ms goal - slice_index old goal =
     omega (arith, c.at.ensures, ap (λ (m : NodeState). m.label) here) in
-    rw c.forget-2.ensures.others.1
-    (raise_found c.args.net.now old new c.args.from c.args.to c.in-Some-Some.place goal ms vs c.in-Some.end
-    (place_value c.args.from (lists_at c.args.net.now c.args.from) c.in-Some-Some.place c.in-Some-Some.ensures.value).1
-    (place_value c.args.to (lists_at c.args.net.now c.args.to) goal c.in-Some-Some.ensures'.value).1
-    c.in-Some-Some.ensures.net c.requires.nodes.0
-    (c.requires.length.0, c.dijkstra.ensures.size.0 ∙ c.requires.length.1) c.in-Some-Some.ensures'.below
-    c.in-Some.ensures.found
+    rw c.forget-2.ensures.others.0
+    (subst (λ (t : ℕ).
+    IsRaised net old new t × IsReachedBy net (slice_index new) [] c.args.from.id.place t vs end) goal_is
+    (subst (λ (f : ℕ). IsRaised net old new goal × IsReachedBy net (slice_index new) [] f goal vs end) from_is
+    (raise_found net old new from goal ms vs end c.in-Some-Some.ensures.net
+    (c.requires.length.0, c.dijkstra.ensures.size ∙ c.requires.length.1) c.in-Some.ensures.found
     (subst (λ (z : ℕ). AreRaised old ms goal z new) distance
     (subst (λ (z : List NodeState). AreRaised old z goal (c.index.result.now.label - c.at.result) new)
     c.deref.ensures.value c.raise.ensures.raises))
-    c.requires.valid c.requires.highest c.requires.room)
+    (omega (arith, highest c.args.from c.requires.nodes.0, ap (slice_index old) from_is))
+    c.in-Some-Some.ensures'.below highest (omega (arith, c.requires.room, ap (slice_index old) goal_is))
+    c.requires.valid)))
 
 pub forget-requires-clause-left : goal.forget-requires-clause-left
-forget-requires-clause-left c =
-    all_left (slice_index c.args.prices.now.prices) c.dijkstra.new.self.states.items c.dijkstra.new.self.queue
-    c.dijkstra.new.self.visits.items c.dijkstra.ensures.queued c.dijkstra.ensures.visited
+forget-requires-clause-left c = all_left c.dijkstra.ensures.queued c.dijkstra.ensures.visited
 
 pub forget-requires-2-clause-left : goal.forget-requires-2-clause-left
-forget-requires-2-clause-left c =
-    all_left (slice_index c.args.prices.now.prices) c.dijkstra.new.self.states.items c.dijkstra.new.self.queue
-    c.dijkstra.new.self.visits.items c.dijkstra.ensures.queued c.dijkstra.ensures.visited
+forget-requires-2-clause-left c = all_left c.dijkstra.ensures.queued c.dijkstra.ensures.visited

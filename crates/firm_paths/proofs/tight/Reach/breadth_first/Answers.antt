@@ -1,12 +1,14 @@
-use Rattle.std.proofs.Common.{◌≡◌, ◌+◌, ◌<◌, ◌∙◌, sym, List, [], arith, refl, ap, length, vec_capacity}
-use Rattle.std.specs.Prelude.{slice_index}
+use Rattle.std.proofs.Common.{◌≡◌, ℕ, Option, Some, ◌+◌, ◌<◌, ◌∙◌, sym, List, [], arith, refl, ap, length, vec_capacity}
+use Rattle.std.specs.Prelude.{slice_index, ◌==◌}
+use Rattle.std.specs.Option.{option_eq}
 use Rattle.std.proofs.lemmas.List.{get_or_default}
-use Rattle.firm_paths.specs.inner.Search.{visit}
+use Rattle.std.proofs.lemmas.Bool.{both_ways, eq-eqb}
+use Rattle.firm_paths.specs.Visits.{visit}
 use Rattle.firm_paths.specs.inner.Spread.{visits_with}
 use Rattle.firm_paths.specs.declared.search.Visit.{Visit}
 use Rattle.firm_paths.proofs.Listed.{node_listed}
-use Rattle.firm_paths.proofs.Spreading.{counted_start, visit_counted, out_start, out_more, out_done}
-use Rattle.firm_paths.proofs.Spreading.{spread_marked}
+use Rattle.firm_paths.proofs.Spreading.{counted_start, visit_counted, out_start, out_more, out_done, out_missed}
+use Rattle.firm_paths.proofs.Spreading.{spread_agree}
 use Rattle.firm_paths.proofs.Degrees.{arcs_few}
 use Rattle.firm_paths.proofs.Turns.{turn_counted, turns_counted}
 use Rattle.firm_paths.proofs.tight.Reach.breadth_first.Goals as goal
@@ -19,20 +21,20 @@ visit_once-requires-clause-counted c =
 pub loop-number-init : goal.loop-number-init
 loop-number-init c =
     let seen = c.clear.new.self.seen.items in
-    let listed : c.args.start.place < length seen =
+    let listed : c.args.root.place < length seen =
     omega (
       arith,
-      node_listed c.args.arcs.now.net.now c.args.start.node c.requires.start.0,
-      c.requires.start.1,
+      node_listed c.args.arcs.now.net.now c.args.root.node c.requires.root.0,
+      c.requires.root.1,
       c.clear.ensures.size,
       c.requires.length.1,
     ) in
-    let items : c.visit_once.new.self.visits.items ≡ visits_with seen [] c.args.start =
-    c.visit_once.ensures.visits ∙ ap (λ (z : List Visit). visits_with seen z c.args.start) c.clear.ensures.visits in
+    let items : c.visit_once.new.self.visits.items ≡ visits_with seen [] c.args.root =
+    c.visit_once.ensures.visits ∙ ap (λ (z : List Visit). visits_with seen z c.args.root) c.clear.ensures.visits in
     record {
       length = omega (arith, c.visit_once.ensures.size, c.clear.ensures.size, c.requires.length.1);
       counted = rw (c.visit_once.ensures.seen, items)
-          (visit_counted seen [] c.args.start listed (vec_capacity c.visit_once.new.self.visits)
+          (visit_counted seen [] c.args.root listed (vec_capacity c.visit_once.new.self.visits)
           (counted_start seen _ c.clear.ensures.none (omega (
             arith,
             c.clear.ensures.size,
@@ -46,8 +48,8 @@ loop-number-init c =
       out = rw (c.visit_once.ensures.seen, items)
           (out_start c.args.arcs.now.net.now (slice_index c.args.arcs.now.prices.now.prices)
           c.args.arcs.now.barred.now c.args.goal seen
-          c.args.start
-          listed c.clear.ensures.none c.requires.start.0 c.requires.start.1 c.requires.start.2);
+          c.args.root
+          listed c.clear.ensures.none c.requires.root.0 c.requires.root.1 c.requires.root.2);
     }
 
 pub loop-number-preserved : goal.loop-number-preserved
@@ -66,16 +68,23 @@ loop-number-preserved c =
           c.index.result.now.place c.index.result.now.node c.loop-number.self.looks c.requires.net
           (ap (λ (y : Visit). y.node.id.place) is_visit ∙ ((c.loop-number.invariant.out.spread.named n within).1
           ∙ sym (ap (λ (y : Visit). y.place) is_visit)))
-          refl (sym (ap (λ (y : Visit). y.place) is_visit)) within c.loop-number.invariant.out.spread.tree.apart
-          c.follow_node.ensures.grown.visits c.loop-number.invariant.looked in
+          refl
+          (ap (λ (y : Visit). y.place) (c.follow_node.ensures.grown.visits n within ∙ sym is_visit))
+          (λ i l e. c.loop-number.invariant.out.spread.tree.apart i n l within
+          (e ∙ ap (λ (y : Visit). y.place) is_visit))
+          (λ i l. ap (λ (y : Visit). y.place) (c.follow_node.ensures.grown.visits i (omega (arith, l, within))))
+          c.loop-number.invariant.looked in
           omega (arith, more, c.follow_node.ensures.counts);
       out = out_more c.args.arcs.now.net.now (slice_index c.args.arcs.now.prices.now.prices)
-          c.args.arcs.now.barred.now c.args.start.place
+          c.args.arcs.now.barred.now c.args.root.place
           c.args.goal c.loop-number.self.seen.items vs c.follow_node.new.self.seen.items
           c.follow_node.new.self.visits.items n
           (record { node = c.index.result.now.node; place = c.index.result.now.place; number = n })
           c.loop-number.invariant.out within (ap (λ (y : Visit). y.place) is_visit) refl
-          (λ e. c.if-place-goal.false (ap (λ (y : Visit). y.place) is_visit ∙ e))
+          (λ e. both_ways c.eq.result c.if-eq.false
+          (c.eq.ensures
+          ∙ (ap (λ (o : Option ℕ). option_eq (λ (a b : ℕ). a == b) o (Some c.index.result.now.place)) e
+          ∙ eq-eqb (visit vs n).place c.index.result.now.place (sym (ap (λ (y : Visit). y.place) is_visit)))))
           c.follow_node.ensures.grown c.follow_node.ensures.spreads;
     }
 
@@ -93,20 +102,29 @@ follow_node-requires-clause-count c =
 pub returns-clause-none : goal.returns-clause-none
 returns-clause-none c =
     out_done c.args.arcs.now.net.now (slice_index c.args.arcs.now.prices.now.prices) c.args.arcs.now.barred.now
-    c.args.start.place c.args.goal
+    c.args.root.place c.args.goal
     c.loop-number.self.seen.items c.loop-number.self.visits.items c.loop-number.number
     c.loop-number.invariant.out (omega (arith, c.loop-number-test.false, c.len.ensures, c.loop-number.self.visits.ok.0))
 
-pub returns-then-place-goal-clause-marked : goal.returns-then-place-goal-clause-marked
-returns-then-place-goal-clause-marked c =
-    spread_marked c.args.arcs.now.net.now (slice_index c.args.arcs.now.prices.now.prices) c.args.arcs.now.barred.now
-    c.args.start.place
-    c.loop-number.self.seen.items c.loop-number.self.visits.items c.loop-number.invariant.length
-    c.loop-number.invariant.out.spread
+pub returns-clause-missed : goal.returns-clause-missed
+returns-clause-missed c =
+    λ v is_goal.
+    out_missed c.args.arcs.now.net.now (slice_index c.args.arcs.now.prices.now.prices) c.args.arcs.now.barred.now
+    c.args.root.place c.args.goal
+    c.loop-number.self.seen.items c.loop-number.self.visits.items c.loop-number.number v
+    c.loop-number.invariant.out (omega (arith, c.loop-number-test.false, c.len.ensures, c.loop-number.self.visits.ok.0))
+    is_goal
 
-pub returns-clause-marked : goal.returns-clause-marked
-returns-clause-marked c =
-    spread_marked c.args.arcs.now.net.now (slice_index c.args.arcs.now.prices.now.prices) c.args.arcs.now.barred.now
-    c.args.start.place
-    c.loop-number.self.seen.items c.loop-number.self.visits.items c.loop-number.invariant.length
-    c.loop-number.invariant.out.spread
+pub returns-then-eq-clause-agree : goal.returns-then-eq-clause-agree
+returns-then-eq-clause-agree c =
+    spread_agree c.args.arcs.now.net.now (slice_index c.args.arcs.now.prices.now.prices) c.args.arcs.now.barred.now
+    c.args.root.place
+    c.loop-number.self.seen.items c.loop-number.self.visits.items _ c.loop-number.invariant.length
+    c.loop-number.invariant.out.spread c.loop-number.invariant.counted
+
+pub returns-clause-agree : goal.returns-clause-agree
+returns-clause-agree c =
+    spread_agree c.args.arcs.now.net.now (slice_index c.args.arcs.now.prices.now.prices) c.args.arcs.now.barred.now
+    c.args.root.place
+    c.loop-number.self.seen.items c.loop-number.self.visits.items _ c.loop-number.invariant.length
+    c.loop-number.invariant.out.spread c.loop-number.invariant.counted

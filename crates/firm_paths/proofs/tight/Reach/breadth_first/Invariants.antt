@@ -16,7 +16,7 @@ invariant-loop-number l = record {
       ≤ turned_from Forward l.arcs.net.now l.self.visits.items l.number + turned_from Backward l.arcs.net.now
       l.self.visits.items
       l.number;
-  out : IsSpreadOut l.arcs.net.now (slice_index l.arcs.prices.now.prices) l.arcs.barred.now l.fn.start.place l.goal
+  out : IsSpreadOut l.arcs.net.now (slice_index l.arcs.prices.now.prices) l.arcs.barred.now l.fn.root.place l.fn.goal
       l.self.seen.items
       l.self.visits.items l.number;
 }

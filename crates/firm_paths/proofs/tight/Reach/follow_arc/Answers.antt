@@ -3,11 +3,11 @@ use Rattle.std.specs.Prelude.{slice_index}
 use Rattle.firm_net.specs.Net.{lists_at, IsResidual as IsOpen}
 use Rattle.firm_net.specs.declared.row.Way.{Way}
 use Rattle.firm_net.specs.declared.row.NodeId.{NodeId}
-use Rattle.firm_paths.specs.inner.Search.{start_of, end_of, IsPredecessor}
+use Rattle.firm_paths.specs.inner.Search.{start_of, end_of, opposite_of, IsSuccessor}
 use Rattle.firm_paths.specs.inner.Spread.{is}
 use Rattle.firm_paths.specs.declared.search.Visit.{Visit}
-use Rattle.firm_paths.proofs.Looks.{place_value, make_hop}
-use Rattle.firm_paths.proofs.Spreading.{visit_counted, visit_spread}
+use Rattle.firm_paths.proofs.Looks.{place_value}
+use Rattle.firm_paths.proofs.Spreading.{make_successor, visit_counted, visit_spread}
 use Rattle.firm_paths.proofs.tight.Reach.follow_arc.Goals as goal
 use Rattle.firm_paths.proofs.tight.Reach.follow_arc.Goals.{in-Forward, in-Backward}
 
@@ -16,12 +16,13 @@ returns-then-tight-clause-spreads c from number place old =
     let there =
     place_value c.entered-node.result (lists_at c.args.arcs.now.net.now c.entered-node.result) c.in-Some.place
     c.in-Some.ensures.value in
-    let open_ : IsOpen c.args.step.way c.args.row = c.if-not-is_residual.ensures.0 refl in
-    let ends : c.in-Some.place ≡ (end_of c.args.step.way c.args.row).id.place =
+    let open_ : IsOpen (opposite_of c.args.read.way) c.args.row =
+    subst (λ (w : Way). IsOpen w c.args.row) c.opposite-way.ensures (c.if-not-is_residual.ensures.0 refl) in
+    let ends : c.in-Some.place ≡ (end_of c.args.read.way c.args.row).id.place =
     there.1 ∙ ap (λ (n : NodeId). n.id.place) c.entered-node.ensures in
     let tight : c.args.row.cost + slice_index c.args.arcs.now.prices.now.prices c.args.row.tail.id.place
     ≡ slice_index c.args.arcs.now.prices.now.prices c.args.row.head.id.place =
-    elim c.match-step.branch [
+    elim c.match-read.branch [
       | in-Forward w ↦
           let start : c.args.row.tail.id.place ≡ c.args.current.place =
           subst (λ (way : Way). (start_of way c.args.row).id.place ≡ c.args.current.place) w.in-Forward.is
@@ -51,17 +52,23 @@ returns-then-tight-clause-spreads c from number place old =
             ap (slice_index c.args.arcs.now.prices.now.prices) end,
           )
     ] in
-    let predecessor : IsPredecessor c.args.arcs.now.net.now (slice_index c.args.arcs.now.prices.now.prices)
+    let predecessor : IsSuccessor c.args.arcs.now.net.now (slice_index c.args.arcs.now.prices.now.prices)
     c.args.arcs.now.barred.now
     c.args.self.now.visits.items c.in-Some.place
-    (record { step = c.args.step; after = c.args.current.number }) =
-    subst (λ (z : ℕ). IsPredecessor c.args.arcs.now.net.now (slice_index
+    (record {
+      step = record { arc = c.args.read.arc; way = opposite_of c.args.read.way };
+      after = c.args.current.number;
+    }) =
+    subst (λ (z : ℕ). IsSuccessor c.args.arcs.now.net.now (slice_index
     c.args.arcs.now.prices.now.prices) c.args.arcs.now.barred.now c.args.self.now.visits.items
-    z (record { step = c.args.step; after = c.args.current.number }))
+    z (record {
+      step = record { arc = c.args.read.arc; way = opposite_of c.args.read.way };
+      after = c.args.current.number;
+    }))
     (sym ends)
-    (make_hop c.args.arcs.now.net.now (slice_index c.args.arcs.now.prices.now.prices) c.args.arcs.now.barred.now
+    (make_successor c.args.arcs.now.net.now (slice_index c.args.arcs.now.prices.now.prices) c.args.arcs.now.barred.now
     c.args.self.now.visits.items
-    c.args.step.arc c.args.row c.args.step.way c.args.current.number
+    c.args.read.arc c.args.row c.args.read.way c.args.current.number
     c.requires.row open_ number (c.requires.start ∙ sym place) tight
     (λ b. let t : c.is_barred.result ≡ true = c.is_barred.ensures.1 b in absurd (cc (t, c.if-is_barred.false)))) in
     let x : Visit =
@@ -69,7 +76,10 @@ returns-then-tight-clause-spreads c from number place old =
       node = c.entered-node.result;
       place = c.in-Some.place;
       predecessor =
-          Some (record { step = c.args.step; after = c.args.current.number });
+          Some (record {
+            step = record { arc = c.args.read.arc; way = opposite_of c.args.read.way };
+            after = c.args.current.number;
+          });
     } in
     let spread =
     visit_spread c.args.self.now.seen.items c.args.self.now.visits.items x
@@ -77,7 +87,7 @@ returns-then-tight-clause-spreads c from number place old =
     c.args.arcs.now.prices.now.prices)
     c.args.arcs.now.barred.now from
     there.0 (sym there.1) predecessor old in
-    rw (c.visit_once.ensures.seen, c.visit_once.ensures.visits)
+    rw (c.visit_once.ensures.seen, c.visit_once.ensures.visits, c.opposite-way.ensures)
     (spread.0, inr (λ o t. ap (is _) (sym ends) ∙ spread.1))
 
 pub returns-then-tight-clause-counted : goal.returns-then-tight-clause-counted
