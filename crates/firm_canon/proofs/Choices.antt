@@ -1,6 +1,6 @@
 -- What attempts rule out, and what a choice rests on.
-use Rattle.std.proofs.Common.{◌≡◌, ℕ, suc, ◌+◌, ◌<◌, ◌≤◌, Bool, true, false, cond, eqb, List, ◌++◌}
-use Rattle.std.proofs.Common.{length, Some, None, Option, refl, sym, ap, subst, arith}
+use Rattle.std.proofs.Common.{◌≡◌, ℕ, suc, ◌+◌, ◌<◌, ◌≤◌, Bool, true, false, cond, eqb, List, ◌∷◌, ◌++◌, ◌⊎◌}
+use Rattle.std.proofs.Common.{[], append_assoc, length, Some, None, Option, refl, sym, ap, subst, arith}
 use Rattle.std.proofs.Common.{⊎_elim}
 use Rattle.std.proofs.lemmas.Bool.{cases_Bool, cases_eq, cond-true, cond-false, eqb-true, eq-eqb, ne_eqb}
 use Rattle.firm_paths.specs.Network.{Arc}
@@ -9,46 +9,66 @@ use Rattle.firm_rules.specs.declared.rounds.Choice.TheVariants.{On, Wait}
 use Rattle.firm_rules.specs.Placement.{Case, Demand, rank, runs_at, prefers}
 use Rattle.firm_graph.specs.declared.network.Node.{Node}
 use Rattle.firm_graph.specs.declared.network.Key.{Key}
-use Rattle.firm_graph.specs.declared.network.Key.TheVariants.{Through, Slot, Exit, Wide, Stay, Wait as WaitArc, Prefer}
-use Rattle.firm_graph.specs.Network.{demand, stay_head}
-use Rattle.firm_rules.specs.Placement.{IsPlace}
+use Rattle.firm_graph.specs.declared.network.Key.TheVariants.{Through, Wide, Stay, Wait as WaitArc, Prefer}
+use Rattle.firm_graph.specs.Network.{demand, preferred_at, stay_head}
+use Rattle.firm_rules.specs.Placement.{IsLegal, IsPlace, placement_cost as cost}
 use Rattle.firm_graph.specs.Network.{runs}
 use Rattle.firm_canon.specs.inner.Placed.{wide, near, number, prefer, guests, placed, aside}
-use Rattle.firm_graph.specs.View.{View, Shows, IsSameCase, flows}
+use Rattle.firm_graph.specs.View.{View, Shows, IsSameCase, flows, spot_of}
 use Rattle.firm_graph.specs.Network.{IsNodeOf}
-use Rattle.firm_canon.specs.inner.Choosing.{low_of, Keeps, Shut, Barred, best, IsChosen, IsRefused, HasRoom}
-use Rattle.firm_canon.specs.inner.Choosing.{next_number}
-use Rattle.firm_canon.specs.inner.Classes.{IsMost}
+use Rattle.firm_canon.specs.inner.Choosing.{low_of, Keeps, Shut, Barred, best, IsChosen, IsSpent, HasRoom}
+use Rattle.firm_canon.specs.inner.Choosing.{IsBare, next_number}
 use Rattle.firm_canon.proofs.Parts.{parts}
 use Rattle.firm_canon.proofs.Read.{task_sends}
-use Rattle.firm_canon.proofs.Choose.{bar_own, bar_near, ranks_before_on}
+use Rattle.firm_canon.proofs.Totals.{total_zero}
+use Rattle.firm_canon.proofs.Choose.{no_guest, ranks_before_on}
+use Rattle.firm_canon.proofs.Take.{added, adds_far, adds_near, adds_own, lows_one}
 use Rattle.firm_canon.proofs.Nears.{own_wide, own_near, own_stay, other_stay, wait_stay, wide_is, far_near, near_wide}
 use Rattle.firm_canon.proofs.Nears.{prefer_le_one}
+use Rattle.firm_canon.proofs.First.{low-le}
 use Rattle.firm_canon.proofs.AsCheap.{flow_placed}
 
-pub shut_own : (v : View) (price : ℕ → ℕ) (p : List Choice) → Keeps v price p → IsMost v p (Stay (length p))
-    → flows v (Stay (length p)) ≡ 0
-    → (j : ℕ) → runs_at (demand v.case (length p)).home j ≡ true → Shut v p j
-shut_own v price p keeps most none j own = record {
-  barred = bar_own v.case p (best v p) j own (λ r legal cheap.
-      omega (
-        arith,
-        none,
-        most (placed v.case (p ++ r)) (flow_placed v.case p r (best v p) keeps.shows.sound legal
-            cheap),
-      ));
-}
+-- WHERE AN ARC IS SPENT no least placement goes on by it
+module _ (v : View) (price : ℕ → ℕ) (p : List Choice) (keeps : Keeps v price p)
+    (next : length p < length v.case.tasks) where
+  abbrev task : Demand
+  task = demand v.case (length p)
 
-pub shut_near : (v : View) (price : ℕ → ℕ) (p : List Choice) (class : ℕ → ℕ) (j : ℕ) → Keeps v price p
-    → runs_at (demand v.case (length p)).home j ≡ false → prefers (demand v.case (length p)) j ≡ true
-    → IsRefused v price p class j → Shut v p j
-shut_near v price p class j keeps other close out = record {
-  barred = bar_near v.case p (best v p) j other close (λ r legal cheap.
-      omega (
-        arith,
-        out.never (placed v.case (p ++ r)) (flow_placed v.case p r (best v p) keeps.shows.sound legal cheap),
-      ));
-}
+  -- what a least placement puts on a spent arc
+  held : (key : Key) → IsSpent v.case p (best v p) key → (r : List Choice) → IsLegal v.case (p ++ r)
+      → cost v.case (p ++ r) ≤ best v p → placed v.case (p ++ r) key ≤ low_of v.case p key
+  held key spent r legal cheap =
+      spent (placed v.case (p ++ r)) (flow_placed v.case p r (best v p) keeps.shows.sound legal cheap)
+
+  -- a machine is shut where the choice of it adds to a spent arc
+  shut_by : (key : Key) (j : ℕ) → added v.case p (On j) key ≡ 1 → IsSpent v.case p (best v p) key → Shut v p j
+  shut_by key j adds spent = record {
+    barred = λ r legal cheap. omega (
+      arith,
+      held key spent (On j ∷ r) legal cheap,
+      low-le v.case (p ++ On j ∷ []) r key,
+      ap (λ (q : List Choice). placed v.case q key) (append_assoc p (On j ∷ []) r),
+      lows_one v.case p (On j) key next,
+      adds,
+    );
+  }
+
+  pub shut_own : IsSpent v.case p (best v p) (Stay (length p)) → (j : ℕ) → runs_at task.home j ≡ true → Shut v p j
+  shut_own spent j own = shut_by (Stay (length p)) j (adds_own v.case p j own) spent
+
+  pub shut_near : (j k : ℕ) → runs_at task.home j ≡ false → prefers task j ≡ true → k ≡ next_number v.case p j
+      → IsSpent v.case p (best v p) (Prefer (length p) k) → Shut v p j
+  shut_near j k other close is spent =
+      shut_by (Prefer (length p) k) j
+      (subst (λ (z : ℕ). added v.case p (On j) (Prefer (length p) z) ≡ 1) (sym is) (adds_near v.case p j other close))
+      spent
+
+  -- by the hub, the hub's arc to the machine or the task's to the hub
+  pub shut_far : (j : ℕ) → runs_at task.home j ≡ false → prefers task j ≡ false
+      → IsSpent v.case p (best v p) (Through j) ⊎ IsSpent v.case p (best v p) (Wide (length p)) → Shut v p j
+  shut_far j other far =
+      ⊎_elim (shut_by (Through j) j (adds_far v.case p j other far).1)
+      (shut_by (Wide (length p)) j (adds_far v.case p j other far).0)
 
 pub shut_same : (old new : View) (p : List Choice) (j : ℕ) → IsSameCase old new → best new p ≡ best old p → Shut old p j
     → Shut new p j
@@ -61,28 +81,6 @@ shut_same old new p j same e shut = record {
 pub sends_one : (v : View) (price : ℕ → ℕ) (p : List Choice) (i : ℕ) → Keeps v price p → i < length v.case.tasks
     → flows v (Wide i) + flows v (Stay i) + flows v (WaitArc i) + aside v.case (flows v) i ≡ 1
 sends_one v price p i keeps l = task_sends v.case (low_of v.case p) (flows v) i l keeps.stands.balanced
-
--- an arc of a task carries one unit at most
-abbrev pub IsOfTask : Case → Key → Type 0
-IsOfTask c (Through j) = ⊥
-IsOfTask c (Slot j k) = ⊥
-IsOfTask c (Exit k) = ⊥
-IsOfTask c (Wide i) = i < length c.tasks
-IsOfTask c (Stay i) = i < length c.tasks
-IsOfTask c (WaitArc i) = i < length c.tasks
-IsOfTask c (Prefer i k) = (i < length c.tasks) × (k < length (demand c i).preferred)
-
-pub unit_at_most : (v : View) (price : ℕ → ℕ) (p : List Choice) (key : Key) → Keeps v price p → IsOfTask v.case key
-    → flows v key ≤ 1
-unit_at_most v price p (Through j) keeps l = absurd l
-unit_at_most v price p (Slot j k) keeps l = absurd l
-unit_at_most v price p (Exit k) keeps l = absurd l
-unit_at_most v price p (Wide i) keeps l = omega (arith, sends_one v price p i keeps l)
-unit_at_most v price p (Stay i) keeps l = omega (arith, sends_one v price p i keeps l)
-unit_at_most v price p (WaitArc i) keeps l = omega (arith, sends_one v price p i keeps l)
-unit_at_most v price p (Prefer i k) keeps l =
-    ((parts (λ (a : Arc Node Key). (a.low ≤ a.flow) × (a.flow ≤ a.cap)) v.case (low_of v.case p) (flows v)
-    keeps.stands.within).prefers i k l.0 l.1).1
 
 pub no_stay_home : (v : View) (price : ℕ → ℕ) (p : List Choice) (i : ℕ) → Keeps v price p → i < length v.case.tasks
     → (demand v.case i).home ≡ None → flows v (Stay i) ≡ 0
@@ -231,30 +229,6 @@ room_near v price p o keeps other close one =
     nothing {x} true e = e
     nothing {x} false e = refl
 
--- the same of a machine that was tried in another view of the case
-pub room_far_at : (old new : View) (price : ℕ → ℕ) (p : List Choice) (o : ℕ) → IsSameCase old new → Keeps new price p
-    → runs_at (demand old.case (length p)).home o ≡ false → prefers (demand old.case (length p)) o ≡ false
-    → flows new (Wide (length p)) ≡ 1 → guests old.case p o < flows new (Through o)
-    → HasRoom new.case p (On o) (flows new)
-room_far_at old new price p o same keeps other far one more =
-    let n : ℕ = length p in
-    room_far new price p o keeps
-    (subst (λ (c : Case). runs_at (demand c n).home o ≡ false) (sym same.case) other)
-    (subst (λ (c : Case). prefers (demand c n) o ≡ false) (sym same.case) far) one
-    (subst (λ (c : Case). guests c p o < flows new (Through o)) (sym same.case) more)
-
-pub room_near_at : (old new : View) (price : ℕ → ℕ) (p : List Choice) (o k : ℕ) → IsSameCase old new → Keeps new price p
-    → runs_at (demand old.case (length p)).home o ≡ false → prefers (demand old.case (length p)) o ≡ true
-    → k ≡ next_number old.case p o → 1 ≤ flows new (Prefer (length p) k)
-    → HasRoom new.case p (On o) (flows new)
-room_near_at old new price p o k same keeps other close is one =
-    let n : ℕ = length p in
-    room_near new price p o keeps
-    (subst (λ (c : Case). runs_at (demand c n).home o ≡ false) (sym same.case) other)
-    (subst (λ (c : Case). prefers (demand c n) o ≡ true) (sym same.case) close)
-    (subst (λ (c : Case). 1 ≤ flows new (Prefer n (next_number c p o))) (sym same.case)
-    (subst (λ (z : ℕ). 1 ≤ flows new (Prefer n z)) is one))
-
 -- a machine that is not the task's own is chosen where it has room and all before it are shut
 pub chosen_on : (v : View) (p : List Choice) (o : ℕ) → o < length v.case.slots
     → runs_at (demand v.case (length p)).home o ≡ false → HasRoom v.case p (On o) (flows v)
@@ -272,3 +246,16 @@ chosen_on v p o in_range other room own others =
           (⊎_elim (λ (t : runs_at home r.0 ≡ true). (own r.0 t).barred)
           (λ (f : (runs_at home r.0 ≡ false) × (r.0 < o)). (others r.0 f.1 f.0).barred) r.2);
     }
+
+-- WHERE EACH MACHINE IS BARE the task's unit is not at the hub
+pub none_at_hub : (v : View) (price : ℕ → ℕ) (p : List Choice) → Keeps v price p → length p < length v.case.tasks
+    → ((j : ℕ) → j < length v.case.slots → IsBare v p true j) → flows v (Wide (length p)) ≡ 0
+none_at_hub v price p keeps next bare =
+    no_guest v.case p (flows v) (λ n. price (spot_of v n)) keeps.stands next (λ j l. (bare j l).far refl)
+
+-- nor at a machine that it prefers
+pub none_aside : (v : View) (price : ℕ → ℕ) (p : List Choice) → Keeps v price p → length p < length v.case.tasks
+    → ((j : ℕ) → j < length v.case.slots → IsBare v p false j) → aside v.case (flows v) (length p) ≡ 0
+none_aside v price p keeps next bare =
+    total_zero (λ (k : ℕ). flows v (Prefer (length p) k)) (length (demand v.case (length p)).preferred)
+    (λ k l. (bare (preferred_at v.case (length p) k) (keeps.shows.preferred (length p) k next l)).near refl k l refl)

@@ -1,54 +1,28 @@
 -- Which choices are left for the next task: what each refusal of the search rules out.
-use Rattle.std.proofs.Common.{◌≡◌, ℕ, zero, suc, ◌<◌, ◌≤◌, true, false, eqb, List, [], ◌∷◌, length}
-use Rattle.std.proofs.Common.{arith, refl, sym, ap, ◌∙◌, inl, inr, ◌⊎◌, ⊎_elim, Option, Some, None}
-use Rattle.std.proofs.lemmas.Bool.{cases_Bool, cases_lt, cond-true, cond-false, eq-eqb}
+use Rattle.std.proofs.Common.{◌≡◌, ℕ, zero, suc, ◌<◌, ◌≤◌, true, false, List, [], ◌∷◌, length}
+use Rattle.std.proofs.Common.{arith, refl, sym, ap, ◌∙◌, inl, inr, ◌⊎◌, ⊎_elim, Option, None}
+use Rattle.std.proofs.lemmas.Bool.{cases_Bool, cases_lt, cond-true, cond-false}
 use Rattle.firm_rules.specs.declared.rounds.Choice.{Choice}
 use Rattle.firm_rules.specs.declared.rounds.Choice.TheVariants.{On, Wait}
 use Rattle.firm_paths.specs.Network.{Arc}
-use Rattle.firm_rules.specs.Placement.{Case, Demand, total, rank, runs_at, prefers}
+use Rattle.firm_rules.specs.Placement.{Case, total, rank, runs_at}
 use Rattle.firm_rules.specs.Placement.{IsPlace}
 use Rattle.firm_graph.specs.declared.network.Node.{Node}
 use Rattle.firm_graph.specs.declared.network.Key.{Key}
-use Rattle.firm_graph.specs.declared.network.Key.TheVariants.{Through, Wide, Stay, Prefer}
+use Rattle.firm_graph.specs.declared.network.Key.TheVariants.{Through, Wide}
 use Rattle.firm_graph.specs.Network.{demand}
 use Rattle.firm_canon.proofs.Totals.{total-le, total_tight}
-use Rattle.firm_canon.specs.inner.Placed.{pick, wide, stay, near, number, prefer, spot, wide_at, guests}
-use Rattle.firm_canon.proofs.Nears.{own_stay, near_is}
+use Rattle.firm_canon.specs.inner.Placed.{pick, wide, spot, wide_at, guests}
 use Rattle.firm_canon.proofs.Placed.{plain_regroup, at_place, wide_spot}
 use Rattle.firm_canon.proofs.Parts.{parts}
 use Rattle.firm_canon.proofs.Read.{hub_passes}
-use Rattle.firm_canon.specs.inner.Choosing.{low_of, Stands, Capped, Barred}
-use Rattle.firm_canon.proofs.First.{pick_end, pick_past, wide_none}
+use Rattle.firm_canon.specs.inner.Choosing.{low_of, Stands}
+use Rattle.firm_canon.proofs.First.{pick_past, wide_none}
 
 pub pick_beyond : (p : List Choice) (i : ℕ) → length p ≤ i → pick p i ≡ None
 pick_beyond [] i h = refl
 pick_beyond (o ∷ p) zero h = absurd (omega arith)
 pick_beyond (o ∷ p) (suc i) h = pick_beyond p i (omega arith)
-
-pub bar_own : (c : Case) (p : List Choice) (best j : ℕ) → runs_at (demand c (length p)).home j ≡ true
-    → Capped c p best (Stay (length p)) 0 → Barred c p best (On j)
-bar_own c p best j own capped r legal cheap =
-    omega (
-      arith,
-      capped (On j ∷ r) legal cheap,
-      ap (stay (demand c (length p)).home) (pick_end p r (On j)),
-      own_stay (demand c (length p)).home j own,
-    )
-
--- one that is preferred
-pub bar_near : (c : Case) (p : List Choice) (best j : ℕ) → runs_at (demand c (length p)).home j ≡ false
-    → prefers (demand c (length p)) j ≡ true
-    → Capped c p best (Prefer (length p) (number (demand c (length p)) (Some (On j)))) 0 → Barred c p best (On j)
-bar_near c p best j other close capped r legal cheap =
-    let t : Demand = demand c (length p) in
-    let e : ℕ = number t (Some (On j)) in
-    omega (
-      arith,
-      capped (On j ∷ r) legal cheap,
-      ap (prefer t e) (pick_end p r (On j)),
-      cond-true {A = ℕ} (eqb e e) (near t (Some (On j))) 0 (eq-eqb e e refl),
-      near_is t j other close,
-    )
 
 -- before `On o` rank the task's own machine and the machines that stand before; before `Wait` every machine
 pub ranks_before_on : (m : ℕ) (home : Option ℕ) (o : ℕ) (b : Choice) → IsPlace m b → o < m

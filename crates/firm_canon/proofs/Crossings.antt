@@ -11,12 +11,9 @@ use Rattle.firm_rules.specs.Placement.{Case}
 use Rattle.firm_graph.specs.declared.network.Node.{Node}
 use Rattle.firm_graph.specs.declared.network.Node.TheVariants.{Sink}
 use Rattle.firm_graph.specs.declared.network.Key.{Key}
-use Rattle.firm_graph.specs.declared.network.Key.TheVariants.{Through, Slot, Exit, Wide, Stay, Wait, Prefer}
-use Rattle.firm_graph.specs.Network.{network, task_nodes, arc}
+use Rattle.firm_graph.specs.Network.{network, task_nodes}
 use Rattle.firm_graph.specs.View.{View, flows, spot_of}
-use Rattle.firm_canon.specs.inner.Choosing.{low_of, Keeps, best, IsAsCheap}
-use Rattle.firm_canon.specs.inner.Classes.{StaysAtNoCost}
-use Rattle.firm_canon.proofs.Parts.{OnParts, parts, whole}
+use Rattle.firm_canon.specs.inner.Choosing.{low_of, Keeps, best, IsAsCheap, StaysAtNoCost}
 use Rattle.firm_canon.proofs.AsCheap.{IsOther, as_other}
 
 -- equal sums of terms that are no larger have equal terms
@@ -113,44 +110,3 @@ crossing v price p y inside keeps flow closed =
     λ k d l.
     let a : Arc Node Key = get_or arcs k d in
     unweighed (inside a.tail) (inside a.head) a.flow (y a.key) (equal k d l)
-
--- what holds of each arc with one flow, of arcs with others
-pub network_on : (P Q : Arc Node Key → Type 0) (c : Case) (low x more y : Key → ℕ)
-    → ((key : Key) (tail head : Node) (cap cost : ℕ) → P (arc low x key tail head cap cost)
-    → Q (arc more y key tail head cap cost))
-    → All P (network c low x) → All Q (network c more y)
-network_on P Q c low x more y lift h =
-    let old : OnParts P c low x = parts P c low x h in
-    whole Q c more y (record {
-      through = λ j l. lift (Through j) _ _ _ _ (old.through j l);
-      slot = λ j k l r. lift (Slot j k) _ _ _ _ (old.slot j k l r);
-      exit = λ k l. lift (Exit k) _ _ _ _ (old.exit k l);
-      wides = λ i l. lift (Wide i) _ _ _ _ (old.wides i l);
-      stays = λ i l. lift (Stay i) _ _ _ _ (old.stays i l);
-      delays = λ i l. lift (Wait i) _ _ _ _ (old.delays i l);
-      prefers = λ i k l m. lift (Prefer i k) _ _ _ _ (old.prefers i k l m);
-    })
-
--- the same set is closed for the other flow
-pub closed_too : (c : Case) (low x y : Key → ℕ) (price : Node → ℕ) (inside : Node → Bool)
-    → All (StaysAtNoCost price inside) (network c low x) → All (Agrees inside y) (network c low x)
-    → All (StaysAtNoCost price inside) (network c low y)
-closed_too c low x y price inside closed agrees =
-    let old : OnParts (StaysAtNoCost price inside) c low x = parts (StaysAtNoCost price inside) c low x closed in
-    let same : OnParts (Agrees inside y) c low x = parts (Agrees inside y) c low x agrees in
-    let carry : (key : Key) (tail head : Node) (cap cost : ℕ)
-    → StaysAtNoCost price inside (arc low x key tail head cap cost) → Agrees inside y (arc low x key tail head cap cost)
-    → StaysAtNoCost price inside (arc low y key tail head cap cost) =
-    λ key tail head cap cost stays is tight. (
-      λ t h. omega (arith, (stays tight).0 t h, is.0 t h),
-      λ h t. omega (arith, (stays tight).1 h t, is.1 h t),
-    ) in
-    whole (StaysAtNoCost price inside) c low y (record {
-      through = λ j l. carry (Through j) _ _ _ _ (old.through j l) (same.through j l);
-      slot = λ j k l r. carry (Slot j k) _ _ _ _ (old.slot j k l r) (same.slot j k l r);
-      exit = λ k l. carry (Exit k) _ _ _ _ (old.exit k l) (same.exit k l);
-      wides = λ i l. carry (Wide i) _ _ _ _ (old.wides i l) (same.wides i l);
-      stays = λ i l. carry (Stay i) _ _ _ _ (old.stays i l) (same.stays i l);
-      delays = λ i l. carry (Wait i) _ _ _ _ (old.delays i l) (same.delays i l);
-      prefers = λ i k l m. carry (Prefer i k) _ _ _ _ (old.prefers i k l m) (same.prefers i k l m);
-    })

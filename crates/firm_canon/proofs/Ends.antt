@@ -1,102 +1,79 @@
--- How the choice of a task ends, from the states between which machines were tried.
-use Rattle.std.proofs.Common.{◌≡◌, ℕ, ◌<◌, ◌≤◌, Bool, true, false, length, Some, Option, arith, refl, sym, ap}
-use Rattle.std.proofs.Common.{◌∙◌, ◌⊎◌, inl, inr, ⊎_elim}
-use Rattle.std.specs.Prelude.{nat_le}
-use Rattle.std.proofs.lemmas.Bool.{cases_lt}
+-- How the choice of a task ends: with the first machine that it can reach, or with waiting.
+use Rattle.std.proofs.Common.{◌≡◌, ℕ, zero, suc, ◌<◌, ◌≤◌, ◌==◌, Bool, true, false, eqb, List, [], ◌∷◌, length, get_or}
+use Rattle.std.proofs.Common.{Option, Some, None, arith, sym, ap, subst, ◌∙◌, inl, inr, ⊎_elim}
+use Rattle.std.specs.List.{list_any}
+use Rattle.std.proofs.lemmas.Bool.{cases_Bool, both_ways, eq-eqb, eqb-true, or_parts}
+use Rattle.firm_rules.specs.declared.rounds.Choice.{Choice}
 use Rattle.firm_rules.specs.declared.rounds.Choice.TheVariants.{On, Wait}
-use Rattle.firm_rules.specs.Placement.{runs_at, prefers}
-use Rattle.firm_paths.specs.Classes.{class_of}
-use Rattle.firm_graph.specs.declared.network.Key.TheVariants.{Wide, Stay}
+use Rattle.firm_rules.specs.Placement.{Case, Demand, runs_at, prefers}
+use Rattle.firm_graph.specs.declared.network.Key.TheVariants.{Through, Wide, Stay}
 use Rattle.firm_graph.specs.Network.{demand}
 use Rattle.firm_graph.specs.View.{View, IsSameCase, flows}
-use Rattle.firm_canon.specs.inner.Placed.{aside}
-use Rattle.firm_canon.specs.inner.Choosing.{HasRoom, IsChosen, IsPassed, IsShutOff, IsSpentBeside, Shut, best}
-use Rattle.firm_canon.specs.inner.State.{GoesOn, IsReady, prefix, price, view}
-use Rattle.firm_canon.specs.declared.choosing.Choosing.{Choosing}
-use Rattle.firm_canon.proofs.Passes.{passed_on, passed_all, shut_on, first_found, all_passed, none_passed}
-use Rattle.firm_canon.proofs.States.{kept_on, kept_back, still_on, lasting_back}
+use Rattle.firm_canon.specs.inner.Placed.{guests}
+use Rattle.firm_canon.specs.inner.Choosing.{Keeps, HasRoom, IsBare, IsChosen, IsPassed, IsSpent, best}
+use Rattle.firm_canon.proofs.Choices.{shut_own, shut_far, shut_same, chose_wait, chosen_on, none_aside}
 
-pub same_view : (v : View) → IsSameCase v v
-same_view v = record { case = refl; node = refl; arc = refl }
+-- a task that runs on a machine runs on no other
+home_only : (home : Option ℕ) (j : ℕ) → runs_at home j ≡ true → home ≡ Some j
+home_only None j e = absurd cc
+home_only (Some h) j e = ap Some (eqb-true h j e)
 
--- what a flow of the first state costs, by the choices that were
-pub best_back : (s t : Choosing) (most found : ℕ) → GoesOn s t most found
-    → best (view t) (prefix s) ≡ best (view s) (prefix s)
-best_back s t most found goes =
-    kept_back (λ at b. best (view t) b ≡ best (view s) (prefix s)) s t most found goes goes.best
+not_preferred : (xs : List ℕ) (j k : ℕ) → list_any (λ z. z == j) xs ≡ false → k < length xs → get_or xs k 0 ≡ j → ⊥
+not_preferred [] j k none l e = omega arith
+not_preferred (x ∷ xs) j zero none l e =
+    both_ways (eqb x j) (or_parts (eqb x j) (list_any (λ z. z == j) xs) none).0 (eq-eqb x j e)
+not_preferred (x ∷ xs) j (suc k) none l e =
+    not_preferred xs j k (or_parts (eqb x j) (list_any (λ z. z == j) xs) none).1 (omega arith) e
 
--- in the view that was, by the classes that are
-pub passed_since : (s t : Choosing) (most found : ℕ) (tried : Bool) (k : ℕ) → GoesOn s t most found
-    → IsPassed (view s) (price s) (prefix s) (class_of s.scratch.now) tried k
-    → IsPassed (view s) (price s) (prefix s) (class_of t.scratch.now) tried k
-passed_since s t most found tried k goes passed =
-    passed_on (view s) (view s) (price s) (prefix s) (class_of s.scratch.now) (class_of t.scratch.now) tried k
-    (same_view (view s)) refl goes.refined passed
+module _ (v : View) (price : ℕ → ℕ) (p : List Choice) (keeps : Keeps v price p)
+    (next : length p < length v.case.tasks) where
+  abbrev task : Demand
+  task = demand v.case (length p)
 
-module _ (s t : Choosing) (home : Option ℕ) (first behind end most found : ℕ) (ready : IsReady s)
-    (next : length (prefix s) < length (view s).case.tasks) (goes : GoesOn s t most found)
-    (is : home ≡ (demand (view s).case (length (prefix s))).home)
-    (own : (j : ℕ) → runs_at home j ≡ true → Shut (view s) (prefix s) j)
-    (passed : (k : ℕ) → k < first
-    → IsPassed (view s) (price s) (prefix s) (class_of s.scratch.now) true k)
-    (beside : (k : ℕ) → first ≤ k → k < end → nat_le behind k ≡ false
-    → runs_at (demand (view s).case (length (prefix s))).home k ≡ false
-    → prefers (demand (view s).case (length (prefix s))) k ≡ false
-    → IsSpentBeside (view s).case (prefix s) (best (view s) (prefix s)) k) where
-  abbrev class : ℕ → ℕ
-  class = class_of t.scratch.now
+  -- A MACHINE IS PASSED: the task's own
+  pub passed_own : (at_hub : Bool) → IsSpent v.case p (best v p) (Stay (length p))
+      → ((j : ℕ) → task.home ≡ Some j → IsBare v p at_hub j)
+      → (j : ℕ) → runs_at task.home j ≡ true → IsPassed v p at_hub j
+  passed_own at_hub spent bare j own = record {
+    bare = bare j (home_only task.home j own);
+    shut = shut_own v price p keeps next spent j own;
+  }
 
-  own_at : (j : ℕ) → runs_at (demand (view s).case (length (prefix s))).home j ≡ true → Shut (view s) (prefix s) j
-  own_at j e = own j (ap (λ (h : Option ℕ). runs_at h j) is ∙ e)
+  -- one that is not preferred
+  pub passed_far : (at_hub : Bool) (j : ℕ) → runs_at task.home j ≡ false → prefers task j ≡ false
+      → (at_hub ≡ false → IsSpent v.case p (best v p) (Wide (length p)))
+      → (at_hub ≡ true
+      → (flows v (Through j) ≤ guests v.case p j) × IsSpent v.case p (best v p) (Through j))
+      → IsPassed v p at_hub j
+  passed_far at_hub j other far apart there = record {
+    bare = record {
+      near = λ apart k l e. absurd (not_preferred task.preferred j k far l e);
+      far = λ hub. (there hub).0;
+    };
+    shut = shut_far v price p keeps next j other far
+        (⊎_elim (λ (hub : at_hub ≡ true). inl (there hub).1) (λ (off : at_hub ≡ false). inr (apart off))
+        (cases_Bool at_hub));
+  }
 
-  -- all machines before one are out, if those of the stretch are
-  out_before : (o : ℕ) → o ≤ end
-      → ((k : ℕ) → first ≤ k → k < o → IsPassed (view s) (price s) (prefix s) class (nat_le behind k) k)
-      → (k : ℕ) → k < o → IsPassed (view s) (price s) (prefix s) class true k
-  out_before o within before k l =
-      ⊎_elim
-      (λ (less : k < first). passed_since s t most found true k goes (passed k less))
-      (λ (from : first ≤ k).
-      passed_all (view s) (price s) (prefix s) class (nat_le behind k) k (before k from l)
-      (beside k from (omega (arith, l, within))))
-      (cases_lt k first)
+  -- WHERE ALL WERE PASSED a task that is not at the hub waits
+  pub all_passed : flows v (Wide (length p)) ≡ 0 → flows v (Stay (length p)) ≡ 0
+      → ((k : ℕ) → k < length v.case.slots → IsPassed v p false k) → IsChosen v p Wait
+  all_passed no_wide no_stay passed =
+      chose_wait v price p keeps next no_wide no_stay
+      (none_aside v price p keeps next (λ j l. (passed j l).bare)) (λ j l. (passed j l).shut)
 
-  -- THE MACHINE THAT WAS FOUND is chosen
-  pub chosen_found : (o : ℕ) → o ≤ end
-      → (o < length (view s).case.slots) × (runs_at home o ≡ false)
-      × HasRoom (view t).case (prefix s) (On o) (flows (view t))
-      → ((k : ℕ) → first ≤ k → k < o → IsPassed (view s) (price s) (prefix s) class (nat_le behind k) k)
-      → IsChosen (view t) (prefix t) (On o)
-  chosen_found o within some before =
-      kept_on (λ at b. IsChosen (view t) b (On o)) s t most found goes
-      (first_found (view s) (price s) (prefix s) ready.keeps next class (view t) o goes.same.case
-      (best_back s t most found goes) own_at
-      (some.0, ap (λ (h : Option ℕ). runs_at h o) (sym is) ∙ some.1, some.2) (out_before o within before))
-
-  -- WHERE NONE WAS FOUND and the task is not at the hub, it waits
-  pub chosen_wait : t.graph.now ≡ s.graph.now → end ≡ length (view s).case.slots
-      → flows (view s) (Wide (length (prefix s))) ≡ 0
-      → flows (view s) (Stay (length (prefix s))) ≡ 0
-      → ((h : ℕ) → home ≡ Some h → (aside (view s).case (flows (view s)) (length (prefix s)) ≡ 0)
-      ⊎ IsShutOff (view s) (price s) (class_of s.scratch.now) (length (prefix s)) h 0)
-      → ((k : ℕ) → first ≤ k → k < end → IsPassed (view s) (price s) (prefix s) class (nat_le behind k) k)
-      → IsChosen (view t) (prefix t) Wait
-  chosen_wait still all no_wide no_stay stopped before =
-      still_on (λ v at b. IsChosen v b Wait) s t most found goes still
-      (all_passed (view s) (price s) (prefix s) ready.keeps next class (lasting_back s t most found goes still)
-      no_wide no_stay
-      (λ h e. ⊎_elim (λ none. inl none)
-      (λ shut. inr (shut_on (view s) (view s) (price s) (class_of s.scratch.now) class (length (prefix s)) h 0
-      (same_view (view s)) goes.refined shut)) (stopped h (is ∙ e)))
-      own_at
-      (λ k l. out_before end (omega arith) before k (omega (arith, l, all))))
-
-  -- and where it is at the hub, its own machine is open
-  pub not_left : t.graph.now ≡ s.graph.now → end ≡ length (view s).case.slots
-      → flows (view s) (Wide (length (prefix s))) ≡ 1
-      → ((k : ℕ) → first ≤ k → k < end → IsPassed (view s) (price s) (prefix s) class (nat_le behind k) k)
-      → ((h : ℕ) → home ≡ Some h → IsShutOff (view s) (price s) class (length (prefix s)) h 0) → ⊥
-  not_left still all one before shut =
-      none_passed (view s) (price s) (prefix s) ready.keeps next class (lasting_back s t most found goes still) one
-      (λ k l. out_before end (omega arith) before k (omega (arith, l, all)))
-      (λ h e. shut h (is ∙ e))
+-- THE FIRST MACHINE that was not passed is chosen
+pub first_found : (v new : View) (p : List Choice) (at_hub : Bool) (home : Option ℕ) (o : ℕ)
+    → home ≡ (demand v.case (length p)).home → IsSameCase v new → best new p ≡ best v p
+    → o < length v.case.slots → runs_at home o ≡ false → HasRoom new.case p (On o) (flows new)
+    → ((j : ℕ) → runs_at home j ≡ true → IsPassed v p at_hub j)
+    → ((k : ℕ) → k < o → runs_at home k ≡ false → IsPassed v p at_hub k) → IsChosen new p (On o)
+first_found v new p at_hub home o is same e below other room own before =
+    let at_new : home ≡ (demand new.case (length p)).home =
+    is ∙ sym (ap (λ (c : Case). (demand c (length p)).home) same.case) in
+    let here : (j : ℕ) (b : Bool) → runs_at (demand new.case (length p)).home j ≡ b → runs_at home j ≡ b =
+    λ j b f. ap (λ (h : Option ℕ). runs_at h j) at_new ∙ f in
+    chosen_on new p o (subst (λ (c : Case). o < length c.slots) (sym same.case) below)
+    (ap (λ (h : Option ℕ). runs_at h o) (sym at_new) ∙ other) room
+    (λ j t. shut_same v new p j same e (own j (here j true t)).shut)
+    (λ j less f. shut_same v new p j same e (before j less (here j false f)).shut)

@@ -4,14 +4,14 @@ use Rattle.std.proofs.Common.{◌∷◌, ◌++◌, length, get_or, arith, refl, 
 use Rattle.std.proofs.Common.{Option, Some, None}
 use Rattle.std.specs.List.{All, sum_by}
 use Rattle.std.proofs.lemmas.List.Elements.{All-head, All-tail, All-nil, All-cons, All-append}
-use Rattle.std.proofs.lemmas.Bool.{cases_Bool, cases_eq, cases_lt, cond-true, cond-false, eq-eqb, ne_eqb, eqb-true}
+use Rattle.std.proofs.lemmas.Bool.{cases_Bool, cases_lt, cond-true, cond-false, eqb-true}
 use Rattle.std.proofs.lemmas.Bool.{le-ltb, or_parts, or_from, and_left, and_right, and_cases}
 use Rattle.firm_rules.specs.declared.rounds.Choice.{Choice}
 use Rattle.firm_rules.specs.declared.rounds.Choice.TheVariants.{On, Wait}
 use Rattle.firm_rules.specs.Placement.{Demand}
 use Rattle.firm_paths.specs.Network.{Arc, AreValid}
 use Rattle.firm_flow.specs.Flow.{IsWithinBounds, cost_of, carried}
-use Rattle.firm_rules.specs.Placement.{Case, total, runs_at, rank}
+use Rattle.firm_rules.specs.Placement.{Case, runs_at, rank}
 use Rattle.firm_rules.specs.Placement.{IsLegal, placement_cost as cost, IsPlace, comes_before as before}
 use Rattle.firm_rules.specs.Round.{IsRound}
 use Rattle.firm_graph.specs.declared.network.Node.{Node}
@@ -19,7 +19,7 @@ use Rattle.firm_graph.specs.declared.network.Node.TheVariants.{Sink}
 use Rattle.firm_graph.specs.declared.network.Key.{Key}
 use Rattle.firm_graph.specs.declared.network.Key.TheVariants.{Through, Slot, Exit, Wide, Stay, Wait as WaitArc, Prefer}
 use Rattle.firm_graph.specs.Network.{demand, network, task_nodes}
-use Rattle.firm_canon.proofs.Totals.{total-le, total-add, total_at}
+use Rattle.firm_canon.proofs.Totals.{total-le}
 use Rattle.firm_canon.specs.inner.Placed.{pick, wide, stay, waits, prefer, spot, guests, placed}
 use Rattle.firm_canon.proofs.Nears.{prefer_none}
 use Rattle.firm_graph.specs.Network.{IsSound}
@@ -59,41 +59,6 @@ pub guests-le : (c : Case) (p r : List Choice) (j : ℕ) → guests c p j ≤ gu
 guests-le c p r j =
     total-le (λ (i : ℕ). guest_term c j i (pick p i)) (λ (i : ℕ). guest_term c j i (pick (p ++ r) i)) (length c.tasks)
     (λ i l. grows (guest_term c j i) p r i (guest_none c j i))
-
--- a further guest counts
-pub guests_more : (c : Case) (p r : List Choice) (j : ℕ) → length p < length c.tasks
-    → wide (demand c (length p)) (Some (On j)) ≡ 1
-    → guests c p j + 1 ≤ guests c (p ++ On j ∷ r) j
-guests_more c p r j l w =
-    let t : ℕ = length c.tasks in
-    let n : ℕ = length p in
-    let le : total (λ i. guest_term c j i (pick p i) + cond (eqb n i) 1 0) t
-    ≤ total (λ i. guest_term c j i (pick (p ++ On j ∷ r) i)) t =
-    total-le (λ (i : ℕ). guest_term c j i (pick p i) + cond (eqb n i) 1 0)
-    (λ (i : ℕ). guest_term c j i (pick (p ++ On j ∷ r) i)) t
-    (λ i h. ⊎_elim
-    (λ (e : n ≡ i).
-    let here : guest_term c j i (pick p i) ≡ 0 =
-    subst (λ (z : ℕ). guest_term c j i (pick p z) ≡ 0) e (ap (guest_term c j i) (pick_past p) ∙ guest_none c j i) in
-    let there : guest_term c j n (pick (p ++ On j ∷ r) n) ≡ 1 =
-    ap (guest_term c j n) (pick_end p r (On j))
-    ∙ (cond-true {A = ℕ} (eqb j j) (wide (demand c n) (Some (On j))) 0 (eq-eqb j j refl) ∙ w) in
-    let moved : guest_term c j i (pick (p ++ On j ∷ r) i) ≡ 1 =
-    subst (λ (z : ℕ). guest_term c j z (pick (p ++ On j ∷ r) z) ≡ 1) e there in
-    omega (arith, here, moved, cond-true {A = ℕ} (eqb n i) 1 0 (eq-eqb n i e)))
-    (λ (ne : n ≡ i → ⊥).
-    omega (
-      arith,
-      grows (guest_term c j i) p (On j ∷ r) i (guest_none c j i),
-      cond-false {A = ℕ} (eqb n i) 1 0 (ne_eqb n i ne),
-    ))
-    (cases_eq n i)) in
-    omega (
-      arith,
-      le,
-      total-add (λ (i : ℕ). guest_term c j i (pick p i)) (λ (i : ℕ). cond (eqb n i) 1 0) t,
-      total_at (λ (i : ℕ). 1) t n l,
-    )
 
 pub wide_none : (t : Demand) → wide t None ≡ 0
 wide_none t = refl

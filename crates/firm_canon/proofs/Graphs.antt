@@ -1,5 +1,5 @@
 -- Graphs that are the same but for the flow, one after another.
-use Rattle.std.proofs.Common.{◌≡◌, Bool, true, false, length, refl, sym, ap, subst, ◌∙◌, ⊎_elim}
+use Rattle.std.proofs.Common.{◌≡◌, Bool, true, false, refl, sym, ap, subst, ◌∙◌, ⊎_elim}
 use Rattle.std.proofs.lemmas.Bool.{cases_Bool}
 use Rattle.firm_net.specs.Net.{Net}
 use Rattle.firm_paths.specs.NetArcs.{limits_of}
@@ -66,7 +66,3 @@ same_on old now new first then = record {
 
 pub same_rows : (old new : Graph) → IsSameGraph old new → new.rows ≡ old.rows
 same_rows old new same = ap (λ (g : Graph). g.rows) same.graph
-
-pub same_machines : (old new : Graph) → IsSameGraph old new
-    → length new.rows.machines ≡ length old.rows.machines
-same_machines old new same = ap (λ (g : Graph). length g.rows.machines) same.graph

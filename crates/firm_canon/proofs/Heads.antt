@@ -13,7 +13,7 @@ use Rattle.firm_graph.specs.declared.network.Node.{Node}
 use Rattle.firm_graph.specs.declared.network.Node.TheVariants.{Sink, Hub, Machine, Owner, Task}
 use Rattle.firm_graph.specs.declared.network.Key.{Key}
 use Rattle.firm_graph.specs.declared.network.Key.TheVariants.{Stay, Prefer}
-use Rattle.firm_canon.proofs.Shown.{arc_at, key_at, listed_at, row_shown, stay_at, prefer_at}
+use Rattle.firm_canon.proofs.Shown.{arc_at, key_at, listed_at, row_shown}
 
 -- the place of a machine's node; the rest are none
 number_of : Node → Option ℕ
@@ -33,16 +33,18 @@ pub some-one : {X : Type 0} (x y : X) → Some x ≡ Some y → x ≡ y
 some-one {X} x y e = let out : Option X → X = λ o. elim o [ None ↦ x | Some z ↦ z ] in ap out e
 
 module _ (v : View) (shows : Shows v) where
-  -- different nodes of the network have different ids
-  pub one_node : (a b : Node) → IsNodeOf v.case a → IsNodeOf v.case b → v.node a ≡ v.node b → a ≡ b
-  one_node a b in_a in_b same =
-      sym (shows.role_is a in_a) ∙ ap (λ (n : NodeId). shows.role n.id.place) same ∙ shows.role_is b in_b
+  -- different nodes of the network have different places
+  pub one_node : (a b : Node) → IsNodeOf v.case a → IsNodeOf v.case b → spot_of v a ≡ spot_of v b → a ≡ b
+  one_node a b in_a in_b same = sym (shows.role_is a in_a) ∙ ap shows.role same ∙ shows.role_is b in_b
+
+  one_id : (a b : Node) → IsNodeOf v.case a → IsNodeOf v.case b → v.node a ≡ v.node b → a ≡ b
+  one_id a b in_a in_b same = one_node a b in_a in_b (ap (λ (n : NodeId). n.id.place) same)
 
   -- the hub is no machine's node
   pub hub_apart : (head : NodeId) → head ≡ v.node Hub → (j : ℕ) → j < length v.case.slots → v.node (Machine j) ≢ head
   unfolding number_of
   hub_apart head hub j l same =
-      let clash : Some j ≡ None = ap number_of (one_node (Machine j) Hub l tt (same ∙ hub)) in
+      let clash : Some j ≡ None = ap number_of (one_id (Machine j) Hub l tt (same ∙ hub)) in
       absurd cc
 
   module _ (rows : EachArcHasItsRow) where
@@ -85,16 +87,16 @@ module _ (v : View) (shows : Shows v) where
     module _ (i : ℕ) (inside : i < length v.case.tasks) where
       stays : (row : Row) → row_at v.net (v.arc (Stay i)) ≡ Some row → IsNode v.net row.head
           → v.node (stay_head (demand v.case i).home) ≡ row.head
+      unfolding arc_at
       stays row there is =
-          head_node (Stay i) row (stay_head (demand v.case i).home) inside there is (shows.homes i inside)
-          (ap (λ (a : Arc Node Key). a.head) (stay_at v.case (lows v) (flows v) i))
+          head_node (Stay i) row (stay_head (demand v.case i).home) inside there is (shows.homes i inside) refl
 
       -- the machine where the stay arc ends is the one on which the task runs
       pub home_found : (row : Row) (j : ℕ) → row_at v.net (v.arc (Stay i)) ≡ Some row → IsNode v.net row.head
           → j < length v.case.slots → v.node (Machine j) ≡ row.head → Some j ≡ (demand v.case i).home
       home_found row j there is l same =
           staying (demand v.case i).home j
-          (one_node (Machine j) (stay_head (demand v.case i).home) l (shows.homes i inside)
+          (one_id (Machine j) (stay_head (demand v.case i).home) l (shows.homes i inside)
           (same ∙ sym (stays row there is)))
 
       -- where no machine is, it waits
@@ -118,10 +120,10 @@ module _ (v : View) (shows : Shows v) where
       module _ (k : ℕ) (below : k < length (demand v.case i).preferred) where
         prefers : (row : Row) → row_at v.net (v.arc (Prefer i k)) ≡ Some row → IsNode v.net row.head
             → v.node (Machine (preferred_at v.case i k)) ≡ row.head
+        unfolding arc_at
         prefers row there is =
             head_node (Prefer i k) row (Machine (preferred_at v.case i k)) (inside, below) there is
-            (shows.preferred i k inside below)
-            (ap (λ (a : Arc Node Key). a.head) (prefer_at v.case (lows v) (flows v) i k))
+            (shows.preferred i k inside below) refl
 
         -- the machine where a preference's arc ends is the one that is preferred
         pub preferred_found : (row : Row) (j : ℕ) → row_at v.net (v.arc (Prefer i k)) ≡ Some row
@@ -131,7 +133,7 @@ module _ (v : View) (shows : Shows v) where
         preferred_found row j there is l same =
             some-one j (preferred_at v.case i k)
             (ap number_of
-            (one_node (Machine j) (Machine (preferred_at v.case i k)) l (shows.preferred i k inside below)
+            (one_id (Machine j) (Machine (preferred_at v.case i k)) l (shows.preferred i k inside below)
             (same ∙ sym (prefers row there is))))
 
         -- and there is one

@@ -2,7 +2,7 @@
 use Rattle.std.proofs.Common.{◌≡◌, ◌≢◌, ℕ, ◌+◌, ◌<◌, ◌≤◌, true, false, cond, eqb, List, [], ◌∷◌, ◌++◌, length}
 use Rattle.std.proofs.Common.{Some}
 use Rattle.std.proofs.Common.{None, Option, refl, sym, ap, ap₂, subst, ◌∙◌, arith, ⊎_elim}
-use Rattle.std.proofs.lemmas.Bool.{cases_eq, cond-true, cond-false, eq-eqb, ne_eqb}
+use Rattle.std.proofs.lemmas.Bool.{cases_eq, cond-false, ne_eqb}
 use Rattle.firm_net.specs.Net.{Net, row_at}
 use Rattle.firm_net.specs.declared.row.ArcId.{ArcId}
 use Rattle.firm_net.specs.Laws.{same_arc_or_not}
@@ -18,10 +18,11 @@ use Rattle.firm_graph.specs.View.{View, Shows, IsSameCase, CanHold, lows, low_of
 use Rattle.firm_graph.specs.Network.{IsKeyOf}
 use Rattle.firm_canon.specs.inner.Choosing.{low_of, Keeps, IsChosen}
 use Rattle.firm_canon.proofs.First.{pick_past, wide_none, stay_none}
-use Rattle.firm_canon.proofs.Nears.{wide_is, near_is, own_wide, own_near, near_wide, far_near, own_stay, other_stay}
+use Rattle.firm_canon.proofs.Nears.{wide_is, near_is, own_wide, own_near, near_wide, far_near, other_stay}
 use Rattle.firm_canon.proofs.Nears.{wait_stay, cond_zero}
 use Rattle.firm_canon.proofs.Nears.{number_in, prefer_none}
-use Rattle.firm_canon.proofs.Prefixes.{added, kept_one}
+use Rattle.firm_canon.proofs.Take.{added, adds_far, adds_near, adds_own, cond_here}
+use Rattle.firm_canon.proofs.Prefixes.{kept_one}
 
 -- an arc may be held to any bound within its flow
 pub can_hold : (low : ℕ) (o : Option Row) → 0 < low → low ≤ flow_of_row o → CanHold low o
@@ -122,9 +123,6 @@ kept_holds v mid new price p o one two id_one id_two low keeps l chosen shows sa
 cond_other : (n i x : ℕ) → (n ≡ i → ⊥) → cond (eqb n i) x 0 ≡ 0
 cond_other n i x ne = cond-false {A = ℕ} (eqb n i) x 0 (ne_eqb n i ne)
 
-cond_here : (n x : ℕ) → cond (eqb n n) x 0 ≡ x
-cond_here n x = cond-true {A = ℕ} (eqb n n) x 0 (eq-eqb n n refl)
-
 -- a choice that puts nothing on the arcs of preferences
 none_near : (t : Demand) (n i k : ℕ) (o : Choice) → near t (Some o) ≡ 0 → cond (eqb n i) (prefer t k (Some o)) 0 ≡ 0
 none_near t n i k o e =
@@ -160,7 +158,7 @@ held_own v new price p o id keeps l chosen own shows same is held =
     let t : Demand = demand v.case n in
     kept_hold v new price p (On o) (Stay n) id keeps l chosen shows same l is held
     (ap (stay t.home) (pick_past p) ∙ stay_none t.home)
-    (cond_here n (stay t.home (Some (On o))) ∙ own_stay t.home o own)
+    (adds_own v.case p o own)
     (λ k. elim k as (λ k. (k ≡ Stay n → ⊥) → added v.case p (On o) k ≡ 0) [
       | Through j ↦ λ ne. cond_zero (eqb o j) (wide t (Some (On o))) (own_wide t o own)
       | Slot j i ↦ λ ne. refl
@@ -184,7 +182,7 @@ held_near v new price p o id keeps l chosen other close shows same is held =
     kept_hold v new price p (On o) (Prefer n e) id keeps l chosen shows same
     (l, (number_in t.preferred o close).0) is held
     (ap (prefer t e) (pick_past p) ∙ prefer_none t e)
-    (cond_here n (prefer t e (Some (On o))) ∙ (cond_here e (near t (Some (On o))) ∙ near_is t o other close))
+    (adds_near v.case p o other close)
     (λ k. elim k as (λ k. (k ≡ Prefer n e → ⊥) → added v.case p (On o) k ≡ 0) [
       | Through j ↦ λ ne. cond_zero (eqb o j) (wide t (Some (On o))) (near_wide t o close)
       | Slot j i ↦ λ ne. refl
@@ -209,8 +207,7 @@ held_other v mid new price p o id_one id_two low keeps l chosen other far shows 
     let t : Demand = demand v.case n in
     kept_holds v mid new price p (On o) (Wide n) (Through o)
     id_one id_two low keeps l chosen shows same l chosen.place is_one is_two (λ e. absurd cc) first second low_is
-    (ap (wide t) (pick_past p) ∙ wide_none t) (cond_here n (wide t (Some (On o))) ∙ wide_is t o other far)
-    (cond_here o (wide t (Some (On o))) ∙ wide_is t o other far)
+    (ap (wide t) (pick_past p) ∙ wide_none t) (adds_far v.case p o other far).0 (adds_far v.case p o other far).1
     (λ k. elim k as (λ k. (k ≡ Wide n → ⊥) → (k ≡ Through o → ⊥) → added v.case p (On o) k ≡ 0) [
       | Through j ↦ λ a b. cond_other o j (wide t (Some (On o))) (λ e. b (ap Through (sym e)))
       | Slot j i ↦ λ a b. refl

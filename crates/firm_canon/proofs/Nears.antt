@@ -1,10 +1,13 @@
 -- What one task puts on its arcs: one unit in all.
-use Rattle.std.proofs.Common.{◌≡◌, ℕ, suc, ◌+◌, ◌*◌, ◌<◌, ◌≤◌, ◌==◌, ◌||◌, Bool, true, false, not, cond, eqb, ltb}
-use Rattle.std.proofs.Common.{true≢false, List}
-use Rattle.std.proofs.Common.{[], ◌∷◌, ◌⊎◌, inl, inr, length, get_or, arith, refl, sym, ap, subst, ◌∙◌, ⊎_elim}
+use Rattle.std.proofs.Common.{◌≡◌, ℕ, ◌+◌, ◌*◌, ◌<◌, ◌≤◌, ◌==◌, Bool, true, false, cond, eqb, ltb}
+use Rattle.std.proofs.Common.{List}
+use Rattle.std.proofs.Common.{◌⊎◌, inl, inr, length, get_or, arith, refl, sym, ap, subst, ◌∙◌, ⊎_elim}
 use Rattle.std.proofs.Common.{Option, Some, None}
 use Rattle.std.specs.List.{list_any, position, position_or_len}
-use Rattle.std.proofs.lemmas.Bool.{cases_Bool, cond-true, cond-false, eqb-true, lt-ltb, le-ltb}
+use Rattle.std.proofs.lemmas.Bool.{both_ways, cases_Bool, cases_lt, cond-true, cond-false, eqb-true, lt-ltb}
+use Rattle.std.proofs.lemmas.List.Folds.{list_any_at, list_any_none}
+use Rattle.std.proofs.lemmas.List.Quantifiers.{position-Some}
+use Rattle.std.proofs.lemmas.List.Sums.{fails_before_first, passes_at_first, position_or_len_is}
 use Rattle.std.proofs.Math.Nat.{mul-zero}
 use Rattle.firm_rules.specs.declared.rounds.Choice.{Choice}
 use Rattle.firm_rules.specs.declared.rounds.Choice.TheVariants.{On, Wait}
@@ -15,55 +18,24 @@ use Rattle.firm_canon.proofs.Totals.{total_zero, total_same, total_at}
 -- the first of the preferences for a machine is one of them
 pub number_in : (xs : List ℕ) (j : ℕ) → list_any (λ k. k == j) xs ≡ true
     → (position_or_len (λ k. k == j) xs < length xs) × (get_or xs (position_or_len (λ k. k == j) xs) 0 ≡ j)
-number_in [] j e = absurd cc
-number_in (x ∷ xs) j e =
-    ⊎_elim
-    (λ (t : eqb x j ≡ true).
-    let z : position_or_len (λ k. k == j) (x ∷ xs) ≡ 0 =
-    ap (λ (b : Bool). cond (not b) (1 + position_or_len (λ k. k == j) xs) 0) t in
-    (omega (arith, z), ap (λ n. get_or (x ∷ xs) n 0) z ∙ eqb-true x j t))
-    (λ (f : eqb x j ≡ false).
-    let z : position_or_len (λ k. k == j) (x ∷ xs) ≡ 1 + position_or_len (λ k. k == j) xs =
-    ap (λ (b : Bool). cond (not b) (1 + position_or_len (λ k. k == j) xs) 0) f in
-    let rest = number_in xs j (subst (λ b. (b || list_any (λ k. k == j) xs) ≡ true) f e) in
-    let next : position_or_len (λ k. k == j) (x ∷ xs) ≡ suc (position_or_len (λ k. k == j) xs) = omega (arith, z) in
-    (omega (arith, z, rest.0), ap (λ n. get_or (x ∷ xs) n 0) next ∙ rest.1))
-    (cases_Bool (eqb x j))
-
-number_out : (xs : List ℕ) (j : ℕ) → list_any (λ k. k == j) xs ≡ false
-    → length xs ≤ position_or_len (λ k. k == j) xs
-number_out [] j e = omega arith
-number_out (x ∷ xs) j e =
-    ⊎_elim
-    (λ (t : eqb x j ≡ true). absurd (true≢false (sym (ap (λ (b : Bool). b || list_any (λ k. k == j) xs) t) ∙ e)))
-    (λ (f : eqb x j ≡ false).
-    let z : position_or_len (λ k. k == j) (x ∷ xs) ≡ 1 + position_or_len (λ k. k == j) xs =
-    ap (λ (b : Bool). cond (not b) (1 + position_or_len (λ k. k == j) xs) 0) f in
-    omega (arith, z, number_out xs j (subst (λ b. (b || list_any (λ k. k == j) xs) ≡ false) f e)))
-    (cases_Bool (eqb x j))
+number_in xs j e =
+    let is_j : ℕ → Bool = λ k. k == j in
+    let first : ℕ = position_or_len is_j xs in
+    ⊎_elim (λ (l : first < length xs). (l, eqb-true (get_or xs first 0) j (passes_at_first is_j xs 0 l)))
+    (λ (past : length xs ≤ first).
+    absurd (both_ways (list_any is_j xs)
+    (list_any_none is_j xs (λ k d l. fails_before_first is_j xs k d (omega (arith, l, past)))) e))
+    (cases_lt first (length xs))
 
 -- what a search for the machine among them finds
 pub position_some : (xs : List ℕ) (j k : ℕ) → position (λ z. z == j) xs ≡ Some k
     → (list_any (λ z. z == j) xs ≡ true) × (k ≡ position_or_len (λ z. z == j) xs)
 position_some xs j k e =
-    let n : ℕ = position_or_len (λ z. z == j) xs in
-    let nothing : Option ℕ = None in
-    ⊎_elim
-    (λ (t : list_any (λ z. z == j) xs ≡ true). (
-      t,
-      some_is k n (sym e ∙ cond-true {A = Option ℕ} (ltb n (length xs)) (Some n) nothing
-          (lt-ltb n (length xs) (number_in xs j t).0)),
-    ))
-    (λ (f : list_any (λ z. z == j) xs ≡ false).
-    absurd (none_is k (sym (cond-false {A = Option ℕ} (ltb n (length xs)) (Some n) nothing
-    (le-ltb n (length xs) (number_out xs j f))) ∙ e)))
-    (cases_Bool (list_any (λ z. z == j) xs))
-  where
-    some_is : (k n : ℕ) → Some k ≡ Some n → k ≡ n
-    some_is k n e = cc
-
-    none_is : (k : ℕ) → None ≡ Some k → ⊥
-    none_is k e = cc
+    let is_j : ℕ → Bool = λ z. z == j in
+    let found = position-Some is_j xs k 0 e in (
+      list_any_at is_j xs k 0 found.0 found.1,
+      sym (position_or_len_is is_j xs k 0 (omega (arith, found.0)) found.2 (λ l. found.1)),
+    )
 
 position_none : (xs : List ℕ) (j : ℕ) → position (λ z. z == j) xs ≡ None → list_any (λ z. z == j) xs ≡ false
 position_none xs j e =
@@ -92,19 +64,19 @@ own_wide t j own = cond-true {A = ℕ} (runs_at t.home j) 0 _ own
 pub own_near : (t : Demand) (j : ℕ) → runs_at t.home j ≡ true → near t (Some (On j)) ≡ 0
 own_near t j own = cond-true {A = ℕ} (runs_at t.home j) 0 _ own
 
-both_zero : (b : Bool) → cond {A = ℕ} b 0 0 ≡ 0
-both_zero true = refl
-both_zero false = refl
+pub cond_zero : (b : Bool) (x : ℕ) → x ≡ 0 → cond b x 0 ≡ 0
+cond_zero true x e = e
+cond_zero false x e = refl
 
 pub near_wide : (t : Demand) (j : ℕ) → prefers t j ≡ true → wide t (Some (On j)) ≡ 0
 near_wide t j close =
     ap (λ (n : ℕ). cond (runs_at t.home j) 0 n) (cond-true {A = ℕ} (prefers t j) 0 1 close)
-    ∙ both_zero (runs_at t.home j)
+    ∙ cond_zero (runs_at t.home j) 0 refl
 
 pub far_near : (t : Demand) (j : ℕ) → prefers t j ≡ false → near t (Some (On j)) ≡ 0
 far_near t j far =
     ap (λ (n : ℕ). cond (runs_at t.home j) 0 n) (cond-false {A = ℕ} (prefers t j) 1 0 far)
-    ∙ both_zero (runs_at t.home j)
+    ∙ cond_zero (runs_at t.home j) 0 refl
 
 pub own_stay : (home : Option ℕ) (j : ℕ) → runs_at home j ≡ true → stay home (Some (On j)) ≡ 1
 own_stay None j e = absurd cc
@@ -148,10 +120,6 @@ prefers_there t (On j) =
     (λ (far : prefers t j ≡ false). inl (far_near t j far))
     (cases_Bool (prefers t j)))
     (cases_Bool (runs_at t.home j))
-
-pub cond_zero : (b : Bool) (x : ℕ) → x ≡ 0 → cond b x 0 ≡ 0
-cond_zero true x e = e
-cond_zero false x e = refl
 
 -- over its preferences, weighed by the machine to which each leads
 pub prefer_weighed : (w : ℕ → ℕ) (t : Demand) (o : Choice)
@@ -202,7 +170,7 @@ prefer_le_one t k o =
     sides (eqb (number t o) k)
 
 pub prefer_none : (t : Demand) (k : ℕ) → prefer t k None ≡ 0
-prefer_none t k = both_zero (eqb 0 k)
+prefer_none t k = cond_zero (eqb 0 k) 0 refl
 
 -- the same of the preferences of a task
 pub preferred_found : (t : Demand) (places : List ℕ) (j k : ℕ) → places ≡ t.preferred

@@ -1,6 +1,6 @@
 -- A flow whose lower bounds hold every task to its choice gives a placement that costs no more.
 use Rattle.std.proofs.Common.{◌≡◌, ℕ, ◌+◌, ◌*◌, ◌<◌, ◌≤◌, Bool, true, false, cond, eqb, List, [], ◌∷◌, length, arith}
-use Rattle.std.proofs.Common.{refl, sym, ap, ◌∙◌, ◌⊎◌, ⊎_elim, Option, Some, None}
+use Rattle.std.proofs.Common.{sym, ap, ◌∙◌, ◌⊎◌, ⊎_elim, Option, Some, None}
 use Rattle.std.specs.List.{All, sum_by}
 use Rattle.std.proofs.lemmas.Bool.{cases_eq, eq-eqb, ne_eqb}
 use Rattle.firm_rules.specs.declared.rounds.Choice.{Choice}
@@ -47,27 +47,13 @@ machine_mark e (Machine j) = cond (eqb e j) 1 0
 machine_mark e (Owner k) = 0
 machine_mark e (Task i) = 0
 
-abbrev owner_mark : ℕ → Node → ℕ
-owner_mark e Sink = 0
-owner_mark e Hub = 0
-owner_mark e (Machine j) = 0
-owner_mark e (Owner k) = cond (eqb e k) 1 0
-owner_mark e (Task i) = 0
-
 cond_times : (b : Bool) (x : ℕ) → cond b 1 0 * x ≡ cond b x 0
 cond_times true x = omega arith
 cond_times false x = omega arith
 
--- a weight that marks neither the hub nor a machine does not mark where a stay arc leads
-unmarked_stay : (w : Node → ℕ) (home : Option ℕ) (x : ℕ) → w Hub ≡ 0 → ((j : ℕ) → w (Machine j) ≡ 0)
-    → w (stay_head home) * x ≡ 0
-unmarked_stay w None x hub machine = omega (arith, ap (λ z. z * x) hub)
-unmarked_stay w (Some h) x hub machine = omega (arith, ap (λ z. z * x) (machine h))
-
--- a weight that marks no machine marks no arc of a preference, and one that marks no task marks none at its tail
-none_aside : (w : ℕ → ℕ) (x : Key → ℕ) (i n : ℕ) → ((k : ℕ) → w k ≡ 0) → total (λ k. w k * x (Prefer i k)) n ≡ 0
-none_aside w x i n none =
-    total_zero (λ (k : ℕ). w k * x (Prefer i k)) n (λ k l. omega (arith, ap (λ z. z * x (Prefer i k)) (none k)))
+no_task_stays : (e : ℕ) (home : Option ℕ) (x : ℕ) → task_mark e (stay_head home) * x ≡ 0
+no_task_stays e None x = omega arith
+no_task_stays e (Some h) x = omega arith
 
 -- a task sends out one unit
 pub task_sends : (c : Case) (low x : Key → ℕ) (e : ℕ) → e < length c.tasks
@@ -90,8 +76,8 @@ task_sends c low x e l balanced =
           t
           (λ i r. omega (
             arith,
-            unmarked_stay w (demand c i).home (x (Stay i)) refl (λ j. refl),
-            none_aside (λ (k : ℕ). 0) x i (count_at c i) (λ k. refl),
+            no_task_stays e (demand c i).home (x (Stay i)),
+            total_zero (λ (k : ℕ). 0 * x (Prefer i k)) (count_at c i) (λ k l. omega arith),
           )),
       total_same (λ (i : ℕ). cond (eqb e i) 1 0 * x (Wide i) + cond (eqb e i) 1 0 * x (Stay i)
           + cond (eqb e i) 1 0 * x (Wait i) + total (λ k. cond (eqb e i) 1 0 * x (Prefer i k)) (count_at c i))
@@ -119,7 +105,7 @@ no_tails : (c : Case) (x : Key → ℕ) → total (λ i. 0 * x (Wide i) + 0 * x 
 no_tails c x =
     total_zero (λ (i : ℕ). 0 * x (Wide i) + 0 * x (Stay i) + 0 * x (Wait i)
     + total (λ k. 0 * x (Prefer i k)) (count_at c i)) (length c.tasks)
-    (λ i r. omega (arith, none_aside (λ (k : ℕ). 0) x i (count_at c i) (λ k. refl)))
+    (λ i r. omega (arith, total_zero (λ (k : ℕ). 0 * x (Prefer i k)) (count_at c i) (λ k l. omega arith)))
 
 -- what comes to the hub goes on to the machines
 pub hub_passes : (c : Case) (low x : Key → ℕ) → IsWithinBounds (network c low x) carried
@@ -147,7 +133,7 @@ hub_passes c low x within balanced =
           (λ i r. omega (
             arith,
             no_stay_by_hub (demand c i).home (x (Stay i)) ((bounds.stays i r).1),
-            none_aside (λ (k : ℕ). 0) x i (count_at c i) (λ k. refl),
+            total_zero (λ (k : ℕ). 0 * x (Prefer i k)) (count_at c i) (λ k l. omega arith),
           )),
       no_tails c x,
       sum_gather w (λ (i : ℕ). Task i ∷ []) t,
@@ -194,39 +180,6 @@ machine_passes c low x e l balanced =
           + 0 * x (Wait i)
           + total (λ k. machine_mark e (Machine (preferred_at c i k)) * x (Prefer i k)) (count_at c i))
           (comes c x e) t (λ i r. omega arith),
-      no_tails c x,
-      sum_gather w (λ (i : ℕ). Task i ∷ []) t,
-      total_zero (λ (i : ℕ). sum_by w (Task i ∷ [])) t (λ i l. omega arith),
-    )
-
--- what comes to a job leaves it for the sink
-pub owner_passes : (c : Case) (low x : Key → ℕ) (e : ℕ) → e < c.jobs
-    → Balanced (network c low x) (task_nodes c) Sink carried
-    → total (λ i. cond (eqb e (demand c i).job) (x (Wait i)) 0) (length c.tasks) ≡ x (Exit e)
-owner_passes c low x e l balanced =
-    let m : ℕ = length c.slots in
-    let t : ℕ = length c.tasks in
-    let w : Node → ℕ = owner_mark e in
-    omega (
-      arith,
-      balanced w,
-      sum_network (λ (a : Arc Node Key). w a.head * a.flow) c low x,
-      sum_network (λ (a : Arc Node Key). w a.tail * a.flow) c low x,
-      total_zero (λ (j : ℕ). 0 * x (Through j) + total (λ k. 0 * x (Slot j k)) (slots_of c j)) m
-          (λ j l. omega (arith, total_zero (λ (k : ℕ). 0 * x (Slot j k)) (slots_of c j) (λ k r. omega arith))),
-      total_zero (λ (k : ℕ). 0 * x (Exit k)) c.jobs (λ k r. omega arith),
-      total_same (λ (k : ℕ). cond (eqb e k) 1 0 * x (Exit k)) (λ (k : ℕ). cond (eqb e k) (x (Exit k)) 0) c.jobs
-          (λ k r. cond_times (eqb e k) (x (Exit k))),
-      total_at (λ (k : ℕ). x (Exit k)) c.jobs e l,
-      total_same (λ (i : ℕ). 0 * x (Wide i) + owner_mark e (stay_head (demand c i).home) * x (Stay i)
-          + cond (eqb e (demand c i).job) 1 0 * x (Wait i) + total (λ k. 0 * x (Prefer i k)) (count_at c i))
-          (λ (i : ℕ). cond (eqb e (demand c i).job) (x (Wait i)) 0) t
-          (λ i r. omega (
-            arith,
-            unmarked_stay w (demand c i).home (x (Stay i)) refl (λ j. refl),
-            none_aside (λ (k : ℕ). 0) x i (count_at c i) (λ k. refl),
-            cond_times (eqb e (demand c i).job) (x (Wait i)),
-          )),
       no_tails c x,
       sum_gather w (λ (i : ℕ). Task i ∷ []) t,
       total_zero (λ (i : ℕ). sum_by w (Task i ∷ [])) t (λ i l. omega arith),

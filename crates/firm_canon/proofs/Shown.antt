@@ -9,6 +9,7 @@ use Rattle.std.proofs.lemmas.List.Sorted.{sum_by-IsPermutation, All-permutation,
 use Rattle.std.proofs.lemmas.List.Elements.{All-head, All-tail, All-nil, All-cons, All-map, All-contains}
 use Rattle.std.proofs.lemmas.List.Elements.{All-contains_itself}
 use Rattle.firm_net.specs.Row.{Row}
+use Rattle.firm_net.specs.Laws.{sum-map}
 use Rattle.firm_net.specs.Net.{row_at, arc_count}
 use Rattle.firm_net.specs.declared.row.ArcId.{ArcId}
 use Rattle.firm_paths.specs.Network.{Arc, AreValid, IsValidAt}
@@ -32,22 +33,13 @@ use Rattle.firm_graph.specs.View.{View, Shows, lows, flows, spot_of, named}
 use Rattle.firm_graph.specs.Network.{IsNodeOf, IsKeyOf}
 use Rattle.firm_canon.specs.inner.Turns.{IsWhole}
 use Rattle.firm_canon.proofs.Placed.{wide_arc, stay_arc, delay_arc, prefer_arc, count_at}
-use Rattle.firm_canon.proofs.Parts.{parts, whole, All-gather}
+use Rattle.firm_canon.proofs.Parts.{OnParts, parts, whole, All-gather}
 
 All-unmap : {A B : Type 0} (f : A → B) (P : B → Type 0) (xs : List A) → All P (map f xs) → All (λ x. P (f x)) xs
 All-unmap {A} {B} f P [] h = All-nil (λ (x : A). P (f x))
 All-unmap {A} {B} f P (x ∷ xs) h =
     All-cons (λ (y : A). P (f y)) x xs (All-head P (f x) (map f xs) h)
     (All-unmap f P xs (All-tail P (f x) (map f xs) h))
-
-sum_map : {A B : Type 0} (f : A → B) (F : B → ℕ) (xs : List A) → sum_by F (map f xs) ≡ sum_by (λ x. F (f x)) xs
-sum_map {A} {B} f F [] = refl
-sum_map {A} {B} f F (x ∷ xs) = omega (
-  arith,
-  sum_by-cons F (f x) (map f xs),
-  sum_by-cons (λ (y : A). F (f y)) x xs,
-  sum_map f F xs,
-)
 
 sums_at : {A : Type 0} (f g : A → ℕ) (xs : List A) → All (λ x. f x ≡ g x) xs → sum_by f xs ≡ sum_by g xs
 sums_at {A} f g [] h = refl
@@ -130,7 +122,7 @@ module _ (v : View) (shows : Shows v) where
       (IsPermutation-sym (arcs_of v.net) (map (named v) arcs) shows.arcs) (All-map P (named v) arcs h)
 
   sums_shown : (F : Arc ℕ ArcId → ℕ) → sum_by F (arcs_of v.net) ≡ sum_by (λ a. F (named v a)) arcs
-  sums_shown F = sym (sum_by-IsPermutation F (arcs_of v.net) (map (named v) arcs) shows.arcs) ∙ sum_map (named v) F arcs
+  sums_shown F = sym (sum_by-IsPermutation F (arcs_of v.net) (map (named v) arcs) shows.arcs) ∙ sum-map F (named v) arcs
 
   pub cost_shown : cost_of (arcs_of v.net) carried ≡ cost_of arcs carried
   cost_shown = sums_shown (λ (a : Arc ℕ ArcId). a.cost * a.flow)
@@ -159,7 +151,7 @@ module _ (v : View) (shows : Shows v) where
         ∙ sums_at (λ (a : Arc Node Key). g (spot_of v a.tail) * a.flow) (λ (a : Arc Node Key). w a.tail * a.flow) arcs
         (λ k d l. ap (λ n. w n * (get_or arcs k d).flow) (shows.role_is (get_or arcs k d).tail (ends k d l).tail)) in
         let from : sum_by g (map (spot_of v) (task_nodes v.case)) ≡ sum_by w (task_nodes v.case) =
-        sum_map (spot_of v) g (task_nodes v.case)
+        sum-map g (spot_of v) (task_nodes v.case)
         ∙ sums_at (λ (s : Node). g (spot_of v s)) w (task_nodes v.case)
         (sources_in Task (length v.case.tasks) (λ (s : Node). g (spot_of v s) ≡ w s)
         (λ i l. ap w (shows.role_is (Task i) l))) in
@@ -186,7 +178,7 @@ module _ (v : View) (shows : Shows v) where
           balanced (λ (n : Node). w (spot_of v n)),
           sums_shown (λ (a : Arc ℕ ArcId). w a.head * a.flow),
           sums_shown (λ (a : Arc ℕ ArcId). w a.tail * a.flow),
-          sum_map (spot_of v) w (task_nodes v.case),
+          sum-map w (spot_of v) (task_nodes v.case),
           ap (λ z. w (spot_of v Sink) * z) (length-map (task_nodes v.case) (spot_of v)),
         );
   }
@@ -247,29 +239,19 @@ flow_at c low x (Prefer i k) = refl
 
 pub listed_at : (c : Case) (low x : Key → ℕ) (k : Key) → IsKeyOf c k → Contains (network c low x) (arc_at c low x k)
 unfolding arc_at
-listed_at c low x (Through j) l = (parts (Contains (network c low x)) c low x
-    (All-contains_itself (network c low x))).through j l
-listed_at c low x (Slot j k) l = (parts (Contains (network c low x)) c low x
-    (All-contains_itself (network c low x))).slot j k l.0 l.1
-listed_at c low x (Exit k) l = (parts (Contains (network c low x)) c low x (All-contains_itself (network c low x))).exit
-    k l
-listed_at c low x (Wide i) l = (parts (Contains (network c low x)) c low x
-    (All-contains_itself (network c low x))).wides i l
-listed_at c low x (Stay i) l = (parts (Contains (network c low x)) c low x
-    (All-contains_itself (network c low x))).stays i l
-listed_at c low x (Wait i) l = (parts (Contains (network c low x)) c low x
-    (All-contains_itself (network c low x))).delays i l
-listed_at c low x (Prefer i k) l = (parts (Contains (network c low x)) c low x
-    (All-contains_itself (network c low x))).prefers i k l.0 l.1
+listed_at c low x k l = by k l
+  where
+    listed : OnParts (Contains (network c low x)) c low x
+    listed = parts (Contains (network c low x)) c low x (All-contains_itself (network c low x))
 
--- those of a task that lead to machines
-pub stay_at : (c : Case) (low x : Key → ℕ) (n : ℕ) → arc_at c low x (Stay n) ≡ stay_arc c low x n
-unfolding arc_at
-stay_at c low x n = refl
-
-pub prefer_at : (c : Case) (low x : Key → ℕ) (n k : ℕ) → arc_at c low x (Prefer n k) ≡ prefer_arc c low x n k
-unfolding arc_at
-prefer_at c low x n k = refl
+    by : (k : Key) → IsKeyOf c k → Contains (network c low x) (arc_at c low x k)
+    by (Through j) l = listed.through j l
+    by (Slot j k) l = listed.slot j k l.0 l.1
+    by (Exit k) l = listed.exit k l
+    by (Wide i) l = listed.wides i l
+    by (Stay i) l = listed.stays i l
+    by (Wait i) l = listed.delays i l
+    by (Prefer i k) l = listed.prefers i k l.0 l.1
 
 pub low_at : (c : Case) (low x : Key → ℕ) (k : Key) → (arc_at c low x k).low ≡ low k
 unfolding arc_at

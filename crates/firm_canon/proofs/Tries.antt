@@ -1,5 +1,5 @@
 -- What a turn keeps.
-use Rattle.std.proofs.Common.{◌≡◌, ℕ, List, Some, Option, refl, sym, ap, subst, ◌∙◌, arith}
+use Rattle.std.proofs.Common.{◌≡◌, ℕ, ◌*◌, List, [], ◌∷◌, ◌++◌, Some, Option, refl, sym, ap, subst, ◌∙◌, arith}
 use Rattle.std.specs.Prelude.{map, IsSome}
 use Rattle.firm_net.specs.Row.{Row}
 use Rattle.firm_net.specs.Net.{Net, IsArc, row_at}
@@ -19,6 +19,7 @@ use Rattle.firm_graph.specs.View.{View, Shows, IsSameCase, lows, flows, spot_of,
 use Rattle.firm_canon.specs.inner.Turns.{IsWhole, Turned}
 use Rattle.firm_canon.specs.inner.Choosing.{low_of, Keeps, best}
 use Rattle.firm_canon.proofs.AsCheap.{shown_is}
+use Rattle.firm_canon.proofs.First.{carried_sum}
 use Rattle.firm_canon.proofs.Shown.{network_same, cost_shown, whole_keyed, whole_net, row_shown, arc_at}
 use Rattle.firm_canon.proofs.Shown.{key_at, listed_at}
 
@@ -103,3 +104,16 @@ pub low_is : (v : View) (net : Net) (id : ArcId) (key : Key) (n : ℕ) → net �
     → n ≡ low_of_row (row_at net id) → n ≡ lows v key
 low_is v net id key n e f is = is ∙ (ap (λ (z : Net). low_of_row (row_at z id)) e
     ∙ ap (λ (i : ArcId). low_of_row (row_at v.net i)) f)
+
+-- to hold a choice costs nothing
+pub best_held : (old new : View) (p : List Choice) (o : Choice) → IsSameCase old new
+    → ((b : ArcId) → flow_of_row (row_at new.net b) ≡ flow_of_row (row_at old.net b))
+    → best new (p ++ o ∷ []) ≡ best old p
+best_held old new p o same flows_same =
+    let c : Case = old.case in
+    let after : Key → ℕ = low_of c (p ++ o ∷ []) in
+    let there : View = record old { net = new.net } in
+    ap (λ (v : View). best v (p ++ o ∷ [])) (view_is old new same)
+    ∙ (ap (λ (z : List (Arc Node Key)). cost_of z carried)
+    (network_same c after after (flows there) (flows old) (λ k own. refl) (λ k own. flows_same (old.arc k)))
+    ∙ carried_sum (λ tail head cost flow. cost * flow) c after (low_of c p) (flows old))

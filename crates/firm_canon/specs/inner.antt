@@ -1,9 +1,8 @@
+-- What no public clause cites: the words in which functions inside the crate keep what they keep.
 pub mod Graphs
 pub mod Placed
 pub mod Laws
 pub mod Choosing
 pub mod Turns
-pub mod Classes
-pub mod Approaches
+pub mod Keys
 pub mod State
-pub mod Looks

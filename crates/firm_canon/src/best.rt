@@ -1,43 +1,23 @@
 //! The first of the least placements.
-ghost use Rattle.std.specs.Prelude.{◌≡◌, ◌+◌, ◌*◌, ◌<◌, ◌≤◌, ◌∷◌, ◌++◌, [], ℕ, length, IfOk, OnErr, vec_len};
-ghost use Rattle.std.specs.Prelude.{vec_capacity};
-ghost use Rattle.firm_paths.specs.Classes.{AreTogether};
+ghost use Rattle.std.specs.Prelude.{◌≡◌, ◌+◌, ◌*◌, ◌≤◌, [], length, IfOk, OnErr, vec_capacity};
 ghost use Rattle.firm_paths.specs.NetArcs.{limits_of};
 ghost use Rattle.firm_paths.specs.PriceTable.{price_of};
 ghost use Rattle.firm_rules.specs.ArenaUse.{arena_arcs, preference_count};
 ghost use Rattle.firm_rules.specs.Round.{case_of, round_placement};
 ghost use Rattle.firm_canon.specs.Counts.{HasLookedUpTo, HasMadeUpTo, HasSearchedUpTo};
 ghost use Rattle.firm_graph.specs.Ids.{view_of};
-ghost use Rattle.firm_graph.specs.Network.{demand};
 ghost use Rattle.firm_canon.specs.inner.Graphs.{IsSameGraph};
 ghost use Rattle.firm_canon.specs.inner.Choosing.{Keeps};
-ghost use Rattle.firm_canon.specs.inner.Classes.{HasSought, cut_count};
-ghost use Rattle.firm_canon.specs.inner.State.{IsReady, prefix, view};
-ghost use Rattle.firm_canon.specs.inner.Looks.{LooksOn};
-ghost use Rattle.firm_canon.specs.inner.Approaches.{preferred_before};
 
 use crate::choosing::Choosing;
-use crate::holds::hold_choice;
-use crate::reads::{arcs_are_counted, task_count, wishes_of};
+use crate::reads::{arcs_are_counted, task_count};
 use firm_flow::{balanced_flows, conserved_where_balanced};
 use firm_graph::{Graph, Key, Node, networks_are_counted};
 use firm_paths::{Prices, Scratch, arcs_are_rows};
 use firm_rules::{Choice, the_round_is_the_first};
 use std::alloc::{AllocError, Global};
 
-/// Adds a value to a list with room for it.
-fn push_reserved(list: &mut Vec<Choice>, value: Choice)
-    requires { vec_len list.old < vec_capacity list.old }
-    ensures items { list.new.items ≡ list.old.items ++ value ∷ [] }
-    ensures capacity { vec_capacity list.old ≤ vec_capacity list.new }
-    ensures len { vec_len list.new ≡ vec_len list.old + 1 }
-{
-    let Ok(()) = list.push(value) else {
-        unreachable!()
-    };
-}
-
-/// A least flow with nothing held, and all nodes in one class.
+/// A least flow with nothing held.
 fn start(graph: &mut Graph, prices: &mut Prices, scratch: &mut Scratch)
     requires made_for { (prices.old.limits ≡ limits_of graph.old.net) × (scratch.old.limits ≡ limits_of graph.old.net) }
     ensures same { IsSameGraph graph.old graph.new }
@@ -45,7 +25,6 @@ fn start(graph: &mut Graph, prices: &mut Prices, scratch: &mut Scratch)
     ensures searched { HasMadeUpTo scratch.old scratch.new (length graph.old.rows.tasks)
         (arena_arcs graph.old.rows) }
     ensures keeps { Keeps (view_of graph.new) (price_of prices.new) [] }
-    ensures together { (a b : ℕ) → AreTogether scratch.new a b }
 {
     arcs_are_rows();
     balanced_flows::<Node, Key>();
@@ -53,60 +32,6 @@ fn start(graph: &mut Graph, prices: &mut Prices, scratch: &mut Scratch)
     graph.prepare();
     arcs_are_counted(graph);
     graph.least(prices, scratch);
-    scratch.join_nodes();
-}
-
-impl Choosing<'_> {
-    /// Chooses for the next task, and holds it to the choice.
-    fn choose_next(&mut self)
-        requires ready { IsReady self.old }
-        requires next { length (prefix self.old) < length (view self.old).case.tasks }
-        requires room { vec_len self.old.chosen.now < vec_capacity self.old.chosen.now }
-        ensures same { IsSameGraph self.old.graph.now self.new.graph.now }
-        ensures graph { self.new.graph.ghost_name ≡ self.old.graph.ghost_name }
-        ensures scratch { self.new.scratch.ghost_name ≡ self.old.scratch.ghost_name }
-        ensures list { self.new.chosen.ghost_name ≡ self.old.chosen.ghost_name }
-        ensures prices { self.new.prices ≡ self.old.prices }
-        ensures sought { HasSought self.old.scratch.now self.new.scratch.now
-            (length self.old.graph.now.rows.machines + 3)
-            (2 + length (demand (view self.old).case (length (prefix self.old))).preferred)
-            (arena_arcs self.old.graph.now.rows)
-            (cut_count (view self.old) self.old.scratch.now) (cut_count (view self.new) self.new.scratch.now) }
-        ensures looked { LooksOn self.old self.new 2 }
-        ensures ready { IsReady self.new }
-        ensures capacity { vec_capacity self.old.chosen.now ≤ vec_capacity self.new.chosen.now }
-        ensures len { vec_len self.new.chosen.now ≡ vec_len self.old.chosen.now + 1 }
-        ensures more { length (prefix self.new) ≡ length (prefix self.old) + 1 }
-    {
-        let wishes = wishes_of(self.graph, self.chosen.len());
-        let choice = self.choose(&wishes);
-        hold_choice(self.graph, self.prices, self.chosen, &wishes, choice);
-        push_reserved(self.chosen, choice);
-    }
-
-    /// Chooses for all tasks, one after another.
-    fn choose_all(&mut self, tasks: usize)
-        requires ready { IsReady self.old }
-        requires tasks { tasks ≡ length (view self.old).case.tasks }
-        requires none { vec_len self.old.chosen.now ≡ 0 }
-        requires room { tasks ≤ vec_capacity self.old.chosen.now }
-        ensures same { IsSameGraph self.old.graph.now self.new.graph.now }
-        ensures graph { self.new.graph.ghost_name ≡ self.old.graph.ghost_name }
-        ensures scratch { self.new.scratch.ghost_name ≡ self.old.scratch.ghost_name }
-        ensures list { self.new.chosen.ghost_name ≡ self.old.chosen.ghost_name }
-        ensures sought { HasSought self.old.scratch.now self.new.scratch.now
-            (tasks * (length self.old.graph.now.rows.machines + 3))
-            (2 * tasks + preferred_before (view self.old).case tasks) (arena_arcs self.old.graph.now.rows)
-            (cut_count (view self.old) self.old.scratch.now) (cut_count (view self.new) self.new.scratch.now) }
-        ensures looked { LooksOn self.old self.new (2 * tasks) }
-        ensures ready { IsReady self.new }
-        ensures all { length (prefix self.new) ≡ tasks }
-    {
-        for task in 0..tasks {
-            prove!(self.chosen.len() == task);
-            self.choose_next();
-        }
-    }
 }
 
 /// Writes the placement of the round to an empty list with room for it, by a least flow and searches.
@@ -140,7 +65,6 @@ fn write_by_search(
         prices,
         scratch,
         chosen,
-        spent: 0,
     };
     choosing.choose_all(tasks);
 }

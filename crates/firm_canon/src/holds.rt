@@ -11,8 +11,7 @@ ghost use Rattle.firm_canon.specs.inner.Graphs.{IsSameGraph};
 ghost use Rattle.firm_canon.specs.inner.Choosing.{Keeps, IsChosen, best};
 ghost use Rattle.firm_rules.specs.declared.rounds.Choice.TheVariants.{On};
 
-use crate::approaches::{is_home, preference_for};
-use crate::reads::{Wishes, low_on, prefer_arc, stay_arc, through_arc, wait_arc, wide_arc};
+use crate::reads::{TaskArc, Wishes, is_home, low_on, preference_for, task_arc, through_arc};
 use firm_graph::Graph;
 use firm_net::ArcId;
 use firm_paths::Prices;
@@ -46,7 +45,7 @@ fn hold_by_hub(graph: &mut Graph, prices: &Prices, chosen: &[Choice], machine: u
 {
     let arc = through_arc(graph, machine);
     let low = low_on(graph.net(), arc);
-    hold_at(graph, wide_arc(graph, chosen.len()), 1);
+    hold_at(graph, task_arc(graph, chosen.len(), TaskArc::Wide), 1);
     hold_at(graph, arc, low + 1);
 }
 
@@ -69,11 +68,11 @@ fn hold_machine(
 {
     let task = chosen.len();
     if is_home(wishes.home, machine) {
-        hold_at(graph, stay_arc(graph, task), 1);
+        hold_at(graph, task_arc(graph, task, TaskArc::Stay), 1);
         return;
     }
     if let Some(number) = preference_for(&wishes.places, machine) {
-        hold_at(graph, prefer_arc(graph, task, number), 1);
+        hold_at(graph, task_arc(graph, task, TaskArc::Prefer(number)), 1);
         return;
     }
     hold_by_hub(graph, prices, chosen, machine);
@@ -97,7 +96,7 @@ pub(crate) fn hold_choice(
     ensures best { best (view_of graph.new) (chosen.now ++ choice ∷ []) ≡ best (view_of graph.old) chosen.now }
 {
     match choice {
-        Choice::Wait => hold_at(graph, wait_arc(graph, chosen.len()), 1),
+        Choice::Wait => hold_at(graph, task_arc(graph, chosen.len(), TaskArc::Wait), 1),
         Choice::On(machine) => hold_machine(graph, prices, chosen, wishes, machine),
     }
 }

@@ -19,29 +19,18 @@
 //!
 //! - **Arcs.** A task reaches its own machine by the stay arc, a preferred one by the preference's arc, others by the
 //!   wide arc to the hub and then the hub's arc, which leaves the wide arc full.
-//! - **Classes.** Held choices only remove residual arcs, and the flow changes only round tight cycles, so nodes that
-//!   no tight cycle joins never join again. So each failed search splits a class of nodes, and no search is made
-//!   between two. The proof, not the code, ranks them: in any flow as cheap that keeps the choices, no tight residual
-//!   arc leads to a lower rank. So all these flows are the same from class to class.
-//! - **Spent machines.** A machine is *spent* if its arc from the hub carries no unit above the lower bound, and is
-//!   full, not tight, or between two classes: for the rest of the call the hub brings it no further task at no cost.
-//!   One mark, before which all machines are spent, serves all tasks. A task tries the hub once, and only if a machine
-//!   from the mark on is not spent.
-//! - **Searches left out.** A task at the hub makes none for its own machine if the two are of different classes, nor a
-//!   waiting task for its own machine or the hub if that and the sink are: the unit that leaves could not return. Nor
-//!   if the task's unit goes by an arc of reduced cost below 0, where all least flows leave it.
-//! - **The own machine again.** If a task at the hub finds no machine open, its own is open now: the hub can have a
-//!   spare unit nowhere else.
-//! - **The bound.** The flow takes a search for each task. A *cut* here is a pair of nodes, the hub and the sink, or a
-//!   machine and one of the two: 2 * m + 1 in all. A search of a task without preferences finds a way, at most twice,
-//!   or parts a cut whose ends were of one class. Each preference adds at most one search. All failed searches together
-//!   take about 2 * a * log₂ a looks (firm_paths), others at most 2 * a each.
+//! - **Two searches.** Where the task's unit is not at the hub, one search finds the ways to the task from all nodes:
+//!   it goes to its own machine at once, to the hub if that is open, else where it prefers to be, or it waits. Where
+//!   the unit is at the hub, one search finds the ways to the hub; those to the task end with the unit's own way back.
+//!   The machines are then tried in order.
+//! - **What a search leaves out.** The nodes that it did not find are a set that no tight residual arc leaves. So no
+//!   flow as cheap carries more on an arc that leads into the set, and no least placement goes that way.
+//! - **One is found.** The hub sends some machine a unit that is not held. If that is the task's own machine, or one
+//!   that it prefers, it is open to the task by its own arc, at no more cost.
+//! - **The bound.** The flow takes a search for each task, its choice at most two.
 #![tactic(auto)]
 
-mod approaches;
-mod attempts;
 mod best;
-mod choice;
 mod choosing;
 mod holds;
 mod reads;

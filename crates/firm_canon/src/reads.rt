@@ -1,13 +1,16 @@
 //! What is read of a graph, by the places of its case.
-ghost use Rattle.std.specs.Prelude.{◌≡◌, ◌≢◌, ◌<◌, ℕ, true, length, nat_lt, Some, IfSome, IfNone};
+ghost use Rattle.std.specs.Prelude.{◌≡◌, ◌≢◌, ◌<◌, ◌≤◌, ◌==◌, ℕ, true, false, length, Some, IfSome, IfNone};
+ghost use Rattle.std.specs.List.{position};
 ghost use Rattle.firm_net.specs.Row.{Row};
 ghost use Rattle.firm_net.specs.Net.{IsArc, IsNode, row_at, arc_count};
 ghost use Rattle.firm_rules.specs.ArenaUse.{arena_arcs};
+ghost use Rattle.firm_rules.specs.Placement.{runs_at};
 ghost use Rattle.firm_graph.specs.Network.{demand, preferred_at};
 ghost use Rattle.firm_graph.specs.View.{flow_of_row, low_of_row};
 ghost use Rattle.firm_graph.specs.Ids.{view_of};
 ghost use Rattle.firm_graph.specs.declared.network.Node.TheVariants.{Hub, Machine};
-ghost use Rattle.firm_graph.specs.declared.network.Key.TheVariants.{Through, Wide, Stay, Wait, Prefer};
+ghost use Rattle.firm_graph.specs.declared.network.Key.TheVariants.{Through};
+ghost use Rattle.firm_canon.specs.inner.Keys.{IsArcOf, key_of};
 
 use arrayvec::ArrayVec;
 use firm_graph::{Graph, networks_are_counted};
@@ -20,6 +23,19 @@ use firm_rules::MOST_PREFERENCES;
 pub(crate) struct Wishes {
     pub(crate) home: Option<u32>,
     pub(crate) places: ArrayVec<u32, MOST_PREFERENCES>,
+}
+
+/// An arc of a task.
+#[derive(Clone, Copy)]
+pub(crate) enum TaskArc {
+    /// To the machine that it runs on.
+    Stay,
+    /// To the machine of its preference of this number, counted from 0.
+    Prefer(usize),
+    /// To the hub, by which it reaches the other machines.
+    Wide,
+    /// To its job, where it waits.
+    Wait,
 }
 
 /// The net's arcs are those that the rows take of the arena.
@@ -86,7 +102,7 @@ fn home_of(graph: &Graph, task: usize) -> Option<u32>
 {
     arcs_are_rows();
     graph.net();
-    machine_behind(graph, stay_arc(graph, task))
+    machine_behind(graph, task_arc(graph, task, TaskArc::Stay))
 }
 
 /// The place of the machine of the preference of this number, counted from 0, of the task at a place.
@@ -97,7 +113,7 @@ fn preferred_place(graph: &Graph, task: usize, number: usize) -> u32
 {
     arcs_are_rows();
     graph.net();
-    let Some(place) = machine_behind(graph, prefer_arc(graph, task, number)) else {
+    let Some(place) = machine_behind(graph, task_arc(graph, task, TaskArc::Prefer(number))) else {
         unreachable!()
     };
     place
@@ -127,37 +143,19 @@ pub(crate) fn wishes_of(graph: &Graph, task: usize) -> Wishes
     }
 }
 
-/// The arc from the task at a place to the hub.
-pub(crate) fn wide_arc(graph: &Graph, task: usize) -> ArcId
-    requires { task < length (view_of graph.now).case.tasks }
-    ensures { result ≡ (view_of graph.now).arc (Wide task) }
-{
-    graph.task_arcs(task).wide
-}
-
-/// The arc from the task at a place to its own machine.
-pub(crate) fn stay_arc(graph: &Graph, task: usize) -> ArcId
-    requires { task < length (view_of graph.now).case.tasks }
-    ensures { result ≡ (view_of graph.now).arc (Stay task) }
-{
-    graph.task_arcs(task).stay
-}
-
-/// The arc from the task at a place to its job.
-pub(crate) fn wait_arc(graph: &Graph, task: usize) -> ArcId
-    requires { task < length (view_of graph.now).case.tasks }
-    ensures { result ≡ (view_of graph.now).arc (Wait task) }
-{
-    graph.task_arcs(task).wait
-}
-
-/// The arc from the task at a place to the machine of its preference of this number, counted from 0.
-pub(crate) fn prefer_arc(graph: &Graph, task: usize, number: usize) -> ArcId
+/// One of the arcs of the task at a place.
+pub(crate) fn task_arc(graph: &Graph, task: usize, arc: TaskArc) -> ArcId
     requires task { task < length (view_of graph.now).case.tasks }
-    requires number { number < length (demand (view_of graph.now).case task).preferred }
-    ensures { result ≡ (view_of graph.now).arc (Prefer task number) }
+    requires arc { IsArcOf (view_of graph.now).case task arc }
+    ensures { result ≡ (view_of graph.now).arc (key_of task arc) }
 {
-    graph.task_arcs(task).preferred.at(number)
+    let arcs = graph.task_arcs(task);
+    match arc {
+        TaskArc::Stay => arcs.stay,
+        TaskArc::Prefer(number) => arcs.preferred.at(number),
+        TaskArc::Wide => arcs.wide,
+        TaskArc::Wait => arcs.wait,
+    }
 }
 
 /// The arc from the hub to the machine at a place.
@@ -182,7 +180,8 @@ pub(crate) fn flow_on(net: &Net, arc: ArcId) -> u32
 /// Whether an arc carries more than its lower bound.
 pub(crate) fn has_surplus_on(net: &Net, arc: ArcId) -> bool
     requires { IsArc net.now arc }
-    ensures { result ≡ nat_lt (low_of_row (row_at net.now arc)) (flow_of_row (row_at net.now arc)) }
+    ensures yes { result ≡ true → low_of_row (row_at net.now arc) < flow_of_row (row_at net.now arc) }
+    ensures no { result ≡ false → flow_of_row (row_at net.now arc) ≤ low_of_row (row_at net.now arc) }
 {
     let Some(row) = net.arc(arc) else {
         unreachable!()
@@ -199,4 +198,21 @@ pub(crate) fn low_on(net: &Net, arc: ArcId) -> u32
         unreachable!()
     };
     row.low()
+}
+
+/// Whether the machine is the task's own.
+pub(crate) fn is_home(home: Option<u32>, machine: u32) -> bool
+    ensures { result ≡ runs_at home machine }
+{
+    match home {
+        Some(own) => own == machine,
+        None => false,
+    }
+}
+
+/// The number of the preference for the machine, counted from 0.
+pub(crate) fn preference_for(places: &[u32], machine: u32) -> Option<usize>
+    ensures { result ≡ position (λ place. place == machine) places.now }
+{
+    places.iter().position(|place| *place == machine)
 }

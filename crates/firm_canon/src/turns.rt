@@ -1,24 +1,25 @@
 //! Units sent round cycles that cost nothing.
-ghost use Rattle.std.specs.Prelude.{◌≡◌, ◌+◌, ◌↔◌, true, false, Some};
+ghost use Rattle.std.specs.Prelude.{◌≡◌, ◌+◌, ◌↔◌, ◌++◌, List, true, false, Some};
 ghost use Rattle.firm_net.specs.Row.{Row};
 ghost use Rattle.firm_net.specs.Net.{IsNode, IsNet, IsArc, row_at};
 ghost use Rattle.firm_paths.specs.NetArcs.{limits_of};
+ghost use Rattle.firm_paths.specs.Paths.{IsTightPath};
 ghost use Rattle.firm_paths.specs.PriceTable.{price_of};
-ghost use Rattle.firm_paths.specs.Workspace.{Workspace};
-ghost use Rattle.firm_paths.specs.Classes.{HasSearchedWithin};
+ghost use Rattle.firm_paths.specs.Visits.{paths_of};
+ghost use Rattle.firm_paths.specs.declared.search.Step.{Step as AStep};
 ghost use Rattle.firm_graph.specs.View.{Shows};
 ghost use Rattle.firm_graph.specs.Ids.{view_of};
 ghost use Rattle.firm_canon.specs.inner.Graphs.{IsSameGraph};
-ghost use Rattle.firm_canon.specs.inner.Turns.{SameLows, SameOff, CarriesOn, Turned, IsBlocked, IsOpen, IsIdle};
-ghost use Rattle.firm_canon.specs.inner.Turns.{IsTightAt, IsLooseAt};
+ghost use Rattle.firm_canon.specs.inner.Turns.{SameLows, SameOff, CarriesOn, Turned, IsBlocked, IsIdle, IsStuck};
+ghost use Rattle.firm_canon.specs.inner.Turns.{IsOpen, IsTightAt, IsLooseAt};
 
 use firm_flow::round_a_cycle;
 use firm_graph::Graph;
 use firm_net::{ArcId, ArcRow, Net, Way};
-use firm_paths::{Prices, Scratch, Step, arcs_are_rows, tight_within};
+use firm_paths::{Prices, Scratch, Step, arcs_are_rows};
 
 /// Pushes one unit along each step.
-pub(crate) fn push_along(graph: &mut Graph, steps: &[Step])
+fn push_along(graph: &mut Graph, steps: &[Step])
     requires shows { Shows (view_of graph.old) }
     ensures shows { Shows (view_of graph.new) }
     ensures same { IsSameGraph graph.old graph.new }
@@ -61,12 +62,11 @@ pub(crate) fn is_tight_arc(graph: &Graph, prices: &Prices, arc: ArcId) -> bool
 }
 
 /// Whether an arc has room and the reduced cost 0.
-pub(crate) fn is_open(graph: &Graph, prices: &Prices, arc: ArcId) -> bool
+fn is_open(graph: &Graph, prices: &Prices, arc: ArcId) -> bool
     requires made_for { prices.now.limits ≡ limits_of graph.now.net }
     requires there { IsArc graph.now.net arc }
     ensures open { result ≡ true → IsOpen graph.now.net (price_of prices.now) arc }
-    ensures blocked { result ≡ false → (scratch : Workspace)
-        → IsBlocked graph.now.net (price_of prices.now) scratch arc }
+    ensures blocked { result ≡ false → IsBlocked graph.now.net (price_of prices.now) arc }
 {
     let Some(row) = graph.net().arc(arc) else {
         unreachable!()
@@ -77,32 +77,43 @@ pub(crate) fn is_open(graph: &Graph, prices: &Prices, arc: ArcId) -> bool
     is_tight(graph.net(), prices, row)
 }
 
-/// Sends one unit more along an open arc at its lower bound, and back from its head to its tail by a path of reduced
-/// cost 0 inside their class. False, and the graph is unchanged, if there is none: the ends have different classes from
-/// then on.
-pub(crate) fn turn(graph: &mut Graph, prices: &Prices, scratch: &mut Scratch, arc: ArcId) -> bool
+/// Sends one unit more along an arc at its lower bound, on from its head by the path that the last search found, and by
+/// the steps that lead back from there to its tail. False, and nothing changes, if the arc is not open or no path was
+/// found.
+pub(crate) fn turn(
+    graph: &mut Graph,
+    prices: &Prices,
+    scratch: &mut Scratch,
+    arc: ArcId,
+    back: &[Step],
+) -> bool
     requires shows { Shows (view_of graph.old) }
     requires made_for { (prices.now.limits ≡ limits_of graph.old.net) × (scratch.old.limits ≡ limits_of graph.old.net) }
     requires there { IsArc graph.old.net arc }
-    requires open { IsOpen graph.old.net (price_of prices.now) arc }
     requires idle { IsIdle graph.old.net arc }
+    requires round { (row : Row) (steps : List AStep) → row_at graph.old.net arc ≡ Some row
+        → paths_of scratch.old.visits row.head.id.place ≡ Some steps
+        → IsTightPath graph.old.net (price_of prices.now) row.head.id.place row.tail.id.place (steps ++ back.now) }
     ensures shows { Shows (view_of graph.new) }
     ensures same { IsSameGraph graph.old graph.new }
-    ensures searched { (row : Row) → row_at graph.old.net arc ≡ Some row
-        → HasSearchedWithin graph.old.net (price_of prices.now) row.head.id.place row.tail.id.place result
-        scratch.old scratch.new }
+    ensures scratch { scratch.new ≡ scratch.old }
     ensures won { result ≡ true → Turned graph.old.net graph.new.net (price_of prices.now) arc }
+    ensures lost { result ≡ false → IsStuck graph.old.net (price_of prices.now) (paths_of scratch.old.visits) arc }
     ensures unchanged { result ≡ false → graph.new ≡ graph.old }
 {
     arcs_are_rows();
     round_a_cycle();
+    if !is_open(graph, prices, arc) {
+        return false;
+    }
     let Some(row) = graph.net().arc(arc) else {
         unreachable!()
     };
-    let Some(steps) = tight_within(scratch, graph.net(), prices, row.head(), row.tail()) else {
+    let Some(steps) = scratch.path_from(graph.net(), row.head()) else {
         return false;
     };
     graph.push(arc, Way::Forward);
     push_along(graph, steps);
+    push_along(graph, back);
     true
 }

@@ -1,23 +1,23 @@
 -- What the choice of a round's placement keeps. No public clause cites this module.
-use Rattle.std.specs.Prelude.{◌≡◌, ℕ, ◌+◌, ◌<◌, ◌≤◌, ◌⊎◌, Bool, true, false, List, ◌++◌, ◌∷◌, length, All, Some}
+use Rattle.std.specs.Prelude.{◌≡◌, ℕ, ◌+◌, ◌<◌, ◌≤◌, Bool, true, false, List, ◌++◌, ◌∷◌, length, All, Some}
 use Rattle.std.specs.Prelude.{cond, eqb}
 use Rattle.firm_rules.specs.declared.rounds.Choice.{Choice}
 use Rattle.firm_rules.specs.declared.rounds.Choice.TheVariants.{On}
-use Rattle.firm_rules.specs.Placement.{Case, rank, runs_at, prefers}
-use Rattle.firm_paths.specs.Network.{AreValid}
+use Rattle.firm_rules.specs.Placement.{Case, rank}
+use Rattle.firm_paths.specs.Network.{Arc, AreValid, Tight, StaysInside}
 use Rattle.firm_flow.specs.Flow.{IsWithinBounds, cost_of, carried}
 use Rattle.firm_flow.specs.Balance.{Balanced}
 use Rattle.firm_graph.specs.declared.network.Node.{Node}
-use Rattle.firm_graph.specs.declared.network.Node.TheVariants.{Sink, Machine, Task}
+use Rattle.firm_graph.specs.declared.network.Node.TheVariants.{Sink}
 use Rattle.firm_graph.specs.declared.network.Key.{Key}
 use Rattle.firm_graph.specs.declared.network.Key.TheVariants.{Through, Slot, Exit, Wide, Stay, Wait, Prefer}
-use Rattle.firm_graph.specs.Network.{network, task_nodes, demand, leaving}
+use Rattle.firm_graph.specs.Network.{network, task_nodes, demand, preferred_at}
 use Rattle.firm_rules.specs.Placement.{IsLegal, IsPlace, placement_cost as cost, comes_before as before}
 use Rattle.firm_graph.specs.View.{View, Shows, lows, flows, spot_of}
 use Rattle.firm_graph.specs.Network.{IsKeyOf}
 use Rattle.firm_canon.specs.inner.Laws.{FlowLaws}
 use Rattle.firm_canon.specs.inner.Placed.{pick, wide, stay, waits, prefer, spot, wide_at, stay_at, prefer_at}
-use Rattle.firm_canon.specs.inner.Placed.{number, guests, placed}
+use Rattle.firm_canon.specs.inner.Placed.{number, guests}
 
 -- what the chosen prefix holds of the arcs
 abbrev pub low_of : Case → List Choice → Key → ℕ
@@ -38,10 +38,6 @@ pub record Stands (c : Case) (p : List Choice) (x : Key → ℕ) (price : Node �
   pub least : (q : List Choice) → IsLegal c q → cost_of (network c (low_of c p) x) carried ≤ cost c q
   pub first : (q : List Choice) → IsLegal c q → cost c q ≤ cost_of (network c (low_of c p) x) carried
       → before (length c.slots) c.tasks q p ≡ false
-
--- no least placement that goes on from the prefix puts more than `n` on the arc of the key
-abbrev pub Capped : Case → List Choice → ℕ → Key → ℕ → Type 0
-Capped c p best key n = (r : List Choice) → IsLegal c (p ++ r) → cost c (p ++ r) ≤ best → placed c (p ++ r) key ≤ n
 
 -- no least placement goes on by this choice
 abbrev pub Barred : Case → List Choice → ℕ → Choice → Type 0
@@ -93,28 +89,22 @@ pub record IsAsCheap (c : Case) (p : List Choice) (most : ℕ) (x : Key → ℕ)
   pub balanced : Balanced (network c (low_of c p) x) (task_nodes c) Sink carried
   pub cheap : cost_of (network c (low_of c p) x) carried ≤ most
 
--- no flow as cheap that goes on from the prefix brings machine `j` a guest more by the hub
-pub record IsSpent (c : Case) (p : List Choice) (most j : ℕ) : Type 0 where
-  pub no_more : (x : Key → ℕ) → IsAsCheap c p most x → x (Through j) ≤ guests c p j
+-- no flow as cheap that goes on from the prefix carries more on the arc of the key than the prefix holds
+abbrev pub IsSpent : Case → List Choice → ℕ → Key → Type 0
+IsSpent c p most key = (x : Key → ℕ) → IsAsCheap c p most x → x key ≤ low_of c p key
 
--- none that sends the next task to the hub does
-pub record IsSpentBeside (c : Case) (p : List Choice) (most j : ℕ) : Type 0 where
-  pub no_more : (x : Key → ℕ) → IsAsCheap c p most x → x (Wide (length p)) ≡ 1 → x (Through j) ≤ guests c p j
+-- machine `j` has no unit that the next task could follow there: none of its own by a preference, or, if its own is at
+-- the hub, none by the hub that is not held
+pub record IsBare (v : View) (p : List Choice) (at_hub : Bool) (j : ℕ) : Type 0 where
+  pub near : at_hub ≡ false → (k : ℕ) → k < length (demand v.case (length p)).preferred
+      → preferred_at v.case (length p) k ≡ j → flows v (Prefer (length p) k) ≡ 0
+  pub far : at_hub ≡ true → flows v (Through j) ≤ guests v.case p j
 
--- the reduced cost of an arc of this cost from a task to a machine is not 0, or they have different classes
-abbrev pub IsShutOff : View → (ℕ → ℕ) → (ℕ → ℕ) → (i j cost : ℕ) → Type 0
-IsShutOff v price class i j cost =
-    (cost + price (spot_of v (Task i)) ≡ price (spot_of v (Machine j)) → ⊥)
-    ⊎ (class (spot_of v (Machine j)) ≡ class (spot_of v (Task i)) → ⊥)
+-- nor does any least placement go on by it
+pub record IsPassed (v : View) (p : List Choice) (at_hub : Bool) (j : ℕ) : Type 0 where
+  pub bare : IsBare v p at_hub j
+  pub shut : Shut v p j
 
--- the next task can't come to machine `j` as it prefers it
-pub record IsRefused (v : View) (price : ℕ → ℕ) (p : List Choice) (class : ℕ → ℕ) (j : ℕ) : Type 0 where
-  pub never : (x : Key → ℕ) → IsAsCheap v.case p (best v p) x → x (Prefer (length p) (next_number v.case p j)) ≡ 0
-  pub shut : IsShutOff v price class (length p) j (leaving v.case (length p))
-
--- unless machine `j` is its own, the next task can't reach it: not as it prefers it, nor by the hub, if that was tried
-pub record IsPassed (v : View) (price : ℕ → ℕ) (p : List Choice) (class : ℕ → ℕ) (tried : Bool) (j : ℕ) : Type 0 where
-  pub near : runs_at (demand v.case (length p)).home j ≡ false → prefers (demand v.case (length p)) j ≡ true
-      → IsRefused v price p class j
-  pub far : runs_at (demand v.case (length p)).home j ≡ false → prefers (demand v.case (length p)) j ≡ false
-      → tried ≡ true → IsSpentBeside v.case p (best v p) j
+-- in neither direction does the arc lead out of the set at no cost
+abbrev pub StaysAtNoCost : (Node → ℕ) → (Node → Bool) → Arc Node Key → Type 0
+StaysAtNoCost price inside a = Tight price a → StaysInside inside a

@@ -1,5 +1,5 @@
 -- The laws that the choice rests on: of balanced flows between the nodes of the network, and of the arcs of a net.
-use Rattle.firm_paths.specs.Laws.{EachArcHasItsRow}
+use Rattle.firm_paths.specs.Laws.{EachArcHasItsRow, EachRowIsListed}
 use Rattle.firm_flow.specs.Laws.{LeastWhereBalanced, SameWhereLoose, NoMoreWhereClosed}
 use Rattle.firm_graph.specs.declared.network.Node.{Node}
 use Rattle.firm_graph.specs.declared.network.Key.{Key}
@@ -9,3 +9,4 @@ pub record FlowLaws : Type 0 where
   pub same : SameWhereLoose Node Key
   pub no_more : NoMoreWhereClosed Node Key
   pub rows : EachArcHasItsRow
+  pub listed : EachRowIsListed

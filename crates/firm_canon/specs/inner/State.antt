@@ -1,16 +1,21 @@
 -- What the choice of a round works on, and what each of its steps keeps. No public clause cites this module.
-use Rattle.std.specs.Prelude.{◌≡◌, ℕ, ◌<◌, ◌≤◌, List, length}
+use Rattle.std.specs.Prelude.{◌≡◌, ◌<◌, ℕ, Bool, true, List, length, if◌then◌else◌}
 use Rattle.firm_rules.specs.declared.rounds.Choice.{Choice}
 use Rattle.firm_rules.specs.ArenaUse.{arena_arcs}
 use Rattle.firm_paths.specs.NetArcs.{limits_of}
+use Rattle.firm_paths.specs.Paths.{ArePaths}
 use Rattle.firm_paths.specs.PriceTable.{price_of}
-use Rattle.firm_paths.specs.Classes.{class_of}
+use Rattle.firm_paths.specs.Visits.{paths_of}
 use Rattle.firm_graph.specs.Ids.{view_of}
-use Rattle.firm_graph.specs.View.{View}
+use Rattle.firm_graph.specs.View.{View, flows, spot_of}
+use Rattle.firm_graph.specs.Network.{demand}
+use Rattle.firm_graph.specs.declared.network.Node.TheVariants.{Hub, Task}
+use Rattle.firm_canon.specs.Counts.{HasMadeUpTo}
 use Rattle.firm_canon.specs.inner.Graphs.{IsSameGraph}
-use Rattle.firm_canon.specs.inner.Choosing.{Keeps, IsSpent, best}
-use Rattle.firm_canon.specs.inner.Classes.{AreLasting, AreRefined, HasSought, cut_count}
+use Rattle.firm_canon.specs.inner.Choosing.{Keeps, best}
 use Rattle.firm_canon.specs.declared.choosing.Choosing.{Choosing}
+use Rattle.firm_canon.specs.declared.reads.Wishes.{Wishes}
+use Rattle.firm_graph.specs.declared.network.Key.TheVariants.{Wide}
 
 -- what the net of the graph shows, the prices of its places, and the choices so far
 abbrev pub view : Choosing → View
@@ -22,25 +27,43 @@ price s = price_of s.prices.now
 abbrev pub prefix : Choosing → List Choice
 prefix s = s.chosen.now.items
 
--- the flow is least and holds the choices so far, the classes last, and the machines before the mark are spent
+-- the flow is least and holds the choices so far
 pub record IsReady (s : Choosing) : Type 0 where
   pub prices_fit : s.prices.now.limits ≡ limits_of s.graph.now.net
   pub scratch_fits : s.scratch.now.limits ≡ limits_of s.graph.now.net
   pub keeps : Keeps (view s) (price s) (prefix s)
-  pub classes : AreLasting (view s) (price s) (prefix s) (class_of s.scratch.now)
-  pub in_range : s.spent ≤ length (view s).case.slots
-  pub spent : (j : ℕ) → j < s.spent → IsSpent (view s).case (prefix s) (best (view s) (prefix s)) j
 
--- of the graph the flow alone has changed, at no cost, no choice was made, and no classes were joined; at most `most`
--- searches were made, `found` of which may have made no cut known
-pub record GoesOn (old new : Choosing) (most found : ℕ) : Type 0 where
+-- the state is ready for the next task, whose machines were read
+pub record IsReadyFor (s : Choosing) (wishes : Wishes) : Type 0 where
+  pub ready : IsReady s
+  pub next : length (prefix s) < length (view s).case.tasks
+  pub home : wishes.home ≡ (demand (view s).case (length (prefix s))).home
+  pub places : wishes.places.items ≡ (demand (view s).case (length (prefix s))).preferred
+
+-- the last search found the ways to a place
+abbrev pub HasWays : Choosing → ℕ → Type 0
+HasWays s to = ArePaths s.graph.now.net (price s) to (paths_of s.scratch.now.visits)
+
+-- the place of the hub, or of a task
+abbrev pub root : View → ℕ → Bool → ℕ
+root v i at_hub = if at_hub then spot_of v Hub else spot_of v (Task i)
+
+-- the last search found the ways to the next task or, where its unit is at the hub, to the hub
+pub record HasWaysBack (s : Choosing) (at_hub : Bool) : Type 0 where
+  pub ways : HasWays s (root (view s) (length (prefix s)) at_hub)
+  pub hub : at_hub ≡ true → flows (view s) (Wide (length (prefix s))) ≡ 1
+
+-- of the graph the flow alone has changed, at no cost, no choice was made, and at most `most` searches were
+pub record GoesOn (old new : Choosing) (most : ℕ) : Type 0 where
   pub same : IsSameGraph old.graph.now new.graph.now
   pub graph : new.graph.ghost_name ≡ old.graph.ghost_name
   pub scratch : new.scratch.ghost_name ≡ old.scratch.ghost_name
   pub prices : new.prices ≡ old.prices
   pub chosen : new.chosen ≡ old.chosen
   pub best : best (view new) (prefix new) ≡ best (view old) (prefix old)
-  pub refined : AreRefined old.scratch.now new.scratch.now
-  pub sought : HasSought old.scratch.now new.scratch.now most found (arena_arcs old.graph.now.rows)
-      (cut_count (view old) old.scratch.now) (cut_count (view new) new.scratch.now)
+  pub searched : HasMadeUpTo old.scratch.now new.scratch.now most (arena_arcs old.graph.now.rows)
   pub ready : IsReady new
+
+-- nothing has changed
+abbrev pub IsUnchanged : Choosing → Choosing → Type 0
+IsUnchanged old new = (new.graph.now ≡ old.graph.now) × (new.scratch.now ≡ old.scratch.now)

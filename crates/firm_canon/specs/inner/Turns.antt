@@ -1,12 +1,10 @@
 -- A unit sent round a cycle of residual arcs of reduced cost 0. No public clause cites this module.
-use Rattle.std.specs.Prelude.{◌≡◌, ◌≢◌, ℕ, ◌+◌, ◌<◌, ◌≤◌, List, [], All, Some, map, ◌⊎◌}
+use Rattle.std.specs.Prelude.{◌≡◌, ◌≢◌, ℕ, ◌+◌, ◌<◌, ◌≤◌, List, ◌++◌, All, Option, Some, None, map, ◌⊎◌}
 use Rattle.firm_net.specs.Row.{Row}
 use Rattle.firm_net.specs.Net.{Net, row_at}
 use Rattle.firm_net.specs.declared.row.ArcId.{ArcId}
 use Rattle.firm_paths.specs.Network.{AreValid, Tight}
 use Rattle.firm_paths.specs.NetArcs.{arc_of, arcs_of, residual_of}
-use Rattle.firm_paths.specs.Workspace.{Workspace}
-use Rattle.firm_paths.specs.Classes.{AreTogether}
 use Rattle.firm_paths.specs.declared.search.Step.{Step}
 use Rattle.firm_flow.specs.Flow.{IsWithinBounds, cost_of, carried}
 use Rattle.firm_flow.specs.Balance.{Balanced, OnTheWay}
@@ -26,12 +24,12 @@ SameLows old new = (b : ArcId) → low_of_row (row_at new b) ≡ low_of_row (row
 abbrev pub SameOff : Net → Net → List Step → Type 0
 SameOff old new steps = (b : ArcId) → All (λ step. step.arc ≢ b) steps → row_at new b ≡ row_at old b
 
--- pushes along the steps bring a unit to their end
+-- pushes along the steps bring a unit that much further on its way
 abbrev pub CarriesOn : Net → List Step → Net → Type 0
 CarriesOn old steps new =
-    (found : Net) (price : ℕ → ℕ) (sources : List ℕ) (sink origin at to before : ℕ)
-    → OnTheWay (arcs_of old) price sources sink origin at to before (map (residual_of found) steps)
-    → OnTheWay (arcs_of new) price sources sink origin to to before []
+    (found : Net) (price : ℕ → ℕ) (sources : List ℕ) (sink origin at to before : ℕ) (rest : List Step)
+    → OnTheWay (arcs_of old) price sources sink origin at to before (map (residual_of found) (steps ++ rest))
+    → (here : ℕ) × OnTheWay (arcs_of new) price sources sink origin here to before (map (residual_of found) rest)
 
 -- the other arc is full, and leads to where the first one begins
 abbrev pub IsFullInto : Net → ArcId → ArcId → Type 0
@@ -64,19 +62,13 @@ abbrev pub IsOpen : Net → (ℕ → ℕ) → ArcId → Type 0
 IsOpen net price arc =
     (row : Row) → row_at net arc ≡ Some row → (row.flow < row.cap) × Tight price (arc_of arc row)
 
--- the ends of the arc have one class
-abbrev pub IsJoined : Net → Workspace → ArcId → Type 0
-IsJoined net scratch arc =
-    (row : Row) → row_at net arc ≡ Some row → AreTogether scratch row.head.id.place row.tail.id.place
+-- the arc has no room, or its reduced cost is not 0
+abbrev pub IsBlocked : Net → (ℕ → ℕ) → ArcId → Type 0
+IsBlocked net price arc =
+    (row : Row) → row_at net arc ≡ Some row → (row.cap ≤ row.flow) ⊎ (Tight price (arc_of arc row) → ⊥)
 
--- they have not
-abbrev pub IsParted : Net → Workspace → ArcId → Type 0
-IsParted net scratch arc =
-    (row : Row) → row_at net arc ≡ Some row → AreTogether scratch row.head.id.place row.tail.id.place → ⊥
-
--- the arc has no room, or its reduced cost is not 0, or its ends have different classes
-abbrev pub IsBlocked : Net → (ℕ → ℕ) → Workspace → ArcId → Type 0
-IsBlocked net price scratch arc =
+-- so it is, or no path was found from its head
+abbrev pub IsStuck : Net → (ℕ → ℕ) → (ℕ → Option (List Step)) → ArcId → Type 0
+IsStuck net price paths arc =
     (row : Row) → row_at net arc ≡ Some row
-    → (row.cap ≤ row.flow) ⊎ ((Tight price (arc_of arc row) → ⊥)
-    ⊎ (AreTogether scratch row.head.id.place row.tail.id.place → ⊥))
+    → (row.cap ≤ row.flow) ⊎ ((Tight price (arc_of arc row) → ⊥) ⊎ (paths row.head.id.place ≡ None))

@@ -15,6 +15,7 @@ returns-clause-keeps c =
       same = c.balanced_flows.ensures.same;
       no_more = c.balanced_flows.ensures.no_more;
       rows = c.arcs_are_rows.ensures.arcs;
+      listed = c.arcs_are_rows.ensures.rows;
     })
     c.conserved_where_balanced.ensures
     (view_of c.least.new.self) (price_of c.least.new.prices)

@@ -5,7 +5,7 @@ use Rattle.firm_rules.specs.declared.rounds.Choice.TheVariants.{On}
 use Rattle.firm_graph.specs.declared.network.Key.TheVariants.{Through}
 use Rattle.firm_graph.specs.View.{View, IsSameCase}
 use Rattle.firm_canon.proofs.Tries.{low_is}
-use Rattle.firm_canon.proofs.Spent.{best_held}
+use Rattle.firm_canon.proofs.Tries.{best_held}
 use Rattle.firm_canon.proofs.Holdings.{held_other, can_come}
 use Rattle.firm_graph.specs.Ids.{view_of}
 use Rattle.firm_canon.proofs.holds.hold_by_hub.Goals as goal
@@ -24,9 +24,9 @@ returns-clause-keeps c =
       arc = k.same.case.arc ∙ h.same.case.arc;
     } in
     held_other old mid new (price_of c.args.prices.now)
-    p c.args.machine c.wide_arc.result c.through_arc-arc.result c.low_on-low.result c.requires.keeps c.requires.next
+    p c.args.machine c.task_arc.result c.through_arc-arc.result c.low_on-low.result c.requires.keeps c.requires.next
     c.requires.chosen c.requires.other c.requires.far
-    k.shows same c.wide_arc.ensures c.through_arc-arc.ensures
+    k.shows same c.task_arc.ensures c.through_arc-arc.ensures
     (record { here = h.here; flows = h.flows; others = h.others })
     (record { here = k.here; flows = k.flows; others = k.others })
     (low_is old c.net.result.now c.through_arc-arc.result (Through c.args.machine)

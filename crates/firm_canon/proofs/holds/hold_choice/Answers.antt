@@ -2,7 +2,7 @@ use Rattle.std.proofs.Common.{◌≡◌, List, [], ◌∷◌, ◌++◌, sym, sub
 use Rattle.firm_paths.specs.PriceTable.{price_of}
 use Rattle.firm_rules.specs.declared.rounds.Choice.{Choice}
 use Rattle.firm_canon.specs.inner.Choosing.{Keeps, IsChosen, best}
-use Rattle.firm_canon.proofs.Spent.{best_held}
+use Rattle.firm_canon.proofs.Tries.{best_held}
 use Rattle.firm_canon.proofs.Holdings.{held_wait}
 use Rattle.firm_graph.specs.Ids.{view_of}
 use Rattle.firm_canon.proofs.holds.hold_choice.Goals as goal
@@ -14,9 +14,9 @@ returns-in-Wait-clause-keeps c =
     subst (λ (o : Choice). Keeps (view_of c.hold_at.new.graph) (price_of c.args.prices.now) (p ++ o ∷ []))
     (sym c.in-Wait.is)
     (held_wait (view_of c.args.graph.now) (view_of c.hold_at.new.graph) (price_of c.args.prices.now)
-    p c.wait_arc.result c.requires.keeps c.requires.next
+    p c.task_arc.result c.requires.keeps c.requires.next
     (subst (λ (o : Choice). IsChosen (view_of c.args.graph.now) p o) c.in-Wait.is c.requires.chosen)
-    h.shows h.same.case c.wait_arc.ensures
+    h.shows h.same.case c.task_arc.ensures
     (record { here = h.here; flows = h.flows; others = h.others }))
 
 pub returns-in-Wait-clause-best : goal.returns-in-Wait-clause-best

@@ -7,7 +7,7 @@ use Rattle.firm_graph.specs.Network.{demand}
 use Rattle.firm_graph.specs.declared.network.Key.TheVariants.{Prefer}
 use Rattle.firm_graph.specs.View.{View}
 use Rattle.firm_canon.proofs.Nears.{preferred_found, preferred_missed}
-use Rattle.firm_canon.proofs.Spent.{best_held}
+use Rattle.firm_canon.proofs.Tries.{best_held}
 use Rattle.firm_canon.proofs.Holdings.{held_own, held_near, can_go}
 use Rattle.firm_graph.specs.Ids.{view_of}
 use Rattle.firm_canon.proofs.holds.hold_machine.Goals as goal
@@ -16,10 +16,10 @@ pub returns-then-is_home-clause-keeps : goal.returns-then-is_home-clause-keeps
 returns-then-is_home-clause-keeps c =
     let h = c.hold_at.ensures in
     held_own (view_of c.args.graph.now) (view_of c.hold_at.new.graph)
-    (price_of c.args.prices.now) c.args.chosen.now c.args.machine c.stay_arc.result c.requires.keeps c.requires.next
+    (price_of c.args.prices.now) c.args.chosen.now c.args.machine c.task_arc.result c.requires.keeps c.requires.next
     c.requires.chosen
     (ap (λ h. runs_at h c.args.machine) (sym c.requires.home) ∙ (sym c.is_home.ensures ∙ c.if-is_home.true))
-    h.shows h.same.case c.stay_arc.ensures
+    h.shows h.same.case c.task_arc.ensures
     (record { here = h.here; flows = h.flows; others = h.others })
 
 pub returns-then-is_home-clause-best : goal.returns-then-is_home-clause-best
@@ -44,10 +44,10 @@ hold_at-requires-in-Some-clause-allowed c =
     let p : List Choice = c.args.chosen.now in
     let it = preferred_found (demand old.case (length p)) c.deref.result.now c.args.machine c.in-Some.number
     (c.deref.ensures.0 ∙ c.requires.places) (sym c.preference_for.ensures ∙ c.in-Some.is) in
-    can_go old (price_of c.args.prices.now) p c.args.machine c.in-Some.number c.prefer_arc.result c.requires.keeps
+    can_go old (price_of c.args.prices.now) p c.args.machine c.in-Some.number c.task_arc-in-Some.result c.requires.keeps
     c.requires.chosen
     (ap (λ h. runs_at h c.args.machine) (sym c.requires.home) ∙ (sym c.is_home.ensures ∙ c.if-is_home.false))
-    it.0 it.1 c.prefer_arc.ensures
+    it.0 it.1 c.task_arc-in-Some.ensures
 
 pub returns-in-Some-clause-keeps : goal.returns-in-Some-clause-keeps
 returns-in-Some-clause-keeps c =
@@ -57,10 +57,10 @@ returns-in-Some-clause-keeps c =
     let it = preferred_found (demand old.case (length p)) c.deref.result.now c.args.machine c.in-Some.number
     (c.deref.ensures.0 ∙ c.requires.places) (sym c.preference_for.ensures ∙ c.in-Some.is) in
     held_near old (view_of c.hold_at-in-Some.new.graph) (price_of c.args.prices.now) p c.args.machine
-    c.prefer_arc.result c.requires.keeps c.requires.next c.requires.chosen
+    c.task_arc-in-Some.result c.requires.keeps c.requires.next c.requires.chosen
     (ap (λ h. runs_at h c.args.machine) (sym c.requires.home) ∙ (sym c.is_home.ensures ∙ c.if-is_home.false))
     it.0 h.shows h.same.case
-    (c.prefer_arc.ensures ∙ ap (λ (k : ℕ). old.arc (Prefer (length p) k)) it.1)
+    (c.task_arc-in-Some.ensures ∙ ap (λ (k : ℕ). old.arc (Prefer (length p) k)) it.1)
     (record { here = h.here; flows = h.flows; others = h.others })
 
 pub returns-in-Some-clause-best : goal.returns-in-Some-clause-best

@@ -9,13 +9,13 @@ use Rattle.firm_canon.proofs.reads.home_of.Goals as goal
 pub machine_behind-requires : goal.machine_behind-requires
 machine_behind-requires c =
     there_key (view_of c.args.graph.now) c.net.ensures.shows c.arcs_are_rows.ensures.arcs (Stay c.args.task)
-    c.stay_arc.result c.requires c.stay_arc.ensures
+    c.task_arc.result c.requires c.task_arc.ensures
 
 pub returns : goal.returns
 returns c =
     let v : View = view_of c.args.graph.now in
     let row = key_row v c.net.ensures.shows c.arcs_are_rows.ensures.arcs (Stay c.args.task) c.requires in
-    let there : row_at v.net c.stay_arc.result ≡ Some row.0 = ap (row_at v.net) c.stay_arc.ensures ∙ row.1 in
+    let there : row_at v.net c.task_arc.result ≡ Some row.0 = ap (row_at v.net) c.task_arc.ensures ∙ row.1 in
     home_is v c.net.ensures.shows c.arcs_are_rows.ensures.arcs c.args.task c.requires row.0 c.machine_behind.result
     row.1 (c.machine_behind.ensures.node row.0 there) (c.machine_behind.ensures.some row.0 there)
     (c.machine_behind.ensures.none row.0 there)

@@ -1,13 +1,10 @@
-use Rattle.std.proofs.Common.{◌≡◌, ◌≤◌, ◌+◌, ◌*◌, length}
+use Rattle.std.proofs.Common.{◌≡◌, ◌≤◌, ◌*◌, length}
 use Rattle.std.specs.Prelude.{vec_len, vec_capacity}
 use Rattle.firm_rules.specs.ArenaUse.{arena_arcs}
 use Rattle.firm_graph.specs.Graph.{Graph}
-use Rattle.firm_graph.specs.Ids.{view_of}
+use Rattle.firm_canon.specs.Counts.{HasMadeUpTo}
 use Rattle.firm_canon.specs.inner.Graphs.{IsSameGraph}
-use Rattle.firm_canon.specs.inner.Classes.{HasSought, cut_count}
-use Rattle.firm_canon.specs.inner.State.{IsReady, prefix, view}
-use Rattle.firm_canon.specs.inner.Approaches.{preferred_before}
-use Rattle.firm_canon.specs.inner.Looks.{LooksOn}
+use Rattle.firm_canon.specs.inner.State.{IsReady, prefix}
 use Rattle.firm_canon.proofs.choosing.Choosing.choose_all.Given as goal
 
 abbrev pub invariant-loop-task : goal.invariant-loop-task
@@ -18,10 +15,7 @@ invariant-loop-task l =
       graph : l.self.graph.ghost_name ≡ l.fn.self.graph.ghost_name;
       scratch : l.self.scratch.ghost_name ≡ l.fn.self.scratch.ghost_name;
       list : l.self.chosen.ghost_name ≡ l.fn.self.chosen.ghost_name;
-      sought : HasSought l.fn.self.scratch.now l.self.scratch.now (l.task * (length old.rows.machines + 3))
-          (2 * l.task + preferred_before (view_of old).case l.task) (arena_arcs old.rows)
-          (cut_count (view l.fn.self) l.fn.self.scratch.now) (cut_count (view l.self) l.self.scratch.now);
-      looked : LooksOn l.fn.self l.self (2 * l.task);
+      searched : HasMadeUpTo l.fn.self.scratch.now l.self.scratch.now (2 * l.task) (arena_arcs old.rows);
       ready : IsReady l.self;
       so_far : length (prefix l.self) ≡ l.task;
       count : vec_len l.self.chosen.now ≡ l.task;
