@@ -9,6 +9,8 @@ use Rattle.firm_rules.specs.Limits.{TenantLimits, are_limits, is_within, longest
 use Rattle.firm_rules.specs.Book.{Book, opening_rows}
 use Rattle.firm_rules.specs.Sound.{AreSound}
 use Rattle.firm_rules.specs.SoundBook.{AreInForm, IsSoundBook, OpeningBooksAreSound, is_cost, most_cost, entry_count}
+use Rattle.firm_rules.specs.SoundBook.{most_rounds, rounds_shown}
+use Rattle.firm_rules.specs.declared.book.Task.{Task}
 
 -- what passes a test throughout
 pub all-pass : {X : Type 0} (p : X → Bool) (xs : List X) → list_all p xs ≡ true → All (λ x. p x ≡ true) xs
@@ -95,13 +97,15 @@ openings limits within =
       costs = λ k d l. absurd (omega arith);
       life = omega arith;
       count = omega arith;
+      rounds = λ k d l. absurd (omega arith);
     }
 
 -- a book of sound rows in form whose costs are few and pass the test, and whose count of commands is in its range
 pub sound-book : (book : Book) → AreSound book.rows → AreInForm book.rows → length book.costs ≤ 8
     → list_all is_cost book.costs ≡ true → book.given ≤ book.rows.limits.life → entry_count book ≤ book.given
+    → list_all (λ task. nat_le (rounds_shown task) (most_rounds book)) book.rows.tasks ≡ true
     → IsSoundBook book
-sound-book book sound form few costs life count =
+sound-book book sound form few costs life count rounds =
     record {
       rows = sound;
       form = form;
@@ -109,7 +113,16 @@ sound-book book sound form few costs life count =
       costs = all-pass is_cost book.costs costs;
       life = life;
       count = count;
+      rounds = λ k d l. leb-true _ _ (all-pass (λ (task : Task). nat_le (rounds_shown task) (most_rounds book))
+          book.rows.tasks rounds k d l);
     }
+
+-- one whose tasks show more rounds than there may have been is not sound
+pub other-rounds : (book : Book)
+    → list_all (λ task. nat_le (rounds_shown task) (most_rounds book)) book.rows.tasks ≡ false → IsSoundBook book → ⊥
+other-rounds book failed sound =
+    true≢false (sym (pass-all (λ (task : Task). nat_le (rounds_shown task) (most_rounds book)) book.rows.tasks
+    (λ k d l. le-leb _ _ (sound.rounds k d l))) ∙ failed)
 
 -- one whose costs do not pass the test is not sound
 pub other-costs : (book : Book) → list_all is_cost book.costs ≡ false → IsSoundBook book → ⊥

@@ -1,9 +1,10 @@
 //! The book of a tenant as a whole, as it is taken out of one service and put into another.
-ghost use Rattle.std.specs.Prelude.{◌≡◌, ◌↔◌, ◌≤◌, true, IsOk, IfOk, IfErr, IfSome, IfNone, Some};
+ghost use Rattle.std.specs.Prelude.{◌≡◌, ◌↔◌, ◌≤◌, nat_le, List, true, IsOk, IfOk, IfErr, IfSome, IfNone, Some};
 ghost use Rattle.std.specs.List.{list_all};
-ghost use Rattle.firm_rules.specs.SoundBook.{IsSoundBook, entry_count, is_cost, book_fault};
+ghost use Rattle.firm_rules.specs.SoundBook.{IsSoundBook, entry_count, is_cost, book_fault, most_rounds, rounds_shown};
+ghost use Rattle.firm_rules.specs.declared.book.Task.{Task as TaskRow};
 
-use crate::recent::RecentCosts;
+use crate::recent::{MOST_COSTS, RecentCosts};
 use crate::tables::Rows;
 use std::marker::Model;
 
@@ -19,6 +20,8 @@ pub enum BookFault {
     Life,
     /// Fewer commands were given than there are rows and costs, of which each took one.
     Count,
+    /// A task runs or has waited, and there were fewer rounds.
+    Rounds,
 }
 
 /// The rows of a tenant, the costs of its last rounds, and how many commands it was given.
@@ -95,6 +98,9 @@ fn fault_of(rows: &Rows, costs: RecentCosts, given: u64) -> Option<BookFault>
     if given < entries_of(rows, costs) {
         return Some(BookFault::Count);
     }
+    if !are_shown(rows, most_rounds(rows, costs, given)) {
+        return Some(BookFault::Rounds);
+    }
     None
 }
 
@@ -106,6 +112,27 @@ fn entries_of(rows: &Rows, costs: RecentCosts) -> u64
     prove!(rows.limits().nodes() <= 4_096);
     let count = rows.machine_count() + rows.job_count() + rows.task_count();
     (count + costs.as_slice().len()) as u64
+}
+
+// How many rounds there may have been.
+fn most_rounds(rows: &Rows, costs: RecentCosts, given: u64) -> u64
+    requires { entry_count (record { rows = rows.now; costs = costs; given = given }) ≤ given }
+    ensures { result ≡ most_rounds (record { rows = rows.now; costs = costs; given = given }) }
+{
+    let left = costs.as_slice().len();
+    if left < MOST_COSTS {
+        return left as u64;
+    }
+    // The rows fit the limits, so no sum wraps.
+    prove!(rows.limits().nodes() <= 4_096);
+    given - (rows.machine_count() + rows.job_count() + rows.task_count()) as u64
+}
+
+// Whether no task shows more rounds than these.
+fn are_shown(rows: &Rows, most: u64) -> bool
+    ensures { result ≡ list_all (λ task. nat_le (rounds_shown task) most) rows.now.tasks }
+{
+    rows.tasks().all(|task| task.rounds_shown() <= most)
 }
 
 fn are_costs(costs: &[i64]) -> bool

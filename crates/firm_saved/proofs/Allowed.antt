@@ -20,7 +20,8 @@ use Rattle.firm_rules.specs.Sound.{HasRoom}
 use Rattle.firm_saved.specs.declared.faults.FaultKind.{FaultKind}
 use Rattle.firm_saved.specs.declared.faults.FaultKind.TheVariants as fault
 use Rattle.firm_saved.specs.Drafts.{TenantDraft, arena_fault, commands_fault, has_room, job_fault, limit_fault}
-use Rattle.firm_saved.specs.Drafts.{machine_fault, naming_fault, running_fault, task_fault}
+use Rattle.firm_saved.specs.Drafts.{costs_read, machine_fault, naming_fault, rounds_fault, rounds_with}
+use Rattle.firm_saved.specs.Drafts.{running_fault, task_fault}
 use Rattle.firm_saved.specs.inner.Loads.{loads_of}
 use Rattle.firm_saved.proofs.Steps.{either_none, none_cond, nothing}
 
@@ -40,8 +41,9 @@ arena_allows rows arcs e =
     let second = none_cond (nat_lt rows.limits.arcs (arena_arcs rows + arcs)) fault.ArenaArcs None first.1 in
     record { nodes = ltb-false _ _ first.0; arcs_fit = ltb-false _ _ second.0 }
 
-limit_allows : (t : TenantDraft) (arcs : ℕ) → limit_fault t arcs ≡ None → HasSpace t.rows arcs
-limit_allows t arcs e = arena_allows t.rows arcs (either_none (arena_fault t.rows arcs) (commands_fault t 1) e).0
+limit_allows : (t : TenantDraft) (arcs rounds : ℕ) → limit_fault t arcs rounds ≡ None → HasSpace t.rows arcs
+limit_allows t arcs rounds e =
+    arena_allows t.rows arcs (either_none (arena_fault t.rows arcs) (commands_fault t 1 rounds) e).0
 
 pub record MachineMay (rows : TenantRows) (machine : Machine) : Type 0 where
   pub new : is_among (machine_names rows) machine.name ≡ false
@@ -53,7 +55,7 @@ machine_may t m e =
     let first = none_cond _ fault.Row _ e in
     let parts = or_parts (is_none t.costs || nat_lt 0 (length t.rows.jobs)) (nat_lt 0 (length t.rows.tasks)) first.0 in
     let second = none_cond (is_among (machine_names t.rows) m.name) fault.Repeated _ first.1 in
-    let space = limit_allows t (1 + m.slots) second.1 in
+    let space = limit_allows t (1 + m.slots) t.rounds second.1 in
     let n = space.nodes in
     let a = space.arcs_fit in
     let f : Machine → ℕ = λ (x : Machine). 1 + x.slots in
@@ -76,7 +78,7 @@ pub job_may : (t : TenantDraft) (j : Job) → job_fault t j ≡ None → JobMay 
 job_may t j e =
     let first = none_cond _ fault.Row _ e in
     let second = none_cond (is_among (job_names t.rows) j.name) fault.Repeated _ first.1 in
-    let space = limit_allows t 1 second.1 in
+    let space = limit_allows t 1 t.rounds second.1 in
     let n = space.nodes in
     let a = space.arcs_fit in
     record {
@@ -146,7 +148,8 @@ task_may t task e =
     let preferred = none_cond (not (are_machines t.rows task.preferred)) fault.NoSuchMachine _ job.1 in
     let waited = none_cond (nat_lt t.rows.limits.patience task.waited) fault.BadNumber None preferred.1 in
     let run = run_may t.rows task task.machine third.0 in
-    let space = limit_allows t (3 + length task.preferred) third.1 in
+    let fourth = either_none (rounds_fault (costs_read t.costs) task) _ third.1 in
+    let space = limit_allows t (3 + length task.preferred) (rounds_with t.rounds task) fourth.1 in
     let n = space.nodes in
     let a = space.arcs_fit in
     let f : Task → ℕ = λ (x : Task). length x.preferred in

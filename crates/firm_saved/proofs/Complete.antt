@@ -1,11 +1,11 @@
 -- The rows of a sound state are read as this state.
-use Rattle.std.proofs.Common.{◌≡◌, ◌≤◌, ◌+◌, ◌*◌, ℕ, suc, Bool, true, cond, List}
+use Rattle.std.proofs.Common.{◌≡◌, ◌≤◌, ◌+◌, ◌*◌, ℕ, suc, Bool, true, false, cond, List}
 use Rattle.std.proofs.Common.{[], ◌∷◌, ◌++◌, length, map, refl, sym, ap, subst, ◌∙◌, arith, append_assoc, Option}
 use Rattle.std.proofs.Common.{Some, None}
 use Rattle.std.proofs.Common.{Result, Ok, bytes_eq, get_or}
-use Rattle.std.specs.Prelude.{ℤ, All, IfSome, nat_le, option_map, sum_by}
+use Rattle.std.specs.Prelude.{ℤ, ◌-◌, All, IfSome, max, min, nat_le, nat_lt, option_map, sum_by}
 use Rattle.std.specs.List.{list_all, AllByRecursion, IsDistinct}
-use Rattle.std.proofs.lemmas.Bool.{and_from, le-leb, le-ltb}
+use Rattle.std.proofs.lemmas.Bool.{and_from, le-leb, le-ltb, ltb-false, ltb-true}
 use Rattle.std.proofs.lemmas.List.{append-nil, map-append, length-append}
 use Rattle.std.proofs.lemmas.List.Elements.{recursion_from_All}
 use Rattle.std.proofs.lemmas.List.Sums.{sum_by-append, sum_by-cons}
@@ -18,7 +18,7 @@ use Rattle.firm_rules.specs.declared.book.Machine.{Machine}
 use Rattle.firm_rules.specs.declared.book.Job.{Job}
 use Rattle.firm_rules.specs.declared.book.Task.{Task}
 use Rattle.firm_text.specs.Commands.{◌>>=◌}
-use Rattle.firm_rules.specs.SoundBook.{AreInForm, IsSoundBook, book_fault, is_cost}
+use Rattle.firm_rules.specs.SoundBook.{AreInForm, IsSoundBook, book_fault, is_cost, most_rounds, rounds_shown}
 use Rattle.firm_saved.specs.declared.faults.FaultKind.{FaultKind}
 use Rattle.firm_saved.specs.declared.faults.FaultKind.TheVariants as fault
 use Rattle.firm_saved.specs.declared.rows.Row.{Row}
@@ -26,6 +26,7 @@ use Rattle.firm_saved.specs.declared.rows.Row.TheVariants as row
 use Rattle.firm_saved.specs.declared.saved.SavedPlace.{SavedPlace}
 use Rattle.firm_saved.specs.Drafts.{Draft, TenantDraft, arena_fault, commands_fault, costs_fault, costs_read, either}
 use Rattle.firm_saved.specs.Drafts.{grown, limit_fault, new_tenant}
+use Rattle.firm_saved.specs.Drafts.{rounds_fault, rounds_with, row_count}
 use Rattle.firm_saved.specs.Drafts.{has_room, job_fault, kind_of, machine_fault, naming_fault, running_fault}
 use Rattle.firm_saved.specs.Drafts.{taken, task_fault}
 use Rattle.firm_saved.specs.Drafts.{unless}
@@ -58,7 +59,13 @@ each_passes {X} p xs all = by xs (recursion_from_All (λ (x : X). p x ≡ true) 
 -- nothing keeps a sound book from being one
 pub book_free : (book : Book) → IsSoundBook book → option_map kind_of (book_fault book) ≡ None
 book_free book sound =
-    rw (each_passes is_cost book.costs sound.costs, le-ltb _ _ sound.life, le-ltb _ _ sound.count) refl
+    rw (
+      each_passes is_cost book.costs sound.costs,
+      le-ltb _ _ sound.life,
+      le-ltb _ _ sound.count,
+      each_passes (λ (task : Task). nat_le (rounds_shown task) (most_rounds book)) book.rows.tasks
+          (λ k d below. le-leb _ _ (sound.rounds k d below)),
+    ) refl
 
 arena_none : (rows : TenantRows) (arcs : ℕ)
     → 2 + length rows.machines + length rows.jobs + length rows.tasks + 1 ≤ rows.limits.nodes
@@ -67,19 +74,37 @@ arena_none : (rows : TenantRows) (arcs : ℕ)
     → arena_fault rows arcs ≡ None
 arena_none rows arcs nodes arcs_fit = rw (le-ltb _ _ nodes, le-ltb _ _ arcs_fit) refl
 
-commands_none : (t : TenantDraft) (more : ℕ)
-    → length t.rows.machines + length t.rows.jobs + length t.rows.tasks + length (costs_read t.costs) + more ≤ t.given
-    → commands_fault t more ≡ None
-commands_none t more few = ap (λ (b : Bool). cond b (Some fault.Commands) None) (le-ltb _ _ few)
+commands_none : (t : TenantDraft) (more rounds : ℕ) → row_count t.rows + more + rounds ≤ t.given
+    → commands_fault t more rounds ≡ None
+commands_none t more rounds few = ap (λ (b : Bool). cond b (Some fault.Commands) None) (le-ltb _ _ few)
 
-limit_none : (t : TenantDraft) (arcs : ℕ) → arena_fault t.rows arcs ≡ None
-    → length t.rows.machines + length t.rows.jobs + length t.rows.tasks + length (costs_read t.costs) + 1 ≤ t.given
-    → limit_fault t arcs ≡ None
-limit_none t arcs arena few =
-    ap (λ (o : Option FaultKind). either o (commands_fault t 1)) arena ∙ commands_none t 1 few
+limit_none : (t : TenantDraft) (arcs rounds : ℕ) → arena_fault t.rows arcs ≡ None
+    → row_count t.rows + 1 + rounds ≤ t.given
+    → limit_fault t arcs rounds ≡ None
+limit_none t arcs rounds arena few =
+    ap (λ (o : Option FaultKind). either o (commands_fault t 1 rounds)) arena ∙ commands_none t 1 rounds few
+
+-- how many rounds there were at least, by some tasks too
+abbrev pub rounds_read : ℕ → List Task → ℕ
+rounds_read rounds [] = rounds
+rounds_read rounds (task ∷ tasks) = rounds_read (rounds_with rounds task) tasks
+
+read_push : (rounds : ℕ) (tasks : List Task) (task : Task)
+    → rounds_with (rounds_read rounds tasks) task ≡ rounds_read rounds (tasks ++ task ∷ [])
+read_push rounds [] task = refl
+read_push rounds (first ∷ tasks) task = read_push (rounds_with rounds first) tasks task
+
+-- no more than each of the tasks shows, these and others
+read_most : (most rounds : ℕ) (tasks more : List Task) → rounds ≤ most
+    → AllByRecursion (λ task. rounds_shown task ≤ most) (tasks ++ more) → rounds_read rounds tasks ≤ most
+read_most most rounds [] more few each = few
+read_most most rounds (task ∷ tasks) more few each =
+    read_most most (rounds_with rounds task) tasks more (let one = each.0 in omega arith) each.1
 
 module _ (name : List ℕ) (costs : List ℤ) (given : ℕ) (final : TenantRows) (sound : AreSound final) (form : AreInForm
     final) (count : length final.machines + length final.jobs + length final.tasks + length costs ≤ given)
+    (shown : All (λ (task : Task). rounds_shown task
+    ≤ most_rounds (record { rows = final; costs = costs; given = given })) final.tasks)
     (before : List SavedPlace) (present : Option ℕ) where
   -- the tenant once these machines, jobs and tasks are read
   abbrev pub tenant_at : List Machine → List Job → List Task → TenantDraft
@@ -89,6 +114,7 @@ module _ (name : List ℕ) (costs : List ℤ) (given : ℕ) (final : TenantRows)
         rows = record { limits = final.limits; machines = machines; jobs = jobs; tasks = tasks };
         costs = Some costs;
         given = given;
+        rounds = rounds_read (length costs) tasks;
       }
 
   abbrev pub draft_at : List Machine → List Job → List Task → Draft
@@ -116,7 +142,7 @@ module _ (name : List ℕ) (costs : List ℤ) (given : ℕ) (final : TenantRows)
       let fresh : TenantDraft = new_tenant name final.limits given in
       goes fresh (tenant_at [] [] []) (row.Costs costs) tail refl
       (unless_none (costs_fault fresh costs) (tenant_at [] [] [])
-      (commands_none fresh (length costs) (let c = count in omega arith)))
+      (commands_none fresh 0 (length costs) (let c = count in omega arith)))
 
   machine_free : (ms1 ms2 : List Machine) (m : Machine) → ms1 ++ m ∷ ms2 ≡ final.machines
       → machine_fault (tenant_at ms1 [] []) m ≡ None
@@ -134,9 +160,9 @@ module _ (name : List ℕ) (costs : List ℤ) (given : ℕ) (final : TenantRows)
       ∙ ap (λ (n : ℕ). machine_arc_count ms1 + n) (sum_by-cons (λ (x : Machine). 1 + x.slots) m ms2) in
       let fits = sound.fits in
       ap (λ (b : Bool). cond b (Some fault.Repeated)
-      (limit_fault (tenant_at ms1 [] []) (1 + m.slots)))
+      (limit_fault (tenant_at ms1 [] []) (1 + m.slots) (length costs)))
       (apart (map (λ (x : Machine). x.name) ms1) (map (λ (x : Machine). x.name) ms2) m.name names)
-      ∙ limit_none (tenant_at ms1 [] []) (1 + m.slots)
+      ∙ limit_none (tenant_at ms1 [] []) (1 + m.slots) (length costs)
       (arena_none (record { limits = final.limits; machines = ms1; jobs = []; tasks = [] }) (1 + m.slots)
       (let n = fits.nodes in omega arith) (let a = fits.arcs in omega arith))
       (let c = count in omega arith)
@@ -162,9 +188,9 @@ module _ (name : List ℕ) (costs : List ℤ) (given : ℕ) (final : TenantRows)
       ap (λ (l : List Job). length l) (sym is) ∙ length-append js1 (j ∷ js2) in
       let fits = sound.fits in
       ap (λ (b : Bool). cond b (Some fault.Repeated)
-      (limit_fault (tenant_at final.machines js1 []) 1))
+      (limit_fault (tenant_at final.machines js1 []) 1 (length costs)))
       (apart (map (λ (x : Job). x.name) js1) (map (λ (x : Job). x.name) js2) j.name names)
-      ∙ limit_none (tenant_at final.machines js1 []) 1
+      ∙ limit_none (tenant_at final.machines js1 []) 1 (length costs)
       (arena_none (record { limits = final.limits; machines = final.machines; jobs = js1; tasks = [] }) 1
       (let n = fits.nodes in omega arith) (let a = fits.arcs in omega arith))
       (let c = count in omega arith)
@@ -236,6 +262,38 @@ module _ (name : List ℕ) (costs : List ℤ) (given : ℕ) (final : TenantRows)
         le-ltb final.limits.patience t.waited waited,
       ) refl
 
+  -- no task shows more rounds than commands are left beside those of the rows, or than there are costs below 8
+  few_rounds : (task : Task) → rounds_shown task ≤ most_rounds (record { rows = final; costs = costs; given = given })
+      → (rounds_shown task + row_count final ≤ given) × (min 8 (rounds_shown task) ≤ length costs)
+  few_rounds task few = by (nat_lt (length costs) 8) refl few
+    where
+      by : (b : Bool) → nat_lt (length costs) 8 ≡ b
+          → rounds_shown task ≤ cond b (length costs) (given - row_count final)
+          → (rounds_shown task + row_count final ≤ given) × (min 8 (rounds_shown task) ≤ length costs)
+      by true is few = (let c = count in omega arith, omega arith)
+      by false is few =
+          (let c = count in omega arith, let eight = ltb-false (length costs) 8 is in omega arith)
+
+  few_read : (ts1 ts2 : List Task) → ts1 ++ ts2 ≡ final.tasks
+      → rounds_read (length costs) ts1 + row_count final ≤ given
+  few_read ts1 ts2 is =
+      let most : ℕ = given - row_count final in
+      let read : rounds_read (length costs) ts1 ≤ most =
+      read_most most (length costs) ts1 ts2 (let c = count in omega arith)
+      (subst (AllByRecursion (λ (task : Task). rounds_shown task ≤ most)) (sym is)
+      (recursion_from_All (λ (task : Task). rounds_shown task ≤ most) final.tasks (λ k d below.
+      omega (arith, (few_rounds (get_or final.tasks k d) (shown k d below)).0)))) in
+      let c = count in omega arith
+
+  rounds_free : (ts1 ts2 : List Task) (t : Task) → ts1 ++ t ∷ ts2 ≡ final.tasks → rounds_fault costs t ≡ None
+  rounds_free ts1 ts2 t is =
+      let few = few_rounds t
+      (middle (λ (x : Task). rounds_shown x ≤ most_rounds (record { rows = final; costs = costs; given = given }))
+      ts1 ts2 t
+      (subst (All (λ (x : Task). rounds_shown x
+      ≤ most_rounds (record { rows = final; costs = costs; given = given }))) (sym is) shown)) in
+      ap (λ (b : Bool). cond b (Some fault.Rounds) None) (le-ltb _ _ few.1)
+
   task_free : (ts1 ts2 : List Task) (t : Task) → ts1 ++ t ∷ ts2 ≡ final.tasks
       → task_fault (tenant_at final.machines final.jobs ts1) t ≡ None
   task_free ts1 ts2 t is =
@@ -254,14 +312,20 @@ module _ (name : List ℕ) (costs : List ℤ) (given : ℕ) (final : TenantRows)
       ap preference_count (sym is) ∙ sum_by-append (λ (x : Task). length x.preferred) ts1 (t ∷ ts2)
       ∙ ap (λ (n : ℕ). preference_count ts1 + n) (sum_by-cons (λ (x : Task). length x.preferred) t ts2) in
       let fits = sound.fits in
+      let rounds : ℕ = rounds_with tenant.rounds t in
+      let limit : Option FaultKind = limit_fault tenant (3 + length t.preferred) rounds in
+      let read : rounds + row_count final ≤ given =
+      subst (λ (n : ℕ). n + row_count final ≤ given) (sym (read_push (length costs) ts1 t))
+      (few_read (ts1 ++ t ∷ []) ts2 (append_assoc ts1 (t ∷ []) ts2 ∙ is)) in
       ap (λ (o : Option FaultKind). either o (either (running_fault (rows_at ts1) t t.machine)
-      (limit_fault tenant (3 + length t.preferred)))) (naming_free ts1 ts2 t is)
-      ∙ ap (λ (o : Option FaultKind). either o (limit_fault tenant (3 + length t.preferred)))
+      (either (rounds_fault costs t) limit))) (naming_free ts1 ts2 t is)
+      ∙ ap (λ (o : Option FaultKind). either o (either (rounds_fault costs t) limit))
       (running_free ts1 ts2 t t.machine is there idle)
-      ∙ limit_none tenant (3 + length t.preferred)
+      ∙ ap (λ (o : Option FaultKind). either o limit) (rounds_free ts1 ts2 t is)
+      ∙ limit_none tenant (3 + length t.preferred) rounds
       (arena_none (rows_at ts1) (3 + length t.preferred) (let n = fits.nodes in omega arith)
       (let a = fits.arcs in omega arith))
-      (let c = count in omega arith)
+      (omega (arith, read, long))
 
   pub tasks_run : (ts1 ts2 : List Task) (tail : List Row) → ts1 ++ ts2 ≡ final.tasks
       → dsteps (draft_at final.machines final.jobs ts1) (map row.Task ts2 ++ tail)
@@ -273,5 +337,10 @@ module _ (name : List ℕ) (costs : List ℤ) (given : ℕ) (final : TenantRows)
       (row.Task t)
       (map row.Task ts2 ++ tail) refl
       (unless_none (task_fault (tenant_at final.machines final.jobs ts1) t)
-      (tenant_at final.machines final.jobs (ts1 ++ t ∷ [])) (task_free ts1 ts2 t is))
+      (record (tenant_at final.machines final.jobs (ts1 ++ t ∷ [])) {
+        rounds = rounds_with (rounds_read (length costs) ts1) t;
+      }) (task_free ts1 ts2 t is)
+      ∙ ap (λ (rounds : ℕ). let r : Result TenantDraft FaultKind = Ok
+      (record (tenant_at final.machines final.jobs (ts1 ++ t ∷ [])) { rounds = rounds }) in r)
+      (read_push (length costs) ts1 t))
       ∙ tasks_run (ts1 ++ t ∷ []) ts2 tail (append_assoc ts1 (t ∷ []) ts2 ∙ is)

@@ -168,7 +168,7 @@ placed kept admissions place sound is made whole = by kept.tenant refl made whol
 grown_name : (t : TenantDraft) (r : Row) (t2 : TenantDraft) → grown t r ≡ Ok t2 → t.name ≡ t2.name
 grown_name t (row.Costs costs) t2 e =
     ap (λ (x : TenantDraft). x.name)
-    (unless_ok (costs_fault t costs) (record t { costs = Some costs }) t2 e).1
+    (unless_ok (costs_fault t costs) (record t { costs = Some costs; rounds = length costs }) t2 e).1
 grown_name t (row.Machine m) t2 e = ap (λ (x : TenantDraft). x.name) (unless_ok (machine_fault t m) _ t2 e).1
 grown_name t (row.Job j) t2 e = ap (λ (x : TenantDraft). x.name) (unless_ok (job_fault t j) _ t2 e).1
 grown_name t (row.Task task) t2 e = ap (λ (x : TenantDraft). x.name) (unless_ok (task_fault t task) _ t2 e).1

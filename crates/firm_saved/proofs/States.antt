@@ -33,7 +33,7 @@ use Rattle.firm_saved.specs.inner.Kept.{AreSoundPlaces}
 use Rattle.firm_saved.specs.Reading.{fault_at, pieces_state, rows_from, state_of}
 use Rattle.firm_saved.proofs.Clean.{above, ended_line, lines_split}
 use Rattle.firm_saved.proofs.Complete.{book_free, costs_run, draft_at, dsteps, jobs_run, machines_run, middle}
-use Rattle.firm_saved.proofs.Complete.{tasks_run, unless_none}
+use Rattle.firm_saved.proofs.Complete.{rounds_read, tasks_run, unless_none}
 use Rattle.firm_saved.proofs.LineRows.{IsRow, line_clean, row_back}
 use Rattle.firm_saved.proofs.RowFacts.{places_inner, rows_are}
 use Rattle.firm_saved.proofs.Places.{given_back, given_ends, given_sound, not_seated, pairs_middle, state_filled}
@@ -107,7 +107,13 @@ text_is text places e = by (slice_split is_line_feed text) refl e
 abbrev drafted : Option (List ℕ × Book) → Option TenantDraft
 drafted None = None
 drafted (Some tenant) =
-    Some (record { name = tenant.0; rows = tenant.1.rows; costs = Some tenant.1.costs; given = tenant.1.given })
+    Some (record {
+      name = tenant.0;
+      rows = tenant.1.rows;
+      costs = Some tenant.1.costs;
+      given = tenant.1.given;
+      rounds = rounds_read (length tenant.1.costs) tenant.1.rows.tasks;
+    })
 
 abbrev draft_after : List SavedPlace → SavedPlace → Draft
 draft_after done place =
@@ -155,25 +161,27 @@ book_run done (suc more) name book tail sound some free =
     let start : Draft = record { before = done; present = Some (suc more); tenant = None } in
     let seated : Draft =
     record start { tenant = Some (new_tenant name book.rows.limits book.given) } in
-    let at = draft_at name book.costs book.given book.rows sound.rows sound.form sound.count done (Some (suc more)) in
+    let at = draft_at name book.costs book.given book.rows sound.rows sound.form sound.count sound.rounds done
+    (Some (suc more)) in
     let fault_none : tenant_fault start name book.rows.limits book.given ≡ None =
     rw (free, le-ltb book.rows.limits.life book.given sound.life) refl in
     let rows : List Row = map row.Machine book.rows.machines ++ map row.Job book.rows.jobs
     ++ map row.Task book.rows.tasks ++ tail in
     ap (λ (r : Result Draft FaultKind). r >>= λ after. dsteps after (row.Costs book.costs ∷ rows))
     (unless_none (tenant_fault start name book.rows.limits book.given) seated fault_none)
-    ∙ costs_run name book.costs book.given book.rows sound.rows sound.form sound.count done (Some (suc more)) rows
+    ∙ costs_run name book.costs book.given book.rows sound.rows sound.form sound.count sound.rounds done
+    (Some (suc more)) rows
     ∙ ap (dsteps (at [] [] []))
     (append_assoc (map row.Machine book.rows.machines ++ map row.Job book.rows.jobs) (map row.Task book.rows.tasks) tail
     ∙ append_assoc (map row.Machine book.rows.machines) (map row.Job book.rows.jobs)
     (map row.Task book.rows.tasks ++ tail))
-    ∙ machines_run name book.costs book.given book.rows sound.rows sound.form sound.count done
+    ∙ machines_run name book.costs book.given book.rows sound.rows sound.form sound.count sound.rounds done
     (Some (suc more)) [] book.rows.machines
     (map row.Job book.rows.jobs ++ (map row.Task book.rows.tasks ++ tail)) refl
-    ∙ jobs_run name book.costs book.given book.rows sound.rows sound.form sound.count done
+    ∙ jobs_run name book.costs book.given book.rows sound.rows sound.form sound.count sound.rounds done
     (Some (suc more)) [] book.rows.jobs
     (map row.Task book.rows.tasks ++ tail) refl
-    ∙ tasks_run name book.costs book.given book.rows sound.rows sound.form sound.count done
+    ∙ tasks_run name book.costs book.given book.rows sound.rows sound.form sound.count sound.rounds done
     (Some (suc more)) [] book.rows.tasks tail refl
 
 -- the rows of a place

@@ -135,7 +135,7 @@ pub grown_rows : (t : TenantDraft) (r : Row) (t2 : TenantDraft) → (t.costs ≡
     → grown t r ≡ Ok t2
     → drafted_rows (Some t2) ≡ drafted_rows (Some t) ++ r ∷ []
 grown_rows t (row.Costs costs) t2 bare e =
-    let made = unless_ok (costs_fault t costs) (record t { costs = Some costs }) t2 e in
+    let made = unless_ok (costs_fault t costs) (record t { costs = Some costs; rounds = length costs }) t2 e in
     let first = none_cond (is_some t.costs) fault.Row _ made.0 in
     let none = no_costs t.costs first.0 in
     ap (λ (x : TenantDraft). drafted_rows (Some x)) (sym made.1)
@@ -175,7 +175,7 @@ grown_rows t (row.Rows n) t2 bare e = absurd cc
 -- a tenant that has grown has its costs
 pub grown_costs : (t : TenantDraft) (r : Row) (t2 : TenantDraft) → grown t r ≡ Ok t2 → t2.costs ≡ None → ⊥
 grown_costs t (row.Costs costs) t2 e none =
-    let made = unless_ok (costs_fault t costs) (record t { costs = Some costs }) t2 e in
+    let made = unless_ok (costs_fault t costs) (record t { costs = Some costs; rounds = length costs }) t2 e in
     absurd (let c : Some costs ≡ t2.costs = ap (λ (x : TenantDraft). x.costs) made.1 in cc)
 grown_costs t (row.Machine m) t2 e none =
     let made = unless_ok (machine_fault t m) _ t2 e in

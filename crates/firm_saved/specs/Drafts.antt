@@ -1,6 +1,6 @@
 -- What the rows so far make of a state, and the next row.
 use Rattle.std.specs.Prelude.{ℕ, ℤ, zero, suc, Bool, true, not, ◌||◌, ◌+◌, List, [], ◌∷◌, ◌++◌, Option, Some, None}
-use Rattle.std.specs.Prelude.{Result, Ok, Err, length, nat_le, nat_lt, option_map, if◌then◌else◌}
+use Rattle.std.specs.Prelude.{Result, Ok, Err, length, max, min, nat_le, nat_lt, option_map, if◌then◌else◌}
 use Rattle.std.specs.List.{list_all, list_any}
 use Rattle.std.specs.Option.{is_none, is_some}
 use Rattle.firm_rules.specs.ArenaUse.{arena_arcs, arena_nodes}
@@ -15,21 +15,23 @@ use Rattle.firm_text.specs.Commands.{◌>>=◌}
 use Rattle.firm_text.specs.Registers.{is_named, most_admissions}
 use Rattle.firm_text.specs.Rosters.{most_places}
 use Rattle.firm_saved.specs.Saved.{filled, tenant_name}
-use Rattle.firm_rules.specs.SoundBook.{book_fault, entry_count}
+use Rattle.firm_rules.specs.SoundBook.{book_fault, rounds_shown}
 use Rattle.firm_saved.specs.declared.faults.FaultKind.{FaultKind}
 use Rattle.firm_saved.specs.declared.faults.FaultKind.TheVariants as fault
 use Rattle.firm_saved.specs.declared.rows.Row.{Row}
 use Rattle.firm_saved.specs.declared.rows.Row.TheVariants as row
 use Rattle.firm_saved.specs.declared.saved.SavedPlace.{SavedPlace}
 use Rattle.firm_rules.specs.declared.books.BookFault.{BookFault}
-use Rattle.firm_rules.specs.declared.books.BookFault.TheVariants.{Cost, Life, Count}
+use Rattle.firm_rules.specs.declared.books.BookFault.TheVariants.{Cost, Life, Count, Rounds}
 
--- a tenant of whose rows some were read; none means that the row of its costs was not
+-- a tenant of whose rows some were read; no costs mean that their row was not; there were this many
+-- rounds at least, by the costs and tasks that were read
 pub record TenantDraft : Type 0 where
   pub name : List ℕ
   pub rows : TenantRows
   pub costs : Option (List ℤ)
   pub given : ℕ
+  pub rounds : ℕ
 
 -- the places that were read, how often the last of them was given, and its tenant so far
 pub record Draft : Type 0 where
@@ -56,29 +58,29 @@ abbrev pub costs_read : Option (List ℤ) → List ℤ
 costs_read None = []
 costs_read (Some costs) = costs
 
--- the book of the rows so far
-abbrev pub book_read : TenantDraft → Book
-book_read tenant = record { rows = tenant.rows; costs = costs_read tenant.costs; given = tenant.given }
-
 -- the limits leave no room for a node and this many arcs more
 abbrev pub arena_fault : TenantRows → ℕ → Option FaultKind
 arena_fault rows arcs =
     if nat_lt rows.limits.nodes (arena_nodes rows + 1) then Some fault.ArenaNodes
     else (if nat_lt rows.limits.arcs (arena_arcs rows + arcs) then Some fault.ArenaArcs else None)
 
--- the tenant was given too few commands for this many rows and costs more, each of which took one
-abbrev pub commands_fault : TenantDraft → ℕ → Option FaultKind
-commands_fault tenant more =
-    if nat_lt tenant.given (entry_count (book_read tenant) + more) then Some fault.Commands else None
+-- how many rows of machines, jobs and tasks were read
+abbrev pub row_count : TenantRows → ℕ
+row_count rows = length rows.machines + length rows.jobs + length rows.tasks
 
--- why the tenant may not have one more row, with this many arcs
-abbrev pub limit_fault : TenantDraft → ℕ → Option FaultKind
-limit_fault tenant arcs = either (arena_fault tenant.rows arcs) (commands_fault tenant 1)
+-- the tenant was given too few commands for this many rows more and this many rounds, each of which took one
+abbrev pub commands_fault : TenantDraft → ℕ → ℕ → Option FaultKind
+commands_fault tenant more rounds =
+    if nat_lt tenant.given (row_count tenant.rows + more + rounds) then Some fault.Commands else None
+
+-- why the tenant may not have one more row, with this many arcs, where there were this many rounds
+abbrev pub limit_fault : TenantDraft → ℕ → ℕ → Option FaultKind
+limit_fault tenant arcs rounds = either (arena_fault tenant.rows arcs) (commands_fault tenant 1 rounds)
 
 -- why these costs may not be the next row of a tenant
 abbrev pub costs_fault : TenantDraft → List ℤ → Option FaultKind
 costs_fault tenant costs =
-    if is_some tenant.costs then Some fault.Row else commands_fault tenant (length costs)
+    if is_some tenant.costs then Some fault.Row else commands_fault tenant 0 (length costs)
 
 -- why a machine may not be the next row of a tenant
 abbrev pub machine_fault : TenantDraft → Machine → Option FaultKind
@@ -86,13 +88,14 @@ machine_fault tenant machine =
     if is_none tenant.costs || nat_lt 0 (length tenant.rows.jobs) || nat_lt 0 (length tenant.rows.tasks)
     then Some fault.Row
     else (if is_among (machine_names tenant.rows) machine.name then Some fault.Repeated
-    else limit_fault tenant (1 + machine.slots))
+    else limit_fault tenant (1 + machine.slots) tenant.rounds)
 
 -- why a job may not be the next row of a tenant
 abbrev pub job_fault : TenantDraft → Job → Option FaultKind
 job_fault tenant job =
     if is_none tenant.costs || nat_lt 0 (length tenant.rows.tasks) then Some fault.Row
-    else (if is_among (job_names tenant.rows) job.name then Some fault.Repeated else limit_fault tenant 1)
+    else (if is_among (job_names tenant.rows) job.name then Some fault.Repeated
+    else limit_fault tenant 1 tenant.rounds)
 
 -- whether no machine runs more tasks than it has slots
 abbrev pub has_room : TenantRows → Bool
@@ -114,16 +117,27 @@ naming_fault rows task =
     else (if not (are_machines rows task.preferred) then Some fault.NoSuchMachine
     else (if nat_lt rows.limits.patience task.waited then Some fault.BadNumber else None)))
 
+-- a task shows more rounds than left costs, of which the last 8 are kept
+abbrev pub rounds_fault : List ℤ → Task → Option FaultKind
+rounds_fault costs task = if nat_lt (length costs) (min 8 (rounds_shown task)) then Some fault.Rounds else None
+
+-- how many rounds there were at least, by a task too
+abbrev pub rounds_with : ℕ → Task → ℕ
+rounds_with rounds task = max rounds (rounds_shown task)
+
 -- why a task may not be the next row of a tenant
 abbrev pub task_fault : TenantDraft → Task → Option FaultKind
 task_fault tenant task =
     if is_none tenant.costs then Some fault.Row
     else either (naming_fault tenant.rows task)
-    (either (running_fault tenant.rows task task.machine) (limit_fault tenant (3 + length task.preferred)))
+    (either (running_fault tenant.rows task task.machine)
+    (either (rounds_fault (costs_read tenant.costs) task)
+    (limit_fault tenant (3 + length task.preferred) (rounds_with tenant.rounds task))))
 
 -- the tenant once its costs, a machine, a job or a task are read
 abbrev pub after_costs : TenantDraft → List ℤ → Result TenantDraft FaultKind
-after_costs tenant costs = unless (costs_fault tenant costs) (record tenant { costs = Some costs })
+after_costs tenant costs =
+    unless (costs_fault tenant costs) (record tenant { costs = Some costs; rounds = length costs })
 
 abbrev pub after_machine : TenantDraft → Machine → Result TenantDraft FaultKind
 after_machine tenant machine =
@@ -136,7 +150,8 @@ after_job tenant job =
 
 abbrev pub after_task : TenantDraft → Task → Result TenantDraft FaultKind
 after_task tenant task =
-    unless (task_fault tenant task) (record tenant { rows = with_restored tenant.rows task })
+    unless (task_fault tenant task)
+    (record tenant { rows = with_restored tenant.rows task; rounds = rounds_with tenant.rounds task })
 
 -- the tenant once one more of its rows is read
 abbrev pub grown : TenantDraft → Row → Result TenantDraft FaultKind
@@ -153,6 +168,7 @@ abbrev pub kind_of : BookFault → FaultKind
 kind_of Cost = fault.BadNumber
 kind_of Life = fault.Commands
 kind_of Count = fault.Commands
+kind_of Rounds = fault.Rounds
 
 -- the tenant's name and its book, once its rows are read
 abbrev pub booked : TenantDraft → Option (List ℤ) → Result (List ℕ × Book) FaultKind
@@ -211,7 +227,8 @@ tenant_fault draft name limits given =
 
 -- a tenant of which nothing more was read
 abbrev pub new_tenant : List ℕ → TenantLimits → ℕ → TenantDraft
-new_tenant name limits given = record { name = name; rows = opening_rows limits; costs = None; given = given }
+new_tenant name limits given =
+    record { name = name; rows = opening_rows limits; costs = None; given = given; rounds = 0 }
 
 -- the draft once its tenant has grown by a row
 abbrev pub grown_in : Draft → Option TenantDraft → Row → Result Draft FaultKind

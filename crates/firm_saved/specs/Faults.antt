@@ -3,7 +3,7 @@ use Rattle.std.specs.Prelude.{ℕ, List, codes}
 use Rattle.firm_saved.specs.declared.faults.FaultKind.{FaultKind}
 use Rattle.firm_saved.specs.declared.faults.FaultKind.TheVariants.{Version, Row, BadName, BadNumber, Repeated}
 use Rattle.firm_saved.specs.declared.faults.FaultKind.TheVariants.{NoSuchJob, NoSuchMachine, NoRoom, ArenaNodes}
-use Rattle.firm_saved.specs.declared.faults.FaultKind.TheVariants.{ArenaArcs, Commands, Places, Rows, Memory}
+use Rattle.firm_saved.specs.declared.faults.FaultKind.TheVariants.{ArenaArcs, Commands, Places, Rows, Memory, Rounds}
 
 -- the number of a fault
 abbrev pub fault_code : FaultKind → ℕ
@@ -21,6 +21,7 @@ fault_code Commands = 11
 fault_code Places = 12
 fault_code Rows = 13
 fault_code Memory = 14
+fault_code Rounds = 15
 
 -- the name of a fault, as a program prints it
 abbrev pub fault_name : FaultKind → List ℕ
@@ -38,3 +39,4 @@ fault_name Commands = codes "commands"
 fault_name Places = codes "places"
 fault_name Rows = codes "rows"
 fault_name Memory = codes "memory"
+fault_name Rounds = codes "rounds"

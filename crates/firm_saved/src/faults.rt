@@ -35,7 +35,7 @@ pub enum FaultKind {
     ArenaNodes,
     /// The rows have more arcs than the tenant's limit.
     ArenaArcs,
-    /// The tenant was given more commands than its life, or fewer than its rows and costs up to here took.
+    /// The tenant was given more commands than its life, or fewer than its rows and rounds up to here took.
     Commands,
     /// It is the row of a 65th place, or of a tenant at a place that was never given; or no place but such a one
     /// stands before the last row.
@@ -44,10 +44,12 @@ pub enum FaultKind {
     Rows,
     /// Memory ran out before another fault was found.
     Memory,
+    /// The task runs or has waited, and there were fewer rounds by the costs, of which the last 8 are kept.
+    Rounds,
 }
 
 impl FaultKind {
-    /// The number of the fault, 1 to 14.
+    /// The number of the fault, 1 to 15.
     pub fn code(self) -> u32
         ensures { result ≡ fault_code self }
     {
@@ -66,6 +68,7 @@ impl FaultKind {
             FaultKind::Places => 12,
             FaultKind::Rows => 13,
             FaultKind::Memory => 14,
+            FaultKind::Rounds => 15,
         }
     }
 
@@ -88,6 +91,7 @@ impl FaultKind {
             FaultKind::Places => "places",
             FaultKind::Rows => "rows",
             FaultKind::Memory => "memory",
+            FaultKind::Rounds => "rounds",
         }
     }
 }

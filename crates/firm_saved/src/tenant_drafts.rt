@@ -9,8 +9,8 @@ ghost use Rattle.firm_rules.specs.declared.book.Task.{Task as TaskRow};
 ghost use Rattle.firm_rules.specs.SoundBook.{IsSoundBook};
 ghost use Rattle.firm_saved.specs.Drafts.{after_costs, after_job, after_machine, after_task, arena_fault, booked};
 ghost use Rattle.firm_saved.specs.Drafts.{commands_fault, costs_fault, costs_read, grown, job_fault, kind_of};
-ghost use Rattle.firm_saved.specs.Drafts.{limit_fault, machine_fault, naming_fault, new_tenant, running_fault};
-ghost use Rattle.firm_saved.specs.Drafts.{task_fault};
+ghost use Rattle.firm_saved.specs.Drafts.{limit_fault, machine_fault, naming_fault, new_tenant, rounds_fault};
+ghost use Rattle.firm_saved.specs.Drafts.{rounds_with, running_fault, task_fault};
 ghost use Rattle.firm_saved.specs.inner.Loads.{AreLoads, loads_of, view};
 ghost use Rattle.firm_saved.specs.inner.Returned.{Gives};
 
@@ -26,6 +26,7 @@ pub struct TenantDraft {
     rows: Rows,
     costs: Option<RecentCosts>,
     given: u64,
+    rounds: u64,
     // How many tasks run on each machine, so that no row goes through the tasks.
     loads: Vec<u32>,
 }
@@ -41,6 +42,7 @@ impl TenantDraft {
             rows: Rows::new(alloc, limits),
             costs: None,
             given,
+            rounds: 0,
             loads: Vec::new(alloc),
         }
     }
@@ -69,6 +71,7 @@ impl TenantDraft {
             return Err(kind);
         }
         self.costs = Some(costs);
+        self.rounds = costs.as_slice().len() as u64;
         Ok(())
     }
 
@@ -107,6 +110,7 @@ impl TenantDraft {
         }
         add_load(&mut self.loads, &self.rows, task.machine);
         self.rows.restore_task(*task)?;
+        self.rounds = self.rounds_with(task);
         Ok(())
     }
 
@@ -116,7 +120,7 @@ impl TenantDraft {
         if self.costs.is_some() {
             return Some(FaultKind::Row);
         }
-        self.commands_fault(costs.as_slice().len() as u64)
+        self.commands_fault(0, costs.as_slice().len() as u64)
     }
 
     fn machine_fault(&self, machine: &Machine) -> Option<FaultKind>
@@ -128,7 +132,7 @@ impl TenantDraft {
         if self.rows.has_machine(machine.name) {
             return Some(FaultKind::Repeated);
         }
-        self.limit_fault(1 + u64::from(machine.slots.get()))
+        self.limit_fault(1 + u64::from(machine.slots.get()), self.rounds)
     }
 
     fn job_fault(&self, job: &Job) -> Option<FaultKind>
@@ -140,7 +144,7 @@ impl TenantDraft {
         if self.rows.has_job(job.name) {
             return Some(FaultKind::Repeated);
         }
-        self.limit_fault(1)
+        self.limit_fault(1, self.rounds)
     }
 
     fn task_fault(&self, task: &Task) -> Option<FaultKind>
@@ -158,7 +162,10 @@ impl TenantDraft {
                 return Some(kind);
             }
         }
-        self.limit_fault(3 + task.preferred.len() as u64)
+        if let Some(kind) = rounds_fault(self.costs, task) {
+            return Some(kind);
+        }
+        self.limit_fault(3 + task.preferred.len() as u64, self.rounds_with(task))
     }
 
     fn running_fault(&self, task: &Task, machine: Name) -> Option<FaultKind>
@@ -182,26 +189,34 @@ impl TenantDraft {
         }
     }
 
-    // Why the tenant may not have one more row, with this many arcs.
-    fn limit_fault(&self, arcs: u64) -> Option<FaultKind>
+    // How many rounds there were at least, by a task too.
+    fn rounds_with(&self, task: &Task) -> u64
+        ensures { result ≡ rounds_with self.now.rounds task.now }
+    {
+        self.rounds.max(task.rounds_shown())
+    }
+
+    // Why the tenant may not have one more row, with this many arcs, where there were this many rounds.
+    fn limit_fault(&self, arcs: u64, rounds: u64) -> Option<FaultKind>
         requires { arcs ≤ 65 }
-        ensures { result ≡ limit_fault (view self.now) arcs }
+        ensures { result ≡ limit_fault (view self.now) arcs rounds }
     {
         if let Some(kind) = arena_fault(&self.rows, arcs) {
             return Some(kind);
         }
-        self.commands_fault(1)
+        self.commands_fault(1, rounds)
     }
 
-    // Why the tenant may not have this many rows and costs more: each took a command.
-    fn commands_fault(&self, more: u64) -> Option<FaultKind>
-        requires { more ≤ 8 }
-        ensures { result ≡ commands_fault (view self.now) more }
+    // Why the tenant may not have this many rows more, and this many rounds: each took a command.
+    fn commands_fault(&self, more: u64, rounds: u64) -> Option<FaultKind>
+        requires { more ≤ 1 }
+        ensures { result ≡ commands_fault (view self.now) more rounds }
     {
         // The rows fit the limits, so no sum wraps.
         prove!(self.rows.limits().nodes() <= 4_096);
         let rows = self.rows.machine_count() + self.rows.job_count() + self.rows.task_count();
-        if self.given < (rows + cost_count(self.costs)) as u64 + more {
+        let added = rows as u64 + more;
+        if self.given < added || self.given - added < rounds {
             return Some(FaultKind::Commands);
         }
         None
@@ -217,6 +232,7 @@ impl TenantDraft {
             rows,
             costs,
             given,
+            rounds: _,
             loads: _,
         } = self;
         let costs = costs.ok_or(FaultKind::Row)?;
@@ -224,6 +240,7 @@ impl TenantDraft {
             Ok(book) => Ok((name, book)),
             Err(BookFault::Cost) => Err(FaultKind::BadNumber),
             Err(BookFault::Life | BookFault::Count) => Err(FaultKind::Commands),
+            Err(BookFault::Rounds) => Err(FaultKind::Rounds),
         }
     }
 }
@@ -258,6 +275,16 @@ fn naming_fault(rows: &Rows, task: &Task) -> Option<FaultKind>
     }
     if u64::from(task.waited) > rows.limits().patience() {
         return Some(FaultKind::BadNumber);
+    }
+    None
+}
+
+// Why the rounds that a task shows may not have been: each left a cost, of which the last 8 are kept.
+fn rounds_fault(costs: Option<RecentCosts>, task: &Task) -> Option<FaultKind>
+    ensures { result ≡ rounds_fault (costs_read costs) task.now }
+{
+    if (cost_count(costs) as u64) < task.rounds_shown().min(8) {
+        return Some(FaultKind::Rounds);
     }
     None
 }

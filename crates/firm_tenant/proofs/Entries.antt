@@ -1,24 +1,30 @@
--- A command adds one row or one cost at most, and a book stays sound.
+-- A command adds one row or one cost at most, and no round that left none; a book stays sound.
 use Rattle.std.proofs.Common.{◌≡◌, ℕ, ◌+◌, ◌-◌, ◌<◌, ◌≤◌, List, [], ◌∷◌, ◌++◌, All, filter, length, drop, ap, ◌∙◌}
-use Rattle.std.proofs.Common.{arith}
-use Rattle.std.specs.Prelude.{ℤ, pos, Bool, true, false, not, Option, Some, None, nat_lt, bytes_eq, if◌then◌else◌}
+use Rattle.std.proofs.Common.{arith, cond, refl, sym, subst, get_or}
+use Rattle.std.specs.Prelude.{ℤ, pos, Bool, true, false, not, Option, Some, None, IfSome, is_some, nat_lt}
+use Rattle.std.specs.Prelude.{bytes_eq}
+use Rattle.std.specs.Prelude.{if◌then◌else◌}
 use Rattle.std.proofs.lemmas.List.{length_push, length-drop, length-map}
-use Rattle.std.proofs.lemmas.List.Elements.{All-push, All-drop}
+use Rattle.std.proofs.lemmas.Bool.{ltb-false, ltb-true}
+use Rattle.std.proofs.lemmas.List.Elements.{All-nil, All-cons, All-head, All-tail, All-push}
+use Rattle.std.proofs.lemmas.List.Elements.{All-drop, All-filter, All-map}
 use Rattle.std.proofs.lemmas.List.Sums.{length-filter, count_by-le-length}
 use Rattle.circular_buffer.specs.Buffer.{keep_last}
 use Rattle.firm_rules.specs.ArenaUse.{arena_nodes, arena_arcs}
 use Rattle.firm_rules.specs.Book.{Book, TenantRows, machine_names, job_names, task_names, with_machine, with_job}
-use Rattle.firm_rules.specs.Book.{with_task, evicted, has_tasks, task_named, are_machines, new_task}
+use Rattle.firm_rules.specs.Book.{with_task, without_machine, without_job, without_task, evicted, forgetting}
+use Rattle.firm_rules.specs.Book.{has_tasks, is_on, task_named, are_machines, new_task}
 use Rattle.firm_rules.specs.Limits.{TenantLimits}
 use Rattle.firm_rules.specs.Names.{is_among}
 use Rattle.firm_rules.specs.Placement.{placement_cost}
 use Rattle.firm_rules.specs.Recent.{with_cost}
-use Rattle.firm_rules.specs.Round.{case_of, round_placement, task_after, zipped}
-use Rattle.firm_rules.specs.SoundBook.{IsSoundBook, entry_count, is_cost}
+use Rattle.firm_rules.specs.Round.{case_of, round_placement, rows_after, task_after, zipped}
+use Rattle.firm_rules.specs.SoundBook.{AreInForm, IsSoundBook, entry_count, is_cost, most_rounds, rounds_shown}
 use Rattle.firm_rules.specs.declared.book.Machine.{Machine}
 use Rattle.firm_rules.specs.declared.book.Job.{Job}
 use Rattle.firm_rules.specs.declared.book.Task.{Task}
 use Rattle.firm_rules.specs.declared.rounds.Choice.{Choice}
+use Rattle.firm_rules.specs.declared.rounds.Choice.TheVariants.{On, Wait}
 use Rattle.firm_rules.specs.declared.commands.Command.{Command}
 use Rattle.firm_rules.specs.declared.commands.Command.TheVariants.{AddMachine, AddJob, AddTask, Drain, CloseJob, Done}
 use Rattle.firm_rules.specs.declared.commands.Command.TheVariants.{Find, Show, Costs, Round, Faulty}
@@ -26,9 +32,53 @@ use Rattle.firm_rules.specs.declared.replies.Outcome.{Outcome}
 use Rattle.firm_tenant.specs.Step.{effect, grown, found, round_effect}
 use Rattle.firm_tenant.specs.inner.Pools.{Pool, IsOpeningPool, IsPoolOf, IsSoundPool, book_of}
 
--- the book after has one row or one cost more at most
+abbrev row_count : TenantRows → ℕ
+row_count rows = length rows.machines + length rows.jobs + length rows.tasks
+
+-- no task shows more rounds than these
+abbrev ShowAtMost : ℕ → List Task → Type 0
+ShowAtMost most tasks = All (λ task. rounds_shown task ≤ most) tasks
+
+-- no task shows more rounds than there may have been
+abbrev pub AreShown : Book → Type 0
+AreShown book = ShowAtMost (most_rounds book) book.rows.tasks
+
+-- the book after has one row or one cost more at most, and a command more for the rounds that its tasks show
 pub record Grows (book : Book) (after : Outcome × Book) : Type 0 where
   pub few : entry_count after.1 ≤ entry_count book + 1
+  pub rounds : (given : ℕ) → AreInForm book.rows → entry_count book ≤ given
+      → AreShown (record book { given = given }) → AreShown (record after.1 { given = given + 1 })
+
+-- as many rounds as before, with one more command and one more row at most
+as-many : (kept : Bool) (costs rows more given : ℕ) → more ≤ rows + 1
+    → cond kept costs (given - rows) ≤ cond kept costs (given + 1 - more)
+as-many true costs rows more given few = omega arith
+as-many false costs rows more given few = omega (arith, few)
+
+-- a round more, with its cost
+one-more : (costs after rows same given : ℕ) → after ≡ costs + 1 - (costs + 1 - 8) → same ≤ rows
+    → rows + costs ≤ given
+    → cond (nat_lt costs 8) costs (given - rows) + 1 ≤ cond (nat_lt after 8) after (given + 1 - same)
+one-more costs after rows same given is few count = by (nat_lt costs 8) (nat_lt after 8) refl refl
+  where
+    by : (b c : Bool) → nat_lt costs 8 ≡ b → nat_lt after 8 ≡ c
+        → cond b costs (given - rows) + 1 ≤ cond c after (given + 1 - same)
+    by true true b-is c-is = omega (arith, is, ltb-true costs 8 b-is)
+    by true false b-is c-is = omega (arith, is, few, count, ltb-true costs 8 b-is, ltb-false after 8 c-is)
+    by false true b-is c-is = absurd (omega (arith, is, ltb-false costs 8 b-is, ltb-true after 8 c-is))
+    by false false b-is c-is = omega (arith, few, count)
+
+-- rows whose tasks show no more
+moved : (book : Book) (rows : TenantRows) (given : ℕ) → row_count rows ≤ row_count book.rows + 1
+    → ((most : ℕ) → ShowAtMost most book.rows.tasks → ShowAtMost most rows.tasks)
+    → AreShown (record book { given = given }) → AreShown (record book { rows = rows; given = given + 1 })
+moved book rows given few keeps shown = λ k d l.
+    let one = keeps (most_rounds (record book { given = given })) shown k d l in
+    omega (
+      arith,
+      one,
+      as-many (nat_lt (length book.costs) 8) (length book.costs) (row_count book.rows) (row_count rows) given few,
+    )
 
 either-grows : (book : Book) (b : Bool) (first second : Outcome × Book) → Grows book first → Grows book second
     → Grows book (if b then first else second)
@@ -36,17 +86,23 @@ either-grows book true first second one other = one
 either-grows book false first second one other = other
 
 same-grows : (book : Book) (outcome : Outcome) → Grows book (outcome, book)
-same-grows book outcome = record { few = omega arith }
-
-abbrev row_count : TenantRows → ℕ
-row_count rows = length rows.machines + length rows.jobs + length rows.tasks
+same-grows book outcome =
+    record {
+      few = omega arith;
+      rounds = λ given form count shown. moved book book.rows given (omega arith) (λ most kept. kept) shown;
+    }
 
 grown-grows : (book : Book) (rows : TenantRows) (mark : Bool) → row_count rows ≤ row_count book.rows + 1
+    → ((most : ℕ) → ShowAtMost most book.rows.tasks → ShowAtMost most rows.tasks)
     → Grows book (grown book rows mark)
-grown-grows book rows mark more =
+grown-grows book rows mark more keeps =
     either-grows book (nat_lt rows.limits.nodes (arena_nodes rows)) _ _ (same-grows book _)
     (either-grows book (nat_lt rows.limits.arcs (arena_arcs rows)) _ _ (same-grows book _)
-    (either-grows book mark _ _ (same-grows book _) (record { few = omega (arith, more) })))
+    (either-grows book mark _ _ (same-grows book _)
+    (record {
+      few = omega (arith, more);
+      rounds = λ given form count shown. moved book rows given more keeps shown;
+    })))
 
 found-grows : (book : Book) (task : Option Task) → Grows book (found book task)
 found-grows book None = same-grows book _
@@ -60,6 +116,47 @@ length-zipped f [] ys = omega arith
 length-zipped f (x ∷ xs) [] = omega arith
 length-zipped f (x ∷ xs) (y ∷ ys) = omega (arith, length-zipped f xs ys)
 
+-- a task shows no more rounds once a machine is gone
+evicted-shows : (name : List ℕ) (task : Task) → rounds_shown (evicted name task) ≤ rounds_shown task
+evicted-shows name task = by (is_on name task.machine)
+  where
+    by : (b : Bool)
+        → rounds_shown (cond b (record (forgetting name task) { machine = None; waited = 0 }) (forgetting name task))
+        ≤ rounds_shown task
+    by true = omega arith
+    by false = omega arith
+
+-- and one more after a round
+settled-shows : (most : ℕ) (rows : TenantRows) (tasks : List Task) (placement : List Choice)
+    → All (λ task. IfSome task.machine (λ _. task.waited ≡ 0)) tasks → ShowAtMost most tasks
+    → ShowAtMost (most + 1) (zipped (task_after rows) tasks placement)
+settled-shows most rows [] placement idle shown = All-nil (λ (task : Task). rounds_shown task ≤ most + 1)
+settled-shows most rows (task ∷ tasks) [] idle shown = All-nil (λ (task : Task). rounds_shown task ≤ most + 1)
+settled-shows most rows (task ∷ tasks) (choice ∷ placement) idle shown =
+    All-cons (λ (task : Task). rounds_shown task ≤ most + 1) (task_after rows task choice)
+    (zipped (task_after rows) tasks placement)
+    (one choice task.machine refl)
+    (settled-shows most rows tasks placement
+    (All-tail (λ (task : Task). IfSome task.machine (λ _. task.waited ≡ 0)) task tasks idle)
+    (All-tail (λ (task : Task). rounds_shown task ≤ most) task tasks shown))
+  where
+    few : rounds_shown task ≤ most
+    few = All-head (λ (task : Task). rounds_shown task ≤ most) task tasks shown
+
+    still : IfSome task.machine (λ _. task.waited ≡ 0)
+    still = All-head (λ (task : Task). IfSome task.machine (λ _. task.waited ≡ 0)) task tasks idle
+
+    one : (choice : Choice) (machine : Option (List ℕ)) → task.machine ≡ machine
+        → rounds_shown (task_after rows task choice) ≤ most + 1
+    one (On j) machine is = omega arith
+    one Wait None is =
+        let waited : task.waited ≤ most =
+        subst (λ (m : Option (List ℕ)). cond (is_some m) 1 task.waited ≤ most) is few in
+        omega (arith, waited)
+    one Wait (Some name) is =
+        let none : task.waited ≡ 0 = subst (λ (m : Option (List ℕ)). IfSome m (λ _. task.waited ≡ 0)) is still in
+        omega (arith, none)
+
 costs-grow : (costs : List ℤ) (cost : ℤ) → length (with_cost costs cost) ≤ length costs + 1
 costs-grow costs cost =
     omega (arith, length-drop (length (costs ++ cost ∷ []) - 8) (costs ++ cost ∷ []), length_push costs cost)
@@ -68,33 +165,56 @@ pub effect-grows : (book : Book) (command : Command) (mark : Bool) → Grows boo
 effect-grows book (AddMachine name slots) mark =
     let machine : Machine = record { name = name; slots = slots } in
     either-grows book (is_among (machine_names book.rows) name) _ _ (same-grows book _)
-    (grown-grows book (with_machine book.rows name slots) mark (omega (arith, length_push book.rows.machines machine)))
+    (grown-grows book (with_machine book.rows name slots) mark (omega (arith, length_push book.rows.machines machine))
+    (λ most shown. shown))
 effect-grows book (AddJob name weight) mark =
     let job : Job = record { name = name; weight = weight } in
     either-grows book (is_among (job_names book.rows) name) _ _ (same-grows book _)
-    (grown-grows book (with_job book.rows name weight) mark (omega (arith, length_push book.rows.jobs job)))
+    (grown-grows book (with_job book.rows name weight) mark (omega (arith, length_push book.rows.jobs job))
+    (λ most shown. shown))
 effect-grows book (AddTask job name preferred) mark =
     either-grows book (not (are_machines book.rows preferred)) _ _ (same-grows book _)
     (either-grows book (not (is_among (job_names book.rows) job)) _ _ (same-grows book _)
     (either-grows book (is_among (task_names book.rows) name) _ _ (same-grows book _)
     (grown-grows book (with_task book.rows job name preferred) mark
-    (omega (arith, length_push book.rows.tasks (new_task job name preferred))))))
+    (omega (arith, length_push book.rows.tasks (new_task job name preferred)))
+    (λ most shown. All-push (λ (task : Task). rounds_shown task ≤ most) book.rows.tasks (new_task job name preferred)
+    shown (omega arith)))))
 effect-grows book (Drain name) mark =
     either-grows book (not (is_among (machine_names book.rows) name)) _ _ (same-grows book _)
     (record {
-      few = omega (
-        arith,
-        fewer (λ (machine : Machine). not (bytes_eq name machine.name)) book.rows.machines,
-        length-map book.rows.tasks (evicted name),
-      );
+      few = omega (arith, left, length-map book.rows.tasks (evicted name));
+      rounds = λ given form count shown. moved book (without_machine book.rows name) given
+          (omega (arith, left, length-map book.rows.tasks (evicted name)))
+          (λ most before. All-map (λ (task : Task). rounds_shown task ≤ most) (evicted name) book.rows.tasks
+          (λ k d l. omega (arith, evicted-shows name (get_or book.rows.tasks k d), before k d l))) shown;
     })
+  where
+    left : length (filter (λ (machine : Machine). not (bytes_eq name machine.name)) book.rows.machines)
+        ≤ length book.rows.machines
+    left = fewer (λ (machine : Machine). not (bytes_eq name machine.name)) book.rows.machines
 effect-grows book (CloseJob name) mark =
     either-grows book (not (is_among (job_names book.rows) name)) _ _ (same-grows book _)
     (either-grows book (has_tasks book.rows name) _ _ (same-grows book _)
-    (record { few = omega (arith, fewer (λ (job : Job). not (bytes_eq name job.name)) book.rows.jobs) }))
+    (record {
+      few = omega (arith, left);
+      rounds = λ given form count shown. moved book (without_job book.rows name) given (omega (arith, left))
+          (λ most before. before) shown;
+    }))
+  where
+    left : length (filter (λ (job : Job). not (bytes_eq name job.name)) book.rows.jobs) ≤ length book.rows.jobs
+    left = fewer (λ (job : Job). not (bytes_eq name job.name)) book.rows.jobs
 effect-grows book (Done name) mark =
     either-grows book (not (is_among (task_names book.rows) name)) _ _ (same-grows book _)
-    (record { few = omega (arith, fewer (λ (task : Task). not (bytes_eq name task.name)) book.rows.tasks) })
+    (record {
+      few = omega (arith, left);
+      rounds = λ given form count shown. moved book (without_task book.rows name) given (omega (arith, left))
+          (λ most before. All-filter (λ (task : Task). not (bytes_eq name task.name))
+          (λ (task : Task). rounds_shown task ≤ most) book.rows.tasks before) shown;
+    })
+  where
+    left : length (filter (λ (task : Task). not (bytes_eq name task.name)) book.rows.tasks) ≤ length book.rows.tasks
+    left = fewer (λ (task : Task). not (bytes_eq name task.name)) book.rows.tasks
 effect-grows book (Find name) mark = found-grows book (task_named book.rows name)
 effect-grows book Show mark = same-grows book _
 effect-grows book Costs mark = same-grows book _
@@ -110,8 +230,36 @@ effect-grows book Round mark =
             length-zipped (task_after book.rows) book.rows.tasks placement,
             costs-grow book.costs cost,
           );
+          rounds = λ given form count shown. λ k d l.
+              let most : ℕ = most_rounds (record book { given = given }) in
+              omega (
+                arith,
+                settled-shows most book.rows book.rows.tasks placement form.running shown k d l,
+                one-more (length book.costs) (length (with_cost book.costs cost)) (row_count book.rows)
+                    (row_count (rows_after book.rows placement)) given
+                    (omega (
+                      arith,
+                      length-drop (length (book.costs ++ cost ∷ []) - 8) (book.costs ++ cost ∷ []),
+                      length_push book.costs cost,
+                    ))
+                    (omega (arith, length-zipped (task_after book.rows) book.rows.tasks placement))
+                    (omega (arith, count)),
+              );
         }
 effect-grows book (Faulty fault) mark = same-grows book _
+
+-- no task of the book after a command shows more rounds than there may have been
+pub shown-after : (old now new : Pool) (given : ℕ) (command : Command) (mark : Bool) (outcome : Outcome) → now ≡ old
+    → (outcome, book_of new 0) ≡ effect (book_of now 0) command mark
+    → AreInForm old.rows → entry_count (book_of old given) ≤ given → AreShown (book_of old given)
+    → AreShown (book_of new (given + 1))
+shown-after old now new given command mark outcome was made form count shown =
+    subst (λ (b : Book). AreShown (record b { given = given + 1 }))
+    (sym (ap (λ (a : Outcome × Book). a.1) made))
+    ((effect-grows (book_of now 0) command mark).rounds given
+    (subst (λ (p : Pool). AreInForm p.rows) (sym was) form)
+    (subst (λ (p : Pool). entry_count (book_of p 0) ≤ given) (sym was) count)
+    (subst (λ (p : Pool). AreShown (book_of p given)) (sym was) shown))
 
 -- the last costs of some and one more, each of them one that a round may have
 pub costs-kept : (most : ℕ) (costs : List ℤ) (cost : ℤ) → All (λ x. is_cost x ≡ true) costs → is_cost cost ≡ true
@@ -128,8 +276,8 @@ few-kept costs few =
 
 -- the book of a sound pool whose count of commands is in its range
 pub sound-book_of : (pool : Pool) (given : ℕ) → IsSoundPool pool → given ≤ pool.rows.limits.life
-    → entry_count (book_of pool given) ≤ given → IsSoundBook (book_of pool given)
-sound-book_of pool given sound life count =
+    → entry_count (book_of pool given) ≤ given → AreShown (book_of pool given) → IsSoundBook (book_of pool given)
+sound-book_of pool given sound life count shown =
     record {
       rows = sound.rows;
       form = sound.form;
@@ -137,6 +285,7 @@ sound-book_of pool given sound life count =
       costs = sound.costs;
       life = life;
       count = count;
+      rounds = shown;
     }
 
 -- with one command more, if life is left
@@ -150,6 +299,7 @@ sound-counted pool given sound left =
       costs = sound.costs;
       life = omega (arith, left);
       count = omega (arith, sound.count);
+      rounds = moved (book_of pool given) pool.rows given (omega arith) (λ most kept. kept) sound.rounds;
     }
 
 -- the pool of a book, with the book's count of commands, makes that book
@@ -175,3 +325,5 @@ sound-opening limits pool sound is =
       ap (λ (r : TenantRows). row_count r) is.rows,
       ap (λ (l : List ℤ). length l) is.costs,
     ))
+    (subst (λ (r : TenantRows). ShowAtMost (most_rounds (book_of pool 0)) r.tasks) (sym is.rows)
+    (All-nil (λ (task : Task). rounds_shown task ≤ most_rounds (book_of pool 0))))

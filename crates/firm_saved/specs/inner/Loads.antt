@@ -6,7 +6,14 @@ use Rattle.firm_saved.specs.Drafts.{TenantDraft}
 
 -- the tenant that is kept so
 abbrev pub view : Kept → TenantDraft
-view kept = record { name = kept.name; rows = kept.rows; costs = kept.costs; given = kept.given }
+view kept =
+    record {
+      name = kept.name;
+      rows = kept.rows;
+      costs = kept.costs;
+      given = kept.given;
+      rounds = kept.rounds;
+    }
 
 -- how many tasks run on each machine
 abbrev pub loads_of : TenantRows → List ℕ

@@ -1,7 +1,7 @@
 //! Books, rows, tenants and registers that are restored as they stood.
 use super::rows::{with_job, with_machine, with_restored, with_task};
 use super::{admitted, limits, name, preferring, slots, weight};
-use BookFault::{Cost, Count, Life};
+use BookFault::{Cost, Count, Life, Rounds};
 use firm_rules::{
     Book, BookFault, Choice, Command, Name, Outcome, Preferred, RecentCosts, Reply, Rows, Task,
     legal,
@@ -34,9 +34,9 @@ fn runs(rt: &impl Abort) -> Task {
     task(rt, b"x", Some(name(rt, b"m1")), 0, &[])
 }
 
-/// A task that has waited for three rounds.
+/// A task that has waited for two rounds.
 fn waits(rt: &impl Abort) -> Task {
-    task(rt, b"y", None, 3, &[b"m2"])
+    task(rt, b"y", None, 2, &[b"m2"])
 }
 
 fn settle(rt: &impl Abort, rows: &mut Rows, placement: &[Choice]) {
@@ -115,6 +115,14 @@ fn a_book_is_one_that_commands_may_lead_to(rt: HostRuntime) {
     }
 }
 
+#[test]
+fn a_wait_shows_its_rounds(rt: HostRuntime) {
+    let mut rows = rows(&rt, rt.alloc());
+    let_wait(&rt, &mut rows);
+    let made = Book::new(rows, costs(5), 100);
+    assert_eq!(rt; made.err(), Some(Rounds));
+}
+
 static TEXT: &[u8] = b"\
 tenant a nodes 8 arcs 20 life 100 spread 1 churn 2 remote 7 commands 9
 costs 12 5
@@ -122,7 +130,7 @@ machine m1 1
 machine m2 2
 job j 10
 task j x at m1
-task j y waits 3 prefers m2
+task j y waits 2 prefers m2
 ";
 
 fn book(rt: &impl Abort, alloc: Global) -> Book {
@@ -159,7 +167,7 @@ fn expect_going_on(rt: &impl Abort, alloc: Global, tenant: &mut Tenant) {
     expect(rt, alloc, tenant, Command::Find(name(rt, b"x")), at);
     let waits = Reply {
         number: 11,
-        outcome: Outcome::Waits(3),
+        outcome: Outcome::Waits(2),
     };
     expect(rt, alloc, tenant, Command::Find(name(rt, b"y")), waits);
     let recent = Reply {

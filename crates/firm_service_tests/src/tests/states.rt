@@ -1,7 +1,7 @@
 //! The text of a state, and what may be wrong with it.
 use FaultKind::{
     ArenaArcs, ArenaNodes, BadName, BadNumber, Commands, Memory, NoRoom, NoSuchJob, NoSuchMachine,
-    Places, Repeated, Row, Rows, Version,
+    Places, Repeated, Rounds, Row, Rows, Version,
 };
 use firm_saved::{FaultKind, Saved, put_heading, put_place, put_row, put_state};
 use std::alloc::{AllocError, Global};
@@ -65,8 +65,8 @@ place admissions 1
 tenant a nodes 9 arcs 0 life 1 spread 0 churn 0 remote 0 patience 0 commands 0
 costs
 place admissions 1
-tenant b nodes 9 arcs 9 life 9 spread 0 churn 0 remote 0 patience 999999 commands 2
-costs
+tenant b nodes 9 arcs 9 life 1000001 spread 0 churn 0 remote 0 patience 999999 commands 1000001
+costs 1 2 3 4 5 6 7 8
 job j 1
 task j x waits 999999
 rows 8
@@ -116,7 +116,7 @@ static LINES: [&str; 10] = [
     "machine m2 2\n",
     "job j 10\n",
     "task j x at m1\n",
-    "task j y waits 3 prefers m2\n",
+    "task j y waits 2 prefers m2\n",
     "rows 8\n",
 ];
 
@@ -181,7 +181,7 @@ static OF_PLACES: [Change; 25] = [
     (10, "place admissions 1\nrows 8\n", (Rows, 11)),
 ];
 
-static OF_TENANTS: [Change; 26] = [
+static OF_TENANTS: [Change; 27] = [
     (3, "", (Row, 3)),
     (3, "tenant a\n", (Row, 3)),
     (
@@ -246,10 +246,11 @@ static OF_TENANTS: [Change; 26] = [
     ),
     (
         3,
-        "tenant a nodes 8 arcs 20 life 9 spread 1 churn 2 remote 7 patience 2 commands 9\n",
+        "tenant a nodes 8 arcs 20 life 9 spread 1 churn 2 remote 7 patience 1 commands 9\n",
         (BadNumber, 9),
     ),
     (4, "", (Row, 4)),
+    (4, "costs\n", (Rounds, 8)),
     (4, "costs 5 12\ncosts 5 12\n", (Row, 5)),
     (4, "costs 5 012\n", (Row, 4)),
     (4, "costs -5\n", (BadNumber, 4)),
@@ -274,7 +275,7 @@ static OF_TENANTS: [Change; 26] = [
     ),
 ];
 
-static OF_ROWS: [Change; 34] = [
+static OF_ROWS: [Change; 35] = [
     (5, "machine m1 1\nmachine m1 1\n", (Repeated, 6)),
     (5, "machine M1 1\n", (BadName, 5)),
     (5, "machine m1 65\n", (BadNumber, 5)),
@@ -302,12 +303,13 @@ static OF_ROWS: [Change; 34] = [
     (8, "task j x on 3\n", (Row, 8)),
     (9, "task j y waits 1000001\n", (BadNumber, 9)),
     (9, "task j y waits 1000001 prefers m3\n", (BadNumber, 9)),
-    (9, "task j y waits 3 prefers m3\n", (NoSuchMachine, 9)),
-    (9, "task j y waits 3 prefers M2\n", (BadName, 9)),
-    (9, "task j y waits 3 prefers m2 m2\n", (Row, 9)),
-    (9, "task j y waits 3 prefers\n", (Row, 9)),
-    (9, "task j y waits 3 likes m2\n", (Row, 9)),
-    (9, "task j y waits 3 prefers a b c d e\n", (Row, 9)),
+    (9, "task j y waits 2 prefers m3\n", (NoSuchMachine, 9)),
+    (9, "task j y waits 3 prefers m2\n", (Rounds, 9)),
+    (9, "task j y waits 2 prefers M2\n", (BadName, 9)),
+    (9, "task j y waits 2 prefers m2 m2\n", (Row, 9)),
+    (9, "task j y waits 2 prefers\n", (Row, 9)),
+    (9, "task j y waits 2 likes m2\n", (Row, 9)),
+    (9, "task j y waits 2 prefers a b c d e\n", (Row, 9)),
     (9, "\n", (Row, 9)),
 ];
 
@@ -367,7 +369,7 @@ fn a_65th_place_is_one_too_many(rt: HostRuntime) {
     expect_fault(&rt, rt.alloc(), more.as_bytes(), Places, 66);
 }
 
-static FAULTS: [(FaultKind, u32, &str); 14] = [
+static FAULTS: [(FaultKind, u32, &str); 15] = [
     (Version, 1, "version"),
     (Row, 2, "row"),
     (BadName, 3, "name"),
@@ -382,6 +384,7 @@ static FAULTS: [(FaultKind, u32, &str); 14] = [
     (Places, 12, "places"),
     (Rows, 13, "rows"),
     (Memory, 14, "memory"),
+    (Rounds, 15, "rounds"),
 ];
 
 #[test]

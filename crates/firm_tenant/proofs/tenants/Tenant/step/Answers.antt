@@ -5,7 +5,7 @@ use Rattle.firm_rules.specs.SoundBook.{entry_count}
 use Rattle.firm_rules.specs.declared.replies.Outcome.{Outcome}
 use Rattle.firm_tenant.specs.inner.Pools.{book_of, Pool, IsSoundPool}
 use Rattle.firm_tenant.specs.Step.{step, effect, is_memory_outcome}
-use Rattle.firm_tenant.proofs.Entries.{effect-grows, sound-book_of}
+use Rattle.firm_tenant.proofs.Entries.{AreShown, effect-grows, shown-after, sound-book_of}
 use Rattle.firm_tenant.proofs.Steps.{effect-keeps, step-alive}
 use Rattle.firm_tenant.proofs.tenants.Tenant.step.Goals as goal
 
@@ -34,10 +34,13 @@ invariant_of-self c =
       c.life-life.ensures.value,
       ap (λ (l : TenantLimits). l.life) c.limits.ensures,
       ap (λ (b : Book). b.rows.limits.life) c.self.view_is,
-    ) in (
+    ) in
+    let shown : AreShown (book_of new (given + 1)) =
+    shown-after old c.deref_mut.result.now new given c.args.command mark c.answer-outcome.result was
+    (c.answer-outcome.ensures.effect 0) c.self.invariant.0.form c.self.invariant.0.count c.self.invariant.0.rounds in (
       sound-book_of new (given + 1) (subst IsSoundPool c.deref.ensures c.cost_count.ensures.sound)
           (omega (arith, alive, ap (λ (l : TenantLimits). l.life) limits))
-          (omega (arith, grown, c.self.invariant.0.count)),
+          (omega (arith, grown, c.self.invariant.0.count)) shown,
       omega (arith, c.answer-outcome.ensures.asked, ap (λ (p : Pool). p.asked) was, c.self.invariant.1),
     )
 
