@@ -98,14 +98,15 @@ impl<'h, R: Wait> Clerk for HallClerk<'h, R> {
 
     fn write_out<S: Source, W: Sink>(
         &mut self,
-        reader: &S,
+        reader: &mut S,
         writer: &mut W,
     ) -> Result<(), ServeFault> {
         self.setting.hall.bell().ring();
-        self.serving.wait(&self.setting, writer, &Input { reader })
+        let mut input = Input { reader };
+        self.serving.wait(&self.setting, writer, &mut input)
     }
 
     fn finish<W: Sink>(&mut self, writer: &mut W) -> Result<(), ServeFault> {
-        self.serving.wait(&self.setting, writer, &End)
+        self.serving.wait(&self.setting, writer, &mut End)
     }
 }

@@ -98,12 +98,12 @@ impl Serving {
         // Laws: of one more line.
         answers_add_up();
         let place = self.place_of(&line);
-        let turn = Turn {
+        let mut turn = Turn {
             place,
             is_round: matches!(line, Line::For(_, Command::Round)),
             hall: setting.hall,
         };
-        self.take_turn(setting, writer, &turn)?;
+        self.take_turn(setting, writer, &mut turn)?;
         self.take_line(setting, line, place);
         Ok(())
     }
@@ -126,11 +126,11 @@ impl Serving {
         &mut self,
         setting: &Setting<'_, R>,
         writer: &mut W,
-        turn: &Turn<'_>,
+        turn: &mut Turn<'_>,
     ) -> Result<(), ServeFault>
         requires { W.write_failed writer.old ≡ false }
         ensures told { OnOk result (Passes self.old self.new (W.written writer.old) (W.written writer.new)) }
-        ensures come { OnOk result (HasTurn turn.now.place self.new) }
+        ensures come { OnOk result (HasTurn turn.old.place self.new) }
         ensures begins { Begins self.old (W.written writer.old) (W.written writer.new) }
         ensures cause { IfErr result (λ fault. IsWritingFault fault (W.write_failed writer.new)) }
         ensures well { OnOk result (W.write_failed writer.new ≡ false) }

@@ -1,5 +1,5 @@
 //! Waiting: until what it waits for has come, the clerk writes what it knows, looks, and rests.
-ghost use Rattle.std.specs.Prelude.{◌≡◌, ◌<◌, IfErr, MatchBool, OnOk, false, length, true};
+ghost use Rattle.std.specs.Prelude.{◌≡◌, ◌<◌, ℕ, Bool, IfErr, List, MatchBool, OnOk, Option, false, length, true};
 ghost use Rattle.std.specs.Option.{ForSome};
 ghost use Rattle.firm_text.specs.Rosters.{most_places};
 ghost use Rattle.firm_table.specs.inner.Faults.{IsWritingFault};
@@ -23,16 +23,23 @@ const LOOKS_BEFORE_RING: u32 = 256;
 
 /// What the clerk waits for.
 pub(crate) trait Awaited {
+    /// What no look changes.
+    ghost Kept: { Type 0 };
+
+    /// Its value for this.
+    ghost kept: { Self → Self.Kept };
+
     /// What holds once it has come.
-    ghost has_come: { Self → ServingIs → Type 0 };
+    ghost has_come: { Self.Kept → ServingIs → Type 0 };
 
     /// Whether it has come, after a look. If not, nothing has changed, and what makes it come notifies `answers` of the
     /// hall, or the waker.
-    fn look(&self, serving: &mut Serving, waker: Option<&Arc<EventCount, Global>>) -> bool
+    fn look(&mut self, serving: &mut Serving, waker: Option<&Arc<EventCount, Global>>) -> bool
         requires { IsWrittenOut serving.old }
-        ensures come { MatchBool result (has_come self.now serving.new) (serving.new ≡ serving.old) }
+        ensures come { MatchBool result (has_come (kept self.old) serving.new) (serving.new ≡ serving.old) }
         ensures follows { Follows serving.old serving.new }
-        ensures keeps { Keeps serving.old serving.new };
+        ensures keeps { Keeps serving.old serving.new }
+        ensures kept { kept self.new ≡ kept self.old };
 }
 
 /// The turn of a line: its answer can be held, no round is away from the place that it is for, if it is for one, and a
@@ -48,7 +55,7 @@ pub(crate) struct Turn<'h> {
 /// Input, while answers are held: a read need not wait.
 #[derive(Drop)]
 pub(crate) struct Input<'r, S> {
-    pub(crate) reader: &'r S,
+    pub(crate) reader: &'r mut S,
 }
 
 /// The end: each answer was written.
@@ -78,9 +85,13 @@ impl Turn<'_> {
 }
 
 impl Awaited for Turn<'_> {
-    ghost has_come = { λ turn serving. HasTurn turn.place serving };
+    ghost Kept = { Option ℕ };
 
-    fn look(&self, serving: &mut Serving, _waker: Option<&Arc<EventCount, Global>>) -> bool {
+    ghost kept = { λ turn. turn.place };
+
+    ghost has_come = { HasTurn };
+
+    fn look(&mut self, serving: &mut Serving, _waker: Option<&Arc<EventCount, Global>>) -> bool {
         if !self.has_room(serving) {
             return false;
         }
@@ -92,17 +103,29 @@ impl Awaited for Turn<'_> {
 }
 
 impl<S: Source> Awaited for Input<'_, S> {
+    // Which reader it is, what it has left, and whether a read has failed.
+    ghost Kept = { ℕ × (Option (List ℕ) × Bool) };
+
+    ghost kept = { λ input. (input.reader.ghost_name, (S.left input.reader.now, S.read_failed input.reader.now)) };
+
     ghost has_come = { λ _ serving. IsWrittenOut serving };
 
-    fn look(&self, serving: &mut Serving, waker: Option<&Arc<EventCount, Global>>) -> bool {
-        serving.is_idle() || self.reader.is_ready(waker)
+    fn look(&mut self, serving: &mut Serving, waker: Option<&Arc<EventCount, Global>>) -> bool {
+        if serving.is_idle() {
+            return true;
+        }
+        self.reader.is_ready(waker)
     }
 }
 
 impl Awaited for End {
+    ghost Kept = { Unit {0} };
+
+    ghost kept = { λ _. tt };
+
     ghost has_come = { λ _ serving. IsFinished serving };
 
-    fn look(&self, serving: &mut Serving, _waker: Option<&Arc<EventCount, Global>>) -> bool {
+    fn look(&mut self, serving: &mut Serving, _waker: Option<&Arc<EventCount, Global>>) -> bool {
         serving.is_idle()
     }
 }
@@ -113,11 +136,12 @@ impl Serving {
         &mut self,
         setting: &Setting<'_, R>,
         writer: &mut W,
-        awaited: &A,
+        awaited: &mut A,
     ) -> Result<(), ServeFault>
         requires { W.write_failed writer.old ≡ false }
         ensures told { OnOk result (Passes self.old self.new (W.written writer.old) (W.written writer.new)) }
-        ensures come { OnOk result (A.has_come awaited.now self.new) }
+        ensures come { OnOk result (A.has_come (A.kept awaited.old) self.new) }
+        ensures kept { A.kept awaited.new ≡ A.kept awaited.old }
         ensures begins { Begins self.old (W.written writer.old) (W.written writer.new) }
         ensures cause { IfErr result (λ fault. IsWritingFault fault (W.write_failed writer.new)) }
         ensures well { OnOk result (W.write_failed writer.new ≡ false) }

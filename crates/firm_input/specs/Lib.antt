@@ -1,2 +1,3 @@
 pub mod ReadAhead
+pub mod Rule
 pub mod inner

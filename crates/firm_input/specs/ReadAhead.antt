@@ -1,7 +1,10 @@
--- What a clause reads of a source that reads ahead.
-use Rattle.std.specs.Prelude.{Bool}
-use Rattle.firm_input.specs.declared.read_ahead.ReadAhead.{ReadAhead}
+-- What a contract sees of a source that reads ahead.
+use Rattle.std.specs.Prelude.{ℕ, Bool, List, Option}
 
--- whether a read has failed so far
-abbrev pub has_failed : {R T : Type 0} → ReadAhead R T → Bool
-has_failed source = source.has_failed
+-- the bytes that are left, where its reader tells them, and whether a read has failed so far
+pub record SourceIs : Type 0 where
+  pub left : Option (List ℕ)
+  pub has_failed : Bool
+
+abbrev pub source_is : Option (List ℕ) → Bool → SourceIs
+source_is left has_failed = record { left = left; has_failed = has_failed }

@@ -1,26 +1,29 @@
 //! Standard input as a source that knows whether a read would wait: since no call of the library says so, a second
 //! thread reads ahead.
 //!
-//! Whether a read of a `ReadAhead` has failed so far (`specs/ReadAhead.antt`). Which bytes are left is open, since no
-//! clause can speak of what a lock holds.
+//! A `ReadAhead` tells the bytes that its reader tells: `open` says that all of them are left, and by the clauses of
+//! `Source` a read gives the front of what is left, and `is_ready` leaves it as it was (`specs/ReadAhead.antt`). Which
+//! answer `is_ready` gives is open, and so is whether the waker is notified.
 //!
 //! # What is proved
 //!
-//! - `open`: a source of which no read has failed; its only error is refused memory
-//! - `ReadAhead::read`: no more bytes than fit; a failed read stays known
-//! - `PieceReader::read_ahead`, `take`, `read`, private: the bytes of a piece are passed on in order, none twice
-//!   (`specs/inner/Pieces.antt`)
+//! - `open`: a source with all bytes of its reader left, of which no read has failed; its only error is refused memory
+//! - `ReadAhead::read`, `is_ready`: no byte of the reader is lost, and none told twice; a failed read stays known
+//! - `PieceReader`, private: the bytes of a piece are passed on before those behind it (`specs/inner/Pieces.antt`)
+//! - each step of the source and its thread keeps their rule (`specs/Rule.antt`)
 //!
 //! # How it works
 //!
-//! While the caller waits for something else, it asks with `is_ready`; then the thread reads one piece of at most 4,096
-//! bytes and notifies the waker. A word says whose turn it is to read, and only its holder locks the reader, so no
-//! thread waits for the lock. Without the thread, the source is always ready. A failed read, even an interrupted one,
-//! is never tried again: the next read gets a failure or an end that was read ahead. `close` joins the thread; in a
-//! read it ends with the program.
+//! While the caller waits for something else, it asks with `is_ready`. The source then lends its reader to the thread,
+//! which reads one piece of at most 4,096 bytes, gives the reader back and notifies the waker. The reader lies in the
+//! slot of a table whose word says whose turn it is, so no thread waits for a lock of it. Without the thread, the
+//! source is always ready. A failed read, even an interrupted one, is never tried again: the next read gets a failure
+//! or an end that was read ahead. `close` joins the thread; in a read it ends with the program.
 #![tactic(auto)]
 
 mod pieces;
 mod read_ahead;
+mod reading_side;
+mod turns;
 
 pub use read_ahead::{ReadAhead, open};

@@ -1,81 +1,144 @@
 //! A reader with one piece that was read ahead.
 
-ghost use Rattle.std.specs.Prelude.{◌≡◌, ◌≤◌, ◌+◌, ◌++◌, true, false, IfOk, is_err, take};
+ghost use Rattle.std.specs.Prelude.{◌≡◌, ◌≤◌, ◌<◌, ◌+◌, ◌++◌, length, take};
 ghost use Rattle.std.specs.Io.{ReadsAtMost};
-ghost use Rattle.std.specs.Io.KnownBytes.{Consumes, IsAtEnd, Keeps, ReadConsumes};
-ghost use Rattle.firm_input.specs.inner.Pieces.{left_of};
+ghost use Rattle.std.specs.Io.KnownBytes.{Keeps, ReadConsumes};
 
 use firm_text::Failed;
 use std::io::Read;
+use std::marker::Model;
 
 /// The most bytes that are read ahead.
 const PIECE: usize = 4_096;
 
-/// A reader, and the piece that was read ahead: how many of its bytes were taken, how many are left, and whether the
-/// read failed.
+/// What was read ahead and not passed on: nothing, a piece (an empty one is the end of the input), or a failure.
 #[derive(Drop)]
-pub(crate) struct PieceReader<T> {
-    inner: T,
-    piece: [u8; PIECE],
+pub(crate) enum Ahead {
+    Nothing,
+    Piece,
+    Failure,
+}
+
+/// A piece: how many of its bytes were taken, and how many are left.
+#[derive(Drop)]
+pub(crate) struct Piece {
+    bytes: [u8; PIECE],
     taken: usize,
     left: usize,
-    has_failed: bool,
     ghost within: { taken + left ≤ 4096 },
 }
 
-impl<T: Read> PieceReader<T> {
-    pub(crate) fn new(inner: T) -> PieceReader<T> {
-        PieceReader {
-            inner,
-            piece: [0; PIECE],
+impl Piece {
+    ghost use Rattle.firm_input.specs.inner.Pieces.{ReadsPiece, unread};
+
+    // An empty piece.
+    fn new() -> Piece
+        ensures { result.left ≡ 0 }
+    {
+        Piece {
+            bytes: [0; PIECE],
             taken: 0,
             left: 0,
-            has_failed: false,
         }
     }
 
-    /// Reads the next piece.
-    pub(crate) fn read_ahead(&mut self)
-        ensures bytes { self.new.has_failed ≡ false → Consumes (T.remaining self.old.inner) (T.remaining self.new.inner)
-            (left_of self.new.piece self.new.taken self.new.left) }
-        ensures end { self.new.has_failed ≡ false → self.new.left ≡ 0 → IsAtEnd (T.remaining self.new.inner) }
-        ensures failure { self.new.has_failed ≡ true → Keeps (T.remaining self.old.inner) (T.remaining self.new.inner) }
+    // Reads the piece anew.
+    fn fill<T: Read>(&mut self, reader: &mut T) -> Result<(), Failed>
+        ensures { ReadsPiece (T.remaining reader.old) (T.remaining reader.new) result self.new }
     {
-        let read = self.inner.read(&mut self.piece);
-        self.has_failed = read.is_err();
-        self.taken = 0;
-        self.left = read.unwrap_or(0);
+        match reader.read(&mut self.bytes) {
+            Ok(count) => {
+                self.taken = 0;
+                self.left = count;
+                Ok(())
+            }
+            Err(_) => Err(Failed),
+        }
     }
 
-    /// Takes bytes from the front of the piece, and returns whether nothing of it is left: no byte, no failure, and no
-    /// end of input, which an empty buffer cannot learn of.
-    pub(crate) fn take(&mut self, buffer: &mut [u8]) -> (Result<usize, Failed>, bool)
-        ensures bound { ReadsAtMost result.0 buffer.new }
-        ensures bytes { IfOk result.0 (λ count. left_of self.old.piece self.old.taken self.old.left
-            ≡ take count buffer.new ++ left_of self.new.piece self.new.taken self.new.left) }
-        ensures last { IfOk result.0 (λ _. result.1 ≡ true → self.new.left ≡ 0) }
-        ensures failure { is_err result.0 ≡ self.old.has_failed }
-        ensures inner { self.new.inner ≡ self.old.inner }
+    // Takes bytes from the front of the piece.
+    fn take(&mut self, buffer: &mut [u8]) -> usize
+        ensures bound { (result ≤ length buffer.new) × (length buffer.new ≡ length buffer.old) }
+        ensures bytes { unread self.old ≡ take result buffer.new ++ unread self.new }
+        ensures none { result ≡ 0 → 0 < length buffer.new → self.old.left ≡ 0 }
+        ensures fewer { self.new.left ≤ self.old.left }
     {
-        if self.has_failed {
-            return (Err(Failed), true);
-        }
         let count = self.left.min(buffer.len());
         let next = self.taken + count;
-        buffer[..count].copy_from_slice(&self.piece[self.taken..next]);
+        buffer[..count].copy_from_slice(&self.bytes[self.taken..next]);
         self.taken = next;
         self.left -= count;
-        (Ok(count), self.left == 0 && !buffer.is_empty())
+        count
+    }
+}
+
+/// A reader, and the piece that was read ahead. Contracts see the bytes that are left, where the reader tells them.
+#[derive(Drop)]
+pub(crate) struct PieceReader<T: Read> {
+    inner: T,
+    piece: Piece,
+    ahead: Ahead,
+}
+
+impl<T: Read> Model for PieceReader<T> {
+    ghost use Rattle.std.specs.Prelude.{List, Option, ℕ};
+    ghost use Rattle.firm_input.specs.inner.Pieces.{IsEnd, left_behind};
+
+    ghost Value = { Option (List ℕ) };
+
+    ghost view = { λ r. left_behind r.ahead r.piece (T.remaining r.inner) };
+
+    ghost invariant = { λ r. IsEnd r.ahead r.piece (T.remaining r.inner) };
+}
+
+impl<T: Read> PieceReader<T> {
+    pub(crate) fn new(inner: T) -> PieceReader<T>
+        ensures { result ≡ T.remaining inner }
+    {
+        PieceReader {
+            inner,
+            piece: Piece::new(),
+            ahead: Ahead::Nothing,
+        }
     }
 
-    /// Reads into the buffer. An interrupted read fails, as every other failure does.
+    /// Whether a read need not ask the reader.
+    pub(crate) fn has_piece(&self) -> bool {
+        !matches!(self.ahead, Ahead::Nothing)
+    }
+
+    /// Reads the next piece, if nothing is left of the last one.
+    pub(crate) fn read_ahead(&mut self)
+        ensures { Keeps self.old self.new }
+    {
+        if let Ahead::Nothing = self.ahead {
+            self.ahead = match self.piece.fill(&mut self.inner) {
+                Ok(()) => Ahead::Piece,
+                Err(_) => Ahead::Failure,
+            };
+        }
+    }
+
+    /// Reads into the buffer: from the piece, while something is left of it. An interrupted read fails, as every other
+    /// failure does.
     pub(crate) fn read(&mut self, buffer: &mut [u8]) -> Result<usize, Failed>
         ensures bound { ReadsAtMost result buffer.new }
-        ensures bytes { ReadConsumes (T.remaining self.old.inner) (T.remaining self.new.inner) result buffer.new }
+        ensures bytes { ReadConsumes self.old self.new result buffer.new }
     {
-        match self.inner.read(buffer) {
-            Ok(count) => Ok(count),
-            Err(_) => Err(Failed),
+        match self.ahead {
+            Ahead::Nothing => self.inner.read(buffer).map_err(|_| Failed),
+            Ahead::Piece => {
+                let count = self.piece.take(buffer);
+                // An empty buffer cannot learn of the end.
+                if self.piece.left == 0 && !buffer.is_empty() {
+                    self.ahead = Ahead::Nothing;
+                }
+                Ok(count)
+            }
+            Ahead::Failure => {
+                self.ahead = Ahead::Nothing;
+                Err(Failed)
+            }
         }
     }
 }

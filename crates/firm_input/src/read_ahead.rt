@@ -1,49 +1,50 @@
 //! A source that knows whether a read would wait: when asked, a thread of its own reads one piece ahead.
 
-ghost use Rattle.std.specs.Prelude.{◌≡◌, false, IfOk};
-ghost use Rattle.firm_input.specs.ReadAhead.{has_failed};
+ghost use Rattle.std.specs.Prelude.{◌≡◌, false, [], IfOk, None};
+ghost use Rattle.std.specs.Arc.{arc_value};
+ghost use Rattle.firm_input.specs.ReadAhead.{source_is};
+ghost use Rattle.firm_input.specs.Rule.{sight};
+ghost use Rattle.firm_input.specs.inner.Steps.{IsSeated};
+ghost use Rattle.firm_input.specs.declared.turns.Stage.TheVariants.{Rests};
 
 use crate::pieces::PieceReader;
+use crate::reading_side::{Handover, ReadingSide};
+use crate::turns::{
+    ASKED, Board, CLOSED, Closes, HOME, Lends, READ, Sides, SourceSeat, TakesBack, TakesSlot,
+};
 use crossbeam_utils::sync::EventCount;
 use firm_text::{Failed, Source};
 use std::alloc::{AllocError, Global};
 use std::io::Read;
-use std::sync::atomic::{AtomicU64, Ordering};
+use std::marker::Model;
 use std::sync::{Arc, Mutex, Wait};
 use std::thread;
 use std::thread::{JoinHandle, Threads};
 
-// Whose turn it is to read. The source's, and nothing was read ahead.
-const IDLE: u64 = 1;
-
-// The reading thread's.
-const ASKED: u64 = 2;
-
-// The source's, and a piece was read ahead.
-const READ: u64 = 3;
-
-// The source's at all times: no thread could be started.
-const ALONE: u64 = 4;
-
-// Neither's: the reading thread ends.
-const CLOSED: u64 = 5;
-
 /// A source over a reader. Reads the reader itself, except for the pieces its thread reads ahead.
 #[derive(Drop)]
-pub struct ReadAhead<'r, R, T> {
+pub struct ReadAhead<'r, R, T: Read> {
     rt: &'r R,
-    shared: Arc<Shared<T>, Global>,
+    handover: Arc<Handover<T>, Global>,
+    seat: SourceSeat<T>,
+    // None while it is lent to the thread.
+    reader: Option<PieceReader<T>>,
+    // None if it could not be started.
     thread: Option<JoinHandle<()>>,
     has_failed: bool,
 }
 
-// What both threads share. Only the one whose turn it is locks the reader, so no thread ever waits for that lock.
-#[derive(Drop)]
-struct Shared<T> {
-    turn: AtomicU64,
-    reader: Mutex<PieceReader<T>>,
-    // Notified of the next piece.
-    waker: Mutex<Option<Arc<EventCount, Global>>>,
+impl<'r, R, T: Read> Model for ReadAhead<'r, R, T> {
+    ghost use Rattle.std.specs.Arc.{arc_value};
+    ghost use Rattle.firm_input.specs.ReadAhead.{SourceIs, source_is};
+    ghost use Rattle.firm_input.specs.inner.Steps.{IsSeated, StandsAt, left_at};
+
+    ghost Value = { SourceIs };
+
+    ghost view = { λ s. source_is (left_at s.seat.me.0.left s.reader) s.has_failed };
+
+    ghost invariant = { λ s. IsSeated (arc_value s.handover).board.shared.table_id s.seat.table_id
+        × StandsAt s.seat.me s.reader };
 }
 
 /// A source over the reader, with a thread that sleeps until it is asked to read. Fails only if memory is refused; if
@@ -53,23 +54,26 @@ pub fn open<'r, R: Threads + Wait + Clone + Drop + Send + 'static, T: Read + Dro
     alloc: Global,
     inner: T,
 ) -> Result<ReadAhead<'r, R, T>, AllocError>
-    ensures { IfOk result (λ source. has_failed source ≡ false) }
+    ensures { IfOk result (λ source. source ≡ source_is (T.remaining inner) false) }
 {
-    let shared = Arc::new(
+    let reader = PieceReader::new(inner);
+    let (board, mut seat) = Board::vacant(alloc, &[HOME], 1, &reader)?;
+    let handover = Arc::new(
         alloc,
-        Shared {
-            turn: AtomicU64::new(IDLE),
-            reader: Mutex::new(PieceReader::new(inner)),
+        Handover {
+            board,
             waker: Mutex::new(None),
         },
     )?;
-    let thread = start(rt, &shared);
-    if thread.is_none() {
-        shared.turn.store(ALONE, Ordering::SeqCst);
-    }
+    let table = &handover.board.shared;
+    table.load::<TakesSlot>(&mut seat, 0);
+    let resting = table.split_seat::<Sides>(&mut seat);
+    let thread = start(rt, &handover, resting);
     Ok(ReadAhead {
         rt,
-        shared,
+        handover,
+        seat,
+        reader: Some(reader),
         thread,
         has_failed: false,
     })
@@ -78,106 +82,106 @@ pub fn open<'r, R: Threads + Wait + Clone + Drop + Send + 'static, T: Read + Dro
 // The reading thread, if it could be started.
 fn start<R: Threads + Wait + Clone + Drop + Send + 'static, T: Read + Drop + Send + 'static>(
     rt: &R,
-    shared: &Arc<Shared<T>, Global>,
-) -> Option<JoinHandle<()>> {
-    let theirs = Arc::try_clone(shared).ok()?;
+    handover: &Arc<Handover<T>, Global>,
+    seat: SourceSeat<T>,
+) -> Option<JoinHandle<()>>
+    requires seated { IsSeated (arc_value handover.now).board.shared.table_id seat.table_id }
+    requires rests { seat.me ≡ (sight Rests None, []) }
+{
+    let handover = Arc::try_clone(handover).ok()?;
     let handle = rt.clone().ok()?;
-    thread::spawn(rt, move || read_when_asked(&handle, &theirs)).ok()
+    let side = ReadingSide { handover, seat };
+    thread::spawn(rt, move || side.read_when_asked(&handle)).ok()
 }
 
-// Reads a piece each time it is asked to, until the source is closed.
-fn read_when_asked<R: Wait, T: Read>(rt: &R, shared: &Shared<T>) {
-    for _ in rt.forever() {
-        match shared.turn.load(Ordering::SeqCst) {
-            ASKED => {
-                shared.reader.lock(rt).read_ahead();
-                shared.pass_turn(READ);
-                shared.notify(rt);
-            }
-            CLOSED => return,
-            theirs => shared.turn.park(rt, (theirs & 0xffff_ffff) as u32),
+impl<R, T: Read + Drop> ReadAhead<'_, R, T> {
+    // Takes the reader back, if it is lent and the thread has read.
+    fn take_back(&mut self)
+        ensures { self.new ≡ self.old }
+    {
+        if self.reader.is_some() {
+            return;
         }
+        let table = &self.handover.board.shared;
+        if table.compare_exchange::<TakesBack>(&mut self.seat, 0, READ, HOME) == READ {
+            self.reader = table.exchange(&mut self.seat, 0, None);
+        }
+    }
+
+    // Lends the reader to the thread, if it is here and nothing is left of a piece.
+    fn lend(&mut self)
+        ensures { self.new ≡ self.old }
+    {
+        match &self.reader {
+            Some(reader) if !reader.has_piece() => {}
+            _ => return,
+        }
+        let reader = self.reader.take();
+        let table = &self.handover.board.shared;
+        table.exchange(&mut self.seat, 0, reader);
+        table.store::<Lends>(&mut self.seat, 0, ASKED);
+        // One wake is enough, since only the thread sleeps at this word.
+        table.wake_one(0);
     }
 }
 
 impl<R: Threads + Wait, T: Read + Drop> ReadAhead<'_, R, T> {
     /// Ends the thread, unless it is in a read. A thread blocked in a read ends only with the program.
     pub fn close(self) {
+        let mut source = self;
+        source.take_back();
         let ReadAhead {
             rt,
-            shared,
+            handover,
+            mut seat,
+            reader,
             thread,
             ..
-        } = self;
-        let Some(thread) = thread else {
+        } = source;
+        let (Some(_), Some(thread)) = (reader, thread) else {
             return;
         };
-        if shared.turn.load(Ordering::SeqCst) != ASKED {
-            shared.pass_turn(CLOSED);
-            thread.join(rt);
-        }
+        let table = &handover.board.shared;
+        table.store::<Closes>(&mut seat, 0, CLOSED);
+        table.wake_one(0);
+        thread.join(rt);
     }
 }
 
-impl<R: Wait, T: Read> Source for ReadAhead<'_, R, T> {
-    ghost read_failed = { has_failed };
+impl<R: Wait, T: Read + Drop> Source for ReadAhead<'_, R, T> {
+    ghost left = { λ source. source.left };
 
+    ghost read_failed = { λ source. source.has_failed };
+
+    // Waits while the thread reads.
     fn read(&mut self, buffer: &mut [u8]) -> Result<usize, Failed> {
-        let turn = &self.shared.turn;
-        wait_for_turn(self.rt, turn);
-        let mut reader = self.shared.reader.lock(self.rt);
-        let read = if turn.load(Ordering::SeqCst) == READ {
-            let (read, is_last) = reader.take(buffer);
-            if is_last {
-                turn.store(IDLE, Ordering::SeqCst);
+        for _ in self.rt.forever() {
+            self.take_back();
+            if let Some(reader) = &mut self.reader {
+                let read = reader.read(buffer);
+                self.has_failed = self.has_failed || read.is_err();
+                return read;
             }
-            read
-        } else {
-            reader.read(buffer)
-        };
-        self.has_failed = self.has_failed || read.is_err();
-        read
+            self.handover.board.shared.park(self.rt, 0, ASKED as u32);
+        }
+        unreachable!()
     }
 
-    // Without a waker the caller won't wait, so nothing is read ahead. The waker is stored before the turn is read
+    // Without a waker the caller won't wait, so nothing is read ahead. The waker is stored before the word is read
     // again, and the thread looks for it after its own turn: either this read finds the piece, or the thread finds the
     // waker.
-    fn is_ready(&self, waker: Option<&Arc<EventCount, Global>>) -> bool {
-        let turn = &self.shared.turn;
+    fn is_ready(&mut self, waker: Option<&Arc<EventCount, Global>>) -> bool {
+        if self.thread.is_none() {
+            return true;
+        }
         if let Some(waker) = waker {
             let Ok(waker) = Arc::try_clone(waker) else {
                 return true;
             };
-            *self.shared.waker.lock(self.rt) = Some(waker);
-            if turn.load(Ordering::SeqCst) == IDLE {
-                self.shared.pass_turn(ASKED);
-            }
+            *self.handover.waker.lock(self.rt) = Some(waker);
+            self.lend();
         }
-        matches!(turn.load(Ordering::SeqCst), READ | ALONE)
-    }
-}
-
-// Waits while the thread reads.
-fn wait_for_turn<R: Wait>(rt: &R, turn: &AtomicU64) {
-    for _ in rt.forever() {
-        if turn.load(Ordering::SeqCst) != ASKED {
-            return;
-        }
-        turn.park(rt, ASKED as u32);
-    }
-}
-
-impl<T> Shared<T> {
-    fn pass_turn(&self, turn: u64) {
-        self.turn.store(turn, Ordering::SeqCst);
-        self.turn.wake_all();
-    }
-
-    // Notifies the waker, if there is one.
-    fn notify<R: Wait>(&self, rt: &R) {
-        let waker = self.waker.lock(rt).take();
-        if let Some(waker) = waker {
-            waker.notify_one();
-        }
+        self.take_back();
+        matches!(&self.reader, Some(reader) if reader.has_piece())
     }
 }

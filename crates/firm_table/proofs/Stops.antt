@@ -35,6 +35,11 @@ cause_writing Write input most read_failed write_failed well p = (well, p)
 cause_writing TooLong input most read_failed write_failed well p = absurd p
 cause_writing Memory input most read_failed write_failed well p = (well, p)
 
+-- what was read stays what was read where what is left does
+pub still_read : (first left later : Option (List ℕ)) (text : List ℕ) → later ≡ left → Consumes first left text
+    → Consumes first later text
+still_read first left later text e = subst (λ (x : Option (List ℕ)). Consumes first x text) (sym e)
+
 -- what is said of each text after a call holds of what was heard
 pub heard_told : (IsTold Later : Telling) (cut : CutterIs) (heard : List ℕ) (written now later : Option (List ℕ))
     → Heard IsTold cut heard written now

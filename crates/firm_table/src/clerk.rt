@@ -56,7 +56,7 @@ pub trait Clerk {
     /// Writes the known answers, up to the first missing one, which it may wait for until the reader is ready.
     fn write_out<S: Source, W: Sink>(
         &mut self,
-        reader: &S,
+        reader: &mut S,
         writer: &mut W,
     ) -> Result<(), ServeFault>
         requires writer { W.write_failed writer.old ≡ false }
@@ -72,7 +72,9 @@ pub trait Clerk {
         ensures well { OnOk result (W.write_failed writer.new ≡ false) }
         ensures open { is_open self.new }
         ensures opening { opening self.new ≡ opening self.old }
-        ensures kept { kept self.new ≡ kept self.old };
+        ensures kept { kept self.new ≡ kept self.old }
+        ensures input { S.left reader.new ≡ S.left reader.old }
+        ensures reader { S.read_failed reader.new ≡ S.read_failed reader.old };
 
     /// Writes all answers, once each is known.
     fn finish<W: Sink>(&mut self, writer: &mut W) -> Result<(), ServeFault>

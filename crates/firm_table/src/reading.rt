@@ -58,7 +58,7 @@ pub fn serve_lines<R: Source, W: Sink, C: Clerk>(
     let mut cutter = Cutter::new();
     let mut heard = 0;
     loop {
-        clerk.write_out(&*reader, writer)?;
+        clerk.write_out(reader, writer)?;
         let Ok(count) = reader.read(&mut piece) else {
             return Err(ServeFault::Read);
         };

@@ -207,7 +207,7 @@ impl Clerk for Service<'_> {
 
     fn write_out<S: Source, W: Sink>(
         &mut self,
-        reader: &S,
+        reader: &mut S,
         writer: &mut W,
     ) -> Result<(), ServeFault> {
         let _ = reader;

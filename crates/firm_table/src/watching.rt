@@ -151,7 +151,7 @@ impl<V: Watcher> Clerk for Watched<'_, '_, V> {
 
     fn write_out<S: Source, W: Sink>(
         &mut self,
-        reader: &S,
+        reader: &mut S,
         writer: &mut W,
     ) -> Result<(), ServeFault> {
         self.service.write_out(reader, writer)

@@ -7,7 +7,7 @@
 //! at least one byte of a buffer that is not empty.
 //!
 //! No two places of a register have one tenant, and a refusal changes nothing. A roster's text that is too long is
-//! always `Row`. What `Source::is_ready` answers is open. Only replies and rosters take memory.
+//! always `Row`. What `Source::is_ready` answers is open, but it takes no byte. Only replies and rosters take memory.
 #![tactic(auto)]
 
 mod bytes;

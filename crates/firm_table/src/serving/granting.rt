@@ -49,7 +49,7 @@ impl Clerk for Granting<'_> {
 
     fn write_out<S: Source, W: Sink>(
         &mut self,
-        reader: &S,
+        reader: &mut S,
         writer: &mut W,
     ) -> Result<(), ServeFault> {
         let _ = reader;

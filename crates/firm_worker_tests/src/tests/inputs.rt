@@ -61,7 +61,7 @@ impl Read for Held {
 }
 
 /// Sleeps until the source is ready.
-fn wait_until_ready<R: Wait, S: Source>(rt: &R, source: &S, waker: &Arc<EventCount, Global>) {
+fn wait_until_ready<R: Wait, S: Source>(rt: &R, source: &mut S, waker: &Arc<EventCount, Global>) {
     for _ in rt.forever() {
         let announced = waker.prepare_wait();
         if source.is_ready(Some(waker)) {
@@ -136,7 +136,7 @@ fn is_ready_once_a_byte_is_there(rt: HostRuntime) -> Result<(), Fail> {
     assert!(rt; !source.is_ready(None));
     assert!(rt; !source.is_ready(Some(&waker)));
     go.store(1, Ordering::SeqCst);
-    wait_until_ready(&rt, &source, &waker);
+    wait_until_ready(&rt, &mut source, &waker);
     assert_eq!(rt; source.read(&mut []), Ok(0));
     assert!(rt; source.is_ready(None));
     let mut buffer = [0; 3];

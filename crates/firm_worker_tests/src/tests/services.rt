@@ -200,7 +200,7 @@ impl Source for TwoPieces<'_> {
     }
 
     // The waker is there before the input is looked for, and the gate looks for it behind the input.
-    fn is_ready(&self, waker: Option<&Arc<EventCount, Global>>) -> bool {
+    fn is_ready(&mut self, waker: Option<&Arc<EventCount, Global>>) -> bool {
         if let Some(Ok(waker)) = waker.map(Arc::try_clone) {
             let _ = self.gate.waker.try_set(waker);
             self.gate.waits.add_one();
@@ -342,7 +342,7 @@ impl Source for OneByOne<'_> {
     }
 
     // A waker comes with the question where the service sleeps behind it. Each line's first one counts.
-    fn is_ready(&self, waker: Option<&Arc<EventCount, Global>>) -> bool {
+    fn is_ready(&mut self, waker: Option<&Arc<EventCount, Global>>) -> bool {
         let is_ready = self.given <= self.written.reached();
         if !is_ready && waker.is_some() && self.sleeps.reached() < self.given {
             self.sleeps.add_one();
@@ -397,7 +397,7 @@ impl Source for EndsBehind<'_> {
         Ok(count)
     }
 
-    fn is_ready(&self, _waker: Option<&Arc<EventCount, Global>>) -> bool {
+    fn is_ready(&mut self, _waker: Option<&Arc<EventCount, Global>>) -> bool {
         !self.is_given || self.answers <= self.written.reached()
     }
 }

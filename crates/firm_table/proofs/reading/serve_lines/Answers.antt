@@ -7,7 +7,7 @@ use Rattle.firm_table.specs.inner.Reading.{Halted}
 use Rattle.std.proofs.KnownBytes.{Consumes-trans, Consumes-nil, Consumes-kept}
 use Rattle.firm_table.proofs.Pieces.{ended_none, halts_between}
 use Rattle.firm_table.proofs.Stops.{cause_writing, stopped_within, stopped_behind, served, heard_told, both_ok}
-use Rattle.firm_table.proofs.Stops.{both_err}
+use Rattle.firm_table.proofs.Stops.{both_err, still_read}
 use Rattle.firm_table.proofs.reading.serve_lines.Goals as goal
 
 pub loop-reader-init : goal.loop-reader-init
@@ -38,6 +38,8 @@ pub returns-in_err-write_out-clause-stopped : goal.returns-in_err-write_out-clau
 returns-in_err-write_out-clause-stopped g c =
     let p = err_from_is_err_and c.from_residual.result c.from_residual.ensures.1 in
     let i = c.loop-reader.invariant.progress in
+    let read-so-far =
+    still_read (g.R.Source.left c.args.reader.now) _ _ i.0 c.in_err-write_out.ensures.input i.2 in
     let here : Halted (g.C.Clerk.opening c.loop-reader.clerk) i.0 (g.W.Sink.written c.args.writer.now)
     (g.W.Sink.written c.write_out.new.writer) =
     record {
@@ -49,12 +51,15 @@ returns-in_err-write_out-clause-stopped g c =
     } in
     let halted = rw c.loop-reader.invariant.opening at here in
     rw (p.1, p.2)
-    (stopped_within (g.C.Clerk.opening c.args.clerk.now) c.args.most _ _ _ _ _ _ i.0 _ i.2 halted
-    (cause_writing _ i.0 c.args.most _ _ c.loop-reader.invariant.reads c.in_err-write_out.ensures.cause))
+    (stopped_within (g.C.Clerk.opening c.args.clerk.now) c.args.most _ _ _ _ _ _ i.0 _ read-so-far halted
+    (cause_writing _ i.0 c.args.most _ _ (c.in_err-write_out.ensures.reader ∙ c.loop-reader.invariant.reads)
+    c.in_err-write_out.ensures.cause))
 
 pub returns-in_default-clause-stopped : goal.returns-in_default-clause-stopped
 returns-in_default-clause-stopped g c =
     let i = c.loop-reader.invariant.progress in
+    let read-so-far =
+    still_read (g.R.Source.left c.args.reader.now) _ _ i.0 c.in_ok-write_out.ensures.input i.2 in
     let here : Halted (g.C.Clerk.opening c.loop-reader.clerk) i.0 (g.W.Sink.written c.args.writer.now)
     (g.W.Sink.written c.write_out.new.writer) =
     record {
@@ -66,18 +71,20 @@ returns-in_default-clause-stopped g c =
     } in
     let halted = rw c.loop-reader.invariant.opening at here in
     stopped_within (g.C.Clerk.opening c.args.clerk.now) c.args.most _ _ _ _ _ _ i.0 _
-    (Consumes-kept _ _ _ i.0 i.2 c.in_default.ensures.bytes) halted
+    (Consumes-kept _ _ _ i.0 read-so-far c.in_default.ensures.bytes) halted
     (search rules, c.in_ok-write_out.ensures.well)
 
 pub returns-in_default-clause-waiting : goal.returns-in_default-clause-waiting
 returns-in_default-clause-waiting g c =
     let i = c.loop-reader.invariant.progress in
+    let read-so-far =
+    still_read (g.R.Source.left c.args.reader.now) _ _ i.0 c.in_ok-write_out.ensures.input i.2 in
     λ reading. (
       c.in_ok-write_out.ensures.written_out,
       record {
         lines = i.3.text;
         rest = i.3.rest;
-        read = rw i.3.both at (Consumes-kept _ _ _ i.0 i.2 c.in_default.ensures.bytes);
+        read = rw i.3.both at (Consumes-kept _ _ _ i.0 read-so-far c.in_default.ensures.bytes);
         whole = i.3.ended.ends;
         in_line = i.3.stands.in_line;
         told = c.in_ok-write_out.ensures.told i.3.text _ i.3.told;
@@ -87,10 +94,12 @@ returns-in_default-clause-waiting g c =
 pub returns-then-count-eq0-clause-served : goal.returns-then-count-eq0-clause-served
 returns-then-count-eq0-clause-served g c =
     let i = c.loop-reader.invariant.progress in
+    let read-so-far =
+    still_read (g.R.Source.left c.args.reader.now) _ _ i.0 c.in_ok-write_out.ensures.input i.2 in
     let none : take c.in-Ok.count c.read.new.buffer ≡ [] = ap (λ n. take n c.read.new.buffer) c.if-count-eq0.true in
     let reads : g.R.Source.read_failed c.read.new.self ≡ false = search rules in
     let read : Consumes (g.R.Source.left c.args.reader.now) (g.R.Source.left c.read.new.self) i.0 =
-    rw (none, append-nil i.0) at (Consumes-trans _ _ _ _ _ i.2 c.in-Ok.ensures.bytes.0) in
+    rw (none, append-nil i.0) at (Consumes-trans _ _ _ _ _ read-so-far c.in-Ok.ensures.bytes.0) in
     let some : 0 < length c.read.new.buffer = search rules in
     let h = heard_told _ _ _ i.0 _ _ _ i.3 c.in_ok-write_out.ensures.told in
     on_ok_weaker c.answer_end.result
@@ -103,10 +112,12 @@ returns-then-count-eq0-clause-served g c =
 pub returns-then-count-eq0-clause-told : goal.returns-then-count-eq0-clause-told
 returns-then-count-eq0-clause-told g c =
     let i = c.loop-reader.invariant.progress in
+    let read-so-far =
+    still_read (g.R.Source.left c.args.reader.now) _ _ i.0 c.in_ok-write_out.ensures.input i.2 in
     let h = heard_told _ _ _ i.0 _ _ _ i.3 c.in_ok-write_out.ensures.told in
     let none : take c.in-Ok.count c.read.new.buffer ≡ [] = ap (λ n. take n c.read.new.buffer) c.if-count-eq0.true in
     let read : Consumes (g.R.Source.left c.args.reader.now) (g.R.Source.left c.read.new.self) i.0 =
-    rw (none, append-nil i.0) at (Consumes-trans _ _ _ _ _ i.2 c.in-Ok.ensures.bytes.0) in
+    rw (none, append-nil i.0) at (Consumes-trans _ _ _ _ _ read-so-far c.in-Ok.ensures.bytes.0) in
     let some : 0 < length c.read.new.buffer = search rules in
     on_ok_weaker c.answer_end.result
     (λ told. record {
@@ -120,10 +131,12 @@ returns-then-count-eq0-clause-told g c =
 pub returns-then-count-eq0-clause-stopped : goal.returns-then-count-eq0-clause-stopped
 returns-then-count-eq0-clause-stopped g c =
     let i = c.loop-reader.invariant.progress in
+    let read-so-far =
+    still_read (g.R.Source.left c.args.reader.now) _ _ i.0 c.in_ok-write_out.ensures.input i.2 in
     let none : take c.in-Ok.count c.read.new.buffer ≡ [] = ap (λ n. take n c.read.new.buffer) c.if-count-eq0.true in
     let reads : g.R.Source.read_failed c.read.new.self ≡ false = search rules in
     let read : Consumes (g.R.Source.left c.args.reader.now) (g.R.Source.left c.read.new.self) i.0 =
-    rw (none, append-nil i.0) at (Consumes-trans _ _ _ _ _ i.2 c.in-Ok.ensures.bytes.0) in
+    rw (none, append-nil i.0) at (Consumes-trans _ _ _ _ _ read-so-far c.in-Ok.ensures.bytes.0) in
     let some : 0 < length c.read.new.buffer = search rules in
     let h = heard_told _ _ _ i.0 _ _ _ i.3 c.in_ok-write_out.ensures.told in
     both_err c.answer_end.result _ _ _ c.answer_end.ensures.begins c.answer_end.ensures.cause
@@ -134,6 +147,8 @@ returns-then-count-eq0-clause-stopped g c =
 pub returns-then-most-heard-clause-stopped : goal.returns-then-most-heard-clause-stopped
 returns-then-most-heard-clause-stopped g c =
     let i = c.loop-reader.invariant.progress in
+    let read-so-far =
+    still_read (g.R.Source.left c.args.reader.now) _ _ i.0 c.in_ok-write_out.ensures.input i.2 in
     let longer : c.args.most < length (i.0 ++ take c.in-Ok.count c.read.new.buffer) =
     (let e = i.1 in let b = c.in-Ok.ensures.bound in let m = c.if-most-heard.true in grind (arith, common_steps)) in
     let halted : Halted (g.C.Clerk.opening c.args.clerk.now) (i.0 ++ take c.in-Ok.count c.read.new.buffer)
@@ -143,12 +158,14 @@ returns-then-most-heard-clause-stopped g c =
     (c.in_ok-write_out.ensures.begins i.3.text _ i.3.told)) in
     stopped_within (g.C.Clerk.opening c.args.clerk.now) c.args.most _ _ _ _ _ _
     (i.0 ++ take c.in-Ok.count c.read.new.buffer) _
-    (Consumes-trans _ _ _ _ _ i.2 c.in-Ok.ensures.bytes.0) halted
+    (Consumes-trans _ _ _ _ _ read-so-far c.in-Ok.ensures.bytes.0) halted
     (longer, search rules, c.in_ok-write_out.ensures.well)
 
 pub loop-reader-preserved : goal.loop-reader-preserved
 loop-reader-preserved g c =
     let i = c.loop-reader.invariant.progress in
+    let read-so-far =
+    still_read (g.R.Source.left c.args.reader.now) _ _ i.0 c.in_ok-write_out.ensures.input i.2 in
     let h = heard_told _ _ _ i.0 _ _ _ i.3 c.in_ok-write_out.ensures.told in
     record {
       few = grind (arith, common_steps);
@@ -162,7 +179,7 @@ loop-reader-preserved g c =
       progress = (
         i.0 ++ take c.in-Ok.count c.read.new.buffer,
         (let e = i.1 in let b = c.in-Ok.ensures.bound in grind (arith, common_steps)),
-        Consumes-trans _ _ _ _ _ i.2 c.in-Ok.ensures.bytes.0,
+        Consumes-trans _ _ _ _ _ read-so-far c.in-Ok.ensures.bytes.0,
         c.in_ok-answer_piece.ensures.heard i.0 _ h,
       );
     }
@@ -172,6 +189,8 @@ returns-in_err-answer_piece-clause-stopped g c =
     let p =
     err_from_is_err_and c.from_residual-in_err-answer_piece.result c.from_residual-in_err-answer_piece.ensures.1 in
     let i = c.loop-reader.invariant.progress in
+    let read-so-far =
+    still_read (g.R.Source.left c.args.reader.now) _ _ i.0 c.in_ok-write_out.ensures.input i.2 in
     let reads : g.R.Source.read_failed c.read.new.self ≡ false = search rules in
     let h = heard_told _ _ _ i.0 _ _ _ i.3 c.in_ok-write_out.ensures.told in
     let halted =
@@ -180,5 +199,5 @@ returns-in_err-answer_piece-clause-stopped g c =
     rw (p.1, p.2)
     (stopped_within (g.C.Clerk.opening c.args.clerk.now) c.args.most _ _ _ _ _ _
     (i.0 ++ take c.in-Ok.count c.read.new.buffer) _
-    (Consumes-trans _ _ _ _ _ i.2 c.in-Ok.ensures.bytes.0) halted
+    (Consumes-trans _ _ _ _ _ read-so-far c.in-Ok.ensures.bytes.0) halted
     (cause_writing _ _ c.args.most _ _ reads c.in_err-answer_piece.ensures.cause))

@@ -1,3 +1,4 @@
+use Rattle.std.proofs.Common.{◌∙◌}
 use Rattle.firm_hall.proofs.Coming.{follows_then}
 use Rattle.firm_hall.proofs.serving.Serving.wait.Goals as goal
 
@@ -14,6 +15,10 @@ pub returns-then-look-clause-begins : goal.returns-then-look-clause-begins
 returns-then-look-clause-begins g c opening text written told =
     c.in_ok-write_out.ensures.begins opening text written (c.loop.invariant.passes opening text written told)
 
+pub returns-then-look-clause-come : goal.returns-then-look-clause-come
+returns-then-look-clause-come g c =
+    let come = rw c.loop.invariant.kept at c.look.ensures.come in rw c.if-look.true at come
+
 pub loop-preserved : goal.loop-preserved
 loop-preserved g c =
     let i = c.loop.invariant in
@@ -21,6 +26,7 @@ loop-preserved g c =
     let looked = c.look.ensures in
     record {
       well = wrote.well;
+      kept = looked.kept ∙ i.kept;
       follows = follows_then i.follows (follows_then wrote.follows looked.follows);
       passes = λ opening text written told. looked.keeps opening text written _
           (wrote.told opening text written (i.passes opening text written told));
