@@ -4,10 +4,11 @@
 usage: build.py [CRATE..]            proves and builds these programs and libraries, firm where none is named
        build.py --run ARGUMENT..     does so with firm, and then becomes it, as ./firm does
 
-Crates are proved lowest first, side by side where processors and memory allow. What an interrupted run has proved
-stands, and the next goes on from there: a crate is proved again where its sources, or those of a crate below, have
-changed. crates/NAME/out/statements has what was made of a crate, and the log of its check. Exit status: 0, 1 where a
-crate could not be proved or built, 2 for a wrong word, 127 without the kit, 128 plus the number of a signal.
+Crates are proved lowest first. The one with the most behind it gets all processors; others go on beside it where it
+leaves some idle, as memory allows. What an interrupted run has proved stands, and the next goes on from there: a crate
+is proved again where its sources, or those of a crate below, have changed. crates/NAME/out/statements has what was made
+of a crate, and the log of its check. Exit status: 0, 1 where a crate could not be proved or built, 2 for a wrong word,
+127 without the kit, 128 plus the number of a signal.
 """
 
 from __future__ import annotations
@@ -33,6 +34,7 @@ PROGRAM = "firm"
 CHECK_BYTES = 4_000_000_000
 JOB_BYTES = 1_500_000_000
 MOST_JOBS = 8  # more seldom help, by the kit's own word
+NICENESS = 5  # of a check beside one that more waits for
 # A check also reads the crates below, in about the time of so many of its own bytes of source.
 BELOW_PER_OWN = 20
 GLANCE_SECONDS = 0.1
@@ -93,7 +95,7 @@ def own_bytes(crate: Crate) -> int:
 
 
 def in_order_of_chains(crates: list[Crate]) -> list[Crate]:
-    """The crates, those first behind which the most is to be proved in turn."""
+    """The crates, those first behind which the most is to be proved in turn: their ends decide when all is proved."""
     chain: dict[Crate, int] = {}
     for crate in reversed(crates):
         above = [chain[other] for other in crates if crate in other.below]
@@ -162,8 +164,8 @@ class Group:
 class Check:
     """A running check of a crate, which makes its rlib or its program in a folder of its own."""
 
-    def __init__(self, crate: Crate, jobs: int, group: Group) -> None:
-        self.crate, self.jobs, self.group = crate, jobs, group
+    def __init__(self, crate: Crate, jobs: int, gives_way: bool, group: Group) -> None:
+        self.crate, self.jobs, self.gives_way, self.group = crate, jobs, gives_way, group
         self.began, self.sources = time.monotonic(), Sources.of(crate)
         self.made = prover.made(crate)
         self.work, self.log = self.made.with_name("work"), self.made.with_name("log")
@@ -173,6 +175,9 @@ class Check:
         self.new = self.work / self.made.name
         words = prover.words(crate, prover.made)
         self.process = self.start("rattle", ["build", *words, "--jobs", str(jobs), *self.aim()])
+        if gives_way:
+            niceness = os.getpriority(os.PRIO_PROCESS, 0) + NICENESS
+            os.setpriority(os.PRIO_PROCESS, self.process.pid, niceness)
 
     def clear(self) -> None:
         shutil.rmtree(self.work, ignore_errors=True)
@@ -182,6 +187,11 @@ class Check:
         if self.crate.is_program:
             return ["--toolchain", f"{prover.kit()}/toolchain", "--backend", "llvm", "-o", f"{self.new}.o"]
         return ["--statements", "-o", str(self.new)]
+
+    @property
+    def most_bytes(self) -> int:
+        """The memory that it takes at most."""
+        return CHECK_BYTES + (self.jobs - 1) * JOB_BYTES
 
     def start(self, tool: str, words: list[str]) -> subprocess.Popen[bytes]:
         return self.group.start([f"{prover.kit()}/bin/{tool}", *words], self.crate, self.log, self.work)
@@ -219,11 +229,13 @@ class Build:
     def __init__(self, wanted: list[Crate]) -> None:
         needed = dict.fromkeys(crate for each in wanted for crate in (*each.below, each))
         self.programs = [crate for crate in wanted if crate.is_program]
-        self.left = in_order_of_chains(list(needed))
+        self.order = in_order_of_chains(list(needed))
+        self.left = list(self.order)
         self.running: list[Check] = []
         self.stamps: dict[Crate, str] = {}
         self.began, self.told = time.monotonic(), time.monotonic()
         self.processors, self.memory = len(os.sched_getaffinity(0)), free_bytes()
+        self.most_checks = self.processors // 2 + 1
         self.take_standing()
         self.count = len(self.left)
 
@@ -275,17 +287,18 @@ class Build:
         return bool(made) and all(below) and made == prover.stamp(Sources.of(crate).content, below)
 
     def start_checks(self, group: Group) -> None:
-        """Starts what can be, and shares the idle processors among it, the first getting more, as the memory allows."""
-        idle = self.processors - sum(check.jobs for check in self.running)
-        room = max(self.memory // CHECK_BYTES, 1) - len(self.running)
-        chosen = self.startable()[: max(min(idle, room), 0)]
-        at_once = len(self.running) + len(chosen)
-        for place, crate in enumerate(chosen):
-            spare = 1 + max(self.memory // at_once - CHECK_BYTES, 0) // JOB_BYTES
-            jobs = min(-(-idle // (len(chosen) - place)), spare, MOST_JOBS)
-            idle -= jobs
+        """Starts what can be, the first in the order of chains with all processors, as far as the memory allows."""
+        startable = self.startable()
+        for place, crate in enumerate(startable):
+            spare = self.memory - sum(check.most_bytes for check in self.running) - CHECK_BYTES
+            more = self.most_checks - len(self.running) - 1  # that may start beside it
+            if self.running and (spare < 0 or more < 0):
+                return
+            kept = CHECK_BYTES * min(more, len(startable) - place - 1)
+            jobs = min(1 + max(spare - kept, 0) // JOB_BYTES, self.processors, MOST_JOBS)
+            gives_way = any(self.order.index(check.crate) < self.order.index(crate) for check in self.running)
             self.left.remove(crate)
-            self.running.append(Check(crate, jobs, group))
+            self.running.append(Check(crate, jobs, gives_way, group))
 
     def take_ended(self, group: Group) -> None:
         for check in [check for check in self.running if check.process.poll() is not None]:
@@ -294,7 +307,7 @@ class Build:
                 self.stamps[check.crate] = check.keep(self.stamps_below(check.crate))
                 self.tell(f"{check.crate.name} is proved, in {elapsed(check.began)}")
             elif check.process.returncode == -signal.SIGKILL and check.jobs > 1:
-                self.running.append(Check(check.crate, 1, group))
+                self.running.append(Check(check.crate, 1, check.gives_way, group))
                 self.tell(f"{check.crate.name} was killed, most likely for memory: once more, with one job")
             else:
                 check.clear()
