@@ -38,6 +38,8 @@ class Acceptor:
         if self._socket.fileno() >= 0:
             self._loop.remove_reader(self._socket)
         self._socket.close()
+        for task in self._tasks:
+            task.cancel()
 
     def _give_up(self, fault: Fault) -> None:
         self.close()
@@ -69,3 +71,6 @@ class Acceptor:
         except Exception as error:
             connection.close()
             self._faults.note("client", error)
+        except asyncio.CancelledError:
+            connection.close()
+            raise

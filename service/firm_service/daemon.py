@@ -42,9 +42,9 @@ from .moves import Moves, Parts
 from .observers import WARNED_SHARE, Status
 from .register import Register
 from .relief import SHORTAGES, Relief
-from .replicated.journal import ReplicatedJournal
+from .replicated.journal import Anew, ReplicatedJournal
 from .replicated.options import Replica, add_options, require_lone
-from .replicated.point import Point, has_point, point_of
+from .replicated.point import Point, has_point, opening_point, point_of
 from .rights import Rights
 from .rounds import Rounds, Times
 from .serving import Serving
@@ -100,7 +100,7 @@ class Daemon:
         self._snapshots: Snapshots | None = None
         self._names = Names()
         self._faults = Faults()
-        self._has_warned = False
+        self._has_warned = self._is_told_to_stop = False
 
     async def run(self) -> None:
         """Serves until it is told to stop; raises the fault that ended it otherwise."""
@@ -108,7 +108,7 @@ class Daemon:
         snapshot = last(self._state) if self._replica is None else last(self._state, fits=has_point)
         room = Room(self._options.segment_bytes, self._options.snapshot_lines or None)
         own = Journal(self._state, room, snapshot.base if snapshot is not None else self._state.base)
-        point = point_of(snapshot) if snapshot is not None else None
+        point = point_of(snapshot) if snapshot is not None else opening_point(self._state.joined)
         self._replicated = self._replica.open(own, point or Point()) if self._replica is not None else None
         opening = opening_of(self._state, snapshot) if snapshot is not None else self._state.opening
         firm = Firm([*self._program, *opening.words()])
@@ -150,6 +150,9 @@ class Daemon:
                     self._keep_snapshots(own, snapshot)
                 await self._serve()
             await self._stream.ended
+        except Anew:
+            if not self._is_told_to_stop:
+                raise
         finally:
             if self._replicated is not None:
                 self._replicated.leave()  # also where a fault ends it
@@ -188,7 +191,8 @@ class Daemon:
                 options.firm_timeout,
                 options.log_format,
             )
-            self._snapshots = Snapshots(self._stream, journal, settings, self._faults)
+            shared = self._replicated.shared if self._replicated is not None else None
+            self._snapshots = Snapshots(self._stream, journal, settings, self._faults, shared)
             self._snapshots.start(snapshot)
 
     async def _serve(self) -> None:
@@ -230,19 +234,20 @@ class Daemon:
 
     async def _tick(self, clients: Clients, feeder: Feeder) -> None:
         """Looks at status and load until the stream ends."""
-        ticking = [
-            asyncio.create_task(self._repeat(partial(self._tell_status, clients, feeder), TICK_SECONDS)),
-            asyncio.create_task(self._repeat(partial(self._tell_load, clients, feeder), LOAD_SECONDS)),
-        ]
-        await asyncio.wait([self._stream.ended])
-        for task in ticking:
-            task.cancel()
+        async with asyncio.TaskGroup() as group:
+            ticking = [
+                group.create_task(self._repeat(partial(self._tell_status, clients, feeder), TICK_SECONDS)),
+                group.create_task(self._repeat(partial(self._tell_load, clients, feeder), LOAD_SECONDS)),
+            ]
+            await asyncio.wait([self._stream.ended])
+            for task in ticking:
+                task.cancel()
 
     async def _serve_moves(self, rounds: Rounds, feeder: Feeder) -> Moves:
         """What moves tenants; one that was on its way is held from now on."""
-        snapshots = self._snapshots if self._replicated is None else None
+        shared = self._replicated.shared if self._replicated is not None else None
         register = self._accounts.register
-        parts = Parts(self._state, self._stream, self._books, register, snapshots, self._faults)
+        parts = Parts(self._state, self._stream, self._books, register, self._snapshots, self._faults, shared)
         moves = Moves(parts, rounds, feeder)
         await moves.listen(self._names.listen(self._state.folder / MOVES, PRIVATE))
         return moves
@@ -297,6 +302,7 @@ class Daemon:
         return self._names.listen(path, self._options.socket_mode)
 
     def _stop(self) -> None:
+        self._is_told_to_stop = True
         say("stopping: what was taken is answered", logs.INFO)
         notify(b"STOPPING=1")
         self._stream.stop()
@@ -541,6 +547,9 @@ def main() -> int:
     allow_files(options.most_clients * len({listener.rights.socket for listener in options.listeners}))
     try:
         asyncio.run(Daemon(options).run())
+    except Anew as anew:
+        say(str(anew), logs.INFO)
+        os.execv(sys.executable, [sys.executable, *sys.orig_argv[1:]])
     except Fault as fault:
         say(str(fault), logs.ERROR)
         return fault.status

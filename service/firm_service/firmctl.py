@@ -230,7 +230,7 @@ def parser(only: str | None = None) -> argparse.ArgumentParser:
     command.add_argument("tenant", metavar="TENANT")
     command.add_argument("--to", required=True, metavar="SHARD")
     command.add_argument("--door", type=Path, required=True, metavar="TABLE", help="as firm-door has it")
-    told = "give the shard its rows alone, as where one of them is of replicas: all its tasks wait again"
+    told = "give the shard its rows alone, as where no snapshots are made: all its tasks wait again"
     command.add_argument("--by-lines", action="store_true", help=told)
     add("dashboard", dashboard, "a dashboard of the metrics, for Grafana's import")
     return found

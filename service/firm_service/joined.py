@@ -47,6 +47,11 @@ class Joined:
         body = json.dumps({"former": self.former, "moves": self.moves, "books": self.books}, separators=(",", ":"))
         return sealed(KIND, fields.encode(), body.encode() + b"\n")
 
+    @property
+    def move(self) -> str | None:
+        """The move by which a tenant came last, if any did."""
+        return self.moves[-1] if self.moves else None
+
     def path(self, folder: Path) -> Path:
         return folder / f"{NAME}-{self.digest}"
 
@@ -63,10 +68,18 @@ def read(folder: Path) -> Joined | None:
         return None
     except OSError as error:
         raise Fault(Exit.STATE, f"cannot read {path}: {reason(error)}") from error
+    found = parsed(text)
+    if found is None:
+        raise Fault(Exit.JOURNAL, f"{path}: this is not what was written; {RESTORE}")
+    return found
+
+
+def parsed(text: bytes) -> Joined | None:
+    """What such a file tells; None where it is not as it was written."""
     heading, _, body = text.partition(b"\n")
     fields = heading.split(b" ")[-FIELDS:]
     if sealed(KIND, b" ".join(fields), body) != text:
-        raise Fault(Exit.JOURNAL, f"{path}: this is not what was written; {RESTORE}")
+        return None
     segment, lines, size, chain, length, kept = fields
     base, known = Base(int(segment), int(lines), int(size), int(chain, 16)), json.loads(body)
     former, moves = tuple(known["former"]), tuple(known["moves"])

@@ -5,22 +5,29 @@ from __future__ import annotations
 from bisect import bisect_left
 from collections.abc import Sequence
 from dataclasses import dataclass, field
+from threading import Lock
 
 # In seconds: a fast disk takes a tenth of a millisecond for a sync, a slow one some tens, a failing one seconds.
 SYNC_SECONDS = (0.0001, 0.0002, 0.0005, 0.001, 0.002, 0.005, 0.01, 0.02, 0.05, 0.1, 0.2, 0.5, 1.0, 2.0, 5.0, 10.0)
 
 
 class Histogram:
-    """Times by bounds; one thread adds."""
+    """Times by bounds; any thread adds and reads."""
 
     def __init__(self, bounds: Sequence[float]) -> None:
-        self.bounds = bounds
-        self.counts = [0] * (len(bounds) + 1)  # the last is of those above all bounds
-        self.seconds = 0.0  # of all
+        self._bounds, self._lock = bounds, Lock()
+        self._counts = [0] * (len(bounds) + 1)
+        self._seconds = 0.0
 
     def add(self, seconds: float) -> None:
-        self.counts[bisect_left(self.bounds, seconds)] += 1
-        self.seconds += seconds
+        with self._lock:
+            self._counts[bisect_left(self._bounds, seconds)] += 1
+            self._seconds += seconds
+
+    def read(self) -> tuple[list[int], float]:
+        """How many stand below each bound, the last above all, and the seconds of all."""
+        with self._lock:
+            return self._counts.copy(), self._seconds
 
 
 @dataclass(slots=True)

@@ -10,12 +10,13 @@ from .stream import Stream
 
 
 def load_of(stream: Stream, clients: Clients, accounts: Accounts) -> Load:
-    tally, times = accounts.tally, stream.sync_times
+    tally = accounts.tally
+    counts, seconds = stream.sync_times.read()
     return Load(
         oldest_line_seconds=stream.oldest_seconds(),
         firm_silent_seconds=stream.silent_seconds(),
-        sync_counts=list(times.counts),
-        sync_seconds=times.seconds,
+        sync_counts=counts,
+        sync_seconds=seconds,
         tenants=[tenant_load(name, stream.lanes, accounts) for name in accounts.register],
         sockets=[
             SocketLoad(socket.name.decode(), socket.count, tally.waits[socket.name, b""], int(socket.account.day.left))

@@ -5,15 +5,17 @@ is for firmd's own user alone. A request is an object of JSON on a line, and so 
 the move, by a name that no other move has:
 
     {"ask": "hold", "tenant": T, "move": M} -> {"state": TEXT}: firm gets no line of the tenant from here on, and its
-        state is this. It stays so over restarts, by the file `moving`, until `give` or `release`.
+        state is this. It stays so over restarts, by the file `moving` or etcd's key, until `give` or `release`.
     {"ask": "take", "tenant": T, "move": M, "state": TEXT} -> {}: the tenant is here, and stays.
     {"ask": "taken", "tenant": T, "move": M} -> {"taken": BOOL}: whether it has come by this move. After false it never
         will.
     {"ask": "give", "tenant": T, "move": M} -> {}: it is retired here, as it has come elsewhere.
     {"ask": "release", "tenant": T, "move": M} -> {}: firm gets its lines again. This move never holds it again.
+    {"ask": "leads"} -> {}: this is no replica, or the one that leads, of which all is asked.
 
-Each may be asked again. An error is {"error": NAME, "text": WORDS}. So the tenant is the new service's from the moment
-at which `joined` is there (joined.py), and the old one's before that; the old one answers none of its lines meanwhile.
+Each may be asked again, also where another replica leads by then. An error is {"error": NAME, "text": WORDS}. So the
+tenant is the new service's from the moment at which `joined` is there (joined.py), or of replicas etcd's `snapshot`
+(offers.py), and the old one's before that; the old one answers none of its lines meanwhile.
 """
 
 from __future__ import annotations
@@ -23,16 +25,16 @@ import json
 import re
 import socket
 from collections.abc import Callable
-from contextlib import suppress
+from contextlib import nullcontext, suppress
 from dataclasses import dataclass
 from functools import partial
 from pathlib import Path
-from typing import Any, NamedTuple, TypeVar
+from typing import Any, NamedTuple, Protocol, TypeVar
 
 from .books import Book, Books
 from .faults import Exit, Fault, Faults, reason, say
 from .feeder import Feeder
-from .files import replace_synced, sync_folder
+from .files import PRIVATE, replace_synced, sync_folder
 from .joined import KEPT_MOVES, Joined, clear_texts
 from .kept import found_now, kept_lines
 from .kept_books import UNKNOWN, book_of, books_text, opening_books, rows_of
@@ -44,6 +46,8 @@ from .programs import NotBuilt
 from .records import Base
 from .recovery import Found
 from .register import Register
+from .replicated.point import opening_point
+from .replicated.shared import NotLeading, Shared
 from .rounds import Rounds
 from .snapshots import Snapshot, Unusable, opening_of
 from .snapshotting import Change, Snapshots
@@ -76,27 +80,56 @@ class Held(NamedTuple):
     tenant: str
     move: str
 
+    def text(self) -> bytes:
+        return json.dumps(self._asdict()).encode() + b"\n"
 
-def read_held(folder: Path) -> Held | None:
-    path = folder / MOVING
-    try:
-        found = json.loads(path.read_bytes())
-        return Held(str(found["tenant"]), str(found["move"]))
-    except FileNotFoundError:
+
+class Mark(Protocol):
+    """Where it stands which tenant is held, over restarts."""
+
+    def read(self) -> bytes:
+        """Empty where none is."""
+
+    def write(self, text: bytes) -> None:
+        ...
+
+    def require_current(self) -> None:
+        """Asks that no other firmd serves these tenants by now."""
+
+
+class HeldFile:
+    """A file of a service that is alone."""
+
+    def __init__(self, folder: Path) -> None:
+        self._path = folder / MOVING
+
+    def read(self) -> bytes:
+        try:
+            return self._path.read_bytes()
+        except FileNotFoundError:
+            return b""
+        except OSError as error:
+            raise Fault(Exit.STATE, f"cannot read {self._path}: {reason(error)}") from error
+
+    def write(self, text: bytes) -> None:
+        if text:
+            return replace_synced(self._path, text, PRIVATE)
+        self._path.unlink(missing_ok=True)
+        sync_folder(self._path.parent)
+
+    def require_current(self) -> None:
+        pass
+
+
+def read_held(mark: Mark) -> Held | None:
+    text = mark.read()
+    if not text:
         return None
-    except OSError as error:
-        raise Fault(Exit.STATE, f"cannot read {path}: {reason(error)}") from error
+    try:
+        found = json.loads(text)
+        return Held(str(found["tenant"]), str(found["move"]))
     except (ValueError, KeyError, TypeError) as error:
-        raise Fault(Exit.JOURNAL, f"{path}: this is not what was written: {error!r}") from error
-
-
-def keep_held(folder: Path, held: Held) -> None:
-    replace_synced(folder / MOVING, json.dumps(held._asdict()).encode() + b"\n", 0o600)
-
-
-def drop_held(folder: Path) -> None:
-    (folder / MOVING).unlink(missing_ok=True)
-    sync_folder(folder)
+        raise Fault(Exit.JOURNAL, f"{MOVING}: this is not what was written: {error!r}") from error
 
 
 @dataclass(frozen=True, slots=True)
@@ -109,15 +142,19 @@ class Parts:
     register: Register
     snapshots: Snapshots | None  # None: none are made
     faults: Faults
+    shared: Shared | None  # of a replica
+
+    def mark(self) -> Mark:
+        return self.shared or HeldFile(self.state.folder)
 
 
-def held_at_start(parts: Parts) -> Held | None:
+def held_at_start(parts: Parts, mark: Mark) -> Held | None:
     """The tenant that was held before; none where it has been retired since."""
-    held = read_held(parts.state.folder)
+    held = read_held(mark)
     if held is None or held.tenant in parts.books.tenants:
         return held
     with suppress(OSError):  # so the next start does this
-        drop_held(parts.state.folder)
+        mark.write(b"")
     return None
 
 
@@ -148,7 +185,8 @@ class Moves:
         self._parts, self._rounds, self._feeder = parts, rounds, feeder
         self._folder = parts.state.folder
         clear_texts(self._folder, parts.state.joined)  # not before the journal is compared with it
-        self._held = held_at_start(parts)
+        self._mark = parts.mark()
+        self._held = held_at_start(parts, self._mark)
         self._released: set[str] = set()  # moves that hold nothing any more
         self._refused: set[str] = set()  # moves by which no tenant comes any more
         self._lock = asyncio.Lock()  # for what changes which tenant is held
@@ -189,6 +227,9 @@ class Moves:
     async def _answer(self, line: bytes) -> Json:
         try:
             match json.loads(line):
+                case {"ask": "leads"}:
+                    await asyncio.to_thread(self._mark.require_current)
+                    return {}
                 case {"ask": "hold", "tenant": str(tenant), "move": str(move)}:
                     return {"state": await self._hold(named(tenant, move))}
                 case {"ask": "take", "tenant": str(tenant), "move": str(move), "state": str(text)}:
@@ -202,6 +243,8 @@ class Moves:
             raise Refused("bad-request", "nothing that can be asked")
         except Refused as refusal:
             return {"error": refusal.name, "text": str(refusal)}
+        except NotLeading as error:
+            return {"error": "not-leading", "text": str(error)}
         except (Fault, Unusable, StateError, NotBuilt, OSError, ValueError) as error:
             return {"error": "failed", "text": str(error)}
         except Stopping:
@@ -230,7 +273,7 @@ class Moves:
     @property
     def _snapshots(self) -> Snapshots:
         if self._parts.snapshots is None:
-            raise Refused("no-snapshots", "a tenant moves with a firmd that makes snapshots, and is no replica")
+            raise Refused("no-snapshots", "a tenant moves with a firmd that makes snapshots")
         return self._parts.snapshots
 
     # The service that has the tenant.
@@ -245,7 +288,7 @@ class Moves:
             if asked.tenant not in parts.books.tenants:
                 raise Refused("no-tenant", f"there is no tenant {asked.tenant}")
             if self._held is None:
-                await asyncio.to_thread(keep_held, self._folder, asked)
+                await asyncio.to_thread(self._mark.write, asked.text())
                 self._held = asked
             parts.stream.hold(name)
             while not parts.stream.lanes.is_quiet(name):
@@ -253,7 +296,9 @@ class Moves:
             if asked.tenant not in parts.books.tenants:
                 raise Refused("no-tenant", f"{asked.tenant} was retired")
             rows = rows_of(parts.books.tenants[asked.tenant])
-        return await self._by_thread(partial(self._part, rows))
+        state = await self._by_thread(partial(self._part, rows))
+        await asyncio.to_thread(self._mark.require_current)
+        return state
 
     def _part(self, rows: TenantRows) -> str:
         """The state that has one tenant alone, as firm_state makes it of its own lines, and as the replies say."""
@@ -289,13 +334,15 @@ class Moves:
     async def _release(self, asked: Held) -> Json:
         async with self._lock:
             self._released.add(asked.move)
-            if asked in (self._held, read_held(self._folder)):  # a hold that failed may have left the file
+            left = await asyncio.to_thread(read_held, self._mark)  # by a hold that failed, perhaps
+            if asked in (self._held, left):
                 await self._drop()
+            await asyncio.to_thread(self._mark.require_current)
             return {}
 
     async def _drop(self) -> None:
         """Holds nothing from here on; what waits is given to firm, or refused where the tenant has gone."""
-        await asyncio.to_thread(drop_held, self._folder)
+        await asyncio.to_thread(self._mark.write, b"")
         held, self._held = self._held, None
         if held is not None:
             self._parts.stream.release(held.tenant.encode())
@@ -307,10 +354,16 @@ class Moves:
         if joined is not None and asked.move in joined.moves:
             return True
         self._refused.add(asked.move)
+        self._mark.require_current()  # nor does a firmd take it that led before
         return False
 
     def _take(self, asked: Held, text: bytes) -> Json:
         """Takes a tenant in; by the snapshots' thread."""
+        shared = self._parts.shared
+        with shared.keeping(self._snapshots.last_base.size) if shared is not None else nullcontext():
+            return self._take_now(asked, text)
+
+    def _take_now(self, asked: Held, text: bytes) -> Json:
         state, tenant = self._parts.state, asked.tenant
         if state.joined is not None and asked.move in state.joined.moves:
             return {}
@@ -319,16 +372,23 @@ class Moves:
         if tenant.encode() in self._parts.register:
             raise Refused("tenant-exists", f"there is a tenant {tenant} already")
         snapshot = self._snapshots.last()
-        found = found_now(self._folder, state.base if snapshot is None else snapshot.base)
-        if found.lines - found.base.lines > MOST_LINES or speaks_of(found, tenant.encode()) is not None:
+        if self._is_far(snapshot, tenant.encode()):
             snapshot = self._snapshots.behind_all()
-        former = former_of(state, snapshot)
+        former = former_of(state, snapshot, self._parts.shared is not None)
         joined, merged, book = joined_of(asked, former, text)
         commit = partial(self._require_silent, tenant.encode())
         on_switch = partial(self._join, book)
         self._snapshots.join(joined, merged, Change(joined.opening(self._folder), former.base, commit, on_switch))
         say(f"the tenant {tenant} has come from another service", INFO)
         return {}
+
+    def _is_far(self, snapshot: Snapshot | None, tenant: bytes) -> bool:
+        """Whether much was said behind a snapshot, or something of a tenant, or etcd lacks what was."""
+        base, shared = self._parts.state.base if snapshot is None else snapshot.base, self._parts.shared
+        if shared is not None and not shared.has_lines(base.size):
+            return True
+        found = found_now(self._folder, base)
+        return found.lines - found.base.lines > MOST_LINES or speaks_of(found, tenant) is not None
 
     def _require_silent(self, tenant: bytes, found: Found) -> None:
         """Asks that nothing was said of the tenant behind the state that has it; it would be obeyed there."""
@@ -369,7 +429,7 @@ class Former(NamedTuple):
     moves: tuple[str, ...]  # by which tenants have come before
 
 
-def former_of(state: State, snapshot: Snapshot | None) -> Former:
+def former_of(state: State, snapshot: Snapshot | None, is_replica: bool) -> Former:
     """That behind a snapshot, or what it began with."""
     sums, moves = (state.joined.former, state.joined.moves) if state.joined is not None else ((), ())
     sums = (*sums, state.roster_sum)
@@ -378,7 +438,9 @@ def former_of(state: State, snapshot: Snapshot | None) -> Former:
         return Former(snapshot.base, opening, rows, json.loads(snapshot.books), sums, moves)
     books = opening_books(state, state.read_opening())
     rows = [rows_of(book) for book in books.tenants.values()]
-    return Former(state.base, state.opening, rows, json.loads(books_text(books)), sums, moves)
+    point = opening_point(state.joined) if is_replica else None
+    kept = books_text(books, point.kept() if point is not None else None)
+    return Former(state.base, state.opening, rows, json.loads(kept), sums, moves)
 
 
 def joined_of(asked: Held, former: Former, part: bytes) -> tuple[Joined, bytes, Book]:

@@ -4,7 +4,7 @@ from __future__ import annotations
 
 from collections.abc import Sequence
 from dataclasses import dataclass, field
-from typing import Protocol
+from typing import Literal, Protocol
 
 WARNED_SHARE = 0.75  # of what firm reads, that is told: from a half on a fresh one is to go on
 
@@ -24,7 +24,7 @@ class Observer(Protocol):
 
 @dataclass
 class Status:
-    """What the daemon knows of itself."""
+    """What the daemon knows of itself. The loop's thread alone changes it."""
 
     started: float  # seconds since the epoch
     firm_process: int  # the process id of firm, 0 where there is none
@@ -46,3 +46,9 @@ class Status:
     etcd_bytes: int = 0  # that etcd uses
     etcd_quota: int = 0  # of this number, 0 where the journal is of this host alone
     replicas: dict[str, int] = field(default_factory=dict)  # bytes of lines that the disk of each has
+
+    def count(self, what: Literal["snapshots", "snapshot_failures", "change_overs"]) -> None:
+        setattr(self, what, getattr(self, what) + 1)
+
+    def take_snapshot(self, lines: int, time: float) -> None:
+        self.snapshot_lines, self.snapshot_time = lines, time

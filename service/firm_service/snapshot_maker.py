@@ -25,7 +25,7 @@ from .programs import NotBuilt
 from .records import Base
 from .recovery import Found
 from .rehearsal import Rehearsal
-from .replicated.point import Point, has_point, point_of
+from .replicated.point import Point, has_point, opening_point, point_of
 from .snapshots import Snapshot, last, opening_of, write
 from .state import REPLICA, StateFolder
 from .states import Opening, StateError, fold, state_file
@@ -53,7 +53,7 @@ def beginning(state: StateFolder, before: int) -> Beginning:
         books = read_books(found.state, found.books, found.base.lines)
         return Beginning(found.base, opening_of(state, found), books, point_of(found) if is_replica else None)
     books = opening_books(state, state.read_opening())
-    return Beginning(state.base, state.opening, books, Point() if is_replica else None)
+    return Beginning(state.base, state.opening, books, opening_point(state.joined) if is_replica else None)
 
 
 def cut_at(found: Found, segment: int) -> Found:

@@ -6,6 +6,7 @@ and tried again: the service goes on without.
 
 from __future__ import annotations
 
+import json
 import os
 import subprocess
 import sys
@@ -30,9 +31,11 @@ from .pieces import pieces_of
 from .records import Base
 from .recovery import Found
 from .rehearsal import Rehearsal
+from .replicated.point import has_point
+from .replicated.shared import Shared
 from .snapshots import KEPT, ROOM_BYTES, Snapshot, Unusable, keep_alone, of_journal, opening_of, usable
 from .state import try_opening
-from .states import Opening
+from .states import Opening, digest
 from .stream import Stopping, Stream, Successor
 
 PROGRAM = str(Path(__file__).resolve().parents[1] / "firm-snapshot")  # stands there where the package is not installed
@@ -85,15 +88,21 @@ class Retry:
 
 
 class Snapshots:
-    def __init__(self, stream: Stream, journal: Journal, settings: Settings, faults: Faults) -> None:
+    """`shared` is a replica's: what it has in common with others while it leads."""
+
+    def __init__(
+        self, stream: Stream, journal: Journal, settings: Settings, faults: Faults, shared: Shared | None = None
+    ) -> None:
         self._stream, self._journal, self._settings, self._faults = stream, journal, settings, faults
+        self._shared = shared
         self._state, self._status = journal.state, stream.status
         self._last = self._state.base  # what the last snapshot stands for
         self._given = journal.found.base  # from where on the running firm was given lines
         self._made = time.monotonic()  # when the last one was made, or firmd began
         self._sealed: int | None = None  # the last segment when a seal was asked for
         self._is_to_clear = False  # what is older than the last snapshots, once one was made
-        self._making, self._clearing, self._changing = Retry(), Retry(), Retry()
+        self._is_to_offer = False  # the last snapshot to other replicas, where it is time for that
+        self._making, self._clearing, self._changing, self._offering = Retry(), Retry(), Retry(), Retry()
         self._wishes: SimpleQueue[Callable[[], None]] = SimpleQueue()
 
     def wish(self, work: Callable[[], None]) -> None:
@@ -111,6 +120,7 @@ class Snapshots:
 
     def _run(self) -> None:
         looks = [(self._making, self._look), (self._clearing, self._clear), (self._changing, self._look_at_firm)]
+        looks += [(self._offering, self._offer)]
         while not self._stream.is_stopping:
             for retry, look in looks:
                 if retry.may():
@@ -132,7 +142,7 @@ class Snapshots:
     def _fail(self, retry: Retry, error: str | Exception) -> None:
         """Tells what has failed, and has it tried again later."""
         retry.failed()
-        self._status.snapshot_failures += 1
+        self._stream.tell_loop(self._status.count, "snapshot_failures")
         if isinstance(error, str):
             self._stream.tell_loop(self._faults.count, "snapshot", error)
         else:
@@ -180,6 +190,11 @@ class Snapshots:
             self._sealed = None
             self._fail(self._making, f"no segment is begun for a snapshot: {error}")
 
+    @property
+    def last_base(self) -> Base:
+        """What the last snapshot stands for, or the opening."""
+        return self._last
+
     def last(self) -> Snapshot | None:
         """The last snapshot; None where there is none behind the opening. By this thread."""
         return of_journal(self._state, self._last.segment) if self._last != self._state.base else None
@@ -212,13 +227,13 @@ class Snapshots:
         if status:
             raise Unusable(f"no snapshot was made, as firm-snapshot ended with status {status}; it has told why")
         self._take(of_journal(self._state, sealed.segment))
-        self._status.snapshots += 1
+        self._stream.tell_loop(self._status.count, "snapshots")
         self._making.done()
         self._made = time.monotonic()
 
     def _take(self, snapshot: Snapshot) -> None:
-        self._last, self._is_to_clear = snapshot.base, True
-        self._status.snapshot_lines, self._status.snapshot_time = snapshot.base.lines, snapshot.time / 1_000
+        self._last, self._is_to_clear, self._is_to_offer = snapshot.base, True, True
+        self._stream.tell_loop(self._status.take_snapshot, snapshot.base.lines, snapshot.time / 1_000)
 
     def _clear(self) -> None:
         """Removes older snapshots, once enough are whole, and the segments that none of these needs."""
@@ -242,11 +257,30 @@ class Snapshots:
             archive = self._settings.keeping.archive
             say(f"{count} segments of the journal are {f'in {archive}' if archive else 'deleted'}", INFO)
 
+    def _offer(self) -> None:
+        """Has a replica that comes late go on from the last snapshot, where that leaves it much less to read."""
+        if self._shared is None or not self._shared.leads or not self._is_to_offer:
+            return
+        if self._shared.is_due(self._last.size):
+            snapshot = of_journal(self._state, self._last.segment)
+            with self._shared.keeping(self._last.size):
+                if has_point(snapshot) and self._shared.has_lines(self._last.size):
+                    self._shared.offer(self._joined_of(snapshot), snapshot.state)
+                    self._shared.commit()
+        self._is_to_offer = False
+        self._offering.done()
+
+    def _joined_of(self, snapshot: Snapshot) -> Joined:
+        """A snapshot as what a replica goes on from."""
+        text, joined = snapshot.state, self._state.joined
+        moves = joined.moves if joined is not None else ()
+        return Joined((), snapshot.base, len(text), digest(text), moves, json.loads(snapshot.books))
+
     # A fresh firm
 
     def _look_at_firm(self) -> None:
         """Has a fresh firm go on, if the running one has read much and a snapshot leaves little."""
-        if not self._stream.replayed.done():  # what others write comes without an end, and waits for no firm
+        if not self._stream.is_replayed:  # what others write comes without an end, and waits for no firm
             return
         if self._is_filling() and not self._is_needed() and self._last.segment > self._given.segment:
             self._change(of_journal(self._state, self._last.segment))
@@ -269,10 +303,12 @@ class Snapshots:
             nonlocal is_begun
             change.commit(found)
             is_begun = True
+            if self._shared is not None:
+                self._shared.commit()
             try:
                 tell(folder, joined)
             except OSError:
-                is_begun = read(folder) == joined
+                is_begun = self._shared is not None or read(folder) == joined
                 raise
             self._state.go_on_from(joined, text)
 
@@ -280,6 +316,8 @@ class Snapshots:
             require_room(folder, 2 * (len(text) + len(joined.text())) + ROOM_BYTES)
             write_state(folder, joined, text)
             try_opening(change.opening, change.opening.path, self._settings.firm)
+            if self._shared is not None:
+                self._shared.offer(joined, text)
             self._change_over(change._replace(commit=commit))
         except Exception as error:
             if is_begun:
@@ -289,7 +327,7 @@ class Snapshots:
                 clear_texts(folder, self._state.joined)
             raise
         clear_texts(folder, joined)
-        self._last = joined.base
+        self._last, self._is_to_offer = joined.base, False
         self._stream.order(self._seal)  # whose header tells of it too
         with suppress(OSError):  # they lack the tenant, so no start uses them
             keep_alone(self._state.snapshots_path, ())
@@ -309,7 +347,7 @@ class Snapshots:
             rehearsal.drop()
             raise
         self._given = change.base
-        self._status.change_overs += 1
+        self._stream.tell_loop(self._status.count, "change_overs")
 
     def _catch_up(self, rehearsal: Rehearsal, base: Base) -> None:
         """Gives a fresh firm what was answered until now; what is marked as refused memory is so by then."""

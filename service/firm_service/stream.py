@@ -1,8 +1,9 @@
 """The stream through firm: lines into the journal and to firm, replies to those who asked and to the observers.
 
 Three threads: the loop's, which takes lines and hands out replies; a writer, which waits for the disk and for firm's
-input; and one that waits for firm's end. Lines wait in the lanes of their tenants; all that leave these while the
-writer waits share its next write and its next sync.
+input; and one that waits for firm's end. What they share has a lock of its own, or goes through a queue; all else is
+of one of them. Lines wait in the lanes of their tenants; all that leave these while the writer waits share its next
+write and its next sync.
 
 A fresh firm may take the place of the one that runs: between two writes, once all is answered that this was given.
 """
@@ -32,6 +33,7 @@ from .lines import NO_MEMORY, OPERATOR_NO_MEMORY, WORN, is_memory_refused
 from .load import SYNC_SECONDS, Histogram
 from .logs import ERROR, tell
 from .observers import Observer, Status
+from .owed import OwedShares
 from .pieces import Piece, Place
 from .records import UNKNOWN, Answered, Base, Batch, Block
 
@@ -109,7 +111,8 @@ class Stream:
         self.replayed: asyncio.Future[None] = self._loop.create_future()
         self.ended: asyncio.Future[None] = self._loop.create_future()  # has the fault, where there is one
         self._firm, self._journal, self._register = firm, journal, accounts.register
-        self._given_to = firm  # the one that the writer gives lines to; the other name is of that which is heard
+        self._given_to = firm  # of the writer: the one that it gives lines to
+        self._expected = firm  # the same, as the loop has been told; `_firm` is the one that it hears
         self._base = journal.base  # before the lines that firm was given
         self.status.lines = self._base.lines
         self.lanes = Lanes(accounts, self._tell_given, options.lanes)
@@ -118,7 +121,7 @@ class Stream:
         # To the writer; None: no more will come.
         self._queue: SimpleQueue[list[Share] | Block | Order | None] = SimpleQueue()
         self._under_way: deque[Share] = deque()  # all that have left the lanes, in order
-        self._owed: deque[Share] = deque()  # those that firm has, in order
+        self._owed = OwedShares()
         self.sync_times = Histogram(SYNC_SECONDS)
         self._heard = self._loop.time()  # when firm was heard last
         self._silence = 0.0  # that was seen at the last look
@@ -126,8 +129,10 @@ class Stream:
         self._replies: list[bytes] = []  # that are not handed out yet
         self._tries = 0  # since memory was there
         self._answered = Answered(self._base.size)
-        self._replay_is_sent = self._is_stopping = False
+        self._replay_is_sent = False
+        self._is_stopping, self._is_replayed = Event(), Event()
         self._may_write = Event()  # the replay is compared, or it is over anyway
+        self._ending: asyncio.Task[None] | None = None
         self._fault: Fault | None = None
         self._written: asyncio.Future[None] = self._loop.create_future()  # the writer has ended
         self._firm_ended: asyncio.Future[str | None] = self._loop.create_future()  # has what was wrong with it
@@ -154,7 +159,7 @@ class Stream:
 
     def take(self, share: Share) -> None:
         """Puts lines, each of which gets a reply, into the lane of their tenant."""
-        if self._is_stopping:
+        if self.is_stopping:
             return
         share.taken = self._loop.time()
         self.lanes.take(share)
@@ -162,8 +167,8 @@ class Stream:
 
     def stop(self) -> None:
         """Answers what has left the lanes, and ends; the caller takes no further lines."""
-        if not self._is_stopping:
-            self._is_stopping = True
+        if not self.is_stopping:
+            self._is_stopping.set()
             try:
                 self.on_stop()
             except Exception as error:
@@ -180,7 +185,12 @@ class Stream:
 
     @property
     def is_stopping(self) -> bool:
-        return self._is_stopping
+        return self._is_stopping.is_set()
+
+    @property
+    def is_replayed(self) -> bool:
+        """Whether the replay is over; asked by any thread."""
+        return self._is_replayed.is_set()
 
     def hold(self, tenant: bytes) -> None:
         """Gives firm no line of a tenant until it is released; those that are under way are answered."""
@@ -199,11 +209,12 @@ class Stream:
 
         Once all is answered, `finish` makes the successor. Where it raises, the former firm goes on.
         """
-        while self._owed and not self._is_stopping:
+        while self._owed.first() is not None and not self.is_stopping:
             time.sleep(IDLE_SECONDS)
-        if self._is_stopping:
+        if self.is_stopping:
             raise Stopping
         successor = finish()
+        self.tell_loop(self._expect, successor.firm)  # before its end is heard of
         Thread(target=self._wait_for_firm, args=(successor.firm,), daemon=True).start()
         self._given_to = successor.firm
         self.tell_loop(self._switch, successor)
@@ -216,9 +227,8 @@ class Stream:
 
     def silent_seconds(self) -> float:
         """For how long firm has said nothing though it owes replies, or its end."""
-        try:
-            share = self._owed[0]
-        except IndexError:
+        share = self._owed.first()
+        if share is None:
             return self._loop.time() - self._heard if self._written.done() else 0.0
         return self._loop.time() - max(self._heard, share.taken if share.sent is None else share.sent)
 
@@ -294,7 +304,7 @@ class Stream:
         try:
             self._replay()
             self._may_write.wait()
-            while self.replayed.done() and self._write_waiting():  # a journal that is not as it was stays as it is
+            while self.is_replayed and self._write_waiting():  # a journal that is not as it was stays as it is
                 pass
         except BrokenPipeError:  # firm has ended; the reading side tells it
             pass
@@ -321,15 +331,15 @@ class Stream:
 
     def _replay(self) -> None:
         for piece in self._journal.pieces():
-            if self._is_stopping:
+            if self.is_stopping:
                 return
             share = Share(None, piece.text, piece.count, taken=time.monotonic(), place=piece.place, piece=piece)
-            self.status.journal_bytes += len(piece.text)
-            self._owed.append(share)
+            self.tell_loop(self._count_replayed, len(piece.text))
+            self._owed.add([share])
             self._given_to.give(piece.effective())
             if self._journal.is_following:
                 self._keep_blocks()
-        if not self._is_stopping:
+        if not self.is_stopping:
             self._loop.call_soon_threadsafe(self._end_replay)
 
     def _keep_blocks(self) -> None:
@@ -375,7 +385,7 @@ class Stream:
             end += len(share.text)
             share.place, share.sent = Place(number, end), now
             number += share.count
-        self._owed.extend(shares)
+        self._owed.add(shares)
         self._given_to.give(text)
 
     def _joined(self, shares: list[Share]) -> tuple[list[Batch], bytes]:
@@ -390,6 +400,9 @@ class Stream:
         raise Fault(Exit.INTERNAL, "memory is lacking")
 
     # The loop's thread.
+
+    def _expect(self, firm: Firm) -> None:
+        self._expected = firm
 
     def _switch(self, successor: Successor) -> None:
         """Hears the successor from now on; nothing is owed by the former firm, which ends."""
@@ -408,7 +421,7 @@ class Stream:
 
     def _take_end(self, firm: Firm, trouble: str | None) -> None:
         """A firm has ended."""
-        if firm is not self._firm and firm is not self._given_to:
+        if firm is not self._firm and firm is not self._expected:
             firm.output.close()
             if trouble is not None:
                 self._faults.count("firm", f"a firm that another one follows ended with {trouble}")
@@ -419,14 +432,18 @@ class Stream:
         self._heard = self._loop.time()  # from now on firm owes its end
         self._written.set_result(None)
 
+    def _count_replayed(self, size: int) -> None:
+        self.status.journal_bytes += size
+
     def _end_replay(self) -> None:
         self._replay_is_sent = True
         self._tell_replayed()
 
     def _tell_replayed(self) -> None:
-        if not self._owed and not self.replayed.done():
+        if self._owed.first() is None and not self.replayed.done():
             self.status.replayed_lines = self.status.lines - self._base.lines
             self.replayed.set_result(None)
+            self._is_replayed.set()
             self._may_write.set()
 
     def _read(self) -> None:
@@ -441,7 +458,7 @@ class Stream:
             self._take_in(chunk)
         else:
             self._loop.remove_reader(self._firm.output)
-            self._loop.create_task(self._end())
+            self._begin_end()
 
     def _take_in(self, chunk: bytes) -> None:
         try:
@@ -490,16 +507,16 @@ class Stream:
 
     def _answer_next(self, replies: list[bytes], done: int) -> int:
         """Hands out the next replies to one share; how many."""
-        if not self._owed:
+        share = self._owed.first()
+        if share is None:
             reply = replies[done].decode(errors="replace")
             raise Fault(Exit.FIRM, f"firm gave a reply that nobody asked for: {reply}")
-        share = self._owed[0]
         count = min(share.count - share.answered, len(replies) - done)
         if share.piece is not None:
             count = self._begin_piece(share, share.piece, count)
         self._answer_share(share, replies[done : done + count])
         if share.answered == share.count:
-            self._owed.popleft()
+            self._owed.drop_first()
             self._end_share(share)
             if share.piece is None:
                 self._leave(share)
@@ -612,11 +629,15 @@ class Stream:
             self._loop.remove_reader(self._firm.output)
             self._owed.clear()
             self.fail(fault)
-            for firm in {self._firm, self._given_to}:
+            for firm in {self._firm, self._expected}:
                 firm.process.kill()
-            self._loop.create_task(self._end())
+            self._begin_end()
         except MemoryError:  # not even an end can be begun; what was answered is on the disk
             os._exit(Exit.INTERNAL)
+
+    def _begin_end(self) -> None:
+        if self._ending is None:
+            self._ending = self._loop.create_task(self._end())
 
     async def _end(self) -> None:
         """firm has ended, or is about to."""
@@ -624,7 +645,7 @@ class Stream:
             self.stop()
             trouble = await self._firm_ended
             await self._written
-            if trouble is None and self._owed:
+            if trouble is None and self._owed.first() is not None:
                 trouble = "status 0, and owed replies"
             if trouble is not None:
                 self._fault = self._fault or Fault(Exit.FIRM, f"firm ended with {trouble}")
@@ -643,7 +664,7 @@ class Stream:
         """Keeps the blocks that are left."""
         self._end_block()
         try:
-            while self.replayed.done() and not self._queue.empty():
+            while self.is_replayed and not self._queue.empty():
                 if isinstance(block := self._queue.get(), Block):
                     self._journal.keep(block)
             self._journal.close()

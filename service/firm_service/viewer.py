@@ -37,6 +37,7 @@ class Viewer:
         self._messages = Messages()
         self._shown = Shown(Books(), Status(0.0, 0, 0, 0, 0, 0, 0, 0), "")
         self._follower = Follower(self._shown, self._begin_serving)
+        self._group = asyncio.TaskGroup()
         self._is_serving = False
         self._ended: asyncio.Future[None] = self._loop.create_future()
         self._servers: list[asyncio.Server] = []
@@ -46,12 +47,13 @@ class Viewer:
         """Follows firmd until its end."""
         self._loop.set_exception_handler(self._hear_of_error)
         self._loop.add_reader(self._feed, self._read)
-        beating = self._loop.create_task(self._beat())
-        try:
-            await self._ended
-        finally:
-            beating.cancel()
-            self._loop.remove_reader(self._feed)
+        async with self._group:
+            beating = self._group.create_task(self._beat())
+            try:
+                await self._ended
+            finally:
+                beating.cancel()
+                self._loop.remove_reader(self._feed)
         await self._close()
 
     def _read(self) -> None:
@@ -77,7 +79,7 @@ class Viewer:
     def _begin_serving(self) -> None:
         if not self._is_serving:
             self._is_serving = True
-            self._loop.create_task(self._serve())
+            self._group.create_task(self._serve())
 
     async def _serve(self) -> None:
         try:

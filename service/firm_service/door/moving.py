@@ -2,10 +2,10 @@
 
 The firmd that has it holds its lines and tells its state, and the other one takes that in (moves.py); then the first
 retires it. A record beside the door's map tells of a move from its beginning to its end, so the next one ends it: the
-tenant is at the new shard if that has taken it, and otherwise at the old one.
+tenant is at the new shard if that has taken it, and otherwise at the old one. Of replicas the one is asked that leads.
 
-By lines (`--by-lines`), as for shards of replicas, all its tasks wait again: lines can't say where a task runs, for how
-long it has waited or how many commands there were.
+By lines (`--by-lines`), as where no snapshots are made, all its tasks wait again: lines can't say where a task runs,
+for how long it has waited or how many commands there were.
 """
 
 from __future__ import annotations
@@ -18,7 +18,7 @@ import secrets
 import socket
 import time
 from collections.abc import Callable, Iterator
-from contextlib import contextmanager
+from contextlib import contextmanager, suppress
 from dataclasses import dataclass, replace
 from functools import partial
 from pathlib import Path
@@ -33,28 +33,70 @@ ANSWER_SECONDS = 20.0
 STATE_SECONDS = 3_600.0  # for a state to be made, or taken in
 MOST_QUIET_SECONDS = 15.0  # until no client is connected, and until the rows are as answered
 LOOK_SECONDS = 0.05
+RECEIVED_BYTES = 65_536
+LEADER_SECONDS, PROBE_SECONDS = 30.0, 2.0  # until one of several replicas leads, and for one to say so
 UNKNOWN = "! unknown-tenant"  # firm's reply where a tenant is not there
+MOST_TRIES, TRY_SECONDS = 20, 0.5  # of a request whose replica was lost, and between two of them
+LEFT = ("not-leading", "stopping")  # what a replica says that leads no more
 MOVES = "moves"  # firmd's socket for moves, in its state's folder
 
 Lines = Callable[[str, str], Row]  # of a tenant, by the state folder of its firmd
 
 
-def ask(path: Path, lines: list[str], seconds: float = ANSWER_SECONDS) -> list[str]:
-    """The replies of a socket of firmd, in turn."""
+def ask(
+    path: Path, lines: list[str], seconds: float = ANSWER_SECONDS, goes_on: Callable[[], bool] = lambda: False
+) -> list[str]:
+    """The replies of a socket of firmd, in turn; it is waited for again where it goes on after this time."""
+    replies = []
     try:
         with socket.socket(socket.AF_UNIX) as connected:
             connected.settimeout(seconds)
             connected.connect(str(path))
-            with connected.makefile("rb") as stream:
-                replies = []
-                for line in lines:
-                    connected.sendall(line.encode() + b"\n")
-                    replies.append(stream.readline().decode(errors="replace").rstrip("\n"))
+            for line in lines:
+                connected.sendall(line.encode() + b"\n")
+                replies.append(received(connected, goes_on).decode(errors="replace"))
     except OSError as error:
         raise Failure(NO_SERVICE, f"no firmd answers at {path}: {error.strerror or error}") from error
     if "" in replies:
         raise Failure(NO_SERVICE, f"firmd at {path} has closed the connection")
     return replies
+
+
+def received(connected: socket.socket, goes_on: Callable[[], bool]) -> bytes:
+    """The next line, where nothing follows it; empty where the connection is closed before its end."""
+    parts: list[bytes] = []
+    while not parts or not parts[-1].endswith(b"\n"):
+        try:
+            parts.append(connected.recv(RECEIVED_BYTES))
+        except TimeoutError:
+            if not goes_on():
+                raise
+            continue
+        if not parts[-1]:
+            return b""
+    return b"".join(parts)[:-1]
+
+
+def says_it_leads(path: Path) -> bool:
+    """Whether a replica with this state's folder says so."""
+    with suppress(Failure):
+        return ask(path / MOVES, ['{"ask": "leads"}'], PROBE_SECONDS) == ["{}"]
+    return False
+
+
+def leading(shard: Shard) -> int:
+    """The place of the replica that leads, once one does."""
+    paths = shard.states
+    if len(set(paths)) < 2:
+        return 0
+    ends = time.monotonic() + LEADER_SECONDS
+    while True:
+        for place, path in enumerate(paths):
+            if says_it_leads(path):
+                return place
+        if time.monotonic() > ends:
+            raise Failure(NO_SERVICE, f"no replica of the shard {shard.name} leads")
+        time.sleep(LOOK_SECONDS)
 
 
 class Proxy:
@@ -139,9 +181,9 @@ class Move:
     new: Shard
 
     def operator(self, shard: Shard) -> Path:
-        if shard.operator is None:
+        if not shard.operators:
             raise Failure(USAGE, f"the table has no operator of the shard {shard.name}")
-        return shard.operator
+        return shard.operators[leading(shard)]
 
     def require_room(self) -> None:
         """Asks that the new shard serves, and hasn't the tenant."""
@@ -149,7 +191,7 @@ class Move:
         if reply != UNKNOWN:
             raise Failure(NOT_THERE, f"the shard {self.new.name} has a tenant {self.tenant} already: {reply}")
         self.operator(self.old)
-        if self.old.state is None:
+        if not self.old.states:
             raise Failure(USAGE, f"the table has no state of the shard {self.old.name}")
 
     def carry(self, lines: Lines) -> int:
@@ -166,7 +208,7 @@ class Move:
         """The lines of its rows, behind all that was answered: the reader of the rows may lag."""
         ends = time.monotonic() + MOST_QUIET_SECONDS
         while True:
-            number, found = self._number(), lines(str(self.old.state), self.tenant)
+            number, found = self._number(), lines(str(self.old.states[leading(self.old)]), self.tenant)
             if found["number"] == number and self._number() <= number + 1:
                 return found
             if time.monotonic() > ends:
@@ -212,14 +254,30 @@ class WholeMove:
             proxy.point(self.tenant, self.old.name)
 
     def _ask(self, shard: Shard, what: str, **more: str) -> Row:
-        if shard.state is None:
+        """What the shard says, by another replica where one is lost meanwhile: each request may be sent again."""
+        if not shard.states:
             raise Failure(USAGE, f"the table has no state of the shard {shard.name}")
         request = json.dumps({"ask": what, "tenant": self.tenant, "move": self.name, **more})
-        (text,) = ask(shard.state / MOVES, [request], STATE_SECONDS)
-        answer: Row = json.loads(text)
-        if "error" in answer:
-            raise Failure(NOT_THERE, f"the shard {shard.name}: {answer['text']}")
-        return answer
+        has_replicas, tries = len(set(shard.states)) > 1, 0
+        while True:
+            tries += 1
+            may_ask_again = has_replicas and tries < MOST_TRIES
+            state = shard.states[leading(shard)]
+            try:
+                if has_replicas:
+                    (text,) = ask(state / MOVES, [request], ANSWER_SECONDS, partial(says_it_leads, state))
+                else:
+                    (text,) = ask(state / MOVES, [request], STATE_SECONDS)
+            except Failure:
+                if not may_ask_again:
+                    raise
+            else:
+                answer: Row = json.loads(text)
+                if "error" not in answer:
+                    return answer
+                if not may_ask_again or answer["error"] not in LEFT:
+                    raise Failure(NOT_THERE, f"the shard {shard.name}: {answer['text']}")
+            time.sleep(TRY_SECONDS)
 
 
 def move(options: argparse.Namespace, lines: Lines) -> None:

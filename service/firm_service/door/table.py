@@ -10,8 +10,8 @@
     [shards.one]
     certificate = "/etc/firm/host.pem"    # on its hosts, for *.one.firm, with its key
     sockets = "/run/firm/{tenant}/lines"  # of firmd, on its hosts
-    operator = "/run/firm/operator"       # and its state, as `firmctl move` reaches them: for that alone
-    state = "/var/lib/firm/state"
+    operator = "/run/firm/operator"       # and its state, as `firmctl move` reaches them: for that alone; {replica} in
+    state = "/var/lib/firm/state"         # either stands for the name of each
 
     [shards.one.replicas]
     a = "10.0.0.1:7444"
@@ -45,8 +45,8 @@ class Shard:
     certificate: str
     sockets: str
     replicas: dict[str, str]  # addresses
-    operator: Path | None
-    state: Path | None
+    operators: tuple[Path, ...]  # of each replica in turn; empty: none is named
+    states: tuple[Path, ...]
 
     def socket(self, tenant: str) -> str:
         return self.sockets.replace("{tenant}", tenant)
@@ -110,8 +110,11 @@ def read_shard(name: str, row: object) -> Shard:
         replica: address(one, f"{where}.replicas.{replica}")
         for replica, one in rows(found["replicas"], f"{where}.replicas").items()
     }
-    operator, state = [Path(found[key]) if key in found else None for key in ("operator", "state")]
-    return Shard(name, text(found["certificate"], f"{where}.certificate"), sockets, replicas, operator, state)
+    operators, states = [
+        tuple(Path(found[key].replace("{replica}", replica)) for replica in replicas if key in found)
+        for key in ("operator", "state")
+    ]
+    return Shard(name, text(found["certificate"], f"{where}.certificate"), sockets, replicas, operators, states)
 
 
 def read_tenant(name: str, row: object, shards: dict[str, Shard]) -> list[str]:

@@ -6,6 +6,9 @@
     lines/OFFSET    an entry: EPOCH CHAIN, and below it records of lines as the journal has them, with one time
     replies         LINES DIGEST: of the leader's replies to the first LINES lines, see digests.py
     kept/NAME       TOKEN BYTES TIME: how far the disk of the replica NAME has the lines, and since when
+    moving          of the tenant that is held, as it moves (moves.py); empty where none is
+    snapshot        MOVE BYTES DIGEST: from where a late replica goes on, see offers.py
+    chunks/DIGEST/N its text
 
 OFFSET is the byte of all lines at which an entry begins, CHAIN the CRC-32 of all lines before it: so a journal of
 another history is told from one that lacks lines.
@@ -40,13 +43,16 @@ class Position(NamedTuple):
 class Keys:
     def __init__(self, prefix: str) -> None:
         self.all = prefix.encode() + b"/"
-        self.state, self.roster, self.leader, self.digest = [
-            self.all + name for name in (b"state", b"roster", b"leader", b"replies")
+        self.state, self.roster, self.leader, self.digest, self.moving, self.snapshot = [
+            self.all + name for name in (b"state", b"roster", b"leader", b"replies", b"moving", b"snapshot")
         ]
-        self.lines, self.kept = self.all + b"lines/", self.all + b"kept/"
+        self.lines, self.kept, self.chunks = self.all + b"lines/", self.all + b"kept/", self.all + b"chunks/"
 
     def entry(self, offset: int) -> bytes:
         return self.lines + b"%016x" % offset
+
+    def chunk(self, digest: str, number: int) -> bytes:
+        return self.chunks + b"%b/%06x" % (digest.encode(), number)
 
     def offset(self, key: bytes) -> int:
         return int(key[len(self.lines) :], 16)

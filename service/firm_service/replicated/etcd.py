@@ -117,6 +117,16 @@ class Put(NamedTuple):
         return {"requestPut": {"key": code(self.key), "value": code(self.value), "lease": self.lease}}
 
 
+class Span(NamedTuple):
+    """The keys from one on, up to an end."""
+
+    key: bytes
+    end: bytes
+
+    def message(self) -> Json:
+        return {"requestDeleteRange": {"key": code(self.key), "range_end": code(self.end)}}
+
+
 class Done(NamedTuple):
     """How a transaction ended: whether its conditions held, and the store's revision."""
 
@@ -184,9 +194,10 @@ class Etcd:
         answer = self._ask("kv/range", request | {"sort_order": "DESCEND", "sort_target": "KEY"})
         return next((decode(row["key"]) for row in answer.get("kvs", [])), None)
 
-    def transact(self, conditions: Sequence[Condition], puts: Sequence[Put]) -> Done:
-        """Sets keys together, where all conditions hold at once."""
-        compare, success = [one.message() for one in conditions], [put.message() for put in puts]
+    def transact(self, conditions: Sequence[Condition], puts: Sequence[Put], gone: Sequence[Span] = ()) -> Done:
+        """Sets keys and removes spans of others together, where all conditions hold at once."""
+        compare = [one.message() for one in conditions]
+        success = [put.message() for put in puts] + [span.message() for span in gone]
         answer = self._ask("kv/txn", {"compare": compare, "success": success})
         return Done(bool(answer.get("succeeded", False)), revision_of(answer))
 

@@ -4,9 +4,10 @@ from __future__ import annotations
 
 import secrets
 import time
-from collections.abc import Callable
+from collections.abc import Callable, Iterator
+from contextlib import contextmanager
 from dataclasses import dataclass, field
-from threading import Event, Thread
+from threading import Event, Lock, Thread
 from typing import NamedTuple
 
 from .. import logs
@@ -14,6 +15,7 @@ from ..faults import Exit, Fault, say
 from .digests import Digest, Digests
 from .entries import Keys
 from .etcd import Condition, EtcdError, Put, after
+from .offers import offer_of
 from .store import Store
 
 SECONDS = 1.0
@@ -74,6 +76,8 @@ class Housekeeper:
         self._key, self.name, self.token = keys.kept + name.encode(), name, secrets.token_hex(4)
         self.on_fault: Callable[[Fault], None] = lambda fault: None
         self.retained = RETAINED  # bytes of lines that stay in etcd for a replica that comes late
+        self._lock = Lock()
+        self._floor: int | None = None  # bytes of lines behind which all stay for now
         self.quiet = QUIET_SECONDS
         self.told = Told()
         self._seen: dict[str, Seen] = {}
@@ -106,13 +110,24 @@ class Housekeeper:
             except Exception as error:
                 return self.on_fault(Fault(Exit.INTERNAL, f"keeping etcd in order failed: {error!r}"))
 
+    @contextmanager
+    def keeping(self, size: int) -> Iterator[None]:
+        """Has etcd keep all lines behind these bytes meanwhile, as far as it has them; by one thread at a time."""
+        with self._lock:
+            self._floor = size
+        try:
+            yield
+        finally:
+            self._floor = None
+
     def keep(self) -> None:
         size = self._journal.size()
         self._journal.sync()
         self._tell_kept(size)
         if self._journal.epoch():
             self._tell_digest()
-            self._tidy()
+            with self._lock:
+                self._tidy()
         if time.monotonic() - self._looked > LOOK_SECONDS:
             self._look_at_quota()
 
@@ -147,11 +162,11 @@ class Housekeeper:
             self._digest = latest
 
     def _tidy(self) -> None:
-        """Removes from etcd what all have, but the last lines: one that comes late, or has a copied journal, needs
-        them."""
+        """Removes from etcd what all have, but the last lines: one that comes late, begins from the snapshot there, or
+        has a copied journal, needs them."""
         kept = self._present()
         self.told.kept = {name: one.size for name, one in kept.items()}
-        least = min([self._journal.size() - self.retained, *self.told.kept.values()])
+        least = min([self._journal.size() - self.retained, *self.told.kept.values(), *self._beginnings()])
         # The entry in which the slowest is, and all behind it, stay: so it is known where the lines end.
         last = self._store.last_key(self._keys.lines, self._keys.entry(max(least, 0)) + b"\0")
         if last is not None and last > self._cleared:
@@ -161,10 +176,21 @@ class Housekeeper:
             self._store.compact(self._store.range(self._key).revision)
             self._compacted = time.monotonic()
 
+    def _beginnings(self) -> Iterator[int]:
+        """From where on a replica may need all lines, as far as there is room for them."""
+        if self._floor is not None:
+            yield self._floor
+        offer = offer_of(self._store, self._keys)
+        if offer is not None and not self._is_half_full:
+            yield offer.size
+
+    @property
+    def _is_half_full(self) -> bool:
+        return self.told.etcd_bytes > self.told.quota_bytes / 2
+
     def _present(self) -> dict[str, Kept]:
         """All replicas but those that are away for too long."""
-        is_half_full = self.told.etcd_bytes > self.told.quota_bytes / 2
-        patience = AWAY_SECONDS_HALF_FULL if is_half_full else AWAY_SECONDS
+        patience = AWAY_SECONDS_HALF_FULL if self._is_half_full else AWAY_SECONDS
         found: dict[str, Kept] = {}
         for row in self._store.range(self._keys.kept, after(self._keys.kept)).found:
             name, kept = row.key[len(self._keys.kept) :].decode(), Kept.read(row.value)

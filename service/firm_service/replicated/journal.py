@@ -24,7 +24,10 @@ from .etcd import Condition, Denied, EtcdError, Full, Put, Row, Unsure, after
 from .housekeeper import Housekeeper
 from .housekeeper import Journal as KeptJournal
 from .lease import Lease
+from .offers import Offer
 from .point import Point
+from .renewal import is_late
+from .shared import Shared
 from .store import Store
 
 PATIENCE = 10.0  # seconds that a leader asks again where no member answers
@@ -32,6 +35,13 @@ PAUSE = 0.05  # between two tries
 SILENT_SECONDS = 3.0  # without a change, as the leader makes one each second; then another member is asked
 ENTRIES = 8  # that are read at a time
 FULL = "etcd is full: raise its quota, or compact and defragment it, then `etcdctl alarm disarm`"
+
+
+class Anew(Fault):
+    """This process is to begin anew, from the snapshot in etcd."""
+
+    def __init__(self, why: str) -> None:
+        super().__init__(Exit.STATE, f"{why}: begins anew")
 
 
 @dataclass(frozen=True)
@@ -69,6 +79,7 @@ class ReplicatedJournal:
         kept = KeptJournal(lambda: own.found.size, own.sync, lambda: self._epoch)
         self.housekeeper = Housekeeper(link.connect(), link.keys, link.name, kept, self.digests)
         self.housekeeper.on_fault = self._fail
+        self.shared = Shared(link.connect(), link.keys, lambda: self._epoch, self.housekeeper)
         self.on_fault: Callable[[Fault], None] = lambda fault: None  # called by any thread
         self.on_following: Callable[[], None] = lambda: None  # all that etcd had is here
 
@@ -112,12 +123,16 @@ class ReplicatedJournal:
         keys, size = self._keys, self._position.size
         known = self._store.range(keys.digest)
         before = self._store.range(keys.lines, keys.entry(size) + b"\0", limit=1, is_last_first=True)
+        self._require_all_tenants()
         if before.found:
             yield from self._take(before.found[0])
+        elif is_late(self._store, keys, self._agreed, size):
+            raise Anew(f"the lines behind byte {size:,} are gone from etcd")
         else:
             self._require_begin()
         while True:
             rows = self._store.range(keys.entry(self._position.size), after(keys.lines), limit=ENTRIES)
+            self._require_all_tenants()
             for row in rows.found:
                 yield from self._take(row)
             if not rows.found:
@@ -136,6 +151,16 @@ class ReplicatedJournal:
         if own.size < begin.size:
             Entry(0, begin.size, begin.chain, 0, []).left(own)
 
+    def _require_all_tenants(self) -> None:
+        """Asks that firm has all tenants of entries that were read before."""
+        for row in self._store.range(self._keys.snapshot).found:
+            self._require_tenants(row.value)
+
+    def _require_tenants(self, offer: bytes) -> None:
+        """Asks that no tenant has come that firm lacks here."""
+        if Offer.read(offer).is_another_than(self._own.state.joined):
+            raise Anew("a tenant has come from another service")
+
     def _take(self, row: Row) -> Iterator[Piece]:
         """An entry, or what is left of it, into the own files."""
         entry = Entry.read(self._keys.offset(row.key), row.value)
@@ -149,7 +174,7 @@ class ReplicatedJournal:
     def _follow(self) -> Iterator[Piece]:
         """Entries as they come, until the leader's key goes."""
         keys = self._keys
-        for changes in self._store.watch(keys.all, after(keys.all), self._revision + 1, SILENT_SECONDS):
+        for changes in self._store.watch(keys.kept, after(keys.all), self._revision + 1, SILENT_SECONDS):
             for key, value in changes:
                 if key == keys.leader and value is None:
                     return
@@ -157,6 +182,8 @@ class ReplicatedJournal:
                     yield from self._take(Row(key, value, 0))
                 elif value is not None and key == keys.digest:
                     self.digests.compare(Digest.read(value))
+                elif value is not None and key == keys.snapshot:
+                    self._require_tenants(value)
             if self._is_stopping.is_set():
                 return
 

@@ -20,7 +20,8 @@ from .entries import Agreed, Keys, Position, another_history
 from .etcd import Access, Condition, Denied, Etcd, EtcdError, Full, Member, Put, Unfit
 from .housekeeper import RETAINED
 from .journal import FULL, Link, ReplicatedJournal, position_of
-from .point import Point
+from .point import Point, opening_point
+from .renewal import renew
 from .store import Store
 
 LEASE_SECONDS, LONGEST_LEASE = 3, 60
@@ -140,25 +141,25 @@ class Replica:
 
     def begin(self, state: State, firm: Sequence[str]) -> bytes:
         """The roster of the state, which is etcd's where that has one."""
-        if state.opening.is_state:
+        if state.first.is_state or opening_point(state.joined) is None:
             raise Fault(Exit.STATE, f"{state.folder} began with a state: replicas begin with a roster")
         try:
             self._reach()
             self._agreed = agreed_of(self._etcd, self._keys)
             given: Opening | None = self._options.opening
             if self._agreed is None:
-                roster = state.begin(given, firm)
+                text = state.begin(given, firm)
                 if state.id is None:
-                    self._agreed = agree(
-                        self._etcd, self._keys, Agreed(secrets.token_hex(ID_BYTES), roster, Position())
-                    )
+                    mine = Agreed(secrets.token_hex(ID_BYTES), state.roster_path.read_bytes(), Position())
+                    self._agreed = agree(self._etcd, self._keys, mine)
             else:
-                roster = state.begin(given, firm, self._agreed.roster)
+                text = state.begin(given, firm, self._agreed.roster)
+            if self._agreed is not None:
+                self._require_same(state, self._agreed)
+                renew(self._etcd, self._keys, state, self._agreed)
         except EtcdError as error:
             raise fault_of(error) from error
-        if self._agreed is not None:
-            self._require_same(state, roster, self._agreed)
-        return roster
+        return text if state.joined is None else state.read_opening()
 
     def open(self, own: Journal, begin: Point) -> ReplicatedJournal:
         """The replicated journal over the own files, which begin there; etcd goes on from these, where it has nothing
@@ -172,7 +173,7 @@ class Replica:
                 self._agreed = agree(self._etcd, self._keys, mine)
             except EtcdError as error:
                 raise fault_of(error) from error
-            self._require_same(own.state, mine.roster, self._agreed)
+            self._require_same(own.state, self._agreed)
         self._etcd.close()
         try:
             (own.state.folder / REPLICA).touch(mode=0o600)
@@ -182,8 +183,8 @@ class Replica:
         journal.housekeeper.retained = self._options.etcd_retain
         return journal
 
-    def _require_same(self, state: State, roster: bytes, agreed: Agreed) -> None:
-        if roster != agreed.roster:
+    def _require_same(self, state: State, agreed: Agreed) -> None:
+        if state.roster_path.read_bytes() != agreed.roster:
             raise Fault(Exit.ROSTER, f"changed-roster: etcd has another roster than {state.roster_path}")
         if state.id is None:
             state.id_to_take = agreed.id

@@ -6,6 +6,7 @@ import json
 from collections.abc import Sequence
 from typing import Any
 
+from ..joined import Joined
 from ..records import Base
 from ..snapshots import Snapshot
 from .digests import Chain, Digest
@@ -36,10 +37,18 @@ class Point:
 
 def point_of(snapshot: Snapshot) -> Point | None:
     """That behind a snapshot; None where it was made of a service that was alone."""
-    kept = json.loads(snapshot.books).get(KEY)
+    return point_at(snapshot.base, json.loads(snapshot.books))
+
+
+def opening_point(joined: Joined | None) -> Point | None:
+    """That of what a start without a snapshot goes on from; None where a tenant joined a service that was alone."""
+    return Point() if joined is None else point_at(joined.base, joined.books)
+
+
+def point_at(base: Base, books: dict[str, Any]) -> Point | None:
+    kept = books.get(KEY)
     if kept is None:
         return None
-    base: Base = snapshot.base
     replies = [reply.encode("ascii") for reply in kept["replies"]]
     last = Digest(base.lines - len(replies), kept["digest"])
     return Point(Position(base.lines, base.size, kept["chain"]), last, replies)

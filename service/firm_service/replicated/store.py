@@ -5,7 +5,7 @@ from __future__ import annotations
 from collections.abc import Iterator, Sequence
 from typing import Protocol
 
-from .etcd import Change, Condition, Done, Put, Rows, Size
+from .etcd import Change, Condition, Done, Put, Rows, Size, Span
 
 
 class Store(Protocol):
@@ -17,7 +17,7 @@ class Store(Protocol):
     def last_key(self, key: bytes, end: bytes) -> bytes | None:
         ...
 
-    def transact(self, conditions: Sequence[Condition], puts: Sequence[Put]) -> Done:
+    def transact(self, conditions: Sequence[Condition], puts: Sequence[Put], gone: Sequence[Span] = ()) -> Done:
         ...
 
     def delete(self, key: bytes, end: bytes) -> int:

@@ -1,0 +1,111 @@
+"""Snapshots in etcd: what a replica goes on from that comes late, or lacks a tenant of another service.
+
+No lines make a tenant that came by a move (moves.py), so all replicas go on from one state that has it. The leader puts
+that state there with its fence: from then on the tenant has come. Each other replica, and the leader too where it ended
+meanwhile, begins anew from it, behind the lines that it stands for; so etcd keeps all lines from there on.
+
+    MOVE BYTES DIGEST
+
+is the key `snapshot`: the move by which a tenant came last, or `-`; the bytes of all lines up to there; and the digest
+of the text, which stands in chunks. The text is compressed: the file that tells of a joined state (joined.py), by its
+length in bytes as the first line, and the state. Its books have the point of a replica there (point.py).
+"""
+
+from __future__ import annotations
+
+import zlib
+from collections.abc import Sequence
+from typing import NamedTuple
+
+from ..faults import Exit, Fault
+from ..joined import Joined, parsed
+from ..states import digest
+from .entries import Keys
+from .etcd import Condition, Put, Span, after
+from .store import Store
+
+CHUNK_BYTES = 512 * 1024  # etcd takes requests of 1.5 MiB
+LEVEL = 1  # of compression: a state's text is a tenth then
+NO_MOVE = "-"
+TRIES = 5  # to read an offer, while others take its place
+
+
+class Offer(NamedTuple):
+    move: str
+    size: int  # bytes of all lines that the state stands for
+    digest: str
+
+    @classmethod
+    def of(cls, joined: Joined, text: bytes) -> Offer:
+        return cls(joined.move or NO_MOVE, joined.base.size, digest(text))
+
+    @classmethod
+    def read(cls, value: bytes) -> Offer:
+        try:
+            move, size, kept = value.decode().split()
+            return cls(move, int(size), kept)
+        except ValueError as error:
+            raise Fault(Exit.JOURNAL, f"the snapshot in etcd is damaged: {value[:60]!r}") from error
+
+    def text(self) -> bytes:
+        return f"{self.move} {self.size} {self.digest}".encode()
+
+    def is_another_than(self, joined: Joined | None) -> bool:
+        """Whether a tenant has come that a replica lacks, by what that goes on from."""
+        return self.move not in (NO_MOVE, joined.move if joined is not None else None)
+
+
+def offer_of(store: Store, keys: Keys) -> Offer | None:
+    """What stands in etcd, if anything does."""
+    return next((Offer.read(row.value) for row in store.range(keys.snapshot).found), None)
+
+
+def packed(joined: Joined, state: bytes) -> bytes:
+    """The text in chunks."""
+    told = joined.text()
+    return zlib.compress(b"%d\n%b%b" % (len(told), told, state), LEVEL)
+
+
+def unpacked(text: bytes) -> tuple[Joined, bytes]:
+    """Raises ValueError where it is no such text."""
+    length, _, rest = zlib.decompress(text).partition(b"\n")
+    joined, state = parsed(rest[: int(length)]), rest[int(length) :]
+    if joined is None or len(state) != joined.length or digest(state) != joined.digest:
+        raise ValueError("it is not what was written")
+    return joined, state
+
+
+def put_chunks(store: Store, keys: Keys, leads: Condition, text: bytes) -> bool:
+    """Puts a text there, of which nothing tells yet; whether this one leads still."""
+    name = digest(text)
+    chunks = [text[start : start + CHUNK_BYTES] for start in range(0, len(text), CHUNK_BYTES)]
+    return all(
+        store.transact([leads], [Put(keys.chunk(name, number), chunk)]).is_done for number, chunk in enumerate(chunks)
+    )
+
+
+def others_of(keys: Keys, offer: Offer) -> Sequence[Span]:
+    """The chunks of all other offers."""
+    own = keys.chunks + offer.digest.encode() + b"/"
+    return Span(keys.chunks, own), Span(after(own), after(keys.chunks))
+
+
+def fetch(store: Store, keys: Keys) -> tuple[Joined, bytes]:
+    """What is offered: what the state stands for, with its text."""
+    why: object = "there is none"
+    for _ in range(TRIES):
+        offer = offer_of(store, keys)
+        if offer is None:
+            break
+        text = b""
+        while found := store.range(keys.chunk(offer.digest, len(text) // CHUNK_BYTES)).found:
+            text += found[0].value
+            if len(found[0].value) < CHUNK_BYTES:
+                break
+        try:
+            if digest(text) == offer.digest:
+                return unpacked(text)
+            why = "its text is not whole"
+        except (ValueError, zlib.error) as error:
+            why = error
+    raise Fault(Exit.JOURNAL, f"the snapshot in etcd can't be used: {why}")

@@ -1,0 +1,110 @@
+"""What a leader has in common with who follows it, beside lines: the tenant that is held, and snapshots."""
+
+from __future__ import annotations
+
+import time
+from collections.abc import Callable, Sequence
+from contextlib import AbstractContextManager
+from threading import Lock
+from typing import TypeVar
+
+from ..faults import Exit, Fault
+from ..joined import Joined
+from .entries import Keys
+from .etcd import Condition, EtcdError, Put, Span, after
+from .housekeeper import Housekeeper
+from .offers import Offer, offer_of, others_of, packed, put_chunks
+from .store import Store
+
+Result = TypeVar("Result")
+
+PATIENCE, PAUSE = 10.0, 0.05  # seconds that is asked again where no member answers, and between two tries
+
+
+class NotLeading(Fault):
+    """Another one leads, or may."""
+
+    def __init__(self) -> None:
+        super().__init__(Exit.STATE, "another firmd leads by now")
+
+
+class Shared:
+    """Of a leader; each call may be another thread's. What changes something has the leader's fence."""
+
+    def __init__(self, store: Store, keys: Keys, epoch: Callable[[], int], housekeeper: Housekeeper) -> None:
+        self._store, self._keys, self._epoch, self._housekeeper = store, keys, epoch, housekeeper
+        self._lock = Lock()
+        self._offered: Offer | None = None  # whose chunks are there
+
+    @property
+    def leads(self) -> bool:
+        return self._epoch() > 0
+
+    # The tenant that is held.
+
+    def read(self) -> bytes:
+        with self._lock:
+            found = self._patiently(lambda: self._store.range(self._keys.moving)).found
+        return found[0].value if found else b""
+
+    def write(self, text: bytes) -> None:
+        self._transact([Put(self._keys.moving, text)])
+
+    def require_current(self) -> None:
+        """Asks that no other one leads."""
+        self._transact([])
+
+    # Snapshots.
+
+    def keeping(self, size: int) -> AbstractContextManager[None]:
+        """Has etcd keep all lines behind these bytes meanwhile, as far as it has them."""
+        return self._housekeeper.keeping(size)
+
+    def has_lines(self, size: int) -> bool:
+        """Whether etcd has all lines behind these bytes."""
+        with self._lock:
+            first = self._patiently(lambda: self._store.range(self._keys.lines, after(self._keys.lines), limit=1)).found
+        return not first or self._keys.offset(first[0].key) <= size
+
+    def offer(self, joined: Joined, state: bytes) -> None:
+        """Puts a state into etcd, of which `commit` tells."""
+        if not self.has_lines(joined.base.size):
+            raise Fault(Exit.STATE, f"the lines behind byte {joined.base.size:,} are gone from etcd")
+        text = packed(joined, state)
+        with self._lock:
+            if not self._patiently(lambda: put_chunks(self._store, self._keys, self._condition(), text)):
+                raise NotLeading
+        self._offered = Offer.of(joined, text)
+
+    def commit(self) -> None:
+        """Has all replicas that lack a tenant go on from what was offered. Where this raises, that may be done."""
+        if self._offered is None:
+            raise ValueError("nothing was offered")
+        offer, self._offered = self._offered, None
+        self._transact([Put(self._keys.snapshot, offer.text())], others_of(self._keys, offer))
+
+    def is_due(self, size: int) -> bool:
+        """Whether a snapshot of these bytes of lines is to take the place of the one in etcd, behind which all lines
+        stay there."""
+        with self._lock:
+            offer = self._patiently(lambda: offer_of(self._store, self._keys))
+        before = offer.size if offer is not None else 0
+        return size > before and size - before >= self._housekeeper.retained
+
+    def _condition(self) -> Condition:
+        return Condition(self._keys.leader, made=self._epoch())
+
+    def _transact(self, puts: Sequence[Put], gone: Sequence[Span] = ()) -> None:
+        with self._lock:
+            if not self._patiently(lambda: self._store.transact([self._condition()], puts, gone)).is_done:
+                raise NotLeading
+
+    def _patiently(self, ask: Callable[[], Result]) -> Result:
+        ends = time.monotonic() + PATIENCE
+        while True:
+            try:
+                return ask()
+            except EtcdError as error:
+                if time.monotonic() > ends:
+                    raise Fault(Exit.STATE, f"etcd does not answer: {error}") from error
+                time.sleep(PAUSE)
