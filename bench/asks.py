@@ -1,7 +1,6 @@
-#!/usr/bin/env python3
 """Measures how long firmctl's questions take on a full tenant, and where that time goes.
 
-usage: bench/asks.py [--kinds KIND,..] [--tasks N] [--machines N] [--repeats N] [--keep]
+usage: tools/run bench/asks.py [--kinds KIND,..] [--tasks N] [--machines N] [--repeats N] [--keep]
 Prints tables in Markdown of milliseconds by the clock, each the middle of some runs. Of a kind of stream, before its
 last round: `view` is the state's way from the viewer's rows to firmctl, `what-if` a drain of a machine and a round,
 `why` the reasons for a task that waits, with trials of its weight, each with the state at hand; `firm` and

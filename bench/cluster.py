@@ -1,7 +1,6 @@
-#!/usr/bin/env python3
 """Measures three replicas with a journal in etcd beside a firmd alone, a client's silence, and what a shard takes.
 
-usage: bench/cluster.py [--program FILE] [--folder DIR] [--requests N] [--lines N] [--seconds N] [--keep]
+usage: tools/run bench/cluster.py [--program FILE] [--folder DIR] [--requests N] [--lines N] [--seconds N] [--keep]
 In turn firmd alone, three replicas over three members of etcd, and these behind the door are asked by the same clients;
 all are on this host, with their files in one folder, so they share its processors and its disk. It needs a C compiler,
 etcd-server, haproxy and openssl. --keep writes docs/results/cluster.md.
@@ -29,13 +28,11 @@ import results
 from requests import Figure, started
 from shared import BUILT, ROOT, CannotRun, Missed, run_script
 
-sys.path.insert(0, str(ROOT / "tests"))
-
-from door import Door, start_replicas  # noqa: E402
-from etcd_kit import NAMES, Members, Replicas, is_served, require_programs, until  # noqa: E402
-from harness.checks import Skipped  # noqa: E402
-from harness.guard import guard  # noqa: E402
-from replica_chaos import KILLED, STOPPED, Chaos  # noqa: E402
+from door import Door, start_replicas
+from etcd_kit import NAMES, Members, Replicas, is_served, require_programs, until
+from harness.checks import Skipped
+from harness.guard import guard
+from replica_chaos import KILLED, STOPPED, Chaos
 
 ROSTER = "tenant,nodes,arcs,life,spread,churn\nalpha,4096,65536,1099511627776,1,500\n"
 TENANTS = 64  # of a shard

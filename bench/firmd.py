@@ -1,7 +1,6 @@
-#!/usr/bin/env python3
 """Measures firmd beside firm alone: lines and requests a second, times of a request and of a small round, the replay.
 
-usage: bench/firmd.py [--program FILE] [--folder DIR] [--lines N] [--requests N] [--repeats R]
+usage: tools/run bench/firmd.py [--program FILE] [--folder DIR] [--lines N] [--requests N] [--repeats R]
 The journal is in a new folder under DIR, /dev/shm where none is named. Each figure is the best of R runs, in turn with
 firm alone: the same lines over its pipes, by the same client. Every reply is counted, and the last one's number is
 checked.

@@ -1,7 +1,6 @@
-#!/usr/bin/env python3
 """Runs the gate and says what it cost: processor minutes by crate, for its proof, its tests and its edits.
 
-usage: bench/gate.py [--keep] [COMMAND ...]
+usage: tools/run bench/gate.py [--keep] [COMMAND ...]
 The command is `tests/gate --all` where none is named; `tests/edits firm_net` for some edits alone.
 The command's own output goes to standard error, the table to standard output; the exit status is the command's. --keep
 writes the crates' minutes to docs/results/gate.csv, by which tests/gate says how long it will take.

@@ -1,4 +1,4 @@
-"""What measurements keep: a record a line, as JSON, in out/bench. bench/pictures.py draws them."""
+"""What measurements keep: a record a line, as JSON, in out/bench."""
 
 from __future__ import annotations
 

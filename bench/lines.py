@@ -1,7 +1,6 @@
-#!/usr/bin/env python3
 """Measures lines a second of the built program, and its memory over a long input.
 
-usage: bench/lines.py [--program FILE] [--lines N] [--repeats R] [--bytes B] [--rates] [--keep]
+usage: tools/run bench/lines.py [--program FILE] [--lines N] [--repeats R] [--bytes B] [--rates] [--keep]
 Streams of refused adders, `show`, `where`, and all three in turn, for a tenant of 10 rows and for one of 4,000, from a
 file to a file. Times are processor times (user and system), the least of R runs, less those of a run that only adds
 the rows; where valgrind is installed, also instructions. Every output is checked: its last number is the count of

@@ -1,8 +1,7 @@
-#!/usr/bin/env python3
 """Measures the built program as a live client sees it, who holds its input open: a line, a round, and idle time.
 
-usage: bench/live.py [--program FILE] [--beside FILE] [--workers 1,2,8] [--rounds N] [--paused N] [--seconds S]
-                     [--repeats R] [--keep]
+usage: tools/run bench/live.py [--program FILE] [--beside FILE] [--workers 1,2,8] [--rounds N] [--paused N]
+                               [--seconds S] [--repeats R] [--keep]
 Times are from the write of a line to its last reply, by the clock on the wall: the middle and the ninetieth of a
 hundred, of the best of R runs; beside them the processor time of the service for each. With `--beside` another built
 program is measured in turn with it. A round is one of no tasks. Where no reply to it comes in two seconds while no

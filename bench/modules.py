@@ -1,7 +1,6 @@
-#!/usr/bin/env python3
 """Lists where the time of a crate's check goes, module by module, after a `rt check` of it.
 
-usage: bench/modules.py CRATE [CRATE ...] [--most N] [--since SECONDS]
+usage: tools/run bench/modules.py CRATE [CRATE ...] [--most N] [--since SECONDS]
 A check keeps each module that it has checked in the crate's out/incremental, as a file written when the module was
 done. The gap between two files is the later one's time, on the clock: exact where the check had one job and the machine
 to itself (`rt check --jobs 1` with out/incremental removed), a share of the whole otherwise. A name that ends in Lts is

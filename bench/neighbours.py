@@ -1,7 +1,6 @@
-#!/usr/bin/env python3
 """Measures how long a small tenant's reply takes beside large neighbours, by a client that holds its input open.
 
-usage: bench/neighbours.py [--program FILE] [--beside FILE] [--workers N] [--kind crowded] [--size 2500x700]
+usage: tools/run bench/neighbours.py [--program FILE] [--beside FILE] [--workers N] [--kind crowded] [--size 2500x700]
                            [--tenants N] [--repeats R] [--keep]
 Lines are written at once: a round of tenant `a`, which is small, and lines of others behind it. Times are from the
 write to a's reply, by the clock on the wall: the least, the middle and the ninetieth of a hundred. Each is of a new

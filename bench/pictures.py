@@ -1,44 +1,47 @@
-#!/usr/bin/env python3
-"""Draws measurements as pictures: rounds beside LEMON, their growth with the arcs, rounds a second by workers.
+"""Draws tables of docs/results: rounds beside LEMON, their growth with the arcs, rounds a second by workers.
 
-usage: bench/pictures.py [--from FOLDER] [--to FOLDER] [PICTURE ...]
-The pictures are ratios, growth (of the records of bench/rounds.py) and workers (of those of bench/workers.py), all
-where none is named; PICTURE.svg comes into docs/pictures. What is not measured is not drawn: the exit status is 2
-where a picture's records are missing, and nothing is written.
+usage: tools/run bench/pictures.py [--to FOLDER] [PICTURE ...]
+The pictures are ratios and growth (of rounds.md) and workers (of workers.md), all where none is named; PICTURE.svg
+comes into docs/pictures. The same tables give the same bytes. It needs Debian's python3-matplotlib; where another
+python3 is first on the PATH, PYTHON=/usr/bin/python3 names Debian's. The exit status is 2 where a table is missing.
 """
 
 from __future__ import annotations
 
 import argparse
 from dataclasses import dataclass
+from itertools import takewhile
+from math import log
 from pathlib import Path
-from typing import Callable, Iterable, Iterator, NamedTuple
+from typing import Any, Callable, Iterable
 
-import kept
-import svg
-from kept import RateRecord, RoundRecord
 from shared import ROOT, CannotRun, run_script
 
-WIDTH = 720
-NAMES = 76  # the width of the names at the left
-HEAD, FOOT = 70, 40  # the heights of title and key above, of the scale below
-ROW = 22
-PANEL = 260
-Point = tuple[float, float]
+RESULTS = ROOT / "docs" / "results"
+# Seven colours that can be told apart, also by most of the colour-blind; from the eighth on they come again, dashed.
+COLOURS = ("#3b7dd8", "#e08a1e", "#3c9d5d", "#b0508e", "#c2504a", "#7a6fd0", "#7d8b99")
+STYLE = {
+    "axes.axisbelow": True,
+    "axes.edgecolor": "#8b949e",
+    "axes.grid": True,
+    "axes.titlelocation": "left",
+    "figure.constrained_layout.use": True,
+    "font.size": 9,
+    "grid.alpha": 0.3,
+    "legend.frameon": False,
+    "svg.fonttype": "none",  # text stays text
+    "svg.hashsalt": "firm",
+}
+COLD = "1"  # the first round of a stream
+TICKS = (1, 2, 5)  # times powers of ten
+LEAST_GAP = 0.045  # between names at the ends of lines, as a part of the height
+Rows = list[dict[str, str]]
 
 
 @dataclass(frozen=True)
 class Options:
-    records: Path
     to: Path
     pictures: list[str]
-
-
-class Curve(NamedTuple):
-    """The points of a line, in the order of their sizes, and its name."""
-
-    name: str
-    points: list[Point]
 
 
 def once(values: Iterable[str]) -> list[str]:
@@ -46,145 +49,132 @@ def once(values: Iterable[str]) -> list[str]:
     return list(dict.fromkeys(values))
 
 
-def title(words: str, explained: str) -> Iterator[str]:
-    yield svg.text(0, 10, words, "title")
-    yield svg.text(0, 28, explained, "faint")
+def cells(line: str) -> list[str]:
+    return [cell.strip() for cell in line.strip("|").split("|")]
 
 
-def key(names: Iterable[str]) -> Iterator[str]:
-    """Which colour is whose."""
-    for place, name in enumerate(names):
-        left = NAMES + place * 120
-        yield svg.dot(left, 50, svg.colour_of(place))
-        yield svg.text(left + 10, 50, name)
+def table(page: str, *columns: str) -> Rows:
+    """The rows of the page's first table with these columns."""
+    lines = (RESULTS / page).read_text().splitlines()
+    for number, line in enumerate(lines):
+        names = cells(line)
+        if set(columns) <= set(names):
+            rows = takewhile(lambda row: row.startswith("|"), lines[number + 2 :])
+            return [dict(zip(names, cells(row))) for row in rows]
+    raise CannotRun(f"{RESULTS / page} has no table with the columns {', '.join(columns)}")
 
 
-def read_rounds(folder: Path) -> list[RoundRecord]:
-    """The measured rounds; one that took no time, by a measurement of too few runs, has no place on a scale."""
-    records = kept.read(kept.ROUNDS, RoundRecord, folder)
-    for record in records:
-        if record.firm <= 0:
-            raise CannotRun(
-                f"round {record.round + 1} of {record.kind} {record.size} took no time: measure it more often"
-            )
-    return records
+def tasks_of(size: str) -> int:
+    """The tasks of a size, as 3,000 of 3000x1000."""
+    return int(size.partition("x")[0])
 
 
-class Ratio(NamedTuple):
-    """A dot of the picture of ratios: a round's kind, its size, whether it is the cold one, and its ratio."""
-
-    kind: str
-    size: str
-    is_cold: bool
-    ratio: float
+def figure(text: str) -> float:
+    return float(text.replace(",", ""))
 
 
-def ratios_of(records: list[RoundRecord]) -> list[Ratio]:
-    """For each kind and size the cold round's ratio, and the worst that follows."""
-    found: dict[tuple[str, str, bool], float] = {}
-    for record in records:
-        if record.ratio is None:
-            raise CannotRun("the rounds were measured without LEMON beside them")
-        place = (record.kind, record.size, record.round == 0)
-        found[place] = max(record.ratio, found.get(place, 0))
-    return [Ratio(*place, ratio) for place, ratio in found.items()]
+def mark(axis: Any) -> None:
+    """Has a logarithmic axis marked at 1, 2 and 5 times powers of ten."""
+    axis.get_major_locator().set_params(subs=TICKS)
+    axis.get_minor_locator().set_params(subs=())
+    axis.set_major_formatter(lambda value, _: f"{value / 1000:g}k" if value >= 1000 else f"{value:g}")
 
 
-def draw_ratios(folder: Path) -> str:
+def draw_ratios(plot: Any) -> Any:
     """A row for each kind, a dot for each size's cold round and a ring for the worst that follows."""
-    ratios = ratios_of(read_rounds(folder))
-    kinds, sizes = once(it.kind for it in ratios), once(it.size for it in ratios)
-    foot = HEAD + ROW * len(kinds)
-    axis = svg.spanning([*(it.ratio for it in ratios), 0.5, 1], NAMES + 8, WIDTH - 12)
-    marks = [
-        *title(
-            "Rounds beside LEMON's faster solver", "times its time: dots for cold rounds, rings for the worst later one"
-        )
-    ]
-    marks += key(sizes)
-    for tick in axis.ticks():
-        marks.append(svg.line((axis.at(tick), HEAD), (axis.at(tick), foot), "goal" if tick == 1 else "grid"))
-        marks.append(svg.text(axis.at(tick), foot + 16, svg.number(tick), "faint middle"))
-    marks += [svg.text(NAMES - 8, HEAD + ROW * (place + 0.5), kind, "end") for place, kind in enumerate(kinds)]
-    for it in ratios:
-        place = sizes.index(it.size)
-        height = HEAD + ROW * (kinds.index(it.kind) + 0.5) + (place - (len(sizes) - 1) / 2) * 4
-        marks.append(svg.dot(axis.at(it.ratio), height, svg.colour_of(place), it.is_cold))
-    return svg.picture(WIDTH, foot + FOOT, "Each kind's rounds as a multiple of LEMON's time", marks)
+    rows = table("rounds.md", "kind", "size", "round", "firm / faster")
+    kinds, sizes = once(row["kind"] for row in rows), sorted(once(row["size"] for row in rows), key=tasks_of)
+    drawn, axes = plot.subplots(figsize=(7.2, 4.2))
+    for place, size in enumerate(sizes):
+        shift = (place - (len(sizes) - 1) / 2) * 0.2
+        for is_cold in (True, False):
+            own = [row for row in rows if row["size"] == size and (row["round"] == COLD) == is_cold]
+            axes.scatter(
+                [figure(row["firm / faster"]) for row in own],
+                [kinds.index(row["kind"]) + shift for row in own],
+                s=28,
+                facecolors=COLOURS[place] if is_cold else "none",
+                edgecolors=COLOURS[place],
+                label=f"{size}, {'cold round' if is_cold else 'worst later one'}",
+            )
+    axes.axvline(1, color="#8b949e", linestyle="--")
+    axes.set_xscale("log")
+    mark(axes.xaxis)
+    axes.set_yticks(range(len(kinds)), kinds)
+    axes.invert_yaxis()
+    axes.set_title("Rounds beside LEMON's faster solver: times its time")
+    axes.legend(loc="upper center", bbox_to_anchor=(0.5, -0.06), ncols=2)
+    return drawn
 
 
-def cold_curves(records: list[RoundRecord], of_each: Callable[[RoundRecord], float]) -> list[Curve]:
-    """For each kind its cold rounds: the arcs, and a figure for each arc."""
-    cold = [record for record in records if record.round == 0]
-    found = []
-    for kind in once(record.kind for record in cold):
-        points = sorted((float(it.arcs), of_each(it) / it.arcs) for it in cold if it.kind == kind)
-        found.append(Curve(kind, points))
+def heights_of(names: dict[str, float]) -> dict[str, float]:
+    """The heights of names, as parts of a picture's, from the top, moved down where two would be too close."""
+    found: dict[str, float] = {}
+    last = 1 + LEAST_GAP
+    for name, height in sorted(names.items(), key=lambda item: -item[1]):
+        last = found[name] = min(height, last - LEAST_GAP)
     return found
 
 
-def draw_curves(curves: list[Curve], left: float, words: str) -> Iterator[str]:
-    """A panel: arcs from left to right, the figure upwards, and each line's name at its end."""
-    right, foot = left + WIDTH / 2 - 100, HEAD + PANEL
-    across = svg.spanning((x for curve in curves for x, _ in curve.points), left + 34, right)
-    up = svg.spanning((y for curve in curves for _, y in curve.points), foot, HEAD)
-    yield svg.text(left, 50, words, "faint")
-    for tick in up.ticks():
-        yield svg.line((left + 34, up.at(tick)), (right, up.at(tick)), "grid")
-        yield svg.text(left + 28, up.at(tick), svg.number(tick), "faint end")
-    for tick in across.ticks():
-        yield svg.text(across.at(tick), foot + 16, svg.number(tick), "faint middle")
-    by_end = sorted(curves, key=lambda curve: -curve.points[-1][1])
-    heights = svg.apart([up.at(curve.points[-1][1]) for curve in by_end], 13)
-    for curve, height in zip(by_end, heights):
-        place, drawn = curves.index(curve), [(across.at(x), up.at(y)) for x, y in curve.points]
-        yield svg.path([*drawn, (right + 4, height)], place)
-        yield from (svg.dot(x, y, svg.colour_of(place)) for x, y in drawn)
-        yield svg.text(right + 8, height, curve.name)
+def draw_curves(axes: Any, curves: dict[str, list[tuple[float, float]]], title: str) -> None:
+    """A line for each name, whose name stands at its end."""
+    for place, points in enumerate(curves.values()):
+        look = {"color": COLOURS[place % len(COLOURS)], "linestyle": "--" if place >= len(COLOURS) else "-"}
+        axes.loglog(*zip(*points), marker="o", markersize=4, linewidth=1.2, **look)
+    for axis in (axes.xaxis, axes.yaxis):
+        mark(axis)
+    least, most = map(log, axes.get_ylim())
+    ends = {name: (log(points[-1][1]) - least) / (most - least) for name, points in curves.items()}
+    for name, height in heights_of(ends).items():
+        colour = COLOURS[list(curves).index(name) % len(COLOURS)]
+        line = {"arrowstyle": "-", "color": colour, "linewidth": 0.5}
+        end = curves[name][-1]
+        axes.annotate(
+            name, end, (1.05, height), textcoords="axes fraction", va="center", arrowprops=line, annotation_clip=False
+        )
+    axes.set_xlabel("arcs")
+    axes.set_title(title)
 
 
-def draw_growth(folder: Path) -> str:
+def draw_growth(plot: Any) -> Any:
     """What a cold round takes for each arc, in time and in looks, by the arcs of its network."""
-    records = read_rounds(folder)
-    times = cold_curves(records, lambda record: record.firm * 1e6)
-    looks = cold_curves(records, lambda record: record.all_looks)
-    marks = [*title("Cold rounds by the arcs of their networks", "a level line is linear in the arcs")]
-    marks += draw_curves(times, 0, "microseconds for each arc")
-    marks += draw_curves(looks, WIDTH / 2 + 10, "looks for each arc")
-    return svg.picture(WIDTH, HEAD + PANEL + FOOT, "What a cold round takes for each arc, by kind and arcs", marks)
+    rows = table("rounds.md", "kind", "round", "arcs", "looks", "proposed", "firm ms")
+    cold = sorted((row for row in rows if row["round"] == COLD), key=lambda row: figure(row["arcs"]))
+    drawn, (left, right) = plot.subplots(1, 2, figsize=(7.2, 3.8))
+    times: dict[str, list[tuple[float, float]]] = {row["kind"]: [] for row in rows}
+    looks: dict[str, list[tuple[float, float]]] = {row["kind"]: [] for row in rows}
+    for row in cold:
+        arcs = figure(row["arcs"])
+        times[row["kind"]].append((arcs, figure(row["firm ms"]) * 1_000 / arcs))
+        looks[row["kind"]].append((arcs, (figure(row["looks"]) + figure(row["proposed"])) / arcs))
+    draw_curves(left, times, "Microseconds for each arc")
+    draw_curves(right, looks, "Looks for each arc")
+    return drawn
 
 
-def draw_workers(folder: Path) -> str:
-    """A line for each program: rounds a second by the number of its workers; level where it serves on one thread."""
-    records = kept.read(kept.RATES, RateRecord, folder)
-    most = max(record.workers or 1 for record in records)
-    foot = HEAD + PANEL
-    across = svg.Axis(0, most, NAMES, WIDTH - 20, is_logarithmic=False)
-    up = svg.Axis(0, max(record.rate for record in records) * 1.1, foot, HEAD, is_logarithmic=False)
-    first, programs = records[0], once(record.program for record in records)
-    rows = f"{first.tenants} tenants of {first.tasks:,} tasks on {first.machines:,} machines"
-    marks = [*title("Rounds a second by workers", rows), *key(programs)]
-    for tick in up.ticks():
-        marks.append(svg.line((NAMES, up.at(tick)), (WIDTH - 20, up.at(tick)), "grid"))
-        marks.append(svg.text(NAMES - 8, up.at(tick), svg.number(tick), "faint end"))
-    for place, program in enumerate(programs):
-        own = [record for record in records if record.program == program]
-        points = [(float(record.workers), record.rate) for record in own if record.workers is not None]
-        drawn = [(across.at(x), up.at(y)) for x, y in points]
-        marks += [svg.dot(x, y, svg.colour_of(place)) for x, y in drawn]
-        level = [(across.at(x), up.at(own[0].rate)) for x in (0, most)]
-        marks.append(svg.path(drawn or level, place))
-    for workers in sorted({record.workers for record in records if record.workers is not None}):
-        marks.append(svg.text(across.at(workers), foot + 16, str(workers), "faint middle"))
-    return svg.picture(WIDTH, foot + FOOT, "Rounds a second by the number of workers", marks)
+def draw_workers(plot: Any) -> Any:
+    """Rounds a second by the number of workers; level for the program that serves on one thread."""
+    rows = table("workers.md", "workers", "rounds a second")
+    drawn, axes = plot.subplots(figsize=(7.2, 3.4))
+    own = [(int(row["workers"]), figure(row["rounds a second"])) for row in rows if row["workers"].isdigit()]
+    for row in rows:
+        if not row["workers"].isdigit():
+            name = row["workers"].partition(", ")[2].strip("`")
+            axes.axhline(figure(row["rounds a second"]), color=COLOURS[1], linestyle="--", label=f"{name}, one thread")
+    axes.plot(*zip(*own), marker="o", color=COLOURS[0], label="firm")
+    axes.set_xticks([workers for workers, _ in own])
+    axes.set_ylim(bottom=0)
+    axes.set_xlabel("workers")
+    axes.set_title("Rounds a second by workers")
+    axes.legend(loc="upper left")
+    return drawn
 
 
-PICTURES: dict[str, Callable[[Path], str]] = {"ratios": draw_ratios, "growth": draw_growth, "workers": draw_workers}
+PICTURES: dict[str, Callable[[Any], Any]] = {"ratios": draw_ratios, "growth": draw_growth, "workers": draw_workers}
 
 
 def read_options() -> Options:
     parser = argparse.ArgumentParser(description=(__doc__ or "").splitlines()[0])
-    parser.add_argument("--from", dest="records", type=Path, default=kept.FOLDER, help="(default: %(default)s)")
     parser.add_argument("--to", type=Path, default=ROOT / "docs" / "pictures", help="(default: %(default)s)")
     parser.add_argument("pictures", nargs="*", metavar="PICTURE", help=", ".join(PICTURES))
     options = Options(**vars(parser.parse_args()))
@@ -196,10 +186,16 @@ def read_options() -> Options:
 
 def main() -> int:
     options = read_options()
-    drawn = {name: PICTURES[name](options.records) for name in options.pictures or PICTURES}
-    for name, picture in drawn.items():
-        (options.to / f"{name}.svg").write_text(picture)
-        print(options.to / f"{name}.svg")
+    try:
+        from matplotlib import pyplot, rc_context  # type: ignore[import] # it has no types
+    except ImportError:
+        raise CannotRun("it needs matplotlib: apt-get install python3-matplotlib, and Debian's python3") from None
+    with rc_context(STYLE):
+        for name in options.pictures or PICTURES:
+            path = options.to / f"{name}.svg"
+            PICTURES[name](pyplot).savefig(path, metadata={"Date": None})
+            path.write_text("".join(line.rstrip() + "\n" for line in path.read_text().splitlines()))
+            print(path)
     return 0
 
 

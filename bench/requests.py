@@ -1,7 +1,7 @@
-#!/usr/bin/env python3
 """Measures requests to firmd beside writes to redis, by clients that wait for each reply.
 
-usage: bench/requests.py [--program FILE] [--disk DIR] [--memory DIR] [--requests N] [--repeats R] [--clients N..]
+usage: tools/run bench/requests.py [--program FILE] [--disk DIR] [--memory DIR] [--requests N] [--repeats R]
+                                   [--clients N..]
 Both keep what they acknowledge: firmd's journal is synced before each reply; redis' file by `appendfsync always`, and
 for comparison `everysec`. In turn, on a disk and in memory, each is asked over a Unix socket by the same program in C.
 Each figure is of the run with the most requests a second of R. It needs a C compiler, and redis-server for its half.

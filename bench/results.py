@@ -37,7 +37,7 @@ def processor() -> str:
 
 
 def heading(name: str) -> str:
-    command = " ".join([f"bench/{Path(sys.argv[0]).name}", *sys.argv[1:]])
+    command = " ".join([f"tools/run bench/{Path(sys.argv[0]).name}", *sys.argv[1:]])
     return f"# {name.capitalize()}\n\n`{command}`\non {date.today()}, {os.cpu_count()} processors: {processor()}\n\n"
 
 

@@ -1,8 +1,8 @@
-#!/usr/bin/env python3
 """Measures rounds of the built program, with LEMON's solvers on the same networks beside it where LEMON is installed.
 
-usage: bench/rounds.py [--program FILE] [--measure FILE] [--beside FILE] [--sizes 100x20,..] [--kinds fresh,..]
-                       [--repeats N] [--seed S] [--all-rounds] [--last] [--keep] [--search]
+usage: tools/run bench/rounds.py [--program FILE] [--measure FILE] [--beside FILE] [--sizes 100x20,..]
+                                 [--kinds fresh,..] [--repeats N] [--seed S] [--all-rounds] [--last] [--keep]
+                                 [--search]
 Prints tables in Markdown and keeps each round as a line of JSON in out/bench/rounds.jsonl; with `--search`, which times
 rounds found by searches alone, in out/bench/searched.jsonl. Times are processor times,
 the middle of some runs. Every placement is checked to be legal and to cost what the reply says, and that cost against

@@ -1,7 +1,7 @@
-#!/usr/bin/env python3
 """Measures how long a start of firmd takes from a snapshot and the lines behind it.
 
-usage: bench/starts.py [--firm FILE] [--state FILE] [--tenants N] [--tasks N] [--machines N] [--lines N] [--every N]
+usage: tools/run bench/starts.py [--firm FILE] [--state FILE] [--tenants N] [--tasks N] [--machines N] [--lines N]
+                                 [--every N]
 A service of tenants with so many tasks and machines, each after a round, is saved by firm_state, and firmd begins with
 it. Then lines of all tenants come, one in `every` a round, and firmd is killed before it makes a snapshot of them: a
 start reads the state and replays the lines. As many lines before them are in a snapshot. Prints the lines, the

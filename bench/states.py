@@ -1,7 +1,6 @@
-#!/usr/bin/env python3
 """Measures how long the built firm_state takes to read a state and to write it again, and where that time goes.
 
-usage: bench/states.py [--state FILE] [--kind KIND] [--tasks N] [--machines N] [--tenants N,..] [--repeats N]
+usage: tools/run bench/states.py [--state FILE] [--kind KIND] [--tasks N] [--machines N] [--tenants N,..] [--repeats N]
 A tenant of a kind of stream is brought to its first round, and its state is multiplied. Prints a table in Markdown of
 times in milliseconds, each the middle of some runs: `start` is that of a run without a state; `read` what a run takes
 beyond it to read and judge the text, as a text that is faulty in its last line tells; `tenants` what it takes beyond

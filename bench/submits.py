@@ -1,7 +1,6 @@
-#!/usr/bin/env python3
 """Measures how long a submission takes to become a process: by firmd, firm-queue and firm-agent, as a user has them.
 
-usage: bench/submits.py [--firm FILE] [--count N]
+usage: tools/run bench/submits.py [--firm FILE] [--count N]
 One client submits a command, waits until that has ended, and submits the next. Prints the milliseconds from `submit` to
 the first instruction of the process, which tells the clock's time, with the load of the host.
 """
@@ -18,6 +17,8 @@ import time
 from collections.abc import Iterator
 from contextlib import contextmanager
 from pathlib import Path
+
+from firm_service.queue.client import Queue, Submission
 
 from shared import ROOT, built, compile_source, program_file, require, run_script
 
@@ -74,9 +75,6 @@ def measure(firm: str, count: int, folder: Path) -> None:
         while not queue.exists() or " up " not in firmctl(queue, "machines"):
             require(time.monotonic() < ends, "they are not there in time")
             time.sleep(0.2)
-        sys.path.insert(0, str(SERVICE))
-        from firm_service.queue.client import Queue, Submission
-
         took = []
         with Queue(queue) as client:
             for _ in range(count):

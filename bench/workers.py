@@ -1,7 +1,6 @@
-#!/usr/bin/env python3
 """Measures rounds a second of the built program with some numbers of workers.
 
-usage: bench/workers.py [--program FILE] [--beside FILE] [--measure FILE] [--workers 1,2,4] [--tenants N]
+usage: tools/run bench/workers.py [--program FILE] [--beside FILE] [--measure FILE] [--workers 1,2,4] [--tenants N]
                         [--size 500x100] [--rounds N] [--repeats R] [--keep]
 Each tenant has a full cold book and asks its rounds in turn with the others, from a file to a file: the best of R runs,
 less a run that only adds the rows, by the clock on the wall and by processor time. With each number of workers the

@@ -1,7 +1,6 @@
-#!/usr/bin/env python3
 """Asks firm-agent, with processes looked up in /proc, beside a stand-in for firmd; the test says what firm answers.
 
-usage: tests/agent.py [--quick] [--only WORDS] [--program FILE]
+usage: tools/run tests/agent.py [--quick] [--only WORDS] [--program FILE]
 Each check has a line; the last line is 'N passed, M failed', and the exit status is 1 where one failed. --quick leaves
 out what takes longer than a second or two. It needs Python 3; the example runs the real firmd, over the built program,
 and one check a real sshd. What can't be asked here is said and skipped.
@@ -24,13 +23,12 @@ import tempfile
 import time
 import xml.etree.ElementTree
 from collections.abc import Callable, Iterator
-from concurrent.futures import ThreadPoolExecutor
 from functools import partial
 from pathlib import Path
 
 from agent_kit import AGENT, LIMIT_SECONDS, SOON_SECONDS, SSH, WAITS_FOR_GO
 from agent_kit import Case, children, command, is_there, words_of
-from harness.checks import Check, Missed, Skipped, count_ends, passes, print_skipped, require, run_script
+from harness.checks import Check, Missed, Skipped, Suite, print_skipped, require, run_script, run_suites
 from harness.deployed import SERVICE
 from harness.program import ROOT, add_program
 
@@ -689,7 +687,7 @@ def example(firm: str) -> None:
     folder = ROOT / "examples" / "agent"
     with tempfile.TemporaryDirectory(prefix="firm-agent-") as out:
         done = subprocess.run(
-            [sys.executable, str(folder / "run"), out],
+            [str(folder / "run"), out],
             env={**os.environ, "FIRM": firm},
             capture_output=True,
             text=True,
@@ -755,8 +753,7 @@ def main() -> int:
     if options.quick:
         print_skipped(", ".join([*map(name_of, LONG), "example"]), "--quick leaves out what takes longer")
     chosen = {name: check for name, check in checks(options.program, options.quick).items() if options.only in name}
-    with ThreadPoolExecutor(AT_A_TIME) as pool:
-        return count_ends(list(pool.map(passes, chosen.keys(), chosen.values())))
+    return run_suites(Suite(chosen, AT_A_TIME))
 
 
 if __name__ == "__main__":

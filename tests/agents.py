@@ -1,7 +1,6 @@
-#!/usr/bin/env python3
 """Asks firm-agent with work from a queue, beside stand-ins for the queue and firmd; processes are looked up in /proc.
 
-usage: tests/agents.py [--quick] [--only WORDS] [--agents N --tasks N]
+usage: tools/run tests/agents.py [--quick] [--only WORDS] [--agents N --tasks N]
 Each check has a line; the last line is 'N passed, M failed', and the exit status is 1 where one failed. --quick leaves
 out what takes longer. It needs Python 3; what needs root or limits by cgroup is skipped without. --agents with --tasks
 measures what a number of agents with tasks each take, in place of the checks.
@@ -21,13 +20,12 @@ import subprocess
 import sys
 import tempfile
 import time
-from concurrent.futures import ThreadPoolExecutor
 from functools import partial
 from pathlib import Path
 from types import SimpleNamespace
 
 from agent_kit import AGENT, LIMIT_SECONDS, SOON_SECONDS, SSH, WAITS_FOR_GO, Case, is_there
-from harness.checks import Check, Missed, Skipped, count_ends, passes, print_skipped, require, run_script
+from harness.checks import Check, Missed, Skipped, Suite, print_skipped, require, run_script, run_suites
 from harness.deployed import NotAllowed, agent_machines, agent_queue, supervisor, work_of
 from queue_stand_in import QueueStandIn, Row, clock
 
@@ -47,9 +45,7 @@ def jumping():
     looks[0] += 1
     return real() + 86400 * (-1) ** looks[0]
 time.time = jumping
-sys.path.insert(0, sys.argv[1])
 from firm_service import agent
-del sys.argv[1]
 sys.exit(agent.main())
 """
 
@@ -364,7 +360,7 @@ def time_limit() -> None:
         case.submit("a", ["sleep", "60"], time=1)
         case.submit("b", "trap '' TERM; while :; do sleep 0.05; done", time=1, grace=1)
         case.submit("c", WAITS_FOR_GO, time=60)
-        case.start_agent(before=[sys.executable, "-c", JUMPS, str(Path(AGENT[1]).parent)])
+        case.start_agent(before=[sys.executable, "-c", JUMPS])
         case.until(lambda: "a1" in case.queue.agents, "it is registered")
         case.firmd.round("start a m1 start b m1 start c m1")
         a, b = case.until_told("ended", "a"), case.until_told("ended", "b")
@@ -776,8 +772,7 @@ def main() -> int:
     if options.quick:
         print_skipped(", ".join(map(name_of, LONG)), "--quick leaves out what takes longer")
     chosen = {name: check for name, check in checks(options.quick).items() if options.only in name}
-    with ThreadPoolExecutor(AT_A_TIME) as pool:
-        return count_ends(list(pool.map(passes, chosen.keys(), chosen.values())))
+    return run_suites(Suite(chosen, AT_A_TIME))
 
 
 if __name__ == "__main__":

@@ -1,7 +1,6 @@
-#!/usr/bin/env python3
 """Asks firmctl why, what if and what a drain would do, and then does it: what it said is what comes.
 
-usage: tests/asks.py [--quick] [--only WORDS] [--program FILE] [--first SEED]
+usage: tools/run tests/asks.py [--quick] [--only WORDS] [--program FILE] [--first SEED]
 Each check has a line; the last line is 'N passed, M failed', and the exit status is 1 where one failed. It needs the
 built firm, firm_explain and firm_state. Without --quick it has 1,000 random books in place of 50.
 """
@@ -27,13 +26,13 @@ from functools import partial
 from pathlib import Path
 from typing import Any
 
-import firmd
-from firmctl import Viewer, firmctl
-from firmd import Client, Daemon, Setup, wait_for
+import firmd_kit
+from firmctl import firmctl
+from front_kit import Viewer
+from firmd_kit import Client, Daemon, Setup, wait_for
 from harness import program, service
-from harness.checks import CannotRun, Check, Missed, count_ends, passes, require, run_script
+from harness.checks import CannotRun, Check, Missed, Suite, require, run_script, run_suites
 from harness.deployed import (
-    SERVICE,
     Book,
     Books,
     Refused,
@@ -52,7 +51,7 @@ from harness.small_streams import Stream
 
 TENANT = "alpha"
 MOST_TASKS = 6  # that the plain service places
-ROSTER = firmd.HEADING + b"alpha,30,300,1000000,1,2\nbeta,30,300,1000000,0,3\nworn,30,300,4,1,2\n"
+ROSTER = firmd_kit.HEADING + b"alpha,30,300,1000000,1,2\nbeta,30,300,1000000,0,3\nworn,30,300,4,1,2\n"
 
 
 def random_row(draw: random.Random) -> str:
@@ -526,7 +525,7 @@ def questions_are_refused(setup: Setup) -> None:
         done = firmctl("what-if", str(folder / "faulty"), "--state", str(case.daemon.state))
         require(done.output.decode() == FAULTY and b"nothing is tried" in done.faults, done)
         for program_name, script, said in FAILING:
-            stand_in = firmd.stand_in(folder, script)
+            stand_in = firmd_kit.stand_in(folder, script)
             named = {program_name: stand_in}
             done = firmctl("why", "b", "--state", str(case.daemon.state), **named)
             require(done.status == 4 and said in done.faults, f"{script}: {done}")
@@ -601,8 +600,8 @@ def programs_are_bounded() -> None:
             ("MOST_SECONDS", "#!/bin/sh\nexec sleep 60\n", "took 1 s"),
             ("MOST_PROCESSOR_SECONDS", "#!/bin/sh\nwhile :; do :; done\n", "1 s of processor time"),
         ]:
-            stand_in = firmd.stand_in(Path(name), script)
-            words = [sys.executable, "-c", BOUNDED, bound, str(SERVICE)]
+            stand_in = firmd_kit.stand_in(Path(name), script)
+            words = [sys.executable, "-c", BOUNDED, bound]
             done = subprocess.run(
                 words, capture_output=True, text=True, env={**os.environ, "FIRM": stand_in}, timeout=60
             )
@@ -611,7 +610,6 @@ def programs_are_bounded() -> None:
 
 BOUNDED = """\
 import sys
-sys.path.insert(0, sys.argv[2])
 from firm_service import trials
 setattr(trials, sys.argv[1], 1)
 trials.stand_behind()
@@ -634,7 +632,7 @@ def questions_take_turns() -> None:
 def past_rounds_are_bounded() -> None:
     """A process for a past round that the system stops is told as one that takes too long."""
     with tempfile.TemporaryDirectory(prefix="firm-") as folder:
-        python, sys.executable = sys.executable, firmd.stand_in(Path(folder), "#!/bin/sh\nkill -XCPU $$\n")
+        python, sys.executable = sys.executable, firmd_kit.stand_in(Path(folder), "#!/bin/sh\nkill -XCPU $$\n")
         try:
             asyncio.run(past_rounds.PastRounds(Path(folder)).before(TENANT, 1))
         except Refused as refusal:
@@ -718,8 +716,9 @@ def main() -> int:
     setup = Setup(options.program, options.quick, options.first)
     checks: dict[str, Check] = {check.__name__: check for check in QUICK}
     checks |= {check.__name__: partial(check, setup) for check in OVER_FIRMD}
-    chosen = {name.replace("_", " "): check for name, check in checks.items()}
-    return count_ends([passes(name, check) for name, check in chosen.items() if options.only in name])
+    named = {name.replace("_", " "): check for name, check in checks.items()}
+    chosen = {name: check for name, check in named.items() if options.only in name}
+    return run_suites(Suite(chosen))
 
 
 if __name__ == "__main__":

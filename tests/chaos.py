@@ -1,7 +1,6 @@
-#!/usr/bin/env python3
 """Kills and stops firmd, firm, the queue, agents and supervisors at random while users submit, and judges what ran.
 
-usage: tests/chaos.py [--quick] [--seconds S] [--seed N] [--program FILE]
+usage: tools/run tests/chaos.py [--quick] [--seconds S] [--seed N] [--program FILE]
 All are real: firmd with the built program, firm-queue, two of firm-agent, and the tasks' processes. Each attempt writes
 its begin and its end to a ledger of its own; from that and the database alone it is judged that each submission was
 made once, that no two attempts of a task ran at a time, and that each task ended once, or is told as lost. The last
@@ -26,7 +25,7 @@ from pathlib import Path
 
 from agent_kit import AGENT, is_there
 from harness import program
-from harness.checks import count_ends, passes, require, run_script
+from harness.checks import Suite, require, run_script, run_suites
 from queue_kills import Book, Submitter, judged_book
 from queue_kit import LIMIT_SECONDS, Case, Size
 
@@ -222,7 +221,7 @@ def main() -> int:
     program.add_program(parser)
     given = parser.parse_args()
     run = partial(chaos, given.program, given.seed, 5.0 if given.quick else given.seconds)
-    return count_ends([passes(f"chaos, seed {given.seed}", run)])
+    return run_suites(Suite({f"chaos, seed {given.seed}": run}))
 
 
 if __name__ == "__main__":

@@ -1,8 +1,7 @@
-#!/usr/bin/env python3
 """Compares the built program with the plain service of harness/service.py on random small streams and rosters.
 
-usage: tests/compare.py [--program FILE] [--under COMMAND] [--workers N] [--streams N] [--rosters N] [--first SEED]
-                        [--tasks T] [--pieces] [--noise] [--ages]
+usage: tools/run tests/compare.py [--program FILE] [--under COMMAND] [--workers N] [--streams N] [--rosters N]
+                                  [--first SEED] [--tasks T] [--pieces] [--noise] [--ages]
 Each difference has a line with its seed and is kept under out/tests; the exit status is 1 where there is one.
 """
 

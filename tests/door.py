@@ -1,7 +1,6 @@
-#!/usr/bin/env python3
 """Asks firmd through a door of HAProxy: whose lines go where, who is let in, and how tenants move and leaders change.
 
-usage: tests/door.py [--quick] [--program FILE] [--only WORDS]
+usage: tools/run tests/door.py [--quick] [--program FILE] [--only WORDS]
 --quick looks at tables and what is written from them. The rest needs Debian's haproxy, openssl and etcd-server; a check
 that can't be done here says so and is skipped. Each check has a line; the last line is 'N passed, M failed', and the
 exit status is 1 where one failed.
@@ -16,7 +15,6 @@ import signal
 import socket
 import ssl
 import subprocess
-import sys
 import tempfile
 import time
 from collections.abc import Callable, Iterator
@@ -25,9 +23,6 @@ from dataclasses import dataclass, field
 from functools import partial
 from pathlib import Path
 from typing import Any
-
-ROOT = Path(__file__).resolve().parents[1]
-sys.path.insert(0, str(ROOT / "service"))
 
 from etcd_kit import (
     Authority,
@@ -39,20 +34,21 @@ from etcd_kit import (
     program_path,
     require_programs,
     until,
-)  # noqa: E402
-from harness.checks import Skipped, count_ends, passes, require, run_script  # noqa: E402
-from harness.deployed import SERVICE  # noqa: E402
-from harness.guard import guard  # noqa: E402
-from harness.program import add_program  # noqa: E402
+)
+from harness.checks import Skipped, Suite, require, run_script, run_suites
+from harness.deployed import SERVICE
+from harness.guard import guard
+from harness.program import add_program
 
-from firm_service.door.moving import Move  # noqa: E402
-from firm_service.door.table import Table, TableError  # noqa: E402
-from firm_service.door.writing import map_text, write  # noqa: E402
-from firm_service.programs import program_of  # noqa: E402
-from firm_service.view_client import Service  # noqa: E402
+from firm_service.door.moving import Move
+from firm_service.door.table import Table, TableError
+from firm_service.door.writing import map_text, write
+from firm_service.programs import program_of
+from firm_service.view_client import Service
 
 HEADING = "tenant,nodes,arcs,life,spread,churn\n"
 KILLED_MOVES = 12
+SHORTEST_MOVE = 0.05  # seconds
 SILENCE_SECONDS = 6.0  # of a client of the door, whose leader is killed: a lease, and two looks of HAProxy
 TABLE = """\
 bind = "127.0.0.1:{door}"
@@ -411,7 +407,8 @@ def kill_moves(program: str, *how: str) -> None:
                 began = time.monotonic()
                 with suppress(subprocess.TimeoutExpired):
                     move.wait(draw.uniform(0, middle) if number else None)
-                middle = middle if number else time.monotonic() - began  # the first is not killed
+                if move.poll() is not None:  # as the first is, which is not killed
+                    middle = max(SHORTEST_MOVE, time.monotonic() - began)
                 move.kill()
             killed += record.exists()
             if number % 3 == 0:
@@ -501,6 +498,70 @@ def spawn(here: Door, replicas: Replicas, name: str) -> None:
     replicas.spawn(name, "--client", f"alpha={here.folder}/{name}/alpha")
 
 
+def moves_of_replicas(program: str) -> None:
+    """Between shards of replicas a tenant moves with its placements, waits and numbers, also right behind a leader's
+    end, and whichever leads then has it."""
+    require_state_program()
+    with door() as here, cluster(program, b"") as (_, found), ExitStack() as stack:
+        tenants = {"alpha": ["one", "two"], "gamma": ["two"]}
+        here.write({"one": ["a", "b"], "two": ["a", "b"]}, tenants)
+        table = here.table.read_text()
+        shards = {}
+        for shard, row in (("one", "alpha"), ("two", "gamma")):
+            folder = here.folder / shard
+            table = table.replace(f"{folder}.operator", f"{folder}/{{replica}}.operator")
+            table = table.replace(f'state = "{folder}"', f'state = "{folder}/{{replica}}"')
+            served = [one for one, where in tenants.items() if shard in where]
+            shards[shard] = Hosts(folder, found.urls, program, ["--etcd-prefix", f"/{shard}"], tenants=served)
+            stack.callback(shards[shard].stop)
+            folder.mkdir()
+            (folder / "roster.csv").write_text(HEADING + ROW.format("probe") + ROW.format(row))
+            shards[shard].begin(here, "a", "b")
+        here.table.write_text(table)
+        here.start("door")
+        for tenant in tenants:
+            until(partial(here.serves, tenant), f"{tenant} is served")
+        require(all(" ok" in reply for reply in here.ask("alpha", *WORK, "alpha task web c", "alpha round")), "rows")
+        number = int(here.ask("alpha", "alpha where c")[0].split()[1])
+        shards["one"].kill(shards["one"].leads())
+        shards["two"].kill(shards["two"].leads())
+        done = here.control("move", "alpha", "--to", "two")
+        require((done.returncode, done.stdout) == (0, "alpha is at two, its tasks run and wait on\n"), done)
+        shards["two"].revive()
+        until(lambda: "follows" in shards["two"].said(shards["two"].follower()), "the other replica follows")
+        require_moved_on(here, number)
+        time.sleep(1)  # in which it may have met the tenant's lines
+        shards["two"].kill(shards["two"].leads())
+        require_moved_on(here, number)
+        shards["one"].revive()
+        done = here.control("move", "alpha", "--to", "one", "--by-lines")
+        require(done.returncode == 0 and "alpha is at one, by 5 lines" in done.stdout, done)
+
+
+@dataclass
+class Hosts(Replicas):
+    """Each with sockets of its own for tenants, and its host's HAProxy."""
+
+    tenants: list[str] = field(default_factory=list)
+
+    def spawn(self, name: str, *options: str) -> subprocess.Popen[bytes]:
+        sockets = [word for one in self.tenants for word in ("--client", f"{one}={self.folder}/{name}-{one}")]
+        return super().spawn(name, *sockets, *options)
+
+    def begin(self, here: Door, *names: str) -> None:
+        for name in names:
+            path = here.folder / f"{self.folder.name}-{name}.cfg"
+            path.write_text(path.read_text().replace(f"{self.folder}-", f"{self.folder}/{name}-"))
+            self.spawn(name)
+            here.start(path.stem)
+
+
+def require_moved_on(here: Door, number: int) -> None:
+    until(lambda: here.serves("alpha"), "alpha is served")
+    replies = here.ask("alpha", "alpha where a", "alpha where c")
+    require(int(replies[0].split()[1]) > number and "at m1" in replies[0] and "waits 1" in replies[1], replies)
+
+
 # What is written.
 
 GOOD = TABLE.format(door=7443, folder="/etc/firm") + "".join(
@@ -565,7 +626,7 @@ def written_files() -> None:
 
 RULES: list[Callable[[], None]] = [faulty_tables, written_files]
 CHECKS: list[Callable[[str], None]] = [rights, names, moves, moves_by_lines, late_rows, killed_moves]
-CHECKS += [killed_moves_by_lines, refused_moves, leaders]
+CHECKS += [killed_moves_by_lines, refused_moves, moves_of_replicas, leaders]
 
 
 def main() -> int:
@@ -578,7 +639,8 @@ def main() -> int:
     checks: dict[str, Callable[[], None]] = {rule.__name__.replace("_", " "): rule for rule in RULES}
     if not options.quick:
         checks |= {check.__name__.replace("_", " "): partial(check, options.program) for check in CHECKS}
-    return count_ends([passes(name, check) for name, check in checks.items() if options.only in name])
+    chosen = {name: check for name, check in checks.items() if options.only in name}
+    return run_suites(Suite(chosen))
 
 
 if __name__ == "__main__":

@@ -1,7 +1,6 @@
-#!/usr/bin/env python3
 """Asks firm_explain from outside: its lines without the reasons are firm's, and tests/certificates takes its reasons.
 
-usage: tests/explain.py [--quick] [--program FILE] [--explain FILE] [WORD..]
+usage: tools/run tests/explain.py [--quick] [--program FILE] [--explain FILE] [WORD..]
 Reasons of each kind of stream at 3,000 tasks and 1,000 machines are accepted, also with --all, --why and --machine, and
 those of 3,000 random streams and of 400 with noise; 1,000 outputs with one number changed are not, nor by --claims a
 comment line removed, doubled, moved or with another word. Numbers that docs/EXPLAIN.md calls exact are, by a search
@@ -30,7 +29,7 @@ from typing import Any, Iterator, Mapping, NamedTuple
 
 import faults
 from harness import kinds, program, service
-from harness.checks import CannotRun, Check, count_ends, passes, require, run_script
+from harness.checks import CannotRun, Check, Suite, require, run_script, run_suites
 from harness.small_streams import random_stream, with_noise
 
 EXPLAIN = program.built("firm_explain")
@@ -629,7 +628,7 @@ def main() -> int:
     chosen = {
         name: check for name, check in checks(options).items() if not given.words or any(w in name for w in given.words)
     }
-    return count_ends([passes(name, check) for name, check in chosen.items()])
+    return run_suites(Suite(chosen))
 
 
 if __name__ == "__main__":

@@ -1,7 +1,6 @@
-#!/usr/bin/env python3
 """Refuses each request for memory and each thread of the built program in turn, and fails each read and write once.
 
-usage: tests/faults.py [--program FILE] [--under COMMAND] [--workers N] [--only PART] [--random N]
+usage: tools/run tests/faults.py [--program FILE] [--under COMMAND] [--workers N] [--only PART] [--random N]
 What did not end as it must has a line, and the exit status is 1 then. It needs a C compiler (cc) for refuse.c, which is
 preloaded into the program and refuses, fails or shortens chosen requests, on eight streams (on the longest only
 memory):
@@ -29,12 +28,13 @@ import struct
 import tempfile
 from collections import Counter
 from dataclasses import dataclass
+from functools import partial
 from itertools import count, product
 from pathlib import Path
 from typing import Callable, Collection, Iterator, Mapping, NamedTuple
 
 from harness import program, service
-from harness.checks import Missed, require, run_script
+from harness.checks import Missed, Suite, require, run_script, run_suites
 from harness.small_streams import random_stream
 
 HEADING = b",".join(service.HEADING) + b"\n"
@@ -93,7 +93,7 @@ MANY = "; ".join(
 # (its slots are one), 1 for a job, 4 for a task.
 OF_FIRST_ROWS = {b"alpha machine m1 2": 7, b"alpha job j 5": 5, b"alpha task j a": 9}
 # Both blocks of the tenant's net among them, and the tables in which its rounds are proposed.
-OF_AN_ADMISSION = {b"+ admit b,6,20,5,0,0": 77}
+OF_AN_ADMISSION = {b"+ admit b,6,20,5,0,0": 67}
 
 STREAMS = {
     "one round": Stream(b"alpha,9,24,100,1,2\n", for_tenant("alpha", SPREAD)),
@@ -310,16 +310,11 @@ PARTS: dict[str, Part] = {
 }
 
 
-def is_kept(runs: Runs, stream: str, name: str, part: Part) -> bool:
-    """Whether a part of a stream's runs ended as promised."""
-    try:
-        ends = part(runs, STREAMS[stream])
-    except Missed as missed:
-        print(f"MISSED: {stream}, {name}: {missed}", flush=True)
-        return False
+def is_kept(runs: Runs, stream: str, name: str, part: Part) -> None:
+    """A part of a stream's runs ends as promised."""
+    ends = part(runs, STREAMS[stream])
     told = "; ".join(f"{number} x {end}" for end, number in ends.counts.items())
     print(f"{stream}, {name} ({ends.done}): {told}", flush=True)
-    return True
 
 
 def read_options() -> Options:
@@ -347,8 +342,8 @@ def main() -> int:
         ]
         if options.only in (None, "memory"):
             parts.append(("a drain", "memory of a request for help", refuse_memory_of_help))
-        kept = [is_kept(runs, *part) for part in parts]
-    return 0 if all(kept) else 1
+        checks = {f"{stream}, {name}": partial(is_kept, runs, stream, name, part) for stream, name, part in parts}
+        return run_suites(Suite(checks))
 
 
 if __name__ == "__main__":

@@ -1,7 +1,6 @@
-#!/usr/bin/env python3
 """Asks firm-queue as users, operators and agents do, kills it, and looks whether anything is lost or done twice.
 
-usage: tests/firm_queue.py [--quick] [--only WORDS] [--program FILE] [--seed N]
+usage: tools/run tests/firm_queue.py [--quick] [--only WORDS] [--program FILE] [--seed N]
 Each check has a line; the last line is 'N passed, M failed', and the exit status is 1 where one failed. It needs Python
 3 and the built program, which a real firmd runs; agents are stand-ins that speak the protocol. Users and full disks are
 asked as root alone. What can't be asked here is said and skipped. --quick kills less often, and leaves out figures.
@@ -21,7 +20,6 @@ import sys
 import tempfile
 import time
 from collections.abc import Callable
-from concurrent.futures import ThreadPoolExecutor
 from contextlib import closing, suppress
 from functools import partial
 from pathlib import Path
@@ -32,7 +30,7 @@ import queue_hostile
 import queue_kills
 import queue_tables
 from harness import program
-from harness.checks import Check, Skipped, count_ends, passes, require, run_script
+from harness.checks import Check, Skipped, Suite, require, run_script, run_suites
 from harness.deployed import SERVICE, columns
 from queue_kit import FOREVER, Case, Client, Json, Setup, Size, asked_of_firm, claim_place
 
@@ -725,8 +723,7 @@ def main() -> int:
     given = parser.parse_args()
     setup = Setup(given.program, given.quick, given.seed)
     chosen = {name: check for name, check in checks(setup).items() if given.only in name}
-    with ThreadPoolExecutor(CHECKS_AT_A_TIME) as pool:
-        return count_ends(list(pool.map(passes, chosen.keys(), chosen.values())))
+    return run_suites(Suite(chosen, CHECKS_AT_A_TIME))
 
 
 if __name__ == "__main__":

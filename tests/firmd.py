@@ -1,7 +1,6 @@
-#!/usr/bin/env python3
 """Asks firmd as many clients do, kills it, fills its disk, takes its firm away, and looks whether anything is lost.
 
-usage: tests/firmd.py [--quick] [--program FILE] [--only WORDS] [--seed N]
+usage: tools/run tests/firmd.py [--quick] [--program FILE] [--only WORDS] [--seed N]
 Each check has a line; the last line is 'N passed, M failed', and the exit status is 1 where one failed. --quick needs
 Python 3 and the built program alone; the rest needs a C compiler for refuse.c, and root for a small file system to fill
 and one to write-protect. What can't be asked here is said and skipped.
@@ -12,342 +11,57 @@ from __future__ import annotations
 import argparse
 import os
 import random
-import re
 import shutil
 import signal
 import socket
 import stat
 import subprocess
-import sys
 import tempfile
 import threading
 import time
-from collections.abc import Callable, Iterator, Sequence
-from concurrent.futures import ThreadPoolExecutor
-from contextlib import contextmanager, suppress
-from dataclasses import dataclass, field
+from collections.abc import Callable
+from contextlib import suppress
 from functools import partial
-from pathlib import Path
 
+from firmd_disks import (
+    denied_rights,
+    failed_sync,
+    full_disk,
+    group_commit,
+    limit_files,
+    no_rights,
+    read_only,
+    small_file_system,
+    syncs_of_starts,
+)
+from firmd_kit import (
+    CHECKS_AT_A_TIME,
+    FIRMD,
+    HEADING,
+    JOURNAL_TOOL,
+    REPLY_SECONDS,
+    ROSTER,
+    ROWS,
+    SHOWN,
+    Answered,
+    Client,
+    Daemon,
+    Gone,
+    Setup,
+    Tenant,
+    check_alone,
+    check_kept,
+    converse,
+    in_threads,
+    memory_kilobytes,
+    roster_of,
+    stand_in,
+    wait_for,
+)
 from harness import program, service
-from harness.checks import Skipped, count_ends, passes, print_skipped, require, run_script
-from harness.deployed import SERVICE, Books
-from harness.small_streams import Stream, random_stream
-
-NO_LIMITS = service.Limits(2, 0, 1, 0, 0)
-FIRMD = [sys.executable, str(SERVICE / "firmd")]
-JOURNAL_TOOL = [sys.executable, str(SERVICE / "firm-journal")]
-CHECKS_AT_A_TIME = 4
-HEADING = b"tenant,nodes,arcs,life,spread,churn\n"
-ROSTER = HEADING + b"alpha,30,300,1000000000,1,2\nbeta,30,300,1000000000,0,3\n"
-START_SECONDS = 60
-NOBODY = 65534  # a user and a group without rights of their own
-REPLY_SECONDS = 20
-ROWS = [
-    b"alpha machine m1 2",
-    b"alpha job j 10",
-    b"alpha task j a",
-    b"beta machine m1 1",
-    b"beta job low 2",
-    b"beta task low l",
-]
-SHOWN = b"ok machines 1 jobs 1 tasks 1 running %d nodes 5 of 30 arcs 7 of 300"
-
-
-class Gone(Exception):
-    """The daemon has left, or closed the connection."""
-
-
-class Client:
-    """A connection to a socket of firmd."""
-
-    def __init__(self, path: Path) -> None:
-        self.socket = socket.socket(socket.AF_UNIX)
-        self.socket.settimeout(REPLY_SECONDS)
-        try:
-            self.socket.connect(str(path))
-        except OSError as error:
-            raise Gone from error
-        self.received = b""
-
-    def __enter__(self) -> Client:
-        return self
-
-    def __exit__(self, *_: object) -> None:
-        self.socket.close()
-
-    def send(self, text: bytes) -> None:
-        try:
-            self.socket.sendall(text)
-        except ConnectionError as error:
-            raise Gone from error
-
-    def reply(self) -> bytes:
-        """The next line, without its end."""
-        while b"\n" not in self.received:
-            try:
-                more = self.socket.recv(65536)
-            except ConnectionError as error:
-                raise Gone from error
-            if not more:
-                raise Gone
-            self.received += more
-        line, self.received = self.received.split(b"\n", 1)
-        return line
-
-    def ask(self, line: bytes) -> bytes:
-        self.send(line + b"\n")
-        return self.reply()
-
-    def rest(self) -> bytes:
-        """All that is sent until the connection is closed."""
-        with suppress(ConnectionError):
-            while more := self.socket.recv(65536):
-                self.received += more
-        return self.received
-
-    def end(self) -> bytes:
-        """The same, once nothing more is asked."""
-        self.socket.shutdown(socket.SHUT_WR)
-        return self.rest()
-
-
-@dataclass
-class Daemon:
-    """firmd, over a state in a folder of its own."""
-
-    folder: Path
-    firm: str
-    options: list[str] = field(default_factory=list)
-    words: list[str] = field(default_factory=lambda: FIRMD)
-    restored: Path | None = None  # the state to begin with, instead of the roster
-    process: subprocess.Popen[bytes] | None = None
-
-    @property
-    def state(self) -> Path:
-        return self.folder / "state"
-
-    @property
-    def any(self) -> Path:
-        return self.folder / "any"
-
-    @property
-    def operator(self) -> Path:
-        return self.folder / "operator"
-
-    def spawn(self) -> subprocess.Popen[bytes]:
-        words = [*self.words, "--firm", self.firm, "--state", str(self.state)]
-        words += ["--restore", str(self.restored)] if self.restored else ["--roster", str(self.folder / "roster.csv")]
-        words += ["--socket", str(self.any), "--operator", str(self.operator), *self.options]
-        with open(self.folder / "errors", "wb") as errors:
-            self.process = subprocess.Popen(words, stdin=subprocess.DEVNULL, stderr=errors)
-        return self.process
-
-    def start(self) -> Daemon:
-        """Starts it and waits until it serves."""
-        process, ends = self.spawn(), time.monotonic() + START_SECONDS
-        while b"firmd: ready" not in self.said():
-            require(process.poll() is None, f"it ended with status {process.poll()}: {self.said().decode()}")
-            require(time.monotonic() < ends, "it is not ready in time")
-            time.sleep(0.005)
-        return self
-
-    def said(self) -> bytes:
-        return (self.folder / "errors").read_bytes()
-
-    def running(self) -> subprocess.Popen[bytes]:
-        require(self.process is not None, "it was started")
-        return self.process  # type: ignore[return-value]
-
-    def status(self) -> int:
-        """Its exit status, once it ends by itself."""
-        return self.running().wait(START_SECONDS)
-
-    def refuses(self, status: int, *texts: str) -> None:
-        """Asks that it ends at its start, with this status and these words."""
-        self.spawn()
-        got = self.status()
-        said = self.said().decode()
-        require(got == status and all(text in said for text in texts), f"status {got}: {said}")
-
-    def stop(self, number: int = signal.SIGTERM) -> None:
-        self.running().send_signal(number)
-        status, said = self.status(), self.said().decode()
-        require(status == 0 and "Traceback" not in said, f"status {status} at its stop: {said}")
-
-    def kill(self) -> None:
-        process = self.running()
-        process.kill()
-        process.wait()
-
-    def client(self) -> Client:
-        return Client(self.any)
-
-    def firm_process(self) -> int:
-        pid = self.running().pid
-        return int(Path(f"/proc/{pid}/task/{pid}/children").read_text().split()[0])
-
-    def segments(self) -> list[Path]:
-        return sorted((self.state / "journal").glob("*.lines"))
-
-    def journal(self) -> bytes:
-        """The lines, without the journal's own headings."""
-        return b"".join(map(lines_of, self.segments()))
-
-
-def lines_of(segment: Path) -> bytes:
-    """The lines of a segment, without the journal's own headings."""
-    return re.sub(rb"(?m)^#.*\n", b"", segment.read_bytes())
-
-
-@dataclass(frozen=True)
-class Setup:
-    """What the checks run, and how much of it."""
-
-    program: str
-    is_quick: bool
-    seed: int
-
-    @contextmanager
-    def daemon(self, *options: str, roster: bytes = ROSTER, firm: str | None = None) -> Iterator[Daemon]:
-        """A daemon in a new folder, which is not started yet; nothing of it is left behind."""
-        with tempfile.TemporaryDirectory(prefix="firmd-") as name:
-            folder = Path(name)
-            (folder / "roster.csv").write_bytes(roster)
-            daemon = Daemon(folder, firm or self.program, list(options))
-            try:
-                yield daemon
-            finally:
-                if daemon.process is not None and daemon.process.poll() is None:
-                    daemon.kill()
-
-    def alone(self, roster: bytes, text: bytes) -> list[bytes]:
-        """The replies of firm alone."""
-        with program.Roster(roster) as path:
-            done = program.run([self.program], path, text)
-        require((done.status, done.faults) == (0, b""), f"firm alone: {done.status} {done.faults!r}")
-        output: bytes = done.output
-        return output.splitlines()
-
-
-def stand_in(folder: Path, text: str) -> str:
-    """A program in the place of firm."""
-    path = folder / "stand-in"
-    path.write_text(text)
-    path.chmod(0o755)
-    return str(path)
-
-
-def wait_for(holds: Callable[[], bool], what: str, seconds: float = REPLY_SECONDS) -> None:
-    ends = time.monotonic() + seconds
-    while not holds():
-        require(time.monotonic() < ends, f"{what}, in time")
-        time.sleep(0.005)
-
-
-def memory_kilobytes(pid: int) -> int:
-    """What a process has in memory."""
-    found = re.search(r"VmRSS:\s+([0-9]+)", Path(f"/proc/{pid}/status").read_text())
-    return int(found[1]) if found else 0
-
-
-# Random clients.
-
-
-@dataclass(frozen=True)
-class Answered:
-    line: bytes
-    reply: bytes
-
-
-class Tenant:
-    """The lines of one tenant, for several clients at a time."""
-
-    def __init__(self, name: str, seed: int) -> None:
-        self.name = name
-        self.lock = threading.Lock()
-        self.stream = Stream(random.Random(seed), [name], 6)
-        self.stream.operators = 0
-        self.opening = self.stream.opening()
-        self.answered: list[Answered] = []
-
-    def lines(self, count: int) -> list[bytes]:
-        with self.lock:
-            first, self.opening = self.opening, []
-            found: list[bytes] = first + [self.stream.line() for _ in range(count)]
-            return found
-
-    def tell(self, answered: Answered) -> None:
-        with self.lock:
-            self.answered.append(answered)
-
-
-def expected_note(line: bytes, is_bound: bool, tenant: str) -> bytes | None:
-    """What firmd itself says to a line: None where it is firm's to answer."""
-    line = line.removesuffix(b"\r")
-    words = re.split(rb"[ \t]+", line.strip(b" \t"))
-    if len(line) > 256:
-        return None
-    if is_bound:
-        return None if words[0] == tenant.encode() else b"? other-tenant"
-    return b"? operator-only" if words[0] == b"+" else None
-
-
-def converse(tenant: Tenant, client: Client, is_bound: bool, draw: random.Random, count: int) -> None:
-    """Sends a number of lines in bursts that are cut anywhere; each reply must be for its line."""
-    nobody = service.Service({})
-    while count > 0:
-        lines = tenant.lines(min(count, draw.choice([1, 1, 2, 5, 20])))
-        count -= len(lines)
-        text = b"".join(line + b"\n" for line in lines)
-        cuts = sorted(draw.choices(range(len(text) + 1), k=draw.choice([0, 0, 1, 3])))
-        for start, end in zip([0, *cuts], [*cuts, len(text)]):
-            client.send(text[start:end])
-        for line in lines:
-            if service.answer_line(nobody, line.removesuffix(b"\r")) is None:
-                continue
-            reply = client.reply()
-            note = expected_note(line, is_bound, tenant.name)
-            require(reply.split(b":")[0] == note if note else not reply.startswith(b"?"), f"{reply!r} to {line!r}")
-            if note is None:
-                tenant.tell(Answered(line, reply))
-
-
-def in_threads(works: Sequence[Callable[[], None]]) -> list[BaseException]:
-    """Does all at a time; what was raised."""
-    raised: list[BaseException] = []
-
-    def run(work: Callable[[], None]) -> None:
-        try:
-            work()
-        except BaseException as error:
-            raised.append(error)
-
-    threads = [threading.Thread(target=run, args=(work,)) for work in works]
-    for thread in threads:
-        thread.start()
-    for thread in threads:
-        thread.join()
-    return raised
-
-
-def roster_of(tenants: list[Tenant]) -> bytes:
-    return HEADING + b"".join(b"%s,30,300,1000000000,1,2\n" % tenant.name.encode() for tenant in tenants)
-
-
-def check_alone(setup: Setup, tenant: Tenant) -> None:
-    """A tenant's replies, all of them told, are those of a firm that holds it alone."""
-    own = [answered for answered in tenant.answered if not answered.reply.startswith(b"!")]
-    own.sort(key=lambda answered: int(answered.reply.split()[1]))
-    alone = setup.alone(roster_of([tenant]), b"".join(answered.line + b"\n" for answered in own))
-    require([answered.reply for answered in own] == alone, f"{tenant.name}: other replies than alone")
-    for answered in tenant.answered:
-        if answered.reply.startswith(b"!"):
-            wanted = service.answer_line(
-                service.Service({tenant.name: service.Tenant(tenant.name, NO_LIMITS)}),
-                answered.line.removesuffix(b"\r"),
-            )
-            require(answered.reply == wanted, f"{answered.reply!r} to {answered.line!r}")
+from harness.checks import Suite, print_skipped, require, run_script, run_suites
+from harness.deployed import Books
+from harness.small_streams import random_stream
 
 
 def many_clients(setup: Setup) -> None:
@@ -411,19 +125,6 @@ def kills(setup: Setup, part: int) -> None:
         check_kept(setup, daemon.journal(), tenants)
 
 
-def check_kept(setup: Setup, journal: bytes, tenants: list[Tenant]) -> None:
-    """Each line that was answered stands in the journal, and firm alone answers it the same from there."""
-    lines = journal.split(b"\n")[:-1]
-    alone = setup.alone(roster_of(tenants), journal)
-    require(len(lines) == len(alone), "a reply for each line of the journal")
-    kept = {tuple(reply.split()[:2]): (line, reply) for line, reply in zip(lines, alone)}
-    for tenant in tenants:
-        for answered in tenant.answered:
-            if not answered.reply.startswith(b"!"):
-                found = kept.get(tuple(answered.reply.split()[:2]))
-                require(found == (answered.line, answered.reply), f"{found} and not {answered}")
-
-
 def torn_line(setup: Setup) -> None:
     """A last record that is not whole is cut off, wherever it was torn; what was answered stays."""
     with setup.daemon() as daemon:
@@ -465,232 +166,6 @@ def other_firm(setup: Setup) -> None:
         daemon.start()
         with daemon.client() as client:
             require(client.ask(b"alpha costs").startswith(b"alpha "), "it serves")
-        daemon.stop()
-
-
-def full_disk(setup: Setup, make_full: Callable[[Daemon], Callable[[], None]]) -> None:
-    """A journal that can't grow stops the service with a clear error; what was answered is there once there is room."""
-    with setup.daemon() as daemon:
-        make_room = make_full(daemon)
-        try:
-            daemon.start()
-            answered = []
-            with daemon.client() as client, suppress(Gone):
-                for number in range(100_000):
-                    answered.append(client.ask((b"alpha machine x%d 65" % number if number else ROWS[0]).ljust(250)))
-            require(daemon.status() == 4 and b"cannot write the journal" in daemon.said(), daemon.said())
-            require(len(answered) > 10 and answered[-1] != b"", "lines were answered")
-            require(
-                daemon.journal().count(b"\n") == len([reply for reply in answered if not reply.startswith(b"?")]),
-                "its lines",
-            )
-            daemon.start()  # which needs no room
-            daemon.kill()
-            make_room()
-            daemon.words = FIRMD
-            daemon.start()
-            with daemon.client() as client:
-                number = len([reply for reply in answered if not reply.startswith(b"?")]) + 1
-                require(client.ask(b"alpha show").startswith(b"alpha %d ok machines 1 " % number), "the state")
-            daemon.stop()
-        finally:
-            make_room()
-
-
-def limit_files(daemon: Daemon) -> Callable[[], None]:
-    """No file of firmd's may have more than 30,000 bytes."""
-    if shutil.which("prlimit") is None:
-        raise Skipped("there is no prlimit")
-    daemon.words = ["prlimit", "--fsize=30000", *FIRMD]
-    return lambda: None
-
-
-def mount(path: Path, *options: str) -> None:
-    done = subprocess.run(["mount", *options, str(path)], capture_output=True, text=True)
-    if done.returncode:
-        raise Skipped(f"no file system can be mounted here: {done.stderr.strip()}")
-
-
-def small_file_system(daemon: Daemon) -> Callable[[], None]:
-    """Puts the state on a file system of 128 kB; what is given makes it larger."""
-    daemon.state.mkdir()
-    mount(daemon.state, "-t", "tmpfs", "-o", "size=128k", "tmpfs")
-    rooms: list[str] = []
-
-    def make_room() -> None:
-        if not rooms:
-            mount(daemon.state, "-o", "remount,size=8m")
-            rooms.append("made")
-        else:
-            subprocess.run(["umount", "-l", str(daemon.state)], check=True)
-
-    return make_room
-
-
-def no_rights(setup: Setup) -> None:
-    """A state or a journal that can't be written or read."""
-    with setup.daemon() as daemon:
-        daemon.state.write_bytes(b"")
-        daemon.refuses(4, "cannot use the state", "Not a directory")
-        daemon.state.unlink()
-        daemon.start().stop()
-        journal = daemon.state / "journal"
-        journal.rename(daemon.folder / "away")
-        journal.write_bytes(b"")
-        daemon.refuses(4, "cannot open the journal", "Not a directory")
-        journal.unlink()
-        (daemon.folder / "away").rename(journal)
-        (journal / "00000001.lines").unlink()
-        (journal / "00000001.lines").mkdir()
-        daemon.refuses(4, "cannot open the journal", "Is a directory")
-
-
-def unprivileged(daemon: Daemon) -> list[str]:
-    """Words in front of a program that run it without root's rights; gives it the daemon's folder."""
-    if os.geteuid() != 0:
-        return []
-    words = ["setpriv", f"--reuid={NOBODY}", f"--regid={NOBODY}", "--clear-groups"]
-    if shutil.which("setpriv") is None:
-        raise Skipped("root has all rights, and there is no setpriv")
-    for path in (SERVICE / "firmd", Path(daemon.firm)):
-        if subprocess.run([*words, "test", "-r", str(path)]).returncode:
-            raise Skipped(f"others than root can't read {path}")
-    for path in (daemon.folder, *daemon.folder.iterdir()):
-        os.chown(path, NOBODY, NOBODY)
-    return words
-
-
-def denied_rights(setup: Setup) -> None:
-    """A state, a journal and a segment whose mode denies access, before the start and while it serves."""
-    with setup.daemon("--segment-bytes", "1000") as daemon:
-        daemon.words = [*unprivileged(daemon), *FIRMD]
-        daemon.start()
-        journal = daemon.state / "journal"
-        replies = []
-        with daemon.client() as client, suppress(Gone):
-            replies += [client.ask(line) for line in ROWS]
-            journal.chmod(0o500)  # what is there can be read and grow, and no segment can be begun
-            while not replies[-1].startswith(b"?"):
-                replies.append(client.ask(b"alpha show"))
-        require(daemon.status() == 4 and b"cannot write the journal" in daemon.said(), daemon.said())
-        require(b"Permission denied" in daemon.said() and len(replies) > len(ROWS), daemon.said())
-        journal.chmod(0o700)
-        denied = [
-            (daemon.segments()[-1], "cannot open the journal"),
-            (daemon.state, "cannot use the state"),
-            (journal, "cannot open the journal"),
-            (daemon.state / "lock", "cannot use the state"),
-        ]
-        for path, text in denied[:2] if setup.is_quick else denied:
-            mode = stat.S_IMODE(path.stat().st_mode)
-            path.chmod(0)
-            daemon.refuses(4, text, "Permission denied")
-            path.chmod(mode)
-        daemon.start()
-        with daemon.client() as client:
-            answered = [reply for reply in replies if reply.startswith(b"alpha ")]
-            require(client.ask(b"alpha show") == b"alpha %d " % (len(answered) + 1) + SHOWN % 0, "the rows")
-        daemon.stop()
-
-
-def read_only(setup: Setup) -> None:
-    """A state on a write-protected file system, before the start and while it serves."""
-    with setup.daemon() as daemon:
-        make_room = small_file_system(daemon)
-        try:
-            daemon.start()
-            with daemon.client() as client:
-                require(client.ask(ROWS[0]) == b"alpha 1 ok", "a reply")
-            daemon.stop()
-            mount(daemon.state, "-o", "remount,ro")
-            daemon.refuses(4, "cannot use the state", "Read-only file system")
-        finally:
-            make_room()
-            make_room()
-
-
-PATCHED = """\
-import os, sys, time
-sys.path.insert(0, {service!r})
-count = 0
-def patched(name, real):
-    def sync(file):
-        global count
-        path = os.path.basename(os.readlink(f"/proc/self/fd/{{file}}"))
-        is_of_lines = name == "fdatasync" and path != "extent"
-        count += is_of_lines
-        with open({log!r}, "a") as log:
-            print(name, path, file=log)
-        if is_of_lines:
-            {action}
-        real(file)
-    return sync
-os.fsync, os.fdatasync = patched("fsync", os.fsync), patched("fdatasync", os.fdatasync)
-from firm_service.daemon import main
-sys.exit(main())
-"""
-
-
-def patch_sync(daemon: Daemon, action: str) -> Path:
-    """Lets each sync of lines do something first; gives the file with a line for each sync: its call and the file."""
-    script, log = daemon.folder / "patched.py", daemon.folder / "syncs"
-    script.write_text(PATCHED.format(service=str(SERVICE), log=str(log), action=action))
-    daemon.words = [sys.executable, str(script)]
-    return log
-
-
-def group_commit(setup: Setup) -> None:
-    """Lines that wait share a sync, and none is answered before its own."""
-    with setup.daemon() as daemon:
-        log = patch_sync(daemon, "time.sleep(0.2)")
-        daemon.start()
-        clients = [daemon.client() for _ in range(20)]
-        began = time.monotonic()
-        for client in clients:
-            client.send(b"alpha show\n")
-        replies = [client.reply() for client in clients]
-        seconds = time.monotonic() - began
-        require(len(set(replies)) == 20, replies)
-        syncs = log.read_text().count("fdatasync 0")
-        require(1 <= syncs <= 3 and 0.2 * syncs <= seconds < 2, f"{syncs} syncs, {seconds:.2f} s")
-        daemon.stop()
-
-
-def failed_sync(setup: Setup) -> None:
-    """A sync that fails stops the service, and the line is neither answered nor obeyed."""
-    with setup.daemon() as daemon:
-        patch_sync(daemon, 'if count == 3: raise OSError(5, "Input/output error")')
-        daemon.start()
-        with daemon.client() as client:
-            require([client.ask(line) for line in ROWS[:2]] == [b"alpha 1 ok", b"alpha 2 ok"], "replies")
-            client.send(ROWS[2] + b"\n")
-            require(client.rest() == b"? stopping: no further lines are taken\n", client.received)
-        require(daemon.status() == 4 and b"cannot write the journal" in daemon.said(), daemon.said())
-        daemon.words = FIRMD
-        daemon.start()
-        with daemon.client() as client:
-            require(b" tasks 0 " in client.ask(b"alpha show"), "the line was obeyed")
-
-
-def syncs_of_starts(setup: Setup) -> None:
-    """A start syncs what a killed daemon wrote without a sync, and its name, before firm has a line of it."""
-    with setup.daemon("--segment-bytes", "40") as daemon:
-        log = patch_sync(daemon, "time.sleep(1000) if count == 3 else None")
-        daemon.start()
-        with daemon.client() as client:
-            require([client.ask(line) for line in ROWS[:2]] == [b"alpha 1 ok", b"alpha 2 ok"], "replies")
-            client.send(ROWS[2] + b"\n")
-            wait_for(lambda: log.read_text().endswith("fdatasync 00000003.lines\n"), "a line that is not synced")
-            daemon.kill()
-        require(daemon.journal().endswith(ROWS[2] + b"\n") and len(daemon.segments()) == 3, "it is written")
-        log.unlink()
-        daemon.firm = stand_in(daemon.folder, f"#!/bin/sh\necho firm >>'{log}'\nexec '{setup.program}' \"$@\"\n")
-        daemon.start()
-        before, _, behind = log.read_text().partition("firm\n")
-        wanted = {"fsync 00000003.lines", "fsync journal", "fdatasync extent"}
-        require(wanted <= set(before.splitlines()), f"{before!r}, then {behind!r}")
-        with daemon.client() as client:
-            require(client.ask(ROWS[2]).startswith(b"alpha 4 no 9 "), "the line is obeyed")
         daemon.stop()
 
 
@@ -1128,8 +603,7 @@ def main() -> int:
         left_out = [*map(name_of, LONG), "full disk, a file system"]
         print_skipped(", ".join(left_out), "--quick asks nothing that needs root, a C compiler or a minute")
     chosen = {name: check for name, check in checks(setup).items() if options.only in name}
-    with ThreadPoolExecutor(CHECKS_AT_A_TIME) as pool:
-        return count_ends(list(pool.map(passes, chosen.keys(), chosen.values())))
+    return run_suites(Suite(chosen, CHECKS_AT_A_TIME))
 
 
 if __name__ == "__main__":

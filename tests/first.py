@@ -1,7 +1,6 @@
-#!/usr/bin/env python3
 """Checks that the built program's rounds are the first of the least placements, for more tasks than can be tried out.
 
-usage: tests/first.py [--program FILE] [--sizes 40x8,100x20] [--kinds fresh,..] [--seeds N]
+usage: tools/run tests/first.py [--program FILE] [--sizes 40x8,100x20] [--kinds fresh,..] [--seeds N]
 Runs the streams of harness/kinds.py and hands each round to first.cc, which solves the rest anew by LEMON's network
 simplex for each choice that ranks before one that was taken. It needs a C++ compiler and LEMON (Debian's
 liblemon-dev). The exit status is 1 where a round is wrong.

@@ -1,8 +1,7 @@
-#!/usr/bin/env python3
 """Hammers each sleep: a thread that finds nothing sleeps at once, and what a test of the gate does a thousand times is
 done ten thousand times or a million.
 
-usage: tests/hammer.py [--seconds N] [--control]
+usage: tools/run tests/hammer.py [--seconds N] [--control]
 It needs the kit, and runs the tests of firm_worker_tests by `rt try --test`, which proves nothing, on a copy of the
 crates: there a thread looks for nothing more before it sleeps, and the counts of the tests are raised. The tests
 themselves ask that their counts are reached; one that hangs fails at the limit of seconds. Each has a line; the exit

@@ -1,7 +1,6 @@
-#!/usr/bin/env python3
 """Does to firmd what hostile tenants, readers and a poor host can do, and looks whether all others are served.
 
-usage: tests/hostile.py [--quick] [--only WORDS] [--program FILE] [--seed N]
+usage: tools/run tests/hostile.py [--quick] [--only WORDS] [--program FILE] [--seed N]
 Each check has a line; the last line is 'N passed, M failed', and the exit status is 1 where one failed. It needs Python
 3 and the built program; HTTP needs python3-aiohttp and python3-prometheus-client, for this Python or Debian's, and
 descriptors prlimit. What can't be asked here is said and skipped. --quick sends fewer HTTP requests.
@@ -26,11 +25,11 @@ from contextlib import ExitStack, contextmanager, suppress
 from functools import cache, partial
 from pathlib import Path
 
-import firmd
-from firmd import FIRMD, ROWS, Client, Daemon, Gone, Setup, wait_for
+import firmd_kit
+from firmd_kit import FIRMD, ROWS, Client, Daemon, Gone, Setup, wait_for
 from harness import program
-from harness.checks import Check, Skipped, count_ends, passes, print_skipped, require, run_script
-from harness.deployed import HIGH_WATER, SERVICE, TICK_SECONDS
+from harness.checks import Check, Skipped, Suite, print_skipped, require, run_script, run_suites
+from harness.deployed import HIGH_WATER, TICK_SECONDS
 from journal_kit import MOVED, QUESTIONS
 
 CHECKS_AT_A_TIME = 4
@@ -112,7 +111,7 @@ def names_of_refusals(setup: Setup) -> None:
                 daemon.start()
                 with daemon.client() as client:
                     text = b"".join(line + b"\n" for line in [*daemon.journal().splitlines(), *QUESTIONS])
-                    wanted = setup.alone(firmd.ROSTER, text)[-len(QUESTIONS) :]
+                    wanted = setup.alone(firmd_kit.ROSTER, text)[-len(QUESTIONS) :]
                     require([client.ask(line) for line in QUESTIONS] == wanted, "other replies than before")
                     require(wanted[-1].endswith(b" at memory"), wanted)
             daemon.stop()
@@ -187,7 +186,6 @@ def hostile_requests(setup: Setup) -> None:
 
 PATCHED = """\
 import sys
-sys.path.insert(0, {service!r})
 {patch}
 from firm_service.{program} import main
 sys.exit(main())
@@ -214,7 +212,7 @@ if {has_http}:
 def patched(daemon: Daemon, name: str, program: str, text: str) -> str:
     """A script that runs a program with parts in the place of its own."""
     script = daemon.folder / name
-    script.write_text(PATCHED.format(service=str(SERVICE), program=program, patch=text))
+    script.write_text(PATCHED.format(program=program, patch=text))
     return str(script)
 
 
@@ -268,7 +266,7 @@ def crowd(path: Path, count: int) -> Iterator[None]:
     with ExitStack() as held:
         for _ in range(count):
             client = held.enter_context(socket.socket(socket.AF_UNIX))
-            client.settimeout(firmd.REPLY_SECONDS)
+            client.settimeout(firmd_kit.REPLY_SECONDS)
             client.connect(str(path))
         yield
 
@@ -302,7 +300,6 @@ FILLED = """\
 import os, resource, sys
 from pathlib import Path
 from zlib import crc32
-sys.path.insert(0, {service!r})
 from firm_service.journal import Journal, Room
 from firm_service.records import Batch
 from firm_service.state import State
@@ -329,15 +326,14 @@ def spare_descriptor(setup: Setup) -> None:
     """The descriptor that is held for segments is there for each, while others take all that become free."""
     with setup.daemon() as daemon:
         daemon.state.mkdir()
-        (daemon.state / "roster.csv").write_bytes(firmd.ROSTER)
-        script = FILLED.format(service=str(SERVICE), state=str(daemon.state))
+        (daemon.state / "roster.csv").write_bytes(firmd_kit.ROSTER)
+        script = FILLED.format(state=str(daemon.state))
         done = subprocess.run([sys.executable, "-c", script], capture_output=True, text=True)
         require(done.stdout == "5\n", done.stderr)
 
 
 LACKING = """\
 import os, sys
-sys.path.insert(0, {service!r})
 from firm_service import journal, relief
 is_asked, has_room = [], []
 def relieve(self, error):
@@ -374,9 +370,9 @@ def refusals_in_shortages(setup: Setup) -> None:
     for is_write in (True, False):
         with setup.daemon("--segment-bytes", "400") as daemon:
             script = daemon.folder / "lacking.py"
-            script.write_text(LACKING.format(service=str(SERVICE), is_write=is_write))
+            script.write_text(LACKING.format(is_write=is_write))
             daemon.words = [sys.executable, str(script)]
-            daemon.firm = firmd.stand_in(daemon.folder, REFUSING.format(python=sys.executable))
+            daemon.firm = firmd_kit.stand_in(daemon.folder, REFUSING.format(python=sys.executable))
             daemon.start()
             with daemon.client() as client:
                 client.send(b"alpha machine refused 1\n")
@@ -601,8 +597,7 @@ def main() -> int:
     if python_with_http() is None:
         print_skipped("unforeseen faults, in the page", NO_HTTP)
     chosen = {name: check for name, check in named.items() if options.only in name}
-    with ThreadPoolExecutor(CHECKS_AT_A_TIME) as pool:
-        return count_ends(list(pool.map(passes, chosen.keys(), chosen.values())))
+    return run_suites(Suite(chosen, CHECKS_AT_A_TIME))
 
 
 if __name__ == "__main__":

@@ -1,7 +1,6 @@
-#!/usr/bin/env python3
 """Tries every interleaving of the places where a thread sleeps until another wakes it, one atomic step at a time.
 
-usage: tests/interleavings.py
+usage: tools/run tests/interleavings.py
 A model has the steps of the code on the words that its threads share. A wake-up is lost where no thread can step any
 more and one sleeps although what it waits for is there; and a round, where it is left behind the last worker of a hall
 that was shut. The code's form must lose nothing in any interleaving, and each of its runs must end; each wrong form is
@@ -14,12 +13,12 @@ out. So are the looks but for one before each announcement.
 
 from __future__ import annotations
 
-import time
 from collections import Counter
+from functools import partial
 from itertools import chain
 from typing import Any, Callable, Generator, Iterable, Iterator, NamedTuple, Union
 
-from harness.checks import count_ends, run_script
+from harness.checks import Check, Suite, require, run_script, run_suites
 
 Words = dict[str, int]
 Act = Callable[[Words], object]  # an atomic step on the words, and what the thread learns by it
@@ -625,34 +624,29 @@ SUBJECTS = [
 ]
 
 
-def holds(subject: Subject) -> bool:
-    """Whether the code's form loses nothing in all its cases, and each of its runs ends."""
-    began, count = time.monotonic(), 0
+def holds(subject: Subject) -> None:
+    """The code's form loses nothing in all its cases, and each of its runs ends."""
+    count = 0
     for case in subject.cases:
         search = Search(subject.model("", *case))
         count += len(search.following)
-        if search.lost or not search.ends():
-            fault = "something is lost" if search.lost else "a run never ends"
-            print(f"FAILED   {subject.name}: {fault} in the case {case}", flush=True)
-            return False
-    seconds = time.monotonic() - began
-    print(f"passed   {subject.name}: {len(subject.cases)} cases, {count:,} states ({seconds:.1f} s)", flush=True)
-    return True
+        require(not search.lost, f"something is lost in the case {case}")
+        require(search.ends(), f"a run never ends in the case {case}")
+    print(f"{subject.name}: {len(subject.cases)} cases, {count:,} states", flush=True)
 
 
-def is_refuted(subject: Subject, form: str) -> bool:
-    """Whether a wake-up or a round is lost in the wrong form."""
-    is_lost = Search(subject.model(form, *subject.wrong[form]), until_lost=True).lost > 0
-    says = "passed   something is lost, as it must be" if is_lost else "FAILED   nothing is lost"
-    print(f"{says}: {subject.name}, with {form}", flush=True)
-    return is_lost
+def is_refuted(subject: Subject, form: str) -> None:
+    """A wake-up or a round is lost in the wrong form, as it must be."""
+    require(Search(subject.model(form, *subject.wrong[form]), until_lost=True).lost, "nothing is lost")
 
 
 def main() -> int:
-    ends = [
-        end for subject in SUBJECTS for end in (holds(subject), *(is_refuted(subject, form) for form in subject.wrong))
-    ]
-    return count_ends(ends)
+    checks: dict[str, Check] = {}
+    for subject in SUBJECTS:
+        checks[subject.name] = partial(holds, subject)
+        for form in subject.wrong:
+            checks[f"{subject.name}, wrong: {form}"] = partial(is_refuted, subject, form)
+    return run_suites(Suite(checks))
 
 
 if __name__ == "__main__":

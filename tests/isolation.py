@@ -1,7 +1,6 @@
-#!/usr/bin/env python3
 """Has one tenant, or clients of none, do to firmd what they can, and looks whether all others are served as before.
 
-usage: tests/isolation.py [--quick] [--only WORDS] [--program FILE] [--seed N]
+usage: tools/run tests/isolation.py [--quick] [--only WORDS] [--program FILE] [--seed N]
 Each check has a line; the last line is 'N passed, M failed', and the exit status is 1 where one failed. It needs Python
 3 and the built program; where only the load counts, tests/stand_in_firm.py is in its place. Checks that measure run one
 after another. --quick has fewer lines and connections.
@@ -18,17 +17,17 @@ import subprocess
 import sys
 import tempfile
 import time
+import unittest
 import urllib.request
 from collections.abc import Callable, Iterator, Sequence
-from concurrent.futures import ThreadPoolExecutor
 from contextlib import ExitStack, contextmanager, suppress
 from dataclasses import dataclass
 from functools import partial
 from pathlib import Path
 
-from firmd import CHECKS_AT_A_TIME, FIRMD, ROSTER, Client, Daemon, Gone, Setup, wait_for
+from firmd_kit import CHECKS_AT_A_TIME, FIRMD, ROSTER, Client, Daemon, Gone, Setup, wait_for
 from harness import program
-from harness.checks import Check, count_ends, passes, require, run_script
+from harness.checks import Check, Suite, require, run_script, run_suites
 from harness.program import ROOT
 from harness.small_streams import random_stream
 from hostile import with_http
@@ -474,15 +473,16 @@ OTHERS = [
 ]
 
 
-@contextmanager
-def before_others() -> Iterator[None]:
-    """Goes before all other work of the host, which would be measured too, where it may."""
-    with suppress(OSError):
-        os.sched_setscheduler(0, os.SCHED_RR, os.sched_param(1))
-    try:
-        yield
-    finally:
-        os.sched_setscheduler(0, os.SCHED_OTHER, os.sched_param(0))
+class First(Suite):
+    """Checks before all other work of the host, which would be measured too, where that is allowed."""
+
+    def run(self, result: unittest.TestResult, debug: bool = False) -> unittest.TestResult:
+        with suppress(OSError):
+            os.sched_setscheduler(0, os.SCHED_RR, os.sched_param(1))
+        try:
+            return super().run(result, debug)
+        finally:
+            os.sched_setscheduler(0, os.SCHED_OTHER, os.sched_param(0))
 
 
 def named(checks: Sequence[Callable[[Setup], None]], setup: Setup) -> dict[str, Check]:
@@ -500,11 +500,9 @@ def main() -> int:
     if os.access(MEMORY, os.W_OK):  # else a disk's own pauses would be measured
         tempfile.tempdir = MEMORY
     setup = Setup(options.program, options.quick, options.seed)
-    with before_others():
-        ends = [passes(name, check) for name, check in named(MEASURED, setup).items() if options.only in name]
-    chosen = {name: check for name, check in named(OTHERS, setup).items() if options.only in name}
-    with ThreadPoolExecutor(CHECKS_AT_A_TIME) as pool:
-        return count_ends(ends + list(pool.map(passes, chosen.keys(), chosen.values())))
+    first = {name: check for name, check in named(MEASURED, setup).items() if options.only in name}
+    others = {name: check for name, check in named(OTHERS, setup).items() if options.only in name}
+    return run_suites(First(first), Suite(others, CHECKS_AT_A_TIME))
 
 
 if __name__ == "__main__":

@@ -1,7 +1,6 @@
-#!/usr/bin/env python3
 """Damages the state of firmd and looks whether each damage is told at the next start, and reads older journals.
 
-usage: tests/journal.py [--quick] [--only WORDS] [--program FILE] [--trials N] [--seed N]
+usage: tools/run tests/journal.py [--quick] [--only WORDS] [--program FILE] [--trials N] [--seed N]
 Each check has a line; the last line is 'N passed, M failed', and the exit status is 1 where one failed. It needs Python
 3 and the built program. --quick makes fewer trials of damage at random places.
 """
@@ -19,17 +18,15 @@ import sys
 import time
 import zlib
 from collections.abc import Callable
-from concurrent.futures import ThreadPoolExecutor
 from dataclasses import dataclass
 from functools import partial
 from pathlib import Path
 
-import firmd
+import firmd_kit
 import journal_tool
-from firmd import JOURNAL_TOOL, ROSTER, ROWS, Daemon, Setup
+from firmd_kit import JOURNAL_TOOL, ROSTER, ROWS, Daemon, Setup
 from harness import program, service
-from harness.checks import Check, Missed, count_ends, passes, require, run_script
-from harness.deployed import SERVICE
+from harness.checks import Check, Missed, Suite, require, run_script, run_suites
 from journal_kit import MOVED, OLD, QUESTIONS, ROUNDS, answered, ask_all, serves, tool, write_old
 
 CHECKS_AT_A_TIME = 4
@@ -74,10 +71,10 @@ def senders(setup: Setup) -> None:
         daemon.options += ["--client", f"alpha={daemon.folder / 'alpha'}"]
         begun = time.time()
         daemon.start()
-        with firmd.Client(daemon.folder / "alpha") as alpha, firmd.Client(daemon.operator) as operator:
+        with firmd_kit.Client(daemon.folder / "alpha") as alpha, firmd_kit.Client(daemon.operator) as operator:
             require(all(alpha.ask(line).endswith(b" ok") for line in ROWS[:3]), "alpha's rows")
             require(operator.ask(b"+ retire beta") == b"+ ok retired beta", "the operator")
-            firmd.wait_for(lambda: alpha.ask(b"alpha where a").endswith(b"at m1"), "a round")
+            firmd_kit.wait_for(lambda: alpha.ask(b"alpha where a").endswith(b"at m1"), "a round")
         with daemon.client() as client:
             client.ask(b"alpha show")
         ended = time.time()
@@ -220,8 +217,8 @@ def changed_roster(setup: Setup) -> None:
         kept = daemon.state / "roster.csv"
         kept.write_bytes(ROSTER.replace(b"1000000000,1,2", b"1000000000,1,3"))
         with open(daemon.folder / "errors", "wb") as errors:
-            words = [*firmd.FIRMD, "--firm", daemon.firm, "--state", str(daemon.state), "--socket", str(daemon.any)]
-            status = subprocess.run(words, stderr=errors, timeout=firmd.START_SECONDS).returncode
+            words = [*firmd_kit.FIRMD, "--firm", daemon.firm, "--state", str(daemon.state), "--socket", str(daemon.any)]
+            status = subprocess.run(words, stderr=errors, timeout=firmd_kit.START_SECONDS).returncode
         require(status == 5 and b"not the roster that the state began with" in daemon.said(), daemon.said())
 
 
@@ -295,7 +292,6 @@ def power_cuts(setup: Setup) -> None:
 
 SHADOWED = """\
 import json, os, sys
-sys.path.insert(0, {service!r})
 def keep(name, data):
     draft = os.path.join({shadow!r}, "draft")
     with open(draft, "wb") as file:
@@ -345,10 +341,10 @@ def cut_power(daemon: Daemon, shadow: Path, draw: random.Random) -> None:
     (shadow / "names").write_text(json.dumps(names))
 
 
-def kill_behind(daemon: Daemon, tenants: list[firmd.Tenant], lines: int) -> None:
+def kill_behind(daemon: Daemon, tenants: list[firmd_kit.Tenant], lines: int) -> None:
     """Kills it once that number of lines was answered."""
     try:
-        firmd.wait_for(lambda: sum(len(tenant.answered) for tenant in tenants) >= lines, "lines are answered")
+        firmd_kit.wait_for(lambda: sum(len(tenant.answered) for tenant in tenants) >= lines, "lines are answered")
     finally:
         daemon.kill()
 
@@ -356,26 +352,26 @@ def kill_behind(daemon: Daemon, tenants: list[firmd.Tenant], lines: int) -> None
 def power_cuts_at_any_moment(setup: Setup) -> None:
     """Whatever of the unsynced is lost, each answered line is there, with its reply; and none of it is a damage."""
     draw = random.Random(setup.seed)
-    tenants = [firmd.Tenant(f"t{place}", setup.seed + place) for place in range(3)]
-    with setup.daemon("--segment-bytes", "15000", "--after", "1", roster=firmd.roster_of(tenants)) as daemon:
+    tenants = [firmd_kit.Tenant(f"t{place}", setup.seed + place) for place in range(3)]
+    with setup.daemon("--segment-bytes", "15000", "--after", "1", roster=firmd_kit.roster_of(tenants)) as daemon:
         shadow, script = daemon.folder / "shadow", daemon.folder / "shadowed.py"
         shadow.mkdir()
-        script.write_text(SHADOWED.format(service=str(SERVICE), shadow=str(shadow)))
+        script.write_text(SHADOWED.format(shadow=str(shadow)))
         daemon.words = [sys.executable, str(script)]
         for _ in range(4 if setup.is_quick else 40):
             daemon.start()
             works = [
-                partial(firmd.converse, tenant, daemon.client(), False, random.Random(draw.random()), 10**9)
+                partial(firmd_kit.converse, tenant, daemon.client(), False, random.Random(draw.random()), 10**9)
                 for tenant in tenants
             ]
             answered_lines = sum(len(tenant.answered) for tenant in tenants) + draw.randrange(30, 300)
             works.append(partial(kill_behind, daemon, tenants, answered_lines))
-            raised = firmd.in_threads(works)
-            require(all(isinstance(error, firmd.Gone) for error in raised), raised)
+            raised = firmd_kit.in_threads(works)
+            require(all(isinstance(error, firmd_kit.Gone) for error in raised), raised)
             cut_power(daemon, shadow, draw)
         daemon.start().stop()
         require(sum(len(tenant.answered) for tenant in tenants) > 100, "lines were answered")
-        firmd.check_kept(setup, daemon.journal(), tenants)
+        firmd_kit.check_kept(setup, daemon.journal(), tenants)
 
 
 # Journals of an older firmd.
@@ -511,7 +507,6 @@ FAILING = """\
 import os, sys
 from pathlib import Path
 from zlib import crc32
-sys.path.insert(0, {service!r})
 from firm_service.faults import Fault
 from firm_service.journal import Journal, Room
 from firm_service.records import Batch
@@ -545,7 +540,7 @@ def failed_writes(setup: Setup) -> None:
         with setup.daemon() as daemon:
             daemon.state.mkdir()
             (daemon.state / "roster.csv").write_bytes(ROSTER)
-            script = FAILING.format(service=str(SERVICE), state=str(daemon.state), call=call, line=line)
+            script = FAILING.format(state=str(daemon.state), call=call, line=line)
             done = subprocess.run([sys.executable, "-c", script], capture_output=True, text=True)
             require(done.stdout == "4\n", f"{call}: {done.stdout} {done.stderr}")
             daemon.start()
@@ -628,7 +623,7 @@ def random_damage(setup: Setup, part: int, trials: int) -> None:
 
 def is_told(daemon: Daemon, said: list[bytes], alone: list[bytes], what: str) -> bool:
     """Whether a start tells of a damage; where it doesn't, nothing may be lost or changed."""
-    process, ends = daemon.spawn(), time.monotonic() + firmd.START_SECONDS
+    process, ends = daemon.spawn(), time.monotonic() + firmd_kit.START_SECONDS
     while process.poll() is None and b"firmd: ready" not in daemon.said():
         require(time.monotonic() < ends, f"{what}: it neither starts nor ends")
         time.sleep(0.005)
@@ -682,8 +677,7 @@ def main() -> int:
     setup = Setup(options.program, options.quick, options.seed)
     trials = options.trials or (24 if options.quick else 600)
     chosen = {name: check for name, check in checks(setup, trials).items() if options.only in name}
-    with ThreadPoolExecutor(CHECKS_AT_A_TIME) as pool:
-        return count_ends(list(pool.map(passes, chosen.keys(), chosen.values())))
+    return run_suites(Suite(chosen, CHECKS_AT_A_TIME))
 
 
 if __name__ == "__main__":

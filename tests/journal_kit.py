@@ -6,7 +6,7 @@ import subprocess
 from hashlib import blake2b
 from pathlib import Path
 
-from firmd import JOURNAL_TOOL, ROSTER, ROWS, Client, Daemon, Setup
+from firmd_kit import JOURNAL_TOOL, ROSTER, ROWS, Client, Daemon, Setup
 from harness import service
 from harness.checks import require
 

@@ -7,8 +7,8 @@ import sys
 import threading
 from pathlib import Path
 
-import firmd
-from firmd import JOURNAL_TOOL, Setup
+import firmd_kit
+from firmd_kit import JOURNAL_TOOL, Setup
 from harness.checks import require
 from harness.deployed import SERVICE, found_now, kept_lines
 from journal_kit import OLD, ROUNDS, answered, ask_all, serves, tool, write_old
@@ -140,7 +140,7 @@ def printed_meanwhile(setup: Setup) -> None:
             finally:
                 is_over.set()
 
-        require(firmd.in_threads([ask, look]) == [], "they end well")
+        require(firmd_kit.in_threads([ask, look]) == [], "they end well")
         daemon.stop()
 
 

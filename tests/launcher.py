@@ -12,13 +12,14 @@ import subprocess
 import sys
 import tempfile
 import time
+import tomllib
 from pathlib import Path
 from typing import IO, Any, Callable
 
 from harness.checks import Skipped, require
 from harness.program import ROOT, Run
 
-SCRIPTS = ("firm", "build.py", "prover.py", "unproved.py")
+SCRIPTS = ("firm", "build.py", "prover.py", "pyproject.toml", "unproved.py")
 TOOLS = ("awk", "bash", "cat", "dirname", "env", "find", "realpath")
 KIT_TOOLS = ("rt", "rattle", "rattle-link")
 KIT_FILES = ("START-HERE.md", "c/libos_c.a", "c/liblibc_c.a", "rattle/logic/antt-project.json", "logic_built/one")
@@ -502,6 +503,34 @@ def unproved_never_by_default(place: Place) -> None:
     require(not naming, f"these name it: {naming}")
 
 
+def version(place: Place) -> None:
+    """The release, the commit and whether it is proved: of the sources as they are, and nothing is built for that."""
+
+    def told(*words: str) -> str:
+        done = place.run(place.top / "firm", *words, stdin=subprocess.DEVNULL)
+        require(done.status == 0 and not done.faults, done)
+        return done.output.decode()
+
+    release = tomllib.loads((ROOT / "pyproject.toml").read_text())["project"]["version"]
+    require(told("--version") == f"firm {release}, commit unknown, not proved\n", "it is not built")
+    require_nothing_asked(place)
+    place.build()
+    require(told("-V") == f"firm {release}, commit unknown, proved\n", "it is built")
+    for words in (["--unproved", "--version"], ["--version", "--unproved"]):
+        require(told(*words) == f"firm {release}, commit unknown, not proved\n", words)
+    require(told("--version", "--roster").startswith("the program: --version --roster\n"), "the program's own words")
+    for path in place.paths.values():
+        (path / "git").symlink_to(str(shutil.which("git")))
+    (place.top / ".gitignore").write_text("out/\nasked\n")
+    git = ["git", "-C", str(place.top), "-c", "user.name=one", "-c", "user.email=one@example.org"]
+    for step in (["init", "-q"], ["add", "-A"], ["commit", "-q", "-m", "one"]):
+        subprocess.run([*git, *step], check=True)
+    commit = subprocess.run([*git, "rev-parse", "HEAD"], capture_output=True, text=True, check=True).stdout[:10]
+    require(told("--version") == f"firm {release}, commit {commit}, proved\n", "a commit")
+    place.write("crates/firm/src/main.rt", TWO_LINES)
+    require(told("--version") == f"firm {release}, commit {commit}, changed, not proved\n", "an edit")
+
+
 CHECKS: list[Callable[[Place], None]] = [
     first_run,
     side_by_side,
@@ -524,6 +553,7 @@ CHECKS: list[Callable[[Place], None]] = [
     unproved_without_answer,
     unproved_refused,
     unproved_never_by_default,
+    version,
 ]
 
 

@@ -1,7 +1,6 @@
-#!/usr/bin/env python3
 """Asks the built program as live clients do, which hold its input open and wait for each reply.
 
-usage: tests/live.py [--program FILE] [--under COMMAND] [--only WORDS] [--streams N] [--first SEED]
+usage: tools/run tests/live.py [--program FILE] [--under COMMAND] [--only WORDS] [--streams N] [--first SEED]
 With 1, 2 and 8 workers: random streams get the same replies line by line as in one go. During long rounds more of
 another tenant's lines go in than a pipe holds; their replies follow in order. Meanwhile the output closes (status 5),
 the input ends (all replies, status 0), a terminal hangs up (status 4), and the program is stopped and continued. It has
@@ -28,7 +27,7 @@ from functools import partial
 from typing import Callable, Iterator
 
 from harness import program, service
-from harness.checks import Check, require, run_script, status_of
+from harness.checks import Check, Suite, require, run_script, run_suites
 from harness.small_streams import random_stream
 
 ROSTER = b"tenant,nodes,arcs,life,spread,churn\nalpha,9,24,1000,1,2\nbeta,8,30,1000000,0,3\n"
@@ -255,7 +254,7 @@ def main() -> int:
     options = read_options()
     with tempfile.TemporaryDirectory(prefix="firm-") as folder:
         found = checks(Starter(options, folder))
-        return status_of((name, check) for name, check in found if options.only in name)
+        return run_suites(Suite({name: check for name, check in found if options.only in name}))
 
 
 if __name__ == "__main__":

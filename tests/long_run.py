@@ -1,7 +1,6 @@
-#!/usr/bin/env python3
 """Serves ten million lines for 64 tenants, with rounds among them, and checks every byte and the memory.
 
-usage: tests/long_run.py [--program FILE] [--lines N] [--workers N,N,..]
+usage: tools/run tests/long_run.py [--program FILE] [--lines N] [--workers N,N,..]
 The expected output comes from harness/service.py. The program's memory is looked at a tenth of the way and at the end:
 it must not have grown by more than a twentieth. With `--workers 1,2,8` there is a run for each number. The exit status
 is 1 where the output differs or the memory grows.

@@ -1,7 +1,6 @@
-#!/usr/bin/env python3
 """Moves a tenant between two firmd, kills either at each step, and asks that the tenant goes on as if it never moved.
 
-usage: tests/moves.py [--quick] [--program FILE] [--only WORDS] [--kills N] [--seed N]
+usage: tools/run tests/moves.py [--quick] [--program FILE] [--only WORDS] [--kills N] [--seed N]
 Each check has a line; the last line is 'N passed, M failed', and the exit status is 1 where one failed. It needs the
 built firm and firm_state. firm alone, over all lines of a tenant, wherever they were answered, is the judge of each
 reply: numbers, placements and waits go with the tenant, and no line is lost or obeyed twice.
@@ -19,14 +18,13 @@ import socket
 import subprocess
 import time
 from collections.abc import Callable, Iterator
-from concurrent.futures import ThreadPoolExecutor
 from contextlib import ExitStack, contextmanager, suppress
 from dataclasses import dataclass, field
 from functools import partial
 from threading import Thread
 from typing import Any
 
-from firmd import (
+from firmd_kit import (
     JOURNAL_TOOL,
     Answered,
     Client,
@@ -41,7 +39,7 @@ from firmd import (
     wait_for,
 )
 from harness import program
-from harness.checks import Check, Skipped, count_ends, passes, require, run_script
+from harness.checks import Check, Skipped, Suite, require, run_script, run_suites
 from harness.deployed import service_states
 from journal_kit import tool
 from snapshot_kit import asked as asked_of_firmctl
@@ -250,7 +248,7 @@ def refusals(setup: Options) -> None:
         refused(found.here, "tenant-exists", "take", other, state=state)
         refused(found.there, "bad-state", "take", move, "delta", state=state)
         refused(found.there, "bad-state", "take", move, state="firm state 1\nrows 0\n")
-        refused(found.there, "failed", "take", move, state=state.replace("\nmachine ", "\nmachin ", 1))
+        refused(found.there, "failed", "take", move, state=state.replace("\nrows ", "\nrow ", 1))
         require(done(found.there, "taken", other) == {"taken": False}, "not taken")
         refused(found.there, "refused", "take", other, state=state)
         for _ in range(2):
@@ -521,8 +519,7 @@ def main() -> int:
     chosen = QUICK + ([] if given.quick else LONG)
     checks: dict[str, Check] = {check.__name__.replace("_", " "): partial(check, setup) for check in chosen}
     checks = {name: check for name, check in checks.items() if given.only in name}
-    with ThreadPoolExecutor(CHECKS_AT_A_TIME) as pool:
-        return count_ends(list(pool.map(passes, checks.keys(), checks.values())))
+    return run_suites(Suite(checks, CHECKS_AT_A_TIME))
 
 
 if __name__ == "__main__":

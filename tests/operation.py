@@ -1,7 +1,6 @@
-#!/usr/bin/env python3
 """Asks what an operator meets: what the programs tell and in which form, and whose socket a name is.
 
-usage: tests/operation.py [--quick] [--only WORDS] [--program FILE]
+usage: tools/run tests/operation.py [--quick] [--only WORDS] [--program FILE]
 Each check has a line; the last line is 'N passed, M failed', and the exit status is 1 where one failed. It needs Python
 3 and the built program. What can't be asked here is said and skipped. --quick leaves out nothing.
 """
@@ -17,14 +16,13 @@ import signal
 import socket
 import subprocess
 import sys
-from concurrent.futures import ThreadPoolExecutor
 from contextlib import ExitStack
 from functools import partial
 from pathlib import Path
 
-from firmd import JOURNAL_TOOL, START_SECONDS, Client, Daemon, Setup, stand_in, wait_for
+from firmd_kit import JOURNAL_TOOL, START_SECONDS, Client, Daemon, Setup, stand_in, wait_for
 from harness import program
-from harness.checks import Check, Skipped, count_ends, passes, require, run_script
+from harness.checks import Check, Skipped, Suite, require, run_script, run_suites
 from harness.deployed import LOCK_SECONDS, SERVICE
 from hostile import patch, patch_viewer
 
@@ -320,8 +318,7 @@ def main() -> int:
     setup = Setup(options.program, options.quick, 0)
     named: dict[str, Check] = {check.__name__.replace("_", " "): partial(check, setup) for check in CHECKS}
     chosen = {name: check for name, check in named.items() if options.only in name}
-    with ThreadPoolExecutor(CHECKS_AT_A_TIME) as pool:
-        return count_ends(list(pool.map(passes, chosen.keys(), chosen.values())))
+    return run_suites(Suite(chosen, CHECKS_AT_A_TIME))
 
 
 if __name__ == "__main__":

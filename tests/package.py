@@ -1,7 +1,6 @@
-#!/usr/bin/env python3
 """Installs the package into an environment of its own, without network, and runs its programs there.
 
-usage: tests/package.py [--program FILE]
+usage: tools/run tests/package.py [--program FILE]
 Each check has a line; the last line is 'N passed, M failed', and the exit status is 1 where one failed. It needs a
 Python with venv, setuptools and wheel (Debian: python3-venv, python3-setuptools, python3-wheel), and for the dashboard
 python3-prometheus-client; what can't be asked here is said and skipped.
@@ -21,10 +20,10 @@ import tomllib
 from functools import partial
 from pathlib import Path
 
-import firmd
-from firmctl import front, http_ask, missing_of
+import firmd_kit
+from front_kit import front, http_ask, missing_of
 from harness import program
-from harness.checks import Check, Skipped, count_ends, passes, require, run_script
+from harness.checks import Check, Skipped, Suite, require, run_script, run_suites
 from harness.deployed import SERVICE, Doors, Firm
 from harness.program import ROOT
 
@@ -89,7 +88,7 @@ def installed(built: str) -> None:
 
 
 def serves(built: str, programs: Path) -> None:
-    with firmd.Setup(built, True, 1).daemon() as daemon:
+    with firmd_kit.Setup(built, True, 1).daemon() as daemon:
         daemon.words = [str(programs / "firmd")]
         daemon.start()
         with daemon.client() as client:
@@ -153,12 +152,13 @@ def main() -> int:
     parser = argparse.ArgumentParser(description=(__doc__ or "").splitlines()[0])
     program.add_program(parser)
     options = parser.parse_args()
+    os.environ.pop("PYTHONPATH", None)  # what is installed must find its own package
     checks: dict[str, Check] = {
         "programs of the tree": scripts_are_those_of_the_tree,
         "Grafana's dashboard": dashboard_asks_what_is_there,
         "installed": partial(installed, options.program),
     }
-    return count_ends([passes(name, check) for name, check in checks.items()])
+    return run_suites(Suite(checks))
 
 
 if __name__ == "__main__":

@@ -11,7 +11,6 @@ from functools import partial
 from typing import Any
 
 from harness.checks import Skipped, require
-from harness.deployed import SERVICE
 from queue_kit import ANN, BOB, FOREVER, Case, Client, Json, Setup, as_user, claim_place
 
 CAROL = 61_103  # a user without a name, of a queue
@@ -19,13 +18,12 @@ CAROL = 61_103  # a user without a name, of a queue
 # What is imported later may be in a folder that this user can't read.
 BY_USER = """\
 import encodings.ascii, os, sys
-sys.path.insert(0, sys.argv[1])
 from firm_service.queue import daemon
-user = int(sys.argv[2])
+user = int(sys.argv[1])
 os.setgroups([])
 os.setgid(user)
 os.setuid(user)
-sys.exit(daemon.main(sys.argv[3:]))
+sys.exit(daemon.main(sys.argv[2:]))
 """
 
 
@@ -165,7 +163,7 @@ def files_of_the_queue(setup: Setup) -> None:
     if os.geteuid():
         raise Skipped("it needs root, to be other users")
     with setup.case("--socket-mode=666", "--lease=600") as case:
-        case.words = [sys.executable, "-c", BY_USER, str(SERVICE), str(CAROL), "run"]
+        case.words = [sys.executable, "-c", BY_USER, str(CAROL), "run"]
         case.state.mkdir()
         secret = case.folder / "secret"
         secret.write_text("secret")

@@ -15,9 +15,8 @@ from functools import partial
 from pathlib import Path
 from typing import Any
 
-from firmd import memory_kilobytes
+from firmd_kit import memory_kilobytes
 from harness.checks import Skipped, require
-from harness.deployed import SERVICE
 from queue_kit import ANN, BOB, FOREVER, Case, Disk, Json, Setup, as_user, claim_place
 
 HELD: Json = {"ask": "submit", "command": FOREVER, "dir": "/tmp", "hold": True}
@@ -272,9 +271,8 @@ def jumping():
     looks[0] += 1
     return real() + 86400 * (-1) ** looks[0]
 time.time = jumping
-sys.path.insert(0, sys.argv[1])
 from firm_service.queue import daemon
-sys.exit(daemon.main(sys.argv[2:]))
+sys.exit(daemon.main(sys.argv[1:]))
 """
 
 
@@ -282,7 +280,7 @@ def jumping_clock(setup: Setup) -> None:
     """While the wall clock jumps each task runs once, a retry waits its second, a lease its own time, and no duration
     is below 0."""
     with setup.case("--lease=3", "--margin=1") as case:
-        case.words = [sys.executable, "-c", JUMPS, str(SERVICE), "run"]
+        case.words = [sys.executable, "-c", JUMPS, "run"]
         case.start()
         with case.client() as client:
             agent = case.agent("a1", m1=4)

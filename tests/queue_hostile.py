@@ -14,7 +14,7 @@ from contextlib import ExitStack, contextmanager, suppress
 from pathlib import Path
 from typing import NamedTuple, NoReturn
 
-from firmd import memory_kilobytes
+from firmd_kit import memory_kilobytes
 from harness.checks import Missed, Skipped, require
 from queue_kit import ANN, BOB, FOREVER, Case, Closed, Json, Setup, as_user
 

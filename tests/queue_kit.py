@@ -21,7 +21,7 @@ from dataclasses import dataclass, field
 from pathlib import Path
 from typing import Any, TypeVar
 
-from firmd import Daemon
+from firmd_kit import Daemon
 from harness.checks import Missed, require
 from harness.deployed import SERVICE, Doors, Firm
 

@@ -1,7 +1,6 @@
-#!/usr/bin/env python3
 """Asks firm-queue's metrics and page, as Chromium has it, whether they show what firmctl does, and to whom.
 
-usage: tests/queue_page.py [--quick] [--program FILE]
+usage: tools/run tests/queue_page.py [--quick] [--program FILE]
 Each check has a line; the last line is 'N passed, M failed', and the exit status is 1 where one failed. It needs the
 built program, python3-aiohttp and python3-prometheus-client; the page needs chromium, and other users root. What is not
 there is said and skipped, and --quick leaves Chromium out.
@@ -26,9 +25,9 @@ from contextlib import contextmanager, suppress
 from functools import partial
 from typing import Any
 
-from firmctl import tab
+from web_pages import tab
 from harness import program
-from harness.checks import Check, Missed, Skipped, count_ends, passes, require, run_script
+from harness.checks import Check, Skipped, Suite, require, run_script, run_suites
 from harness.deployed import SERVICE
 from harness.program import run_words
 from hostile import python_with_http
@@ -163,7 +162,6 @@ def page_of_users(setup: Setup) -> None:
 
 OWNER = """\
 import socket, sys
-sys.path.insert(0, sys.argv[1])
 from firm_service.queue.web import owner_of
 listening = socket.create_server(("127.0.0.1", 0))
 client = socket.create_connection(listening.getsockname())
@@ -180,7 +178,7 @@ def closed_connections(setup: Setup) -> None:
     found = python_with_http()
     if found is None:
         raise Skipped("no Python has what HTTP needs (apt-get install python3-aiohttp python3-prometheus-client)")
-    done = run_words([found, "-c", OWNER, str(SERVICE)], b"", {})
+    done = run_words([found, "-c", OWNER], b"", {})
     require(done.output.split() == [str(os.geteuid()).encode(), b"None"], done)
 
 
@@ -310,7 +308,7 @@ def main() -> int:
     if given.quick or shutil.which("chromium") is None:
         why = "--quick leaves it out" if given.quick else "it is not installed (apt-get install chromium)"
         found["page in Chromium"] = partial(skip, why)
-    return count_ends([passes(name, check) for name, check in found.items()])
+    return run_suites(Suite(found))
 
 
 def skip(why: str) -> None:

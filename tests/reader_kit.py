@@ -1,7 +1,6 @@
-#!/usr/bin/env python3
 """Greedy readers of firmd, in a process of their own, for the checks that look what they do to others.
 
-usage: tests/reader_kit.py KIND STATE PORT
+usage: tools/run tests/reader_kit.py KIND STATE PORT
        tests/reader_kit.py
 It reads as KIND says until it is terminated. It prints a line with the first answer, and then how many there were.
 Without words it listens at a port, which it prints, and closes each connection once something has come.

@@ -1,7 +1,6 @@
-#!/usr/bin/env python3
 """Has readers of firmd do what they can, and looks whether writers notice, and what each reader is shown.
 
-usage: tests/readers.py [--quick] [--only WORDS] [--program FILE] [--seed N]
+usage: tools/run tests/readers.py [--quick] [--only WORDS] [--program FILE] [--seed N]
 Each check has a line; the last line is 'N passed, M failed', and the exit status is 1 where one failed. It needs Python
 3, the built program, and python3-aiohttp and python3-prometheus-client, for this Python or Debian's; rights are asked
 as root alone. What can't be asked here is said and skipped. --quick has fewer kinds of readers, streams and tries.
@@ -32,16 +31,16 @@ from functools import partial
 from pathlib import Path
 from typing import Any
 
-import firmd
-from firmd import ROWS, Client, Daemon, Gone, Setup, wait_for
+import firmd_kit
+from firmd_kit import ROWS, Client, Daemon, Gone, Setup, wait_for
 from harness import program, service
-from harness.checks import Check, Missed, Skipped, count_ends, passes, require, run_script
+from harness.checks import Check, Missed, Skipped, Suite, require, run_script, run_suites
 from harness.deployed import Books, Follower, Shown, Status, feed, feeder
 from harness.small_streams import random_stream
 from hostile import is_served, patch_viewer, view_of, with_http
 from reader_kit import KINDS, SCRAPE, Readers, closing_server, view_of as connect_view, web_of
 
-ROSTER = firmd.HEADING + b"alpha,4096,65536,1000000000,1,2\nbeta,30,300,1000000000,0,3\n"
+ROSTER = firmd_kit.HEADING + b"alpha,4096,65536,1000000000,1,2\nbeta,30,300,1000000000,0,3\n"
 TASKS = 2_500
 FAST = Path("/dev/shm")  # where syncs take no time, so that what is measured is firmd
 RATIO = 1.5
@@ -284,12 +283,12 @@ def bounded_memory(setup: Setup) -> None:
     for kind, most in MOST_GROWN.items():
         with full_service(setup) as (daemon, port), daemon.client() as writer:
             processes = {"firmd": daemon.running().pid, "the viewer": viewer_of(daemon)}
-            before = {name: firmd.memory_kilobytes(pid) for name, pid in processes.items()}
+            before = {name: firmd_kit.memory_kilobytes(pid) for name, pid in processes.items()}
             with Readers(kind, daemon.state, port):
                 ends = time.monotonic() + (2 if setup.is_quick else 20)
                 while time.monotonic() < ends:
                     give(writer, [b"beta show"] * 1_000)  # which is some megabytes for watchers
-                grown = {name: firmd.memory_kilobytes(pid) - before[name] for name, pid in processes.items()}
+                grown = {name: firmd_kit.memory_kilobytes(pid) - before[name] for name, pid in processes.items()}
         print(f"{kind}: kB more: {grown}", flush=True)
         require(grown["firmd"] < MOST_GROWN_FIRMD and grown["the viewer"] < most, f"{kind}: {grown}")
 
@@ -510,10 +509,10 @@ def watchers_behind(setup: Setup) -> None:
             wait_for(lambda: len(ask(daemon, {"ask": "tasks"})["tasks"]) == 2, "rows")
             require(b'"book"' in watcher.ask(b'{"ask": "watch", "tenant": "alpha"}'), "the rows")
             os.kill(viewer_of(daemon), signal.SIGSTOP)
-            before = firmd.memory_kilobytes(daemon.running().pid)
+            before = firmd_kit.memory_kilobytes(daemon.running().pid)
             for _ in range(200):
                 give(client, [b"beta show"] * 300)
-            require(firmd.memory_kilobytes(daemon.running().pid) - before < MOST_GROWN_FIRMD, "firmd's memory")
+            require(firmd_kit.memory_kilobytes(daemon.running().pid) - before < MOST_GROWN_FIRMD, "firmd's memory")
             give(client, [b"alpha round"])
             os.kill(viewer_of(daemon), signal.SIGCONT)
             wait_for(lambda: '"tasks": ["a"]' in json.dumps(ask(daemon, {"ask": "machines"})), "the round is shown")
@@ -746,10 +745,9 @@ def main() -> int:
     measured: dict[str, Check] = {f"unhurried beside {kind}": partial(unhurried, setup, kind) for kind in kinds}
     named: dict[str, Check] = {check.__name__.replace("_", " "): partial(check, setup) for check in CHECKS}
     named |= {f"dropped watchers, {bound}": partial(dropped_watchers, setup, bound) for bound in BOUNDS}
-    ends = [passes(name, check) for name, check in measured.items() if options.only in name]
+    alone = {name: check for name, check in measured.items() if options.only in name}
     chosen = {name: check for name, check in named.items() if options.only in name}
-    with ThreadPoolExecutor(firmd.CHECKS_AT_A_TIME) as pool:
-        return count_ends(ends + list(pool.map(passes, chosen.keys(), chosen.values())))
+    return run_suites(Suite(alone), Suite(chosen, firmd_kit.CHECKS_AT_A_TIME))
 
 
 if __name__ == "__main__":

@@ -1,7 +1,6 @@
-#!/usr/bin/env python3
 """Makes a release of the built programs, installs it into an empty root, and plays the tutorial there, without a kit.
 
-usage: tests/release.py
+usage: tools/run tests/release.py
 Each check has a line; the last line is 'N passed, M failed', and the exit status is 1 where one failed. It needs
 dpkg-deb, help2man and python3-shtab, Debian's packages; what can't be asked here is said and skipped.
 """
@@ -21,13 +20,13 @@ from functools import partial
 from pathlib import Path
 from types import ModuleType
 
-import firmd
+import firmd_kit
 import launcher
 from harness import sessions
-from harness.checks import Check, Skipped, count_ends, passes, require, run_script
+from harness.checks import Check, Skipped, Suite, require, run_script, run_suites
 from harness.program import ROOT, built
 
-TOOL = ROOT / "tools" / "release"
+TOOL = ROOT / "tools" / "release.py"
 NEEDED = ("dpkg-deb", "dpkg", "help2man")
 SECONDS = 120
 EXAMPLES = ROOT / "examples"
@@ -129,7 +128,11 @@ def programs_answer(root: Path) -> None:
     path = f"{root}/usr/bin"
     opened = ["--roster", str(EXAMPLES / "roster.csv")]
     commands = (EXAMPLES / "commands.txt").read_bytes()
-    output = said([f"{path}/firm", *opened], commands, PATH=path)
+    system = f"{path}:/usr/bin:/bin"
+    told = f"firm 0.1.0+git20260102.0123456789, commit {'0' * 40}, proved\n".encode()
+    require(said([f"{path}/firm", "--version"], PATH=system) == told, "its release")
+    require(said(["firm", "--help", "--version"], PATH=system).startswith(b"Decides where"), "the program's own words")
+    output = said([f"{path}/firm", *opened], commands, PATH=system)
     require(output == (EXAMPLES / "expected.txt").read_bytes(), output)
     require(b"# least" in said([f"{path}/firm_explain", *opened], commands, PATH=path), "the reasons")
     require(said([f"{path}/firm_state", *opened], commands, PATH=path).startswith(b"firm state"), "the state")
@@ -150,7 +153,7 @@ def plays_tutorial(root: Path) -> None:
 def serves(root: Path) -> None:
     """The installed firmd finds the installed firm, and the installed firmctl that firmd."""
     path = path_of(root)
-    with firmd.Setup(f"{root}/usr/bin/firm", True, 1).daemon() as daemon:
+    with firmd_kit.Setup(f"{root}/usr/bin/firm", True, 1).daemon() as daemon:
         daemon.words = [f"{root}/usr/bin/firmd"]
         daemon.start()
         with daemon.client() as client:
@@ -163,7 +166,7 @@ def serves(root: Path) -> None:
 def refused(place: launcher.Place) -> None:
     """Without a commit, after a change, and before a proof there is nothing to release: it says which."""
     (place.top / "tools").mkdir()
-    for name in ("tools/release", "pyproject.toml"):
+    for name in ("tools/release", "tools/release.py", "tools/run", "pyproject.toml"):
         shutil.copy2(ROOT / name, place.top / name)
     (place.top / ".gitignore").write_text("out/\nasked\n")
     git = ["git", "-c", "user.name=one", "-c", "user.email=one@example.org"]
@@ -171,7 +174,7 @@ def refused(place: launcher.Place) -> None:
 
     def refusal() -> str:
         done = subprocess.run(
-            [sys.executable, place.top / "tools/release"],
+            [place.top / "tools/release"],
             env={**os.environ, "PATH": path, "GIT_CEILING_DIRECTORIES": str(place.room)},
             stdin=subprocess.DEVNULL,
             capture_output=True,
@@ -192,11 +195,12 @@ def refused(place: launcher.Place) -> None:
 
 def main() -> int:
     argparse.ArgumentParser(description=(__doc__ or "").splitlines()[0]).parse_args()
+    os.environ.pop("PYTHONPATH", None)  # what is installed must find its own package
     checks: dict[str, Check] = {
         "refused": partial(launcher.run_in_place, refused),
         "installed": installed,
     }
-    return count_ends([passes(name, check) for name, check in checks.items()])
+    return run_suites(Suite(checks))
 
 
 if __name__ == "__main__":

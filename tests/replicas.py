@@ -1,7 +1,6 @@
-#!/usr/bin/env python3
 """Asks firmd replicas of a journal in etcd, and kills, stops and cuts off what there is, over three real members.
 
-usage: tests/replicas.py [--quick] [--program FILE] [--only WORDS] [--seconds N] [--seed N]
+usage: tools/run tests/replicas.py [--quick] [--program FILE] [--only WORDS] [--seconds N] [--seed N]
 --quick looks at the rules alone, without engines. The rest needs Debian's etcd-server, and openssl for certificates; a
 check that can't be done here says so and is skipped. Each check has a line; the last line is 'N passed, M failed', and
 the exit status is 1 where one failed.
@@ -21,18 +20,14 @@ import tempfile
 import threading
 import time
 from collections.abc import Callable, Iterator
-from concurrent.futures import ThreadPoolExecutor
 from contextlib import contextmanager, suppress
 from dataclasses import dataclass
 from functools import partial
 from pathlib import Path
 
-ROOT = Path(__file__).resolve().parents[1]
-sys.path.insert(0, str(ROOT / "service"))
-
-import replica_chaos  # noqa: E402
-import replica_rules  # noqa: E402
-from etcd_kit import (  # noqa: E402
+import replica_chaos
+import replica_rules
+from etcd_kit import (
     NAMES,
     Authority,
     Members,
@@ -43,13 +38,13 @@ from etcd_kit import (  # noqa: E402
     require_programs,
     until,
 )
-from firmctl import missing_of, samples_of
-from firmd import Client, Gone, stand_in  # noqa: E402
-from harness.checks import Check, Skipped, count_ends, passes, print_skipped, require, run_script  # noqa: E402
-from harness.guard import guard  # noqa: E402
-from harness.program import Roster, add_program, run  # noqa: E402
-from firm_service.programs import program_of  # noqa: E402
-from replica_chaos import KILLED, KINDS, ROSTER, STOPPED, Chaos, latencies  # noqa: E402
+from front_kit import missing_of, samples_of
+from firmd_kit import Client, Gone, stand_in
+from harness.checks import Check, Skipped, Suite, print_skipped, require, run_script, run_suites
+from harness.guard import guard
+from harness.program import ROOT, Roster, add_program, run
+from firm_service.programs import program_of
+from replica_chaos import KILLED, KINDS, ROSTER, STOPPED, Chaos, latencies
 
 CHECKS_AT_A_TIME = 3
 CHAOS_SNAPSHOT_LINES, SNAPSHOT_LINES = 1_000, 300  # between snapshots
@@ -65,7 +60,6 @@ LOSSES = {
 # firmd without the fence: it appends whoever leads, and over what stands there.
 UNFENCED = """\
 import sys
-sys.path.insert(0, {service!r})
 from firm_service.replicated import entries
 from firm_service import daemon
 fenced = entries.Append.of
@@ -129,7 +123,7 @@ def control(setup: Setup) -> None:
     """Without the fence, a leader that wakes up loses answers: so the judge of the other checks would see it."""
     with setup.cluster() as (members, replicas):
         script = replicas.folder / "unfenced.py"
-        script.write_text(UNFENCED.format(service=str(ROOT / "service")))
+        script.write_text(UNFENCED)
         replicas.firmd = [sys.executable, str(script)]
         for _ in range(3):
             verdict = Chaos(members, replicas, setup.seed).run(20, ["sleep"])
@@ -618,10 +612,9 @@ def main() -> int:
     if not options.quick:
         alone[name_of(silence)] = partial(silence, setup)
         beside = {name_of(check): partial(check, setup) for check in CHECKS}
-    ends = [passes(name, check) for name, check in alone.items() if options.only in name]
+    alone = {name: check for name, check in alone.items() if options.only in name}
     chosen = {name: check for name, check in beside.items() if options.only in name}
-    with ThreadPoolExecutor(CHECKS_AT_A_TIME) as pool:
-        return count_ends([*ends, *pool.map(passes, chosen.keys(), chosen.values())])
+    return run_suites(Suite(alone), Suite(chosen, CHECKS_AT_A_TIME))
 
 
 def name_of(check: Callable[..., None]) -> str:

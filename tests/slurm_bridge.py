@@ -1,7 +1,6 @@
-#!/usr/bin/env python3
 """Asks firm-slurm over Debian's Slurm on this host whether Slurm does what firm decides, whatever is killed meanwhile.
 
-usage: tests/slurm_bridge.py [--program FILE] [--only WORDS] [--chaos RUNS] [--seed N]
+usage: tools/run tests/slurm_bridge.py [--program FILE] [--only WORDS] [--chaos RUNS] [--seed N]
 It needs root, the built program, and Debian's packages slurmctld, slurmd, slurm-client, slurm-wlm-basic-plugins and
 munge; where they are missing its checks are skipped. Each check has a line; the last line is 'N passed, M failed', and
 the exit status is 1 where one failed. --chaos also has so many runs of random events, with seeds from N on.
@@ -19,14 +18,13 @@ import time
 import urllib.request
 from collections import Counter
 from collections.abc import Callable
-from concurrent.futures import ThreadPoolExecutor
 from contextlib import suppress
 from datetime import datetime, timedelta
 from functools import partial
 from pathlib import Path
 
 from harness import program, sessions
-from harness.checks import Check, count_ends, passes, require, run_script
+from harness.checks import Check, Suite, require, run_script, run_suites
 from harness.deployed import SERVICE
 from harness.guard import guard
 from slurm_kit import BRIDGE, Cluster, Judge, Site, free_ports, require_packages, site, slowness, wait
@@ -562,10 +560,8 @@ def main() -> int:
         found[f"chaos, seed {seed}"] = partial(chaos, seed, options.program)
     if options.only is not None:
         found = {name: check for name, check in found.items() if name.startswith(tuple(options.only))}
-    ends = [passes("large", found.pop("large"))] if "large" in found else []  # alone, as its time is measured
-    with ThreadPoolExecutor(AT_A_TIME) as workers:
-        ends += workers.map(lambda name: passes(name, found[name]), found)
-    return count_ends(ends)
+    alone = {"large": found.pop("large")} if "large" in found else {}  # its time is measured
+    return run_suites(Suite(alone), Suite(found, AT_A_TIME))
 
 
 if __name__ == "__main__":

@@ -21,7 +21,7 @@ from datetime import datetime
 from pathlib import Path
 from typing import Any, NamedTuple
 
-from firmd import JOURNAL_TOOL, Daemon
+from firmd_kit import JOURNAL_TOOL, Daemon
 from harness.checks import Missed, Skipped, require
 from harness.deployed import SERVICE
 
@@ -234,7 +234,11 @@ class Cluster:
                 with suppress(ProcessLookupError):
                     os.kill(victim, signal.SIGKILL)
         with suppress(FileNotFoundError, ProcessLookupError):
-            os.kill(int((self.folder / "munge/pid").read_text()), signal.SIGTERM)
+            munged, number = int((self.folder / "munge/pid").read_text()), int(signal.SIGTERM)
+            for _ in range(500):  # until it has removed what its folder has of it
+                os.kill(munged, number)
+                number = 0
+                time.sleep(0.01)
 
     def squeue(self) -> dict[str, tuple[str, str]]:
         """The state and the node of each job that has not ended."""
@@ -407,7 +411,7 @@ def keep(folder: Path) -> None:
     """Copies the logs to where they are wanted."""
     kept = os.environ.get("KEEP_LOGS")
     if kept is not None:
-        ignored = shutil.ignore_patterns("socket*", "any", "view", "operator", "spool")
+        ignored = shutil.ignore_patterns("socket*", "any", "view", "moves", "operator", "spool")
         shutil.copytree(folder, Path(kept) / folder.name, ignore=ignored)
 
 

@@ -1,7 +1,6 @@
-#!/usr/bin/env python3
 """Tables of firm-slurm's pure rules: what Slurm's words mean, what firm is said, what Slurm is to do, what differs.
 
-usage: tests/slurm_tables.py
+usage: tools/run tests/slurm_tables.py
 No Slurm, no firm and no clock is asked. Each check has a line; the last line is 'N passed, M failed', and the exit
 status is 1 where one failed.
 """
@@ -13,7 +12,7 @@ import tempfile
 from pathlib import Path
 from typing import Any
 
-from harness.checks import Check, count_ends, passes, require, run_script
+from harness.checks import Check, Suite, require, run_script, run_suites
 from harness.deployed import Book, TableError, books, roster, slurm
 
 reading = slurm.reading
@@ -353,7 +352,7 @@ CHECKS: dict[str, Check] = {
 
 def main() -> int:
     argparse.ArgumentParser(description=(__doc__ or "").splitlines()[0]).parse_args()
-    return count_ends([passes(name, check) for name, check in CHECKS.items()])
+    return run_suites(Suite(CHECKS))
 
 
 if __name__ == "__main__":

@@ -10,7 +10,7 @@ from contextlib import contextmanager, suppress
 from pathlib import Path
 from typing import Any
 
-from firmd import ROSTER, Daemon, Setup, wait_for
+from firmd_kit import ROSTER, Daemon, Setup, wait_for
 from harness.checks import require
 from harness.deployed import SERVICE, Books, snapshots
 from journal_kit import QUESTIONS, ROUNDS, ask_all

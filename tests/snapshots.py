@@ -1,7 +1,6 @@
-#!/usr/bin/env python3
 """Has firmd make snapshots, start from them and change over to a fresh firm, damages them, and kills it meanwhile.
 
-usage: tests/snapshots.py [--quick] [--program FILE] [--state FILE] [--only WORDS] [--kills N] [--seed N]
+usage: tools/run tests/snapshots.py [--quick] [--program FILE] [--state FILE] [--only WORDS] [--kills N] [--seed N]
 Each check has a line; the last line is 'N passed, M failed', and the exit status is 1 where one failed. It needs the
 built firm and firm_state. firm alone, over all lines of the journal from its beginning, is the judge of each reply.
 """
@@ -24,16 +23,16 @@ from dataclasses import dataclass
 from functools import partial
 from pathlib import Path
 
-import firmd
-from firmd import HEADING, ROSTER, Client, Daemon, Gone, Setup, Tenant, in_threads, roster_of, wait_for
+import firmd_disks
+import firmd_kit
+from firmd_kit import HEADING, ROSTER, Client, Daemon, Gone, Setup, Tenant, in_threads, roster_of, wait_for
 from harness import program
-from harness.checks import Check, count_ends, passes, require, run_script
-from harness.deployed import SERVICE, Limits, archive, extent, kept_books, records, service_states, snapshots
+from harness.checks import Check, Suite, require, run_script, run_suites
+from harness.deployed import Limits, archive, extent, kept_books, records, service_states, snapshots
 from journal_kit import QUESTIONS, ROUNDS, ask_all, tool
 from snapshot_kit import (
     MORE,
     PATIENT,
-    asked,
     books_of,
     children,
     failures,
@@ -101,8 +100,8 @@ def hangs(setup: Options) -> None:
     del setup
     with tempfile.TemporaryDirectory(prefix="firm-") as name:
         for script, said in HANGING:
-            named = {**os.environ, "FIRM_STATE_PROGRAM": firmd.stand_in(Path(name), f"#!/bin/sh\n{script}\n")}
-            words = [sys.executable, "-c", HUNG, str(SERVICE), name]
+            named = {**os.environ, "FIRM_STATE_PROGRAM": firmd_kit.stand_in(Path(name), f"#!/bin/sh\n{script}\n")}
+            words = [sys.executable, "-c", HUNG, name]
             done = subprocess.run(words, capture_output=True, text=True, env=named, timeout=PATIENT)
             require((done.returncode, done.stdout.strip()) == (0, said), f"{script}: {done}")
 
@@ -111,7 +110,7 @@ def files_of_killed(setup: Options) -> None:
     """A state's text is in no file that a killed process leaves behind."""
     del setup
     with tempfile.TemporaryDirectory(prefix="firm-") as name:
-        words = [sys.executable, "-c", KILLED, str(SERVICE)]
+        words = [sys.executable, "-c", KILLED]
         done = subprocess.run(words, capture_output=True, text=True, env={**os.environ, "TMPDIR": name})
         require((done.returncode, done.stdout) == (-9, "firm state 1\nrows 0\n\n"), done)
         require(not os.listdir(name), os.listdir(name))
@@ -119,7 +118,6 @@ def files_of_killed(setup: Options) -> None:
 
 KILLED = """\
 import os, subprocess, sys
-sys.path.insert(0, sys.argv[1])
 from firm_service import states
 with states.state_file(b"firm state 1\\nrows 0\\n") as opening:
     print(subprocess.run(["cat", opening.path], capture_output=True, text=True).stdout, flush=True)
@@ -137,11 +135,10 @@ HANGING = [
 HUNG = """\
 import sys
 from pathlib import Path
-sys.path.insert(0, sys.argv[1])
 from firm_service import states
 states.SILENT_SECONDS = 1.0
 try:
-    states.fold(states.Opening(Path(sys.argv[2])), [b"alpha round\\n"] * 100_000)
+    states.fold(states.Opening(Path(sys.argv[1])), [b"alpha round\\n"] * 100_000)
 except states.StateError as error:
     print(error.status, error)
 """
@@ -215,7 +212,6 @@ def refused_memory(setup: Options) -> None:
 MARKED = """\
 import sys
 from pathlib import Path
-sys.path.insert(0, {service!r})
 from firm_service.journal import Journal, Room
 from firm_service.kept import first_base
 from firm_service.state import State
@@ -229,7 +225,7 @@ journal.close()
 
 def mark_refused(daemon: Daemon, number: int) -> None:
     """Has the journal say that memory was refused to a line."""
-    script = MARKED.format(service=str(SERVICE), state=str(daemon.state), number=number)
+    script = MARKED.format(state=str(daemon.state), number=number)
     done = subprocess.run([sys.executable, "-c", script], capture_output=True, text=True)
     require(done.returncode == 0, done.stderr)
 
@@ -298,7 +294,7 @@ def keeps(setup: Options) -> None:
             daemon.kill()
             daemon.start()
             goes_on(setup, daemon, said)
-            whole = b"".join(map(firmd.lines_of, sorted(archive.glob("*.lines")))) + daemon.journal()
+            whole = b"".join(map(firmd_kit.lines_of, sorted(archive.glob("*.lines")))) + daemon.journal()
             require(whole == text_of(said) if is_archived else text_of(said).endswith(whole), "the lines")
             require(tool("print", daemon.state).encode() == daemon.journal(), "it prints what is there")
             daemon.stop()
@@ -348,9 +344,10 @@ def archive_away(setup: Options) -> None:
         made = named(daemon)
         require(int(daemon.segments()[0].stem) == 1, "a segment is away")
         away.unlink()
-        wait_for(lambda: int(daemon.segments()[0].stem) > 1, "segments are away", PATIENT)
+        wait_for(lambda: b" segments of the journal are in " in daemon.said(), "all are away that may be", PATIENT)
+        require(int(daemon.segments()[0].stem) > 1, "segments are away")
         require(named(daemon) == made, f"{named(daemon)}, and it had {made}")
-        whole = b"".join(map(firmd.lines_of, sorted(away.glob("*.lines")))) + daemon.journal()
+        whole = b"".join(map(firmd_kit.lines_of, sorted(away.glob("*.lines")))) + daemon.journal()
         require(whole == text_of(said), "the lines")
         daemon.stop()
 
@@ -381,7 +378,7 @@ def leaves_nothing(setup: Options) -> None:
         daemon.stop()
         held = snapshots.read(folder, named(daemon)[0])
         for script, told in [(TOO_LITTLE, "which is too little room"), (TOO_LARGE, "File too large")]:
-            words = [sys.executable, "-c", script, str(SERVICE), str(folder), str(held.base.segment)]
+            words = [sys.executable, "-c", script, str(folder), str(held.base.segment)]
             done = subprocess.run(words, capture_output=True, text=True)
             require(told in done.stdout, done)
             require(not any(folder.glob("*.new")), f"{sorted(folder.iterdir())}")
@@ -391,10 +388,9 @@ LEFT = ["00000000.state", "99999999.state.new", "00000000.snapshot.new", "999999
 WRITTEN = """\
 import os, resource, sys
 from pathlib import Path
-sys.path.insert(0, sys.argv[1])
 from firm_service import snapshots
-folder = Path(sys.argv[2])
-snapshot = snapshots.read(folder, int(sys.argv[3]))
+folder = Path(sys.argv[1])
+snapshot = snapshots.read(folder, int(sys.argv[2]))
 {}
 try:
     snapshots.write(folder, snapshot)
@@ -426,7 +422,7 @@ def fails(setup: Options) -> None:
         goes_on(setup, daemon, said)
         daemon.stop()
     with setup.daemon("--snapshot-lines", "20") as daemon:
-        daemon.words = ["env", f"FIRM_STATE_PROGRAM={daemon.folder / 'none'}", *firmd.FIRMD]
+        daemon.words = ["env", f"FIRM_STATE_PROGRAM={daemon.folder / 'none'}", *firmd_kit.FIRMD]
         said = []
         daemon.start()
         goes_on(setup, daemon, said, [*ROUNDS, *[b"alpha show"] * 30])
@@ -438,7 +434,7 @@ def fails(setup: Options) -> None:
 def seals_once(setup: Options) -> None:
     """Snapshots that can't be made again and again leave no more segments than one that can."""
     with setup.daemon("--snapshot-minutes", "0.0001") as daemon:
-        daemon.words = ["env", f"FIRM_STATE_PROGRAM={daemon.folder / 'none'}", *firmd.FIRMD]
+        daemon.words = ["env", f"FIRM_STATE_PROGRAM={daemon.folder / 'none'}", *firmd_kit.FIRMD]
         said: list[bytes] = []
         daemon.start()
         goes_on(setup, daemon, said, ROUNDS)
@@ -453,7 +449,7 @@ def full_disk(setup: Options) -> None:
     """On a full disk no segment is begun for a snapshot, and none takes the room that lines have: firmd goes on."""
     with setup.daemon("--snapshot-minutes", "0.0001") as daemon:
         daemon.state.mkdir()
-        firmd.mount(daemon.state, "-t", "tmpfs", "-o", "size=4m", "tmpfs")
+        firmd_disks.mount(daemon.state, "-t", "tmpfs", "-o", "size=4m", "tmpfs")
         try:
             filling = daemon.state / "filling"
             filling.write_bytes(bytes(4 * 2**20 - 2**16))  # what is left is for lines, and not for a segment
@@ -527,7 +523,9 @@ def firms_hang(setup: Options) -> None:
     """A fresh firm that hangs is killed, and the one that runs goes on; so is a former one that doesn't end."""
     limits = ["--snapshot-lines", "100", "--journal-limit", str(LIMIT), "--firm-timeout", "1"]
     with setup.daemon(*limits) as daemon:
-        hanging, daemon.firm = daemon.folder / "hanging", firmd.stand_in(daemon.folder, HUNG_FIRM.format(setup.program))
+        hanging, daemon.firm = daemon.folder / "hanging", firmd_kit.stand_in(
+            daemon.folder, HUNG_FIRM.format(setup.program)
+        )
         hanging.write_bytes(b"")
         said: list[bytes] = []
         daemon.start()
@@ -588,10 +586,10 @@ def kills(setup: Options, part: int) -> None:
             for tenant in tenants:
                 for command in ("show", "costs"):
                     line = f"{tenant.name} {command}".encode()
-                    tenant.tell(firmd.Answered(line, client.ask(line)))
+                    tenant.tell(firmd_kit.Answered(line, client.ask(line)))
         daemon.stop()
-        whole = b"".join(map(firmd.lines_of, sorted(archive.glob("*.lines")))) + daemon.journal()
-        firmd.check_kept(setup, whole, tenants)
+        whole = b"".join(map(firmd_kit.lines_of, sorted(archive.glob("*.lines")))) + daemon.journal()
+        firmd_kit.check_kept(setup, whole, tenants)
         print(f"{count} kills, of which it met {dict(met)}", flush=True)
         require(setup.is_quick or set(met) == set(MOMENTS), f"never met: {set(MOMENTS) - set(met)}")
 
@@ -653,7 +651,7 @@ def talk(tenant: Tenant, client: Client, draw: random.Random) -> None:
                 if line.split() and not line.startswith(b"#") and len(line) <= 256:
                     reply = client.ask(line)
                     if not reply.startswith(b"?"):
-                        tenant.tell(firmd.Answered(line, reply))
+                        tenant.tell(firmd_kit.Answered(line, reply))
 
 
 # Services that begin with a state.
@@ -662,7 +660,7 @@ def talk(tenant: Tenant, client: Client, draw: random.Random) -> None:
 def restores(setup: Options) -> None:
     """A service begins with the state of another: placements, waits and numbers go on; so does a tenant that moves."""
     with with_snapshots(setup) as (daemon, said), setup.daemon("--snapshot-lines", "20") as other:
-        done = subprocess.run([*firmd.JOURNAL_TOOL, "state", daemon.state], capture_output=True, text=True)
+        done = subprocess.run([*firmd_kit.JOURNAL_TOOL, "state", daemon.state], capture_output=True, text=True)
         require((done.returncode, done.stdout) == (4, "") and "is in use by process" in done.stderr, done)
         before = shown(daemon)
         daemon.stop()
@@ -772,8 +770,7 @@ def main() -> int:
     count = options.kills or (3 if options.quick else 60)
     setup = Options(options.program, options.quick, options.seed, options.state, count)
     chosen = {name: check for name, check in checks(setup).items() if options.only in name}
-    with ThreadPoolExecutor(CHECKS_AT_A_TIME) as pool:
-        return count_ends(list(pool.map(passes, chosen.keys(), chosen.values())))
+    return run_suites(Suite(chosen, CHECKS_AT_A_TIME))
 
 
 if __name__ == "__main__":

@@ -6,7 +6,7 @@ from collections.abc import Callable, Iterator, Sequence
 from dataclasses import dataclass, field
 from threading import RLock
 
-from firm_service.replicated.etcd import Change, Condition, Done, Full, Put, Row, Rows, Size, Unsure
+from firm_service.replicated.etcd import Change, Condition, Done, Full, Put, Row, Rows, Size, Span, Unsure
 
 
 @dataclass
@@ -62,7 +62,7 @@ class Connection:
         found = self.range(key, end, 1, True).found
         return found[0].key if found else None
 
-    def transact(self, conditions: Sequence[Condition], puts: Sequence[Put]) -> Done:
+    def transact(self, conditions: Sequence[Condition], puts: Sequence[Put], gone: Sequence[Span] = ()) -> Done:
         with self.memory.lock:
             self.on_transaction()
             fault = self.faults.pop(0) if self.faults else ""
@@ -75,6 +75,8 @@ class Connection:
                 self.memory.revision += 1
                 for put in puts:
                     self.memory.set(put)
+                for key in [key for key in self.memory.rows if any(one.key <= key < one.end for one in gone)]:
+                    self.memory.remove(key)
             if fault == "done":
                 raise Unsure("the answer was lost")
             # The client itself asks a further member where an answer is lost; this is the answer of the second.

@@ -1,7 +1,6 @@
-#!/usr/bin/env python3
 """Cuts services off between two lines, and asks that they go on from their states as if nothing had happened.
 
-usage: tests/states.py [--quick] [--program FILE] [--state FILE] [--explain FILE] [WORD..]
+usage: tools/run tests/states.py [--quick] [--program FILE] [--state FILE] [--explain FILE] [WORD..]
 With words only the checks whose names have one of them. Each check has a line; the exit status is 1 where one failed.
 Without --quick random streams are 10,000, in some fifteen minutes. It needs a C compiler for refuse.c.
 """
@@ -21,7 +20,7 @@ from typing import Iterator, NamedTuple, Sequence
 
 import faults
 from harness import kinds, program
-from harness.checks import Check, Missed, count_ends, passes, require, run_script
+from harness.checks import Check, Missed, Suite, require, run_script, run_suites
 from harness.small_streams import random_stream, with_noise
 
 STATE = program.built("firm_state")
@@ -43,6 +42,7 @@ NAMES = {
     11: "commands",
     12: "places",
     13: "rows",
+    15: "rounds",
 }
 
 
@@ -246,6 +246,13 @@ def with_rows(rows: Sequence[bytes]) -> bytes:
 
 ROWS = WORKED.splitlines()[1:-1]
 
+# Of more than eight rounds the last eight left their costs; the commands beside the rows tell how many there may be.
+LONG_WAIT = (
+    changed(b"costs 0 13", b"costs 0 1 2 3 4 5 6 7")
+    .replace(b"commands 6", b"commands 13")
+    .replace(b"waits 1", b"waits 9")
+)
+
 FAULTY = [
     (b"", StateFault(1, 1)),
     (b"\n", StateFault(1, 1)),
@@ -288,6 +295,9 @@ FAULTY = [
     (changed(b"arcs 24", b"arcs 4"), StateFault(10, 7)),
     (changed(b"commands 6", b"commands 1000001"), StateFault(11, 3)),
     (changed(b"commands 6", b"commands 5"), StateFault(11, 8)),
+    (LONG_WAIT.replace(b"waits 9", b"waits 10"), StateFault(11, 8)),
+    (changed(b"costs 0 13", b"costs"), StateFault(15, 7)),
+    (changed(b"waits 1", b"waits 3"), StateFault(15, 8)),
     (with_rows([*ROWS[:7], b"place admissions 0"]), StateFault(12, 10)),
     (changed(b"admissions 1", b"admissions 0"), StateFault(12, 3)),
     (with_rows([b"place admissions 1"] * (MOST_PLACES + 1)), StateFault(12, MOST_PLACES + 2)),
@@ -316,7 +326,8 @@ def fault_of(options: Options, text: bytes) -> StateFault | None:
 
 def hostile_states(options: Options) -> None:
     """Each fault has its number, its name and its line, and nothing is served."""
-    require(fault_of(options, WORKED) is None, "the worked state is none")
+    for text in (WORKED, LONG_WAIT):
+        require(fault_of(options, text) is None, f"{text!r} is no state")
     for text, fault in FAULTY:
         found = fault_of(options, text)
         require(found == fault, f"{text!r}: {found}, and not {fault}")
@@ -475,7 +486,7 @@ def main() -> int:
     chosen = {
         name: check for name, check in checks(options).items() if not given.words or any(w in name for w in given.words)
     }
-    return count_ends([passes(name, check) for name, check in chosen.items()])
+    return run_suites(Suite(chosen))
 
 
 if __name__ == "__main__":

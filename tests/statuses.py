@@ -1,7 +1,6 @@
-#!/usr/bin/env python3
 """Asks the built program for its exit statuses, by words, rosters, states and inputs, and for what it says with them.
 
-usage: tests/statuses.py [--program FILE]
+usage: tools/run tests/statuses.py [--program FILE]
 Each check has a line, and the exit status is 1 where one failed.
 """
 
@@ -17,7 +16,7 @@ from pathlib import Path
 from typing import NamedTuple, Sequence
 
 from harness import program
-from harness.checks import require, run_script, status_of
+from harness.checks import Check, Suite, require, run_script, run_suites
 from harness.program import Run
 
 HEADING = b"tenant,nodes,arcs,life,spread,churn\n"
@@ -313,18 +312,17 @@ def main() -> int:
     built: str = parser.parse_args().program
     with tempfile.TemporaryDirectory(prefix="firm-") as name:
         folder = Path(name)
-        return status_of(
-            [
-                ("words at fault", partial(faulty_words, built)),
-                ("requests", partial(requests, built)),
-                ("example of the help", partial(example_of_the_help, built, folder)),
-                ("faults that nobody reads", partial(faults_that_nobody_reads, built, folder)),
-                ("rosters", partial(rosters, built, folder)),
-                ("states", partial(states, built, folder)),
-                ("bytes of the roster", partial(bytes_of_the_roster, built, folder)),
-                ("unread input", partial(unread_input, built, folder)),
-            ]
-        )
+        checks: dict[str, Check] = {
+            "words at fault": partial(faulty_words, built),
+            "requests": partial(requests, built),
+            "example of the help": partial(example_of_the_help, built, folder),
+            "faults that nobody reads": partial(faults_that_nobody_reads, built, folder),
+            "rosters": partial(rosters, built, folder),
+            "states": partial(states, built, folder),
+            "bytes of the roster": partial(bytes_of_the_roster, built, folder),
+            "unread input": partial(unread_input, built, folder),
+        }
+        return run_suites(Suite(checks))
 
 
 if __name__ == "__main__":

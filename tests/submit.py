@@ -1,7 +1,6 @@
-#!/usr/bin/env python3
 """Asks firmctl's verbs, firm-submit and the Python clients, over firmd and firm-queue, with tasks that are processes.
 
-usage: tests/submit.py [--quick] [--only WORDS] [--program FILE]
+usage: tools/run tests/submit.py [--quick] [--only WORDS] [--program FILE]
 Each check has a line; the last line is 'N passed, M failed', and the exit status is 1 where one failed. It needs Python
 3 and the built program. --quick has fewer kills.
 """
@@ -26,7 +25,7 @@ from functools import partial
 from pathlib import Path
 
 from harness import program
-from harness.checks import Check, count_ends, passes, require, run_script
+from harness.checks import Check, Suite, require, run_script, run_suites
 from harness.deployed import SERVICE, async_client, client, forms
 from harness.program import ROOT
 from harness.sessions import blocks_of
@@ -436,10 +435,10 @@ def main() -> int:
     parser.add_argument("--quick", action="store_true", help="the part that tests/quick runs")
     parser.add_argument("--only", default="", help="the checks whose names have these words")
     options = parser.parse_args()
-    with cluster(options.program, m1=8, m2=8, spare=1) as found, ThreadPoolExecutor(CHECKS_AT_A_TIME) as pool:
-        chosen = checks(options.program, found, options.quick)
-        names = [name for name in chosen if options.only in name]
-        return count_ends(list(pool.map(lambda name: passes(name, chosen[name]), names)))
+    with cluster(options.program, m1=8, m2=8, spare=1) as found:
+        named = checks(options.program, found, options.quick)
+        chosen = {name: check for name, check in named.items() if options.only in name}
+        return run_suites(Suite(chosen, CHECKS_AT_A_TIME))
 
 
 if __name__ == "__main__":

@@ -17,12 +17,12 @@ from dataclasses import dataclass, field
 from pathlib import Path
 from typing import Any
 
-import firmd
+import firmd_kit
 from harness.checks import require
 from harness.deployed import SERVICE, client
 from harness.program import Run, run_words
 
-ROSTER = firmd.HEADING + b"alpha,60,400,1000000000,0,1000\n"
+ROSTER = firmd_kit.HEADING + b"alpha,60,400,1000000000,0,1000\n"
 LOOK_SECONDS, BEAT_SECONDS, START_SECONDS = 0.02, 1.0, 20.0
 Json = dict[str, Any]
 
@@ -150,7 +150,7 @@ class Runner:
 class Cluster:
     """All of it, in one folder."""
 
-    daemon: firmd.Daemon
+    daemon: firmd_kit.Daemon
     queue: subprocess.Popen[bytes] | None = None
     runner: Runner | None = None
 
@@ -224,7 +224,7 @@ class Cluster:
 
 @contextmanager
 def cluster(built: str, **machines: int) -> Iterator[Cluster]:
-    with firmd.Setup(built, True, 1).daemon("--after", "5", roster=ROSTER) as daemon:
+    with firmd_kit.Setup(built, True, 1).daemon("--after", "5", roster=ROSTER) as daemon:
         daemon.start()
         found = Cluster(daemon)
         try:

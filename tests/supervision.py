@@ -1,7 +1,6 @@
-#!/usr/bin/env python3
 """Asks what becomes of tasks' processes when the supervisor, the agent or the agent's events are lost.
 
-usage: tests/supervision.py [--quick] [--only WORDS]
+usage: tools/run tests/supervision.py [--quick] [--only WORDS]
 Each check has a line; the last line is 'N passed, M failed', and the exit status is 1 where one failed. It needs Python
 3. Checks of cgroups need a cgroup v2 that can be written, and some of them root: what can't be asked here is said and
 skipped. --quick leaves out what takes longer than a second or two.
@@ -18,14 +17,12 @@ import subprocess
 import sys
 import time
 from collections.abc import Iterator
-from concurrent.futures import ThreadPoolExecutor
 from contextlib import contextmanager, suppress
 from functools import partial
 from pathlib import Path
 
 from agent_kit import SOON_SECONDS, SSH, WAITS_FOR_GO, Case, command, is_there
-from harness.checks import Check, Skipped, count_ends, passes, print_skipped, require, run_script
-from harness.deployed import SERVICE
+from harness.checks import Check, Skipped, Suite, print_skipped, require, run_script, run_suites
 
 AT_A_TIME = 6  # checks, which mostly wait
 LOOK_SECONDS = 1.0  # in which a hidden process has changed its number, on a busy host too
@@ -44,8 +41,7 @@ while True:
 """
 OLD_KERNEL = """\
 import subprocess, sys
-sys.path.insert(0, sys.argv[1])
-import supervisor
+from firm_service import supervisor
 supervisor.KILL = "cgroup.no-such-file"
 group = supervisor.Group.make("firm-test")
 with group.joined():
@@ -307,7 +303,7 @@ def old_kernel() -> None:
     own_cgroup()
     with Case("") as case:
         hidden, pipe = Hidden(case.folder), subprocess.PIPE
-        words = [sys.executable, "-c", OLD_KERNEL, str(SERVICE / "firm_service")]
+        words = [sys.executable, "-c", OLD_KERNEL]
         with subprocess.Popen(words, cwd=case.folder, stdin=pipe, stdout=pipe, text=True) as asked:
             case.until(hidden.is_there, "the hidden process")
             path, _ = asked.communicate("end\n", timeout=60)
@@ -322,9 +318,9 @@ def threads_alone() -> None:
     inner.mkdir(parents=True)
     try:
         (inner / "cgroup.type").write_text("threaded")
-        ask = "import sys; sys.path.insert(0, sys.argv[1]); import supervisor; print(supervisor.group_trouble())"
+        ask = "from firm_service import supervisor; print(supervisor.group_trouble())"
         words = f"echo 0 > {outer}/cgroup.procs && echo 0 > {inner}/cgroup.threads"
-        words += f" && exec {sys.executable} -c '{ask}' {SERVICE / 'firm_service'}"
+        words += f" && exec {sys.executable} -c '{ask}'"
         asked = subprocess.run(["sh", "-c", words], capture_output=True, text=True, timeout=60)
         require(asked.stdout == f"{inner} has threads alone\n", asked)
         require([path for path in inner.iterdir() if path.is_dir()] == [], "a cgroup is left")
@@ -454,8 +450,7 @@ def main() -> int:
     if options.quick:
         print_skipped(", ".join(LONG), "--quick leaves out what takes longer")
     chosen = {name: check for name, check in checks(options.quick).items() if options.only in name}
-    with ThreadPoolExecutor(AT_A_TIME) as pool:
-        return count_ends(list(pool.map(passes, chosen.keys(), chosen.values())))
+    return run_suites(Suite(chosen, AT_A_TIME))
 
 
 if __name__ == "__main__":

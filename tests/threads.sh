@@ -63,6 +63,13 @@ build unordered
 export TSAN_OPTIONS="exitcode=99"
 missed=0
 
+# run SCRIPT WORD..: a script of this folder.
+run() {
+    local script=$here/$1
+    shift
+    "$here/../tools/run" "$script" "$@"
+}
+
 # day NAME WORKERS: the example day; 99 where a race was seen.
 day() {
     "$folder/$1" --workers "$2" --roster "$examples/roster.csv" <"$examples/commands.txt" \
@@ -77,9 +84,9 @@ for workers in 1 2 8; do
         missed=1
     fi
 done
-"$here/compare.py" --program "$folder/watched" --workers 2 --streams "$streams" --rosters 5 || missed=1
-"$here/compare.py" --program "$folder/watched" --workers 8 --streams "$streams" --rosters 5 --pieces || missed=1
-"$here/live.py" --program "$folder/watched" --only "line by line" --streams 20 || missed=1
+run compare.py --program "$folder/watched" --workers 2 --streams "$streams" --rosters 5 || missed=1
+run compare.py --program "$folder/watched" --workers 8 --streams "$streams" --rosters 5 --pieces || missed=1
+run live.py --program "$folder/watched" --only "line by line" --streams 20 || missed=1
 if day unordered 2; then
     echo "MISSED: without orderings nothing was found, so nothing was watched"
     missed=1

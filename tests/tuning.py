@@ -1,7 +1,6 @@
-#!/usr/bin/env python3
 """Asks firm whether docs/TUNING.md is right, and whether the rosters of firmctl make-roster have the room they are for.
 
-usage: tests/tuning.py [--quick] [--program FILE] [--draws N] [--first SEED]
+usage: tools/run tests/tuning.py [--quick] [--program FILE] [--draws N] [--first SEED]
 Each check has a line; the last line is 'N passed, M failed', and the exit status is 1 where one failed. It needs Python
 3 and the built program. --quick draws fewer numbers.
 """
@@ -18,7 +17,7 @@ from dataclasses import dataclass, field, replace
 from functools import partial
 
 from harness import program
-from harness.checks import Check, count_ends, passes, require, run_script
+from harness.checks import Check, Suite, require, run_script, run_suites
 from harness.deployed import SERVICE, roster, sizes
 from harness.program import ROOT
 from harness.sessions import Block, blocks_of
@@ -384,7 +383,7 @@ def main() -> int:
     options = parser.parse_args()
     count = min(options.draws, 60) if options.quick else options.draws
     found = checks(options.program, range(options.first, options.first + count))
-    return count_ends([passes(name, check) for name, check in found.items()])
+    return run_suites(Suite(found))
 
 
 if __name__ == "__main__":

@@ -25,4 +25,5 @@ same() {
 same "$here/../examples/roster.csv" "$here/../examples/commands.txt" "the example day"
 (cd "$here" && python3 -m harness.kinds steady 100 20 "$folder/steady")
 same "$folder/steady.csv" "$folder/steady.txt" "rounds of 100 tasks"
-"$here/compare.py" --program "$program" --under "$under" ${workers:+--workers "$workers"} --streams 60 --rosters 20
+"$here/../tools/run" "$here/compare.py" --program "$program" --under "$under" ${workers:+--workers "$workers"} \
+    --streams 60 --rosters 20

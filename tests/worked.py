@@ -1,7 +1,6 @@
-#!/usr/bin/env python3
 """Plays worked services, in pieces and as a client that waits for replies: each line is answered as written here.
 
-usage: tests/worked.py [--program FILE] [WORD..]
+usage: tools/run tests/worked.py [--program FILE] [WORD..]
 Each text of tests/services is a service: its roster, an empty line, and then what is read; what follows '< ' is
 written. Those of this script have bytes that no such text can hold, or many tenants. Each is played with 1, 2 and 8
 workers, and on one thread by firm_explain, whose reasons are left out, and firm_measure, where they are built. With
@@ -18,7 +17,7 @@ from pathlib import Path
 from typing import Callable, Iterator, NamedTuple, Sequence
 
 from harness import program
-from harness.checks import CannotRun, Check, Missed, print_skipped, require, run_script, status_of
+from harness.checks import CannotRun, Check, Missed, Suite, print_skipped, require, run_script, run_suites
 from harness.program import ROOT, built
 
 SERVICES = ROOT / "tests" / "services"
@@ -240,8 +239,8 @@ def main() -> int:
     words: list[str] = given.words
     with tempfile.TemporaryDirectory(prefix="firm-") as folder:
         found = checks(given.program, program.build_refusing(folder))
-        chosen = [check for check in found.items() if not words or any(word in check[0] for word in words)]
-        return status_of(chosen)
+        chosen = {name: check for name, check in found.items() if not words or any(word in name for word in words)}
+        return run_suites(Suite(chosen))
 
 
 if __name__ == "__main__":

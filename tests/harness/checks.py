@@ -1,4 +1,4 @@
-"""Checks with names, and the exit statuses of the scripts.
+"""Checks as cases of `unittest`, and the exit statuses of the scripts.
 
 0: all is well. 1: something is not as it must be. 2: the script can't be run so, or lacks something that it needs.
 """
@@ -8,22 +8,24 @@ from __future__ import annotations
 import subprocess
 import sys
 import time
-from typing import Callable, Iterable, NoReturn
+import unittest
+from concurrent.futures import ThreadPoolExecutor
+from threading import Lock
+from types import TracebackType
+from typing import Callable, Mapping, NoReturn, cast
 
 Check = Callable[[], object]  # passes where it raises nothing
+Caught = tuple[type[BaseException], BaseException, TracebackType] | tuple[None, None, None]
+Skipped = unittest.SkipTest  # of a check that can't be done here
 SKIPPED = "skipped"  # the first word of a line on checks that are not done
 
 
-class Missed(Exception):
+class Missed(AssertionError):
     """Something is not as it must be."""
 
 
 class CannotRun(Exception):
     """Something that the script needs is not there."""
-
-
-class Skipped(Exception):
-    """A check that can't be done here."""
 
 
 def require(holds: object, what: object) -> None:
@@ -32,38 +34,94 @@ def require(holds: object, what: object) -> None:
         raise Missed(what)
 
 
-def passes(name: str, check: Check) -> bool:
-    """Runs a check and prints a line on it; whether it has not failed. One that is skipped has not."""
-    began = time.monotonic()
-    try:
-        check()
-    except CannotRun:
-        raise
-    except Skipped as reason:
-        print_skipped(name, str(reason))
-        return True
-    except Exception as error:  # whatever goes wrong is a failed check, and the others go on
-        print(f"FAILED   {name}: {type(error).__name__}: {error}", flush=True)
-        return False
-    print(f"passed   {name} ({time.monotonic() - began:.1f} s)", flush=True)
-    return True
+class Case(unittest.TestCase):
+    """A check with a name."""
+
+    def __init__(self, name: str, check: Check) -> None:
+        super().__init__()
+        self.name, self.check, self.began = name, check, 0.0
+
+    def runTest(self) -> None:
+        self.began = time.monotonic()
+        self.check()
+
+    def __str__(self) -> str:
+        return self.name
+
+
+class Suite(unittest.TestSuite):
+    """Checks with their names, one after another or some beside one another."""
+
+    def __init__(self, checks: Mapping[str, Check], at_a_time: int = 1) -> None:
+        super().__init__(Case(name, check) for name, check in checks.items())
+        self.at_a_time = at_a_time
+
+    def run(self, result: unittest.TestResult, debug: bool = False) -> unittest.TestResult:
+        if self.at_a_time == 1:
+            return super().run(result, debug)
+        with ThreadPoolExecutor(self.at_a_time) as pool:
+            list(pool.map(lambda case: None if result.shouldStop else case(result), self))
+        return result
+
+
+class Lines(unittest.TextTestResult):
+    """Prints a line on each check once it is over. Checks that run beside one another share it, under a lock."""
+
+    reason: CannotRun | None = None  # that nothing more can be run
+
+    def __init__(self, *words: object) -> None:
+        super().__init__(*words)  # type: ignore[arg-type] # those of the runner
+        self._lock = Lock()
+
+    def startTest(self, test: unittest.TestCase) -> None:
+        with self._lock:
+            super().startTest(test)
+
+    def addSuccess(self, test: unittest.TestCase) -> None:
+        with self._lock:
+            super().addSuccess(test)
+            self._say(f"passed   {test} ({time.monotonic() - cast(Case, test).began:.1f} s)")
+
+    def addFailure(self, test: unittest.TestCase, err: Caught) -> None:
+        with self._lock:
+            super().addFailure(test, err)
+            self._say_failed(test, err)
+
+    def addError(self, test: unittest.TestCase, err: Caught) -> None:
+        with self._lock:
+            super().addError(test, err)
+            if isinstance(err[1], CannotRun):
+                self.reason = err[1]
+                self.stop()
+            self._say_failed(test, err)
+
+    def addSkip(self, test: unittest.TestCase, reason: str) -> None:
+        with self._lock:
+            super().addSkip(test, reason)
+            self._say(f"{SKIPPED}  {test}: {reason}")
+
+    def _say_failed(self, test: unittest.TestCase, err: Caught) -> None:
+        self._say(f"FAILED   {test}: {type(err[1]).__name__}: {err[1]}")
+
+    def _say(self, line: str) -> None:
+        self.stream.write(f"{line}\n")
+        self.stream.flush()
+
+
+def run_suites(*suites: unittest.TestSuite) -> int:
+    """Runs the checks; 0 where all passed, 1 where one failed or there was none. The last line counts them."""
+    runner = unittest.TextTestRunner(sys.stdout, verbosity=0, resultclass=Lines)
+    result = cast(Lines, runner.run(unittest.TestSuite(suites)))
+    if result.reason is not None:
+        raise result.reason
+    failed = len(result.failures) + len(result.errors)
+    print(f"{result.testsRun - failed} passed, {failed} failed", flush=True)
+    return 0 if result.testsRun and not failed else 1
 
 
 def print_skipped(what: str, why: str) -> None:
     """Says of checks that they are not done, and why."""
     print(f"{SKIPPED}  {what}: {why}", flush=True)
-
-
-def status_of(checks: Iterable[tuple[str, Check]]) -> int:
-    """Runs the checks, each with its name; 0 where all passed, 1 where one failed or there was none."""
-    ends = [passes(name, check) for name, check in checks]
-    return 0 if ends and all(ends) else 1
-
-
-def count_ends(ends: list[bool]) -> int:
-    """Prints the line that closes a script's output; 0 where all passed, 1 where one failed or there was none."""
-    print(f"{ends.count(True)} passed, {ends.count(False)} failed")
-    return 0 if ends and all(ends) else 1
 
 
 def run_script(main: Callable[[], int]) -> NoReturn:

@@ -1,43 +1,41 @@
-"""The parts of service/ that checks use; the package is found here alone."""
+"""The parts of service/ that checks use."""
 
 from __future__ import annotations
 
 import socket
-import sys
 from pathlib import Path
 
 from harness.program import ROOT
 
-SERVICE = ROOT / "service"
-sys.path.insert(0, str(SERVICE))
+import firm_service.slurm.check
+import firm_service.slurm.differences
+import firm_service.slurm.done
+import firm_service.slurm.said
+from firm_service import agent_machines, agent_queue, archive, books, extent, feed, feeder, kept_books
+from firm_service import past, past_rounds, records
+from firm_service import roster, sizes, slurm, snapshots, states as service_states, supervisor
+from firm_service import trials, what_if, why, why_text
+from firm_service.agent_queue import NotAllowed, work_of
+from firm_service.agent_table import TableError
+from firm_service.book_states import book_of, text_of
+from firm_service.books import Book, Books
+from firm_service.clients import HIGH_WATER
+from firm_service.daemon import TICK_SECONDS
+from firm_service.follower import Follower
+from firm_service.kept import found_now, kept_lines
+from firm_service.lines import gets_reply
+from firm_service.observers import Status
+from firm_service.queue import async_client, backlog, client, columns, forms, rows, shares, states
+from firm_service.queue.firm import Doors, Firm
+from firm_service.refused import Refused
+from firm_service.roster import Limits
+from firm_service.queue.rows import Attempt, Name, Spec, Submission, Task
+from firm_service.sockets import LOCK_SECONDS
+from firm_service.state import ID
+from firm_service.shown import Shown
+from firm_service.view import MOST_OF_USER, MOST_UNREAD, serve_view
 
-import firm_service.slurm.check  # noqa: E402 (found by the line before)
-import firm_service.slurm.differences  # noqa: E402
-import firm_service.slurm.done  # noqa: E402
-import firm_service.slurm.said  # noqa: E402
-from firm_service import agent_machines, agent_queue, archive, books, extent, feed, feeder, kept_books  # noqa: E402
-from firm_service import past, past_rounds, records  # noqa: E402
-from firm_service import roster, sizes, slurm, snapshots, states as service_states, supervisor  # noqa: E402
-from firm_service import trials, what_if, why, why_text  # noqa: E402
-from firm_service.agent_queue import NotAllowed, work_of  # noqa: E402
-from firm_service.agent_table import TableError  # noqa: E402
-from firm_service.book_states import book_of, text_of  # noqa: E402
-from firm_service.books import Book, Books  # noqa: E402
-from firm_service.clients import HIGH_WATER  # noqa: E402
-from firm_service.daemon import TICK_SECONDS  # noqa: E402
-from firm_service.follower import Follower  # noqa: E402
-from firm_service.kept import found_now, kept_lines  # noqa: E402
-from firm_service.lines import gets_reply  # noqa: E402
-from firm_service.observers import Status  # noqa: E402
-from firm_service.queue import async_client, backlog, client, columns, forms, rows, shares, states  # noqa: E402
-from firm_service.queue.firm import Doors, Firm  # noqa: E402
-from firm_service.refused import Refused  # noqa: E402
-from firm_service.roster import Limits  # noqa: E402
-from firm_service.queue.rows import Attempt, Name, Spec, Submission, Task  # noqa: E402
-from firm_service.sockets import LOCK_SECONDS  # noqa: E402
-from firm_service.state import ID  # noqa: E402
-from firm_service.shown import Shown  # noqa: E402
-from firm_service.view import MOST_OF_USER, MOST_UNREAD, serve_view  # noqa: E402
+SERVICE = ROOT / "service"
 
 
 def bound(path: Path) -> socket.socket:

@@ -1,4 +1,4 @@
-"""What the scripts of this folder use of those at the top of the repository, which are found here alone."""
+"""What the scripts of this folder use of those at the top of the repository."""
 
 from __future__ import annotations
 
@@ -7,11 +7,8 @@ import sys
 from pathlib import Path
 from typing import Callable, Iterable
 
-ROOT = Path(__file__).resolve().parents[2]
-sys.path.insert(0, str(ROOT))
-
-from build import free_bytes  # noqa: E402 (found by the line before)
-from prover import Crate, NoKit, crates_of_repository, kit, kit_identity, made, words  # noqa: E402
+from build import free_bytes
+from prover import ROOT, Crate, NoKit, crates_of_repository, kit, kit_identity, made, words
 
 __all__ = [
     "Crate",

@@ -1,0 +1,350 @@
+"""firmd as the checks start, kill and ask it, and clients with random lines."""
+
+from __future__ import annotations
+
+import random
+import re
+import signal
+import socket
+import subprocess
+import sys
+import tempfile
+import threading
+import time
+from collections.abc import Callable, Iterator, Sequence
+from contextlib import contextmanager, suppress
+from dataclasses import dataclass, field
+from pathlib import Path
+
+from harness import program, service
+from harness.checks import require
+from harness.deployed import SERVICE
+from harness.small_streams import Stream
+
+NO_LIMITS = service.Limits(2, 0, 1, 0, 0)
+FIRMD = [sys.executable, str(SERVICE / "firmd")]
+JOURNAL_TOOL = [sys.executable, str(SERVICE / "firm-journal")]
+CHECKS_AT_A_TIME = 4
+HEADING = b"tenant,nodes,arcs,life,spread,churn\n"
+ROSTER = HEADING + b"alpha,30,300,1000000000,1,2\nbeta,30,300,1000000000,0,3\n"
+START_SECONDS = 60
+NOBODY = 65534  # a user and a group without rights of their own
+REPLY_SECONDS = 20
+ROWS = [
+    b"alpha machine m1 2",
+    b"alpha job j 10",
+    b"alpha task j a",
+    b"beta machine m1 1",
+    b"beta job low 2",
+    b"beta task low l",
+]
+SHOWN = b"ok machines 1 jobs 1 tasks 1 running %d nodes 5 of 30 arcs 7 of 300"
+
+
+class Gone(Exception):
+    """The daemon has left, or closed the connection."""
+
+
+class Client:
+    """A connection to a socket of firmd."""
+
+    def __init__(self, path: Path) -> None:
+        self.socket = socket.socket(socket.AF_UNIX)
+        self.socket.settimeout(REPLY_SECONDS)
+        try:
+            self.socket.connect(str(path))
+        except OSError as error:
+            raise Gone from error
+        self.received = b""
+
+    def __enter__(self) -> Client:
+        return self
+
+    def __exit__(self, *_: object) -> None:
+        self.socket.close()
+
+    def send(self, text: bytes) -> None:
+        try:
+            self.socket.sendall(text)
+        except ConnectionError as error:
+            raise Gone from error
+
+    def reply(self) -> bytes:
+        """The next line, without its end."""
+        while b"\n" not in self.received:
+            try:
+                more = self.socket.recv(65536)
+            except ConnectionError as error:
+                raise Gone from error
+            if not more:
+                raise Gone
+            self.received += more
+        line, self.received = self.received.split(b"\n", 1)
+        return line
+
+    def ask(self, line: bytes) -> bytes:
+        self.send(line + b"\n")
+        return self.reply()
+
+    def rest(self) -> bytes:
+        """All that is sent until the connection is closed."""
+        with suppress(ConnectionError):
+            while more := self.socket.recv(65536):
+                self.received += more
+        return self.received
+
+    def end(self) -> bytes:
+        """The same, once nothing more is asked."""
+        self.socket.shutdown(socket.SHUT_WR)
+        return self.rest()
+
+
+@dataclass
+class Daemon:
+    """firmd, over a state in a folder of its own."""
+
+    folder: Path
+    firm: str
+    options: list[str] = field(default_factory=list)
+    words: list[str] = field(default_factory=lambda: FIRMD)
+    restored: Path | None = None  # the state to begin with, instead of the roster
+    process: subprocess.Popen[bytes] | None = None
+
+    @property
+    def state(self) -> Path:
+        return self.folder / "state"
+
+    @property
+    def any(self) -> Path:
+        return self.folder / "any"
+
+    @property
+    def operator(self) -> Path:
+        return self.folder / "operator"
+
+    def spawn(self) -> subprocess.Popen[bytes]:
+        words = [*self.words, "--firm", self.firm, "--state", str(self.state)]
+        words += ["--restore", str(self.restored)] if self.restored else ["--roster", str(self.folder / "roster.csv")]
+        words += ["--socket", str(self.any), "--operator", str(self.operator), *self.options]
+        with open(self.folder / "errors", "wb") as errors:
+            self.process = subprocess.Popen(words, stdin=subprocess.DEVNULL, stderr=errors)
+        return self.process
+
+    def start(self) -> Daemon:
+        """Starts it and waits until it serves."""
+        process, ends = self.spawn(), time.monotonic() + START_SECONDS
+        while b"firmd: ready" not in self.said():
+            require(process.poll() is None, f"it ended with status {process.poll()}: {self.said().decode()}")
+            require(time.monotonic() < ends, "it is not ready in time")
+            time.sleep(0.005)
+        return self
+
+    def said(self) -> bytes:
+        return (self.folder / "errors").read_bytes()
+
+    def running(self) -> subprocess.Popen[bytes]:
+        require(self.process is not None, "it was started")
+        return self.process  # type: ignore[return-value]
+
+    def status(self) -> int:
+        """Its exit status, once it ends by itself."""
+        return self.running().wait(START_SECONDS)
+
+    def refuses(self, status: int, *texts: str) -> None:
+        """Asks that it ends at its start, with this status and these words."""
+        self.spawn()
+        got = self.status()
+        said = self.said().decode()
+        require(got == status and all(text in said for text in texts), f"status {got}: {said}")
+
+    def stop(self, number: int = signal.SIGTERM) -> None:
+        self.running().send_signal(number)
+        status, said = self.status(), self.said().decode()
+        require(status == 0 and "Traceback" not in said, f"status {status} at its stop: {said}")
+
+    def kill(self) -> None:
+        process = self.running()
+        process.kill()
+        process.wait()
+
+    def client(self) -> Client:
+        return Client(self.any)
+
+    def firm_process(self) -> int:
+        pid = self.running().pid
+        return int(Path(f"/proc/{pid}/task/{pid}/children").read_text().split()[0])
+
+    def segments(self) -> list[Path]:
+        return sorted((self.state / "journal").glob("*.lines"))
+
+    def journal(self) -> bytes:
+        """The lines, without the journal's own headings."""
+        return b"".join(map(lines_of, self.segments()))
+
+
+def lines_of(segment: Path) -> bytes:
+    """The lines of a segment, without the journal's own headings."""
+    return re.sub(rb"(?m)^#.*\n", b"", segment.read_bytes())
+
+
+@dataclass(frozen=True)
+class Setup:
+    """What the checks run, and how much of it."""
+
+    program: str
+    is_quick: bool
+    seed: int
+
+    @contextmanager
+    def daemon(self, *options: str, roster: bytes = ROSTER, firm: str | None = None) -> Iterator[Daemon]:
+        """A daemon in a new folder, which is not started yet; nothing of it is left behind."""
+        with tempfile.TemporaryDirectory(prefix="firmd-") as name:
+            folder = Path(name)
+            (folder / "roster.csv").write_bytes(roster)
+            daemon = Daemon(folder, firm or self.program, list(options))
+            try:
+                yield daemon
+            finally:
+                if daemon.process is not None and daemon.process.poll() is None:
+                    daemon.kill()
+
+    def alone(self, roster: bytes, text: bytes) -> list[bytes]:
+        """The replies of firm alone."""
+        with program.Roster(roster) as path:
+            done = program.run([self.program], path, text)
+        require((done.status, done.faults) == (0, b""), f"firm alone: {done.status} {done.faults!r}")
+        output: bytes = done.output
+        return output.splitlines()
+
+
+def stand_in(folder: Path, text: str) -> str:
+    """A program in the place of firm."""
+    path = folder / "stand-in"
+    path.write_text(text)
+    path.chmod(0o755)
+    return str(path)
+
+
+def wait_for(holds: Callable[[], bool], what: str, seconds: float = REPLY_SECONDS) -> None:
+    ends = time.monotonic() + seconds
+    while not holds():
+        require(time.monotonic() < ends, f"{what}, in time")
+        time.sleep(0.005)
+
+
+def memory_kilobytes(pid: int) -> int:
+    """What a process has in memory."""
+    found = re.search(r"VmRSS:\s+([0-9]+)", Path(f"/proc/{pid}/status").read_text())
+    return int(found[1]) if found else 0
+
+
+# Random clients.
+
+
+@dataclass(frozen=True)
+class Answered:
+    line: bytes
+    reply: bytes
+
+
+class Tenant:
+    """The lines of one tenant, for several clients at a time."""
+
+    def __init__(self, name: str, seed: int) -> None:
+        self.name = name
+        self.lock = threading.Lock()
+        self.stream = Stream(random.Random(seed), [name], 6)
+        self.stream.operators = 0
+        self.opening = self.stream.opening()
+        self.answered: list[Answered] = []
+
+    def lines(self, count: int) -> list[bytes]:
+        with self.lock:
+            first, self.opening = self.opening, []
+            found: list[bytes] = first + [self.stream.line() for _ in range(count)]
+            return found
+
+    def tell(self, answered: Answered) -> None:
+        with self.lock:
+            self.answered.append(answered)
+
+
+def expected_note(line: bytes, is_bound: bool, tenant: str) -> bytes | None:
+    """What firmd itself says to a line: None where it is firm's to answer."""
+    line = line.removesuffix(b"\r")
+    words = re.split(rb"[ \t]+", line.strip(b" \t"))
+    if len(line) > 256:
+        return None
+    if is_bound:
+        return None if words[0] == tenant.encode() else b"? other-tenant"
+    return b"? operator-only" if words[0] == b"+" else None
+
+
+def converse(tenant: Tenant, client: Client, is_bound: bool, draw: random.Random, count: int) -> None:
+    """Sends a number of lines in bursts that are cut anywhere; each reply must be for its line."""
+    nobody = service.Service({})
+    while count > 0:
+        lines = tenant.lines(min(count, draw.choice([1, 1, 2, 5, 20])))
+        count -= len(lines)
+        text = b"".join(line + b"\n" for line in lines)
+        cuts = sorted(draw.choices(range(len(text) + 1), k=draw.choice([0, 0, 1, 3])))
+        for start, end in zip([0, *cuts], [*cuts, len(text)]):
+            client.send(text[start:end])
+        for line in lines:
+            if service.answer_line(nobody, line.removesuffix(b"\r")) is None:
+                continue
+            reply = client.reply()
+            note = expected_note(line, is_bound, tenant.name)
+            require(reply.split(b":")[0] == note if note else not reply.startswith(b"?"), f"{reply!r} to {line!r}")
+            if note is None:
+                tenant.tell(Answered(line, reply))
+
+
+def in_threads(works: Sequence[Callable[[], None]]) -> list[BaseException]:
+    """Does all at a time; what was raised."""
+    raised: list[BaseException] = []
+
+    def run(work: Callable[[], None]) -> None:
+        try:
+            work()
+        except BaseException as error:
+            raised.append(error)
+
+    threads = [threading.Thread(target=run, args=(work,)) for work in works]
+    for thread in threads:
+        thread.start()
+    for thread in threads:
+        thread.join()
+    return raised
+
+
+def roster_of(tenants: list[Tenant]) -> bytes:
+    return HEADING + b"".join(b"%s,30,300,1000000000,1,2\n" % tenant.name.encode() for tenant in tenants)
+
+
+def check_alone(setup: Setup, tenant: Tenant) -> None:
+    """A tenant's replies, all of them told, are those of a firm that holds it alone."""
+    own = [answered for answered in tenant.answered if not answered.reply.startswith(b"!")]
+    own.sort(key=lambda answered: int(answered.reply.split()[1]))
+    alone = setup.alone(roster_of([tenant]), b"".join(answered.line + b"\n" for answered in own))
+    require([answered.reply for answered in own] == alone, f"{tenant.name}: other replies than alone")
+    for answered in tenant.answered:
+        if answered.reply.startswith(b"!"):
+            wanted = service.answer_line(
+                service.Service({tenant.name: service.Tenant(tenant.name, NO_LIMITS)}),
+                answered.line.removesuffix(b"\r"),
+            )
+            require(answered.reply == wanted, f"{answered.reply!r} to {answered.line!r}")
+
+
+def check_kept(setup: Setup, journal: bytes, tenants: list[Tenant]) -> None:
+    """Each line that was answered stands in the journal, and firm alone answers it the same from there."""
+    lines = journal.split(b"\n")[:-1]
+    alone = setup.alone(roster_of(tenants), journal)
+    require(len(lines) == len(alone), "a reply for each line of the journal")
+    kept = {tuple(reply.split()[:2]): (line, reply) for line, reply in zip(lines, alone)}
+    for tenant in tenants:
+        for answered in tenant.answered:
+            if not answered.reply.startswith(b"!"):
+                found = kept.get(tuple(answered.reply.split()[:2]))
+                require(found == (answered.line, answered.reply), f"{found} and not {answered}")
