@@ -1,5 +1,5 @@
 -- Steps that raise and lower rents keep them within the bounds of all rents that suit the placement.
-use Rattle.std.proofs.Common.{◌≡◌, ℕ, ◌+◌, ◌-◌, ◌*◌, ◌^◌, ◌<◌, ◌≤◌, cond, List, ◌++◌, length, take, sym, subst}
+use Rattle.std.proofs.Common.{◌≡◌, ℕ, ◌+◌, ◌-◌, ◌^◌, ◌<◌, ◌≤◌, cond, List, ◌++◌, length, take, sym, subst}
 use Rattle.std.proofs.Common.{arith}
 use Rattle.std.proofs.Common.{⊎_elim}
 use Rattle.std.specs.Prelude.{slice_index, nat_lt, slice_set as set}
@@ -7,7 +7,7 @@ use Rattle.std.proofs.lemmas.Bool.{cases_eq, cases_lt, cond-true, cond-false, lt
 use Rattle.std.proofs.lemmas.List.{get_or-set_same, get_or-set_other, get_or_past, take_all, take-append-le}
 use Rattle.firm_rules.specs.declared.rounds.Choice.{Choice}
 use Rattle.firm_rules.specs.declared.rounds.Choice.TheVariants.{On, Wait}
-use Rattle.firm_rules.specs.Placement.{Case, IsPlace, load}
+use Rattle.firm_rules.specs.Placement.{Case, IsPlace, load, slot_cost}
 use Rattle.firm_rents.specs.Rents.{rent, paid, AreRents, Suit}
 use Rattle.firm_rules.specs.Placement.{task_at, choice_at}
 use Rattle.firm_rents.specs.inner.Bounds.{IsBelow, IsWithin}
@@ -86,7 +86,7 @@ below_all rents bounds e h = λ j.
 
 -- rents by which the last task of each machine is paid for are below all rents that suit the placement
 pub paid_below : (case : Case) (placement : List Choice) (rents bounds : List ℕ) → length rents ≡ length case.slots
-    → ((j : ℕ) → j < length case.slots → slice_index rents j ≤ (load placement j - 1) * case.spread)
+    → ((j : ℕ) → j < length case.slots → slice_index rents j ≤ slot_cost case.spread (load placement j - 1))
     → Suit case bounds placement → IsBelow rents bounds
 paid_below case placement rents bounds e is suit = λ j.
     ⊎_elim (λ (l : j < length case.slots). omega (arith, is j l, suit.worth j l))
@@ -96,7 +96,7 @@ paid_below case placement rents bounds e is suit = λ j.
 -- and those by which a free slot is worth what it costs, and full machines have the highest rent, are above all of them
 pub free_within : (case : Case) (placement : List Choice) (table rents : List ℕ) → length table ≡ length case.slots
     → ((j : ℕ) → j < length case.slots → slice_index table j
-    ≡ cond (nat_lt (load placement j) (slice_index case.slots j)) (load placement j * case.spread) (2 ^ 40))
+    ≡ cond (nat_lt (load placement j) (slice_index case.slots j)) (slot_cost case.spread (load placement j)) (2 ^ 40))
     → AreRents (length case.slots) rents → Suit case rents placement → IsWithin rents table 0 0
 free_within case placement table rents e is are suit = λ j inside.
     (let l : j < length case.slots = omega arith in
@@ -104,16 +104,16 @@ free_within case placement table rents e is are suit = λ j inside.
     omega (
       arith,
       is j l,
-      cond-true (nat_lt (load placement j) (slice_index case.slots j)) (load placement j * case.spread) (2 ^ 40)
-          (lt-ltb (load placement j) (slice_index case.slots j) room),
+      cond-true (nat_lt (load placement j) (slice_index case.slots j)) (slot_cost case.spread (load placement j))
+          (2 ^ 40) (lt-ltb (load placement j) (slice_index case.slots j) room),
       suit.free j l room,
     ))
     (λ (full : slice_index case.slots j ≤ load placement j).
     omega (
       arith,
       is j l,
-      cond-false (nat_lt (load placement j) (slice_index case.slots j)) (load placement j * case.spread) (2 ^ 40)
-          (le-ltb (load placement j) (slice_index case.slots j) full),
+      cond-false (nat_lt (load placement j) (slice_index case.slots j)) (slot_cost case.spread (load placement j))
+          (2 ^ 40) (le-ltb (load placement j) (slice_index case.slots j) full),
       are.small j,
     ))
     (cases_lt (load placement j) (slice_index case.slots j)))

@@ -8,7 +8,8 @@ use Rattle.std.proofs.Math.Nat.{add-mul}
 use Rattle.firm_rules.specs.declared.rounds.Choice.{Choice}
 use Rattle.firm_rules.specs.declared.rounds.Choice.TheVariants.{On, Wait}
 use Rattle.firm_rules.specs.Placement.{Demand, Case, total, load, IsPlace, IsLegal, task_cost, tasks_cost, load_cost}
-use Rattle.firm_rules.specs.Placement.{placement_cost, rank, runs_at, comes_before}
+use Rattle.firm_rules.specs.Placement.{placement_cost, rank, runs_at, comes_before, slot_cost}
+use Rattle.firm_rules.specs.SlotCosts.{LoadsAreSumsOfSlots, LaterSlotsCostNoLess}
 use Rattle.firm_rules.specs.Placement.{task_at, choice_at}
 use Rattle.firm_rents.specs.Levels.{IsAtMost, time, amount, cost_by_level, paid_by_level, SuitByLevel}
 use Rattle.firm_rents.specs.Levels.{RentsShowFirst}
@@ -61,60 +62,61 @@ NoCheaper spread r w n k = IsAtMost (before spread r w n k) (before spread r w k
 
 -- what one more task costs as a load behind k others, if it waits elsewise
 abbrev slot : ℕ → (ℕ → ℕ) → ℕ → ℕ → ℕ
-slot spread w k l = amount (k * spread) l + w l
+slot spread w k l = amount (slot_cost spread k) l + w l
 
-amount_step : (spread k l : ℕ)
-    → amount (load_cost spread (suc k)) l ≡ amount (load_cost spread k) l + amount (k * spread) l
-amount_step spread k l =
-    ap (λ n. amount n l) (load_step spread k) ∙ amount-add (load_cost spread k) (k * spread) l
+amount_step : LoadsAreSumsOfSlots → (spread k l : ℕ)
+    → amount (load_cost spread (suc k)) l ≡ amount (load_cost spread k) l + amount (slot_cost spread k) l
+amount_step sums spread k l =
+    ap (λ n. amount n l) (load_step sums spread k) ∙ amount-add (load_cost spread k) (slot_cost spread k) l
 
 grows : (a b spread : ℕ) → a ≤ b → a * spread ≤ b * spread
 grows a b spread l =
     let e : a + (b - a) ≡ b = omega arith in
     subst (λ z. a * spread ≤ z * spread) e (omega (arith, add-mul a (b - a) spread))
 
-slot-le : (spread : ℕ) (w : ℕ → ℕ) (a b : ℕ) → a ≤ b → IsAtMost (slot spread w a) (slot spread w b)
-slot-le spread w a b h =
-    at_most-add (amount (a * spread)) (amount (b * spread)) w w
-    (amount-le (a * spread) (b * spread) (grows a b spread h)) (λ l same. omega arith)
+module _ (sums : LoadsAreSumsOfSlots) (rises : LaterSlotsCostNoLess) where
+  slot-le : (spread : ℕ) (w : ℕ → ℕ) (a b : ℕ) → a ≤ b → IsAtMost (slot spread w a) (slot spread w b)
+  slot-le spread w a b h =
+      at_most-add (amount (slot_cost spread a)) (amount (slot_cost spread b)) w w
+      (amount-le (slot_cost spread a) (slot_cost spread b) (rises spread a b h)) (λ l same. omega arith)
 
-more_tasks : (spread : ℕ) (r w : ℕ → ℕ) (n more k : ℕ) → n + more ≡ k → IsAtMost r (slot spread w n)
-    → NoCheaper spread r w n k
-more_tasks spread r w n zero k e free =
-    let q : n ≡ k = omega arith in
-    subst (NoCheaper spread r w n) q (λ l same. omega arith)
-more_tasks spread r w n (suc more) zero e free = absurd (omega arith)
-more_tasks spread r w n (suc more) (suc k) e free =
-    let fewer : NoCheaper spread r w n k = more_tasks spread r w n more k (omega arith) free in
-    let last : IsAtMost r (slot spread w k) =
-    at_most-trans r (slot spread w n) (slot spread w k) free (slot-le spread w n k (omega arith)) in
-    at_most-same (before spread r w n (suc k)) (before spread r w (suc k) n)
-    (λ l. before spread r w n k l + r l) (λ l. before spread r w k n l + slot spread w k l)
-    (at_most-add (before spread r w n k) (before spread r w k n) r (slot spread w k) fewer last)
-    (λ l. omega arith) (λ l. omega (arith, amount_step spread k l))
+  more_tasks : (spread : ℕ) (r w : ℕ → ℕ) (n more k : ℕ) → n + more ≡ k → IsAtMost r (slot spread w n)
+      → NoCheaper spread r w n k
+  more_tasks spread r w n zero k e free =
+      let q : n ≡ k = omega arith in
+      subst (NoCheaper spread r w n) q (λ l same. omega arith)
+  more_tasks spread r w n (suc more) zero e free = absurd (omega arith)
+  more_tasks spread r w n (suc more) (suc k) e free =
+      let fewer : NoCheaper spread r w n k = more_tasks spread r w n more k (omega arith) free in
+      let last : IsAtMost r (slot spread w k) =
+      at_most-trans r (slot spread w n) (slot spread w k) free (slot-le spread w n k (omega arith)) in
+      at_most-same (before spread r w n (suc k)) (before spread r w (suc k) n)
+      (λ l. before spread r w n k l + r l) (λ l. before spread r w k n l + slot spread w k l)
+      (at_most-add (before spread r w n k) (before spread r w k n) r (slot spread w k) fewer last)
+      (λ l. omega arith) (λ l. omega (arith, amount_step sums spread k l))
 
-fewer_tasks : (spread : ℕ) (r w : ℕ → ℕ) (n less k : ℕ) → k + less ≡ n
-    → (0 < n → IsAtMost (slot spread w (n - 1)) r) → NoCheaper spread r w n k
-fewer_tasks spread r w n zero k e worth =
-    let q : n ≡ k = omega arith in
-    subst (NoCheaper spread r w n) q (λ l same. omega arith)
-fewer_tasks spread r w n (suc less) k e worth =
-    let more : NoCheaper spread r w n (suc k) = fewer_tasks spread r w n less (suc k) (omega arith) worth in
-    let last : IsAtMost (slot spread w k) r =
-    at_most-trans (slot spread w k) (slot spread w (n - 1)) r (slot-le spread w k (n - 1) (omega arith))
-    (worth (omega arith)) in
-    at_most-cancel (before spread r w n k) (before spread r w k n) (λ l. r l + slot spread w k l)
-    (λ l. before spread r w n (suc k) l + slot spread w k l) (λ l. before spread r w (suc k) n l + r l)
-    (at_most-add (before spread r w n (suc k)) (before spread r w (suc k) n) (slot spread w k) r more last)
-    (λ l. omega arith) (λ l. omega (arith, amount_step spread k l))
+  fewer_tasks : (spread : ℕ) (r w : ℕ → ℕ) (n less k : ℕ) → k + less ≡ n
+      → (0 < n → IsAtMost (slot spread w (n - 1)) r) → NoCheaper spread r w n k
+  fewer_tasks spread r w n zero k e worth =
+      let q : n ≡ k = omega arith in
+      subst (NoCheaper spread r w n) q (λ l same. omega arith)
+  fewer_tasks spread r w n (suc less) k e worth =
+      let more : NoCheaper spread r w n (suc k) = fewer_tasks spread r w n less (suc k) (omega arith) worth in
+      let last : IsAtMost (slot spread w k) r =
+      at_most-trans (slot spread w k) (slot spread w (n - 1)) r (slot-le spread w k (n - 1) (omega arith))
+      (worth (omega arith)) in
+      at_most-cancel (before spread r w n k) (before spread r w k n) (λ l. r l + slot spread w k l)
+      (λ l. before spread r w n (suc k) l + slot spread w k l) (λ l. before spread r w (suc k) n l + r l)
+      (at_most-add (before spread r w n (suc k)) (before spread r w (suc k) n) (slot spread w k) r more last)
+      (λ l. omega arith) (λ l. omega (arith, amount_step sums spread k l))
 
-no_cheaper : (spread : ℕ) (r w : ℕ → ℕ) (n k slots : ℕ) → k ≤ slots
-    → (0 < n → IsAtMost (slot spread w (n - 1)) r) → (n < slots → IsAtMost r (slot spread w n))
-    → NoCheaper spread r w n k
-no_cheaper spread r w n k slots l worth free =
-    ⊎_elim (λ (h : n < k). more_tasks spread r w n (k - n) k (omega arith) (free (omega arith)))
-    (λ (h : k ≤ n). fewer_tasks spread r w n (n - k) k (omega arith) worth)
-    (cases_lt n k)
+  no_cheaper : (spread : ℕ) (r w : ℕ → ℕ) (n k slots : ℕ) → k ≤ slots
+      → (0 < n → IsAtMost (slot spread w (n - 1)) r) → (n < slots → IsAtMost r (slot spread w n))
+      → NoCheaper spread r w n k
+  no_cheaper spread r w n k slots l worth free =
+      ⊎_elim (λ (h : n < k). more_tasks spread r w n (k - n) k (omega arith) (free (omega arith)))
+      (λ (h : k ≤ n). fewer_tasks spread r w n (n - k) k (omega arith) worth)
+      (cases_lt n k)
 
 -- A PLACEMENT THAT RENTS SUIT IS AT MOST ANY OTHER, LEVEL BY LEVEL
 -- what a placement costs, level by level
@@ -176,9 +178,9 @@ exchanged_is case rents p q l =
       total_amount (λ j. load_cost case.spread (load p j)) m l,
     )
 
-at_most : (case : Case) (rents : Choice → ℕ → ℕ) (p q : List Choice) → IsLegal case p → SuitByLevel case rents p
-    → IsLegal case q → IsAtMost (whole case p) (whole case q)
-at_most case rents p q legal suit allowed =
+at_most : LoadsAreSumsOfSlots → LaterSlotsCostNoLess → (case : Case) (rents : Choice → ℕ → ℕ) (p q : List Choice)
+    → IsLegal case p → SuitByLevel case rents p → IsLegal case q → IsAtMost (whole case p) (whole case q)
+at_most sums rises case rents p q legal suit allowed =
     let n : ℕ = length case.tasks in
     let tasks : IsAtMost (paid case rents p) (paid case rents q) =
     at_most-total (λ i. paid_by_level case rents i (choice_at p i)) (λ i. paid_by_level case rents i (choice_at q i)) n
@@ -186,8 +188,8 @@ at_most case rents p q legal suit allowed =
     let machines : IsAtMost (exchanged case rents p q) (exchanged case rents q p) =
     at_most-total (λ j. before case.spread (rents (On j)) (rents Wait) (load p j) (load q j))
     (λ j. before case.spread (rents (On j)) (rents Wait) (load q j) (load p j)) (length case.slots)
-    (λ j l. no_cheaper case.spread (rents (On j)) (rents Wait) (load p j) (load q j) (slice_index case.slots j)
-    (allowed.room j l) (suit.worth j l) (suit.free j l)) in
+    (λ j l. no_cheaper sums rises case.spread (rents (On j)) (rents Wait) (load p j) (load q j)
+    (slice_index case.slots j) (allowed.room j l) (suit.worth j l) (suit.free j l)) in
     at_most-cancel (whole case p) (whole case q)
     (λ l. brought case rents p l + brought case rents q l + n * rents Wait l)
     (λ l. paid case rents p l + exchanged case rents p q l) (λ l. paid case rents q l + exchanged case rents q p l)
@@ -369,15 +371,15 @@ no_sooner case p q legal allowed most costs s =
               (length case.tasks) (λ k here. alike u (omega arith) k),
         )
 
-pub shown_first : RentsShowFirst
-shown_first case rents placement legal suit =
+pub shown_first : LoadsAreSumsOfSlots → LaterSlotsCostNoLess → RentsShowFirst
+shown_first sums rises case rents placement legal suit =
     record {
       legal = legal;
       least = λ other allowed. omega (
         arith,
         whole_cost case placement legal,
         whole_cost case other allowed,
-        at_most case rents placement other legal suit allowed 0 (λ k l. absurd (omega arith)),
+        at_most sums rises case rents placement other legal suit allowed 0 (λ k l. absurd (omega arith)),
       );
       first = λ other allowed costs. told other allowed costs
           (comes_before (length case.slots) case.tasks other placement) refl;
@@ -389,6 +391,6 @@ shown_first case rents placement legal suit =
     told other allowed costs false e = e
     told other allowed costs true e =
         let most : IsAtMost (whole case placement) (whole case other) =
-        at_most case rents placement other legal suit allowed in
+        at_most sums rises case rents placement other legal suit allowed in
         absurd (no_sooner case placement other legal allowed most costs
         (sooner (length case.slots) case.tasks other placement e))

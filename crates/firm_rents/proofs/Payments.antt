@@ -1,16 +1,17 @@
 -- What rents prove of the cost of placements.
 use Rattle.std.proofs.Common.{◌≡◌, ℕ, zero, suc, ◌+◌, ◌-◌, ◌*◌, ◌<◌, ◌≤◌, Bool, true, false, cond, eqb, List}
 use Rattle.std.proofs.Common.{[], ◌∷◌, length, arith, refl, sym, ap, subst, ◌∙◌, ⊎_elim}
-use Rattle.std.specs.Prelude.{slice_index, slice_index_or, ◌/◌, None}
+use Rattle.std.specs.Prelude.{slice_index, slice_index_or, None}
 use Rattle.std.specs.List.{All}
 use Rattle.std.proofs.lemmas.List.Sums.{sum_by-cons}
 use Rattle.std.proofs.lemmas.List.Elements.{All-head, All-tail}
 use Rattle.std.proofs.lemmas.Bool.{cases_lt, cases_eq, cond-true, cond-false, eq-eqb, ne_eqb}
-use Rattle.std.proofs.Math.Nat.{zero-mul, add-mul, mul-add, mul-zero, mul-div_cancel_left}
+use Rattle.std.proofs.Math.Nat.{zero-mul, add-mul}
 use Rattle.firm_rules.specs.declared.rounds.Choice.{Choice}
 use Rattle.firm_rules.specs.declared.rounds.Choice.TheVariants.{On, Wait}
 use Rattle.firm_rules.specs.Placement.{Demand, Case, total, goes_to, load, IsPlace, IsLegal, tasks_cost}
-use Rattle.firm_rules.specs.Placement.{load_cost, placement_cost}
+use Rattle.firm_rules.specs.Placement.{slot_cost, load_cost, placement_cost}
+use Rattle.firm_rules.specs.SlotCosts.{LoadsAreSumsOfSlots, LaterSlotsCostNoLess}
 use Rattle.firm_rents.specs.Rents.{paid, least_on, least_paid, all_least, takings, gain, gains, RentsBound}
 use Rattle.firm_rents.specs.Rents.{RentsShowLeast, EachChoiceCostsItsExcess, Show, Suit, RentsThatShowSuit}
 use Rattle.firm_rents.specs.Rents.{CostsMore}
@@ -219,22 +220,9 @@ costs_more case rents i chosen other more l is placement legal show here another
     omega (arith, least, dearer, show, bound case rents another allowed, is)
 
 -- LOADS STEP BY STEP
-abbrev tri : ℕ → ℕ
-tri n = total (λ k. k) n
-
-tri_twice : (n : ℕ) → suc n * n ≡ 2 * tri (suc n)
-tri_twice zero = refl
-tri_twice (suc m) = omega (arith, tri_twice m)
-
-load_is : (spread n : ℕ) → load_cost spread n ≡ spread * tri n
-load_is spread zero = refl
-load_is spread (suc m) =
-    let e : suc m * (suc m - 1) ≡ 2 * tri (suc m) = ap (λ z. suc m * z) (omega arith) ∙ tri_twice m in
-    let two : 0 < 2 = omega arith in
-    ap (λ z. spread * (z / 2)) e ∙ ap (λ z. spread * z) (mul-div_cancel_left (tri (suc m)) two)
-
-pub load_step : (spread n : ℕ) → load_cost spread (suc n) ≡ load_cost spread n + n * spread
-load_step spread n = omega (arith, load_is spread (suc n), load_is spread n, mul-add spread (tri n) n)
+pub load_step : LoadsAreSumsOfSlots → (spread n : ℕ)
+    → load_cost spread (suc n) ≡ load_cost spread n + slot_cost spread n
+load_step sums spread n = omega (arith, sums spread (suc n), sums spread n)
 
 -- equal sums of terms that are no larger have terms that are no smaller
 pub total-ge : (f g : ℕ → ℕ) (n : ℕ) → ((i : ℕ) → i < n → f i ≤ g i) → total g n ≤ total f n → (i : ℕ) → i < n
@@ -249,23 +237,25 @@ total-ge f g (suc n) h e i l =
 
 -- RENTS THAT SHOW A PLACEMENT SUIT IT
 -- a load that brings the whole gain is worth its rent at each step
-worth_of : (spread r s n : ℕ) → n ≤ s → load_cost spread n + gain spread r s ≤ n * r → (n - 1) * spread ≤ r
-worth_of spread r s zero l h = omega (arith, zero-mul spread)
-worth_of spread r s (suc k) l h =
+worth_of : LoadsAreSumsOfSlots → (spread r s n : ℕ) → n ≤ s → load_cost spread n + gain spread r s ≤ n * r
+    → slot_cost spread (n - 1) ≤ r
+worth_of sums spread r s zero l h = omega (arith, zero-mul spread)
+worth_of sums spread r s (suc k) l h =
     let less : takings spread r k ≤ gain spread r s = takings-le spread r s k (omega arith) in
     let fewer : k * r ≤ load_cost spread k + gain spread r s = omega (arith, less) in
     let e : suc k - 1 ≡ k = omega arith in
-    subst (λ m. m * spread ≤ r) (sym e) (omega (arith, fewer, load_step spread k, h))
+    subst (λ m. slot_cost spread m ≤ r) (sym e) (omega (arith, fewer, load_step sums spread k, h))
 
-free_of : (spread r s n : ℕ) → n < s → load_cost spread n + gain spread r s ≤ n * r → r ≤ n * spread
-free_of spread r s n l h =
+free_of : LoadsAreSumsOfSlots → (spread r s n : ℕ) → n < s → load_cost spread n + gain spread r s ≤ n * r
+    → r ≤ slot_cost spread n
+free_of sums spread r s n l h =
     let more : takings spread r (suc n) ≤ gain spread r s = takings-le spread r s (suc n) (omega arith) in
     let all : suc n * r ≤ load_cost spread (suc n) + gain spread r s = omega (arith, more) in
-    omega (arith, all, load_step spread n, h)
+    omega (arith, all, load_step sums spread n, h)
 
-suits : (case : Case) (rents : List ℕ) (placement : List Choice) → IsLegal case placement
+suits : LoadsAreSumsOfSlots → (case : Case) (rents : List ℕ) (placement : List Choice) → IsLegal case placement
     → Show case rents placement → Suit case rents placement
-suits case rents placement legal shows =
+suits sums case rents placement legal shows =
     let m : ℕ = length case.slots in
     let brought : ℕ → ℕ = λ j. load placement j * slice_index rents j in
     let kept : ℕ → ℕ = λ j. load_cost case.spread (load placement j)
@@ -289,10 +279,10 @@ suits case rents placement legal shows =
         exceeded case rents placement legal i l,
         least_on-le case rents (task_at case i) m other place,
       );
-      worth = λ j l. worth_of case.spread (slice_index rents j) (slice_index case.slots j) (load placement j)
+      worth = λ j l. worth_of sums case.spread (slice_index rents j) (slice_index case.slots j) (load placement j)
           (legal.room j l) (tight j l);
-      free = λ j l room. free_of case.spread (slice_index rents j) (slice_index case.slots j) (load placement j) room
-          (tight j l);
+      free = λ j l room. free_of sums case.spread (slice_index rents j) (slice_index case.slots j) (load placement j)
+          room (tight j l);
     }
 
 -- RENTS THAT SUIT A PLACEMENT SHOW IT
@@ -300,47 +290,47 @@ suits case rents placement legal shows =
 abbrev NoMore : ℕ → ℕ → ℕ → ℕ → Type 0
 NoMore spread r n k = k * r + load_cost spread n ≤ n * r + load_cost spread k
 
-beyond : (spread r n more : ℕ) → r ≤ n * spread → NoMore spread r n (n + more)
-beyond spread r n zero h = let e : n + 0 ≡ n = omega arith in
-    subst (NoMore spread r n) (sym e) (omega arith)
-beyond spread r n (suc more) h =
-    let before : NoMore spread r n (n + more) = beyond spread r n more h in
-    let dearer : n * spread ≤ (n + more) * spread = omega (arith, add-mul n more spread) in
-    let e : n + suc more ≡ suc (n + more) = omega arith in
-    subst (NoMore spread r n) (sym e) (omega (arith, before, dearer, load_step spread (n + more), h))
+module _ (sums : LoadsAreSumsOfSlots) (rises : LaterSlotsCostNoLess) where
+  beyond : (spread r n more : ℕ) → r ≤ slot_cost spread n → NoMore spread r n (n + more)
+  beyond spread r n zero h = let e : n + 0 ≡ n = omega arith in
+      subst (NoMore spread r n) (sym e) (omega arith)
+  beyond spread r n (suc more) h =
+      let before : NoMore spread r n (n + more) = beyond spread r n more h in
+      let e : n + suc more ≡ suc (n + more) = omega arith in
+      subst (NoMore spread r n) (sym e)
+      (omega (arith, before, rises spread n (n + more) (omega arith), load_step sums spread (n + more), h))
 
-fewer_by : (spread r n less : ℕ) → less ≤ n → (n - 1) * spread ≤ r → NoMore spread r n (n - less)
-fewer_by spread r n zero l h = let e : n - 0 ≡ n = omega arith in
-    subst (NoMore spread r n) (sym e) (omega arith)
-fewer_by spread r n (suc less) l h =
-    let k : ℕ = n - suc less in
-    let e : n - less ≡ suc k = omega arith in
-    let before : NoMore spread r n (suc k) = subst (NoMore spread r n) e (fewer_by spread r n less (omega arith) h) in
-    let m : k + less ≡ n - 1 = omega arith in
-    let cheaper : k * spread ≤ (n - 1) * spread =
-    subst (λ z. k * spread ≤ z * spread) m (omega (arith, add-mul k less spread)) in
-    omega (arith, before, cheaper, load_step spread k, h)
+  fewer_by : (spread r n less : ℕ) → less ≤ n → slot_cost spread (n - 1) ≤ r → NoMore spread r n (n - less)
+  fewer_by spread r n zero l h = let e : n - 0 ≡ n = omega arith in
+      subst (NoMore spread r n) (sym e) (omega arith)
+  fewer_by spread r n (suc less) l h =
+      let k : ℕ = n - suc less in
+      let e : n - less ≡ suc k = omega arith in
+      let before : NoMore spread r n (suc k) = subst (NoMore spread r n) e (fewer_by spread r n less (omega arith) h) in
+      omega (arith, before, rises spread k (n - 1) (omega arith), load_step sums spread k, h)
 
-no_more : (spread r s n k : ℕ) → k ≤ s → (n - 1) * spread ≤ r → (n < s → r ≤ n * spread) → NoMore spread r n k
-no_more spread r s n k l worth free =
-    ⊎_elim (λ (h : n < k).
-    let e : n + (k - n) ≡ k = omega arith in
-    subst (NoMore spread r n) e (beyond spread r n (k - n) (free (omega arith))))
-    (λ (h : k ≤ n).
-    let e : n - (n - k) ≡ k = omega arith in
-    subst (NoMore spread r n) e (fewer_by spread r n (n - k) (omega arith) worth))
-    (cases_lt n k)
+  no_more : (spread r s n k : ℕ) → k ≤ s → slot_cost spread (n - 1) ≤ r → (n < s → r ≤ slot_cost spread n)
+      → NoMore spread r n k
+  no_more spread r s n k l worth free =
+      ⊎_elim (λ (h : n < k).
+      let e : n + (k - n) ≡ k = omega arith in
+      subst (NoMore spread r n) e (beyond spread r n (k - n) (free (omega arith))))
+      (λ (h : k ≤ n).
+      let e : n - (n - k) ≡ k = omega arith in
+      subst (NoMore spread r n) e (fewer_by spread r n (n - k) (omega arith) worth))
+      (cases_lt n k)
 
-gain_brought : (spread r s n t : ℕ) → t ≤ s → (n - 1) * spread ≤ r → (n < s → r ≤ n * spread)
-    → load_cost spread n + gain spread r t ≤ n * r
-gain_brought spread r s n zero l worth free =
-    let none : NoMore spread r n 0 = no_more spread r s n 0 (omega arith) worth free in
-    omega (arith, none, zero-mul r, mul-zero spread)
-gain_brought spread r s n (suc t) l worth free =
-    let before : load_cost spread n + gain spread r t ≤ n * r = gain_brought spread r s n t (omega arith) worth free in
-    let here : NoMore spread r n (suc t) = no_more spread r s n (suc t) l worth free in
-    let some : load_cost spread n ≤ n * r = omega (arith, before) in
-    omega (arith, before, here, some)
+  gain_brought : (spread r s n t : ℕ) → t ≤ s → slot_cost spread (n - 1) ≤ r → (n < s → r ≤ slot_cost spread n)
+      → load_cost spread n + gain spread r t ≤ n * r
+  gain_brought spread r s n zero l worth free =
+      let none : NoMore spread r n 0 = no_more spread r s n 0 (omega arith) worth free in
+      omega (arith, none, zero-mul r, sums spread 0)
+  gain_brought spread r s n (suc t) l worth free =
+      let before : load_cost spread n + gain spread r t ≤ n * r =
+      gain_brought spread r s n t (omega arith) worth free in
+      let here : NoMore spread r n (suc t) = no_more spread r s n (suc t) l worth free in
+      let some : load_cost spread n ≤ n * r = omega (arith, before) in
+      omega (arith, before, here, some)
 
 pub least_on-ge : (case : Case) (rents : List ℕ) (task : Demand) (n : ℕ) (m : ℕ) → m ≤ length case.slots
     → ((other : Choice) → IsPlace (length case.slots) other → n ≤ paid case rents task other)
@@ -365,9 +355,9 @@ all_paid-le case rents (one ∷ tasks) (its ∷ placement) e h =
     all_paid-le case rents tasks placement (omega arith) (λ i l. h (suc i) (omega arith)) in
     omega (arith, here, more)
 
-shows : (case : Case) (rents : List ℕ) (placement : List Choice) → IsLegal case placement
-    → Suit case rents placement → Show case rents placement
-shows case rents placement legal suit =
+shows : LoadsAreSumsOfSlots → LaterSlotsCostNoLess → (case : Case) (rents : List ℕ) (placement : List Choice)
+    → IsLegal case placement → Suit case rents placement → Show case rents placement
+shows sums rises case rents placement legal suit =
     let m : ℕ = length case.slots in
     let each : total (λ j. load_cost case.spread (load placement j)
     + gain case.spread (slice_index rents j) (slice_index case.slots j)) m
@@ -375,7 +365,7 @@ shows case rents placement legal suit =
     total-le (λ (j : ℕ). load_cost case.spread (load placement j)
     + gain case.spread (slice_index rents j) (slice_index case.slots j))
     (λ (j : ℕ). load placement j * slice_index rents j) m
-    (λ j l. gain_brought case.spread (slice_index rents j) (slice_index case.slots j) (load placement j)
+    (λ j l. gain_brought sums rises case.spread (slice_index rents j) (slice_index case.slots j) (load placement j)
     (slice_index case.slots j) (omega arith) (suit.worth j l) (suit.free j l)) in
     let all : all_paid case rents case.tasks placement ≤ all_least case rents case.tasks =
     all_paid-le case rents case.tasks placement legal.one_each
@@ -391,5 +381,8 @@ shows case rents placement legal suit =
           (λ (j : ℕ). gain case.spread (slice_index rents j) (slice_index case.slots j)) m,
     )
 
-pub that_show_suit : RentsThatShowSuit
-that_show_suit case rents placement legal = (suits case rents placement legal, shows case rents placement legal)
+pub that_show_suit : LoadsAreSumsOfSlots → LaterSlotsCostNoLess → RentsThatShowSuit
+that_show_suit sums rises case rents placement legal = (
+  suits sums case rents placement legal,
+  shows sums rises case rents placement legal,
+)

@@ -7,7 +7,7 @@ use Rattle.std.proofs.lemmas.List.{get_or_past}
 use Rattle.std.proofs.lemmas.Bool.{cases_lt, cases_eq, cases_Bool, cond-true, cond-false, eq-eqb, ne_eqb}
 use Rattle.firm_rules.specs.declared.rounds.Choice.{Choice}
 use Rattle.firm_rules.specs.declared.rounds.Choice.TheVariants.{On, Wait}
-use Rattle.firm_rules.specs.Placement.{Case, IsPlace, task_cost, runs_at}
+use Rattle.firm_rules.specs.Placement.{Case, IsPlace, slot_cost, task_cost, runs_at}
 use Rattle.firm_rents.specs.declared.classes.Class.{Class}
 use Rattle.firm_rents.specs.declared.classes.Offer.{Offer}
 use Rattle.firm_rents.specs.declared.classes.LevelRents.{LevelRents}
@@ -162,25 +162,28 @@ as_defined classes defined one other one_is other_is p q r h =
 
 -- A MACHINE'S LOAD
 slot_is : (case : Case) (rents : LevelRents) (n l : ℕ) → length rents.amounts.items ≡ length case.slots
-    → amount (n * case.spread) l + rents_at rents (length case.slots) l ≡ slot_by_level case (level_rents rents) n l
-slot_is case rents n l e = ap (λ m. amount (n * case.spread) l + rents_at rents m l) (sym e)
+    → amount (slot_cost case.spread n) l + rents_at rents (length case.slots) l
+    ≡ slot_by_level case (level_rents rents) n l
+slot_is case rents n l e = ap (λ m. amount (slot_cost case.spread n) l + rents_at rents m l) (sym e)
 
 pub worth_from : (case : Case) (rents : LevelRents) (j n : ℕ) → length rents.amounts.items ≡ length case.slots
-    → IsAtMost (place_levels rents (n * case.spread) (length case.slots) 0) (place_levels rents 0 j 0)
+    → IsAtMost (place_levels rents (slot_cost case.spread n) (length case.slots) 0) (place_levels rents 0 j 0)
     → IsAtMost (slot_by_level case (level_rents rents) n) (level_rents rents (On j))
 worth_from case rents j n e h =
     at_most-same (slot_by_level case (level_rents rents) n) (level_rents rents (On j))
-    (λ l. amount (n * case.spread) l + rents_at rents (length case.slots) l) (λ l. amount 0 l + rents_at rents j l)
-    (without_time rents (n * case.spread) (length case.slots) 0 j 0 h) (λ l. slot_is case rents n l e)
+    (λ l. amount (slot_cost case.spread n) l + rents_at rents (length case.slots) l)
+    (λ l. amount 0 l + rents_at rents j l)
+    (without_time rents (slot_cost case.spread n) (length case.slots) 0 j 0 h) (λ l. slot_is case rents n l e)
     (λ l. omega (arith, amount_none l))
 
 pub free_from : (case : Case) (rents : LevelRents) (j n : ℕ) → length rents.amounts.items ≡ length case.slots
-    → IsAtMost (place_levels rents 0 j 0) (place_levels rents (n * case.spread) (length case.slots) 0)
+    → IsAtMost (place_levels rents 0 j 0) (place_levels rents (slot_cost case.spread n) (length case.slots) 0)
     → IsAtMost (level_rents rents (On j)) (slot_by_level case (level_rents rents) n)
 free_from case rents j n e h =
     at_most-same (level_rents rents (On j)) (slot_by_level case (level_rents rents) n)
-    (λ l. amount 0 l + rents_at rents j l) (λ l. amount (n * case.spread) l + rents_at rents (length case.slots) l)
-    (without_time rents 0 j (n * case.spread) (length case.slots) 0 h) (λ l. omega (arith, amount_none l))
+    (λ l. amount 0 l + rents_at rents j l)
+    (λ l. amount (slot_cost case.spread n) l + rents_at rents (length case.slots) l)
+    (without_time rents 0 j (slot_cost case.spread n) (length case.slots) 0 h) (λ l. omega (arith, amount_none l))
     (λ l. slot_is case rents n l e)
 
 -- THE LOWEST RENT

@@ -3,7 +3,7 @@ use Rattle.std.specs.Prelude.{◌≡◌, ℕ, zero, suc, ◌+◌, ◌-◌, ◌*�
 use Rattle.std.specs.Prelude.{if◌then◌else◌}
 use Rattle.firm_rules.specs.declared.rounds.Choice.{Choice}
 use Rattle.firm_rules.specs.declared.rounds.Choice.TheVariants.{On, Wait}
-use Rattle.firm_rules.specs.Placement.{Case, load, IsPlace, IsLegal, task_cost, rank}
+use Rattle.firm_rules.specs.Placement.{Case, load, IsPlace, IsLegal, slot_cost, task_cost, rank}
 use Rattle.firm_rules.specs.Round.{IsRound}
 use Rattle.firm_rules.specs.Placement.{task_at, choice_at}
 
@@ -31,9 +31,9 @@ cost_by_level case i choice (suc t) = if t == time case i choice then 0 else 1
 abbrev pub paid_by_level : Case → (Choice → ℕ → ℕ) → ℕ → Choice → ℕ → ℕ
 paid_by_level case rents i choice level = cost_by_level case i choice level + rents choice level
 
--- what one more task on a machine costs as a load behind this number of others, with the rent of waiting
+-- what the slot behind this number of tasks on a machine costs, with the rent of waiting
 abbrev pub slot_by_level : Case → (Choice → ℕ → ℕ) → ℕ → ℕ → ℕ
-slot_by_level case rents others level = amount (others * case.spread) level + rents Wait level
+slot_by_level case rents others level = amount (slot_cost case.spread others) level + rents Wait level
 
 -- each task's choice is its cheapest, each machine's last task is paid for, and a free slot is worth no more than it
 -- would cost, level by level

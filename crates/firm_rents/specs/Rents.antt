@@ -3,7 +3,7 @@ use Rattle.std.specs.Prelude.{◌≡◌, ℕ, zero, suc, ◌+◌, ◌-◌, ◌*�
 use Rattle.std.specs.Prelude.{slice_index}
 use Rattle.firm_rules.specs.declared.rounds.Choice.{Choice}
 use Rattle.firm_rules.specs.declared.rounds.Choice.TheVariants.{On, Wait}
-use Rattle.firm_rules.specs.Placement.{Demand, Case, total, load, IsPlace, IsLegal, task_cost, load_cost}
+use Rattle.firm_rules.specs.Placement.{Demand, Case, total, load, IsPlace, IsLegal, task_cost, load_cost, slot_cost}
 use Rattle.firm_rules.specs.Placement.{choice_at, placement_cost, task_at}
 
 -- one rent for each machine, none of them huge
@@ -86,9 +86,9 @@ pub record Suit (case : Case) (rents : List ℕ) (placement : List Choice) : Typ
   pub cheapest : (i : ℕ) → i < length case.tasks → (other : Choice) → IsPlace (length case.slots) other
       → paid case rents (task_at case i) (choice_at placement i) ≤ paid case rents (task_at case i) other
   pub worth : (j : ℕ) → j < length case.slots
-      → (load placement j - 1) * case.spread ≤ slice_index rents j
+      → slot_cost case.spread (load placement j - 1) ≤ slice_index rents j
   pub free : (j : ℕ) → j < length case.slots → load placement j < slice_index case.slots j
-      → slice_index rents j ≤ load placement j * case.spread
+      → slice_index rents j ≤ slot_cost case.spread (load placement j)
 
 -- rents that show a legal placement to be least are those that suit it
 abbrev pub RentsThatShowSuit : Type 0

@@ -7,7 +7,7 @@ ghost use Rattle.firm_rents.specs.Rents.{all_least, gain, gains, Show};
 use crate::choices::least_paid;
 use crate::laws::rents_show_least;
 use crate::rents::Rents;
-use firm_rules::{Case, Choice, legality_is_judged};
+use firm_rules::{Case, Choice, cost_of_load, legality_is_judged};
 
 /// What rents show about a placement.
 #[derive(Clone, Copy, Debug, PartialEq, Eq)]
@@ -82,8 +82,7 @@ pub(crate) fn gain_of(spread: u64, rent: u64, slots: u64) -> u64
     let mut most = 0;
     for before in 0..slots {
         let tasks = before + 1;
-        let load = spread * (tasks * before / 2);
-        most = most.max((tasks * rent).saturating_sub(load));
+        most = most.max((tasks * rent).saturating_sub(cost_of_load(spread, tasks)));
     }
     most
 }

@@ -13,7 +13,7 @@ ghost use Rattle.firm_rents.specs.inner.Classes.{level_rents, place_of, place_of
 use crate::classes::{Class, LevelRents, Offer, first_differences, is_at_most, is_dearer_before};
 use crate::laws::rents_show_first;
 use crate::rents::MOST_RENT;
-use firm_rules::{Case, Choice, legality_is_judged, loads_of};
+use firm_rules::{Case, Choice, legality_is_judged, loads_of, slot_cost};
 
 /// Whether rents in levels, whoever proposed them, show that a placement is the round's: it is legal, no legal one
 /// costs less, and none that costs as much comes before it. Where the answer is no, nothing is said. Takes no memory.
@@ -123,7 +123,8 @@ fn is_paid_for(case: &Case, rents: &LevelRents, place: usize, others: u64) -> bo
     ensures { result ≡ true
         → IsAtMost (slot_by_level case.now (level_rents rents.now) others) (level_rents rents.now (On place)) }
 {
-    let slot = offer_of(rents, others * case.spread(), case.machine_count(), 0);
+    let cost = slot_cost(case.spread(), others);
+    let slot = offer_of(rents, cost, case.machine_count(), 0);
     let rent = offer_of(rents, 0, place, 0);
     is_at_most(rents.classes.as_slice(), slot, rent)
 }
@@ -136,7 +137,8 @@ fn is_worth_no_more(case: &Case, rents: &LevelRents, place: usize, others: u64) 
     ensures { result ≡ true
         → IsAtMost (level_rents rents.now (On place)) (slot_by_level case.now (level_rents rents.now) others) }
 {
-    let slot = offer_of(rents, others * case.spread(), case.machine_count(), 0);
+    let cost = slot_cost(case.spread(), others);
+    let slot = offer_of(rents, cost, case.machine_count(), 0);
     let rent = offer_of(rents, 0, place, 0);
     is_at_most(rents.classes.as_slice(), rent, slot)
 }

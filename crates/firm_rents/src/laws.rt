@@ -3,6 +3,8 @@ ghost use Rattle.firm_rents.specs.Rents.{EachChoiceCostsItsExcess, RentsBound, R
 ghost use Rattle.firm_rents.specs.Levels.{RentsShowFirst};
 ghost use Rattle.firm_rents.specs.OtherSlots.{OneMoreMachineSaves, OtherSlotsCost};
 
+use firm_rules::loads_are_sums_of_slots;
+
 /// Whatever the rents, the cost of a legal placement plus the gains of the machines is no less than what the tasks
 /// would pay if each took its cheapest choice with rent.
 pub fn rents_bound()
@@ -24,13 +26,17 @@ pub fn each_choice_costs_its_excess()
 /// and no free slot is worth more than it costs.
 pub fn rents_that_show_suit()
     ensures { RentsThatShowSuit }
-{}
+{
+    loads_are_sums_of_slots();
+}
 
 /// A legal placement is the round's if rents in levels suit it: each task's choice is its cheapest, each machine's last
 /// task is paid for and no free slot is worth more than it costs, compared lexicographically.
 pub fn rents_show_first()
     ensures { RentsShowFirst }
-{}
+{
+    loads_are_sums_of_slots();
+}
 
 /// With other slots on the same machines, no legal placement undercuts one that rents show to be least by more than the
 /// gains grow.

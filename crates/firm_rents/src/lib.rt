@@ -12,15 +12,16 @@
 //! differ. Behind its cost, a choice is cheaper by 1 at its own time: so of two choices that pay the same amount, the
 //! one that ranks first is cheaper, unless a rent differs at its time or before. `LevelRents` are such rents as a
 //! caller proposes them: amounts, and a tree of classes of places, each like its parent but at one time. No clause asks
-//! anything of them.
+//! anything of them. A `Ladder` says the same in another form: groups of places, nested, each ordered from a task on.
+//! `is_ladder` reads it, with rents, as rents in levels.
 //!
 //! # What is proved
 //!
 //! The laws stand in `src/laws.rt`. In `rents_show_first` the rents cancel in a sum over tasks and machines; at equal
 //! cost, the first time at which two placements differ is that of the better one's choice. Not proved
-//! (docs/DECISIONS.md): that the low and the high rents show a least placement, that some rents in levels show each
-//! round, and that the savings are reached. `Nearest::machine` gives the machine whose excess, the greater of two
-//! tables, is least.
+//! (docs/DECISIONS.md): that the low and the high rents show a least placement, that some rents in levels, or a ladder,
+//! show each round, and that the savings are reached. `Nearest::machine` gives the machine whose excess, the greater of
+//! two tables, is least.
 //!
 //! # How it works
 //!
@@ -45,6 +46,7 @@ mod choices;
 mod classes;
 mod cost_parts;
 mod first;
+mod ladders;
 mod laws;
 mod placed;
 mod rents;
@@ -57,6 +59,7 @@ pub use choices::{cheapest_other, excess, least_paid, paid};
 pub use classes::{Class, LevelRents};
 pub use cost_parts::{Parts, parts_of};
 pub use first::shows_first;
+pub use ladders::{Group, Ladder, is_ladder};
 pub use laws::{
     each_choice_costs_its_excess, one_more_machine_saves, other_slots_cost, rents_bound,
     rents_show_first, rents_show_least, rents_that_show_suit,

@@ -12,7 +12,7 @@ use crate::bounds::gain_of;
 use crate::choices::least_paid;
 use crate::laws::{one_more_machine_saves, other_slots_cost};
 use crate::rents::{MOST_RENT, Rents};
-use firm_rules::{Case, Choice, Slots};
+use firm_rules::{Case, Choice, Slots, slot_cost};
 use std::alloc::{AllocError, Global};
 use std::cmp::Reverse;
 
@@ -111,16 +111,19 @@ fn takers_of(
 {
     let mut tasks = Vec::with_capacity(alloc, slots.get() as usize)?;
     let mut rent = 0;
-    let mut step = 0;
-    for (Reverse(worth), task) in worths.iter() {
-        if tasks.len() == slots.get() as usize || *worth <= step {
-            return Ok((u64::max(*worth, rent).min(MOST_RENT), tasks));
+    for slot in 0..slots.get() {
+        let cost = slot_cost(spread, u64::from(slot));
+        match worths.get(slot as usize) {
+            Some((Reverse(worth), task)) if *worth > cost => tasks.push(*task)?,
+            _ => break,
         }
-        tasks.push(*task)?;
-        rent = step;
-        step = u64::saturating_add(step, spread);
+        rent = cost;
     }
-    Ok((u64::min(rent, MOST_RENT), tasks))
+    let next = match worths.get(tasks.len()) {
+        Some((Reverse(worth), _)) => *worth,
+        None => 0,
+    };
+    Ok((u64::max(next, rent).min(MOST_RENT), tasks))
 }
 
 // How much less the tasks would pay on a machine added last at this rent.

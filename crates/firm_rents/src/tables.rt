@@ -1,8 +1,8 @@
 //! The lowest and the highest rents that a placement leaves its machines, and those that make one task's other choices
 //! as dear as they can be. `shows_least` checks anew whether each table shows the placement.
-ghost use Rattle.std.specs.Prelude.{◌≡◌, ◌+◌, ◌-◌, ◌*◌, ◌^◌, ◌<◌, ◌≤◌, ℕ, List, length, slice_index, IfOk, true};
+ghost use Rattle.std.specs.Prelude.{◌≡◌, ◌+◌, ◌-◌, ◌^◌, ◌<◌, ◌≤◌, ℕ, List, length, slice_index, IfOk, true};
 ghost use Rattle.std.specs.Prelude.{if◌then◌else◌, nat_lt, min, max, slice_set as set};
-ghost use Rattle.firm_rules.specs.Placement.{is_legal, IsPlace, load};
+ghost use Rattle.firm_rules.specs.Placement.{is_legal, IsPlace, load, slot_cost};
 ghost use Rattle.firm_rules.specs.declared.rounds.Choice.{Choice as ChoiceOf};
 ghost use Rattle.firm_rules.specs.declared.rounds.Choice.TheVariants.{On};
 ghost use Rattle.firm_rents.specs.Rents.{rent, paid, AreRents, Show, Suit};
@@ -11,7 +11,7 @@ ghost use Rattle.firm_rents.specs.inner.Bounds.{IsBelow, IsWithin};
 
 use crate::laws::rents_that_show_suit;
 use crate::rents::{MOST_RENT, Rents, rent_of};
-use firm_rules::{Case, Choice, legality_is_judged, loads_of};
+use firm_rules::{Case, Choice, legality_is_judged, loads_of, slot_cost};
 use std::alloc::{AllocError, Global};
 
 /// The lowest rents that a legal placement leaves its machines: each machine's last task is paid for, and no task would
@@ -79,7 +79,7 @@ fn paid_for(alloc: Global, case: &Case, placement: &[Choice]) -> Result<Vec<u64>
     requires { is_legal case.now placement.now ≡ true }
     ensures one_each { IfOk result (λ rents. length rents.items ≡ length case.now.slots) }
     ensures rents { IfOk result (λ rents. (j : ℕ) → j < length case.now.slots
-        → slice_index rents.items j ≤ (load placement.now j - 1) * case.now.spread) }
+        → slice_index rents.items j ≤ slot_cost case.now.spread (load placement.now j - 1)) }
     ensures small { IfOk result (λ rents. (j : ℕ) → slice_index rents.items j ≤ 2 ^ 40) }
 {
     // No more tasks are counted than a tenant may have.
@@ -87,8 +87,8 @@ fn paid_for(alloc: Global, case: &Case, placement: &[Choice]) -> Result<Vec<u64>
     let loads = loads_of(placement);
     let mut rents = vec![in alloc; 0; case.machine_count()]?;
     for place in 0..rents.len() {
-        let rent = u64::from(loads[place]).saturating_sub(1) * case.spread();
-        rents[place] = rent.min(MOST_RENT);
+        let others = u64::from(loads[place]).saturating_sub(1);
+        rents[place] = slot_cost(case.spread(), others).min(MOST_RENT);
     }
     Ok(rents)
 }
@@ -99,7 +99,7 @@ fn free_slots(alloc: Global, case: &Case, placement: &[Choice]) -> Result<Vec<u6
     ensures one_each { IfOk result (λ rents. length rents.items ≡ length case.now.slots) }
     ensures rents { IfOk result (λ rents. (j : ℕ) → j < length case.now.slots
         → slice_index rents.items j ≡ (if nat_lt (load placement.now j) (slice_index case.now.slots j)
-        then load placement.now j * case.now.spread else 2 ^ 40)) }
+        then slot_cost case.now.spread (load placement.now j) else 2 ^ 40)) }
     ensures small { IfOk result (λ rents. (j : ℕ) → slice_index rents.items j ≤ 2 ^ 40) }
 {
     // No more tasks are counted than a tenant may have.
@@ -109,7 +109,7 @@ fn free_slots(alloc: Global, case: &Case, placement: &[Choice]) -> Result<Vec<u6
     for place in 0..rents.len() {
         let load = u64::from(loads[place]);
         rents[place] = if load < case.slots(place) {
-            load * case.spread()
+            slot_cost(case.spread(), load)
         } else {
             MOST_RENT
         };

@@ -1,12 +1,11 @@
 -- A round preempts a task only for another, or where its machine's load would cost more than its wait.
-use Rattle.std.proofs.Common.{◌≡◌, ℕ, zero, suc, ◌+◌, ◌-◌, ◌*◌, ◌/◌, ◌<◌, ◌≤◌, Bool, true, false, not, cond, eqb, List}
+use Rattle.std.proofs.Common.{◌≡◌, ℕ, zero, suc, ◌+◌, ◌<◌, ◌≤◌, Bool, true, false, not, cond, eqb, List}
 use Rattle.std.proofs.Common.{[], ◌∷◌, ◌||◌, IfSome, length, set, get_or, count_by, refl, sym, ap, subst}
 use Rattle.std.proofs.Common.{◌∙◌, arith}
 use Rattle.std.proofs.Common.{⊎_elim, inl, inr, ◌⊎◌, is_some, Option, Some, None, true≢false, bytes_eq}
 use Rattle.std.specs.Prelude.{slice_get, slice_index}
 use Rattle.std.specs.List.{list_any, position_or_len}
 use Rattle.std.specs.Option.{unwrap_or}
-use Rattle.std.proofs.Math.Nat.{add-mul-div_right, mul-add}
 use Rattle.std.proofs.lemmas.Bool.{cases_Bool, cases_eq, cases_lt, cond-true, eq-eqb, eqb-true, ne_eqb, both_ways}
 use Rattle.std.proofs.lemmas.List.{length-set, take-set-le, get_or-set_same, length-map, get_or-map}
 use Rattle.std.proofs.lemmas.List.Elements.{All-set}
@@ -17,7 +16,7 @@ use Rattle.firm_rules.specs.Book.{TenantRows, machine_names, name_at, is_on, run
 use Rattle.firm_rules.specs.Names.{is_among}
 use Rattle.firm_rules.specs.Sound.{AreSound}
 use Rattle.firm_rules.specs.Placement.{Demand, Case, IsPlace, IsLegal, goes_to, load, load_cost, total, runs_at, rank}
-use Rattle.firm_rules.specs.Placement.{comes_before, task_cost, placement_cost}
+use Rattle.firm_rules.specs.Placement.{comes_before, task_cost, placement_cost, slot_cost}
 use Rattle.firm_rules.specs.Order.{home_at}
 use Rattle.firm_rules.specs.Round.{IsRound, case_of, demand_of, machine_place, place_of}
 use Rattle.firm_rules.specs.Preemption.{IsPreempted, PreemptionsHaveCauses}
@@ -29,6 +28,7 @@ use Rattle.firm_rules.proofs.Firsts.{rank_own}
 use Rattle.firm_rules.proofs.Orders.{decided}
 use Rattle.firm_rules.proofs.NamedRows.{stands-at, sum_by-map, sum_by-le-each, bytes_eq-other}
 use Rattle.firm_rules.proofs.SoundRows.{one_if}
+use Rattle.firm_rules.proofs.SlotCosts.{load-step}
 use Rattle.firm_rules.proofs.Exchanges.{cost-set, home-at, own-cost, preempted-cost, at-place, fresh}
 
 -- one term of a total grows
@@ -48,20 +48,6 @@ total_one f g (suc n) at more below grown same =
     ⊎_elim (λ (l : at < n). l) (λ (l : n ≤ at). absurd (other (omega (arith, l, below)))) (cases_lt at n) in
     omega (arith, total_one f g n at more low grown same, same n other))
     (cases_eq n at)
-
--- one more task on a machine costs the spread for each that is there
-half : (n : ℕ) → suc n * (suc n - 1) / 2 ≡ n * (n - 1) / 2 + n
-half zero = refl
-half (suc m) =
-    let product : suc (suc m) * suc m ≡ suc m * m + suc m * 2 = omega arith in
-    let long : suc (suc m) - 1 ≡ suc m = omega arith in
-    let short : suc m - 1 ≡ m = omega arith in
-    let two : 0 < 2 = omega arith in
-    ap (λ z. suc (suc m) * z / 2) long ∙ ap (λ z. z / 2) product
-    ∙ ap (λ z. (suc m * z + suc m * 2) / 2) (sym short) ∙ add-mul-div_right (suc m * (suc m - 1)) (suc m) two
-
-load-step : (spread n : ℕ) → load_cost spread (suc n) ≡ load_cost spread n + spread * n
-load-step spread n = ap (λ z. spread * z) (half n) ∙ mul-add spread (n * (n - 1) / 2) n
 
 -- how many of the tasks run on a machine
 abbrev homes : List Demand → ℕ → ℕ
@@ -228,12 +214,12 @@ module _ (case : Case) (p : List Choice) (kept : IsLegal case p) (machine from :
       }
 
   pub placed-cost : placement_cost case placed + task_cost case out Wait
-      ≡ placement_cost case p + task_cost case out (On machine) + case.spread * load p machine
+      ≡ placement_cost case p + task_cost case out (On machine) + slot_cost case.spread (load p machine)
   placed-cost =
       omega (
         arith,
         total_one (λ j. load_cost case.spread (load placed j)) (λ j. load_cost case.spread (load p j))
-            (length case.slots) machine (case.spread * load p machine) there
+            (length case.slots) machine (slot_cost case.spread (load p machine)) there
             (ap (load_cost case.spread) own-load ∙ load-step case.spread (load p machine))
             (λ j apart. ap (load_cost case.spread) (other-load j apart)),
         cost-set case case.tasks p from out (On machine) kept.one_each out-there,
@@ -261,24 +247,24 @@ module _ (case : Case) (p : List Choice) (kept : IsLegal case p) (machine from :
 dear : (case : Case) (p : List Choice) → IsRound case p → (machine from : ℕ) (out : Demand)
     → IsPreempted case p machine from out
     → machine < length case.slots → load p machine < slice_index case.slots machine
-    → out.delay + case.churn < case.spread * load p machine
+    → out.delay + case.churn < slot_cost case.spread (load p machine)
 dear case p round machine from out preempted there room =
     let other = placed case p round.legal machine from out preempted.there preempted.waits there room in
     let legal = placed-legal case p round.legal machine from out preempted.there preempted.waits there room in
     let changed : placement_cost case other + out.delay + case.churn
-    ≡ placement_cost case p + case.spread * load p machine =
+    ≡ placement_cost case p + slot_cost case.spread (load p machine) =
     omega (
       arith,
       placed-cost case p round.legal machine from out preempted.there preempted.waits there room,
       own-cost case out machine preempted.home,
       preempted-cost case out machine preempted.home,
     ) in
-    ⊎_elim (λ (l : out.delay + case.churn < case.spread * load p machine). l)
-    (λ (l : case.spread * load p machine ≤ out.delay + case.churn).
+    ⊎_elim (λ (l : out.delay + case.churn < slot_cost case.spread (load p machine)). l)
+    (λ (l : slot_cost case.spread (load p machine) ≤ out.delay + case.churn).
     absurd (both_ways (comes_before (length case.slots) case.tasks other p)
     (round.first other legal (omega (arith, changed, l, round.least other legal)))
     (placed-before case p round.legal machine from out preempted.there preempted.waits there room preempted.home)))
-    (cases_lt (out.delay + case.churn) (case.spread * load p machine))
+    (cases_lt (out.delay + case.churn) (slot_cost case.spread (load p machine)))
 
 -- a name that is among the names has a place there
 pub position-below : {X : Type 0} (p : X → Bool) (xs : List X) → list_any p xs ≡ true → position_or_len p xs < length xs

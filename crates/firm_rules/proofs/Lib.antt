@@ -17,6 +17,7 @@ pub mod CaseLaws
 pub mod Padded
 pub mod Recents
 pub mod Costs
+pub mod SlotCosts
 pub mod SoundBooks
 pub mod Keeping
 pub mod PreferredNames

@@ -1,10 +1,10 @@
 -- A round passes over a long wait only for tasks that have waited about as long.
-use Rattle.std.proofs.Common.{◌≡◌, ℕ, ◌+◌, ◌*◌, ◌<◌, ◌≤◌, Bool, true, false, not, cond, eqb, List}
+use Rattle.std.proofs.Common.{◌≡◌, ℕ, ◌+◌, ◌<◌, ◌≤◌, Bool, true, false, not, cond, eqb, List}
 use Rattle.std.proofs.Common.{[], length, refl, sym, ap, subst, ◌∙◌, arith, ⊎_elim}
 use Rattle.std.proofs.Common.{IfSome, Option, Some, None}
 use Rattle.std.specs.Prelude.{map, option_map, bytes_eq, slice_get, slice_index}
 use Rattle.std.specs.List.{All}
-use Rattle.std.proofs.Math.Nat.{mul-le-mul, le-max_left, le-max_right}
+use Rattle.std.proofs.Math.Nat.{le-max_left, le-max_right}
 use Rattle.std.proofs.lemmas.Bool.{cases_lt}
 use Rattle.std.proofs.lemmas.List.{length-map, get_or-map}
 use Rattle.std.proofs.lemmas.List.Elements.{All-map}
@@ -14,7 +14,7 @@ use Rattle.firm_rules.specs.Names.{is_among}
 use Rattle.firm_rules.specs.Sound.{AreSound}
 use Rattle.firm_rules.specs.SoundBook.{AreInForm}
 use Rattle.firm_rules.specs.Placement.{Demand, Case, load, leaves, is_remote}
-use Rattle.firm_rules.specs.Placement.{task_cost}
+use Rattle.firm_rules.specs.Placement.{slot_cost, task_cost}
 use Rattle.firm_rules.specs.Round.{IsRound, case_of, demand_of, machine_place, job_place, weight_at}
 use Rattle.firm_rules.specs.Starvation.{WeighAtMost, IsPassedOver, AreFull, HaveWaited}
 use Rattle.firm_rules.specs.Starvation.{LongWaitsYieldToLongWaits}
@@ -23,6 +23,7 @@ use Rattle.firm_rules.specs.declared.book.Job.{Job}
 use Rattle.firm_rules.specs.declared.book.Task.{Task}
 use Rattle.firm_rules.specs.declared.rounds.Choice.{Choice}
 use Rattle.firm_rules.specs.declared.rounds.Choice.TheVariants.{On, Wait}
+use Rattle.firm_rules.proofs.SlotCosts.{rises}
 use Rattle.firm_rules.proofs.Exchanges.{exchanged, exchanged-legal, exchanged-cost, at-place}
 use Rattle.firm_rules.proofs.Causes.{placed, placed-legal, placed-cost, position-below}
 
@@ -59,7 +60,7 @@ yields case p round machine from to waiting running there waits beside runs =
 dear-slot : (case : Case) (p : List Choice) → IsRound case p → (machine from : ℕ) (waiting : Demand)
     → slice_get case.tasks from ≡ Some waiting → slice_get p from ≡ Some Wait
     → machine < length case.slots → load p machine < slice_index case.slots machine
-    → waiting.delay ≤ case.spread * load p machine + case.remote
+    → waiting.delay ≤ slot_cost case.spread (load p machine) + case.remote
 dear-slot case p round machine from waiting there waits below room =
     omega (
       arith,
@@ -113,14 +114,12 @@ module _ (rows : TenantRows) (p : List Choice) (most : ℕ) (sound : AreSound ro
       ⊎_elim
       (λ (room : load p j < slice_index (case_of rows).slots j).
       let few : load p j ≤ 63 = omega (arith, room, slots-most rows sound j below) in
-      let dear : rows.limits.spread * load p j ≤ rows.limits.spread * 63 =
-      mul-le-mul (let same : rows.limits.spread ≤ rows.limits.spread = omega arith in same) few in
       absurd (omega (
         arith,
         heavy,
-        dear,
+        rises rows.limits.spread (load p j) 63 few,
         over.long,
-        le-max_left (63 * rows.limits.spread) (most + rows.limits.churn),
+        le-max_left (slot_cost rows.limits.spread 63) (most + rows.limits.churn),
         dear-slot (case_of rows) p round j place (demand_of rows passed)
             (demand-at rows rows.tasks place passed over.there) over.waits below room,
       )))
@@ -165,7 +164,7 @@ module _ (rows : TenantRows) (p : List Choice) (most : ℕ) (sound : AreSound ro
             gives,
             none,
             over.long,
-            le-max_right (63 * rows.limits.spread) (most + rows.limits.churn),
+            le-max_right (slot_cost rows.limits.spread 63) (most + rows.limits.churn),
             if-most (leaves (machine_place rows task.machine) Wait) rows.limits.churn,
           ))
 

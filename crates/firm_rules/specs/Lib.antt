@@ -6,6 +6,7 @@ pub mod Book
 pub mod ArenaUse
 pub mod Sound
 pub mod Placement
+pub mod SlotCosts
 pub mod ChoiceCost
 pub mod Order
 pub mod Round

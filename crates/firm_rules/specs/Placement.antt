@@ -121,6 +121,11 @@ tasks_cost case [] placement = 0
 tasks_cost case (task ∷ tasks) [] = 0
 tasks_cost case (task ∷ tasks) (choice ∷ placement) = task_cost case task choice + tasks_cost case tasks placement
 
+-- what a task costs in the slot of this number, counted from 0, of those that a machine fills one after the other:
+-- nothing in the first, in each further one `spread` more than in the one before
+abbrev pub slot_cost : ℕ → ℕ → ℕ
+slot_cost spread k = k * spread
+
 -- what n tasks on one machine cost: nothing for the first, for each further one `spread` more than for the one before
 abbrev pub load_cost : ℕ → ℕ → ℕ
 load_cost spread n = spread * (n * (n - 1) / 2)

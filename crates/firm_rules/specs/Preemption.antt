@@ -1,7 +1,7 @@
 -- What a round gains where it preempts a task for another.
-use Rattle.std.specs.Prelude.{◌≡◌, ℕ, ◌+◌, ◌*◌, ◌<◌, ◌≤◌, ◌⊎◌, false, List, Some, slice_get, if◌then◌else◌}
+use Rattle.std.specs.Prelude.{◌≡◌, ℕ, ◌+◌, ◌<◌, ◌≤◌, ◌⊎◌, false, List, Some, slice_get, if◌then◌else◌}
 use Rattle.firm_rules.specs.Book.{TenantRows}
-use Rattle.firm_rules.specs.Placement.{Demand, Case, load, runs_at, is_remote}
+use Rattle.firm_rules.specs.Placement.{Demand, Case, load, runs_at, is_remote, slot_cost}
 use Rattle.firm_rules.specs.Round.{IsRound, case_of, demand_of, job_place, weight_at}
 use Rattle.firm_rules.specs.Sound.{AreSound}
 use Rattle.firm_rules.specs.SoundBook.{AreInForm}
@@ -64,12 +64,12 @@ pub record SomeBrought (case : Case) (placement : List Choice) (machine : ℕ) :
   pub task : Demand
   pub brought : IsBrought case placement machine place task
 
--- a round of sound rows in form preempts a task only where the spread of one more task on its machine is more than its
+-- a round of sound rows in form preempts a task only where a slot for one more task on its machine costs more than its
 -- weight and churn, or where it brings another to the machine
 abbrev pub PreemptionsHaveCauses : Type 0
 PreemptionsHaveCauses =
     (rows : TenantRows) (placement : List Choice) → AreSound rows → AreInForm rows → IsRound (case_of rows) placement
     → (machine place : ℕ) (task : Task) → slice_get rows.tasks place ≡ Some task
     → IsPreempted (case_of rows) placement machine place (demand_of rows task)
-    → (task_weight rows task + rows.limits.churn < rows.limits.spread * load placement machine)
+    → (task_weight rows task + rows.limits.churn < slot_cost rows.limits.spread (load placement machine))
     ⊎ SomeBrought (case_of rows) placement machine

@@ -1,9 +1,9 @@
 -- What a round does that leaves a task waiting which has waited long.
-use Rattle.std.specs.Prelude.{◌≡◌, ℕ, ◌+◌, ◌*◌, ◌<◌, ◌≤◌, max, List, length, Some, None, slice_get, slice_index}
+use Rattle.std.specs.Prelude.{◌≡◌, ℕ, ◌+◌, ◌<◌, ◌≤◌, max, List, length, Some, None, slice_get, slice_index}
 use Rattle.std.specs.List.{All}
 use Rattle.firm_rules.specs.Limits.{TenantLimits}
 use Rattle.firm_rules.specs.Book.{TenantRows}
-use Rattle.firm_rules.specs.Placement.{Case, load}
+use Rattle.firm_rules.specs.Placement.{Case, load, slot_cost}
 use Rattle.firm_rules.specs.Round.{IsRound, case_of}
 use Rattle.firm_rules.specs.Sound.{AreSound}
 use Rattle.firm_rules.specs.SoundBook.{AreInForm}
@@ -17,7 +17,7 @@ WeighAtMost most rows = All (λ job. job.weight ≤ most) rows.jobs
 
 -- a wait so long that a round passes it over only for tasks that have waited too, where no job weighs more than `most`
 abbrev pub long_wait : TenantLimits → ℕ → ℕ
-long_wait limits most = limits.remote + max (63 * limits.spread) (most + limits.churn)
+long_wait limits most = limits.remote + max (slot_cost limits.spread 63) (most + limits.churn)
 
 -- the task at this place has waited that long, and the placement lets it wait
 pub record IsPassedOver (rows : TenantRows) (placement : List Choice) (most place : ℕ) (task : Task) : Type 0 where

@@ -281,7 +281,7 @@ impl<A: Allocator> Case<A> {
         &self.demands[task]
     }
 
-    /// Adds a machine of so many slots last. The error comes only where memory is refused, and changes nothing.
+    /// Adds a machine of this number of slots last. The error comes only where memory is refused, and changes nothing.
     pub(crate) fn add_machine(&mut self, slots: Slots) -> Result<(), AllocError>
         requires { length self.old.slots < 4096 }
         ensures ok { OnOk result (self.new ≡ record self.old { slots = self.old.slots ++ slots ∷ [] }) }

@@ -1,5 +1,6 @@
 //! Laws of placements, rounds and books, each the contract of a function that does nothing.
 ghost use Rattle.firm_rules.specs.Placement.{LegalityIsJudged};
+ghost use Rattle.firm_rules.specs.SlotCosts.{LaterSlotsCostNoLess, LoadsAreSumsOfSlots, SlotsCostAtMost};
 ghost use Rattle.firm_rules.specs.Order.{FirstDifferenceDecides};
 ghost use Rattle.firm_rules.specs.Round.{TheRoundIsTheFirst};
 ghost use Rattle.firm_rules.specs.Preemption.{PatienceBoundsPreemptions, PreemptionsGain, PreemptionsHaveCauses};
@@ -10,6 +11,14 @@ ghost use Rattle.firm_rules.specs.SoundBook.{OpeningBooksAreSound};
 /// The test of legality says yes to the legal placements and to no others.
 pub fn legality_is_judged()
     ensures { LegalityIsJudged }
+{}
+
+/// A load costs what the slots that it fills cost together; a later slot costs no less than an earlier one, and none of
+/// a machine costs more than 63,000.
+pub fn loads_are_sums_of_slots()
+    ensures sums { LoadsAreSumsOfSlots }
+    ensures rises { LaterSlotsCostNoLess }
+    ensures most { SlotsCostAtMost }
 {}
 
 /// Of two legal placements one comes before the other exactly where, at the first task on which they differ, its choice
@@ -38,7 +47,7 @@ pub fn patience_bounds_preemptions()
     ensures { PatienceBoundsPreemptions }
 {}
 
-/// A task is preempted only where the spread of one more task on its machine is more than the task's weight and churn,
+/// A task is preempted only where a slot for one more task on its machine costs more than the task's weight and churn,
 /// or where another is brought to the machine, of which the two laws above speak.
 pub fn preemptions_have_causes()
     ensures { PreemptionsHaveCauses }

@@ -43,12 +43,13 @@ pub use cases::Case;
 pub use changes::{Changes, changes_of};
 pub use commands::{Command, LineFault};
 pub use laws::{
-    legality_is_judged, long_waits_yield_to_long_waits, opening_books_are_sound,
-    patience_bounds_preemptions, preemptions_gain, preemptions_have_causes, sound_rows_stay_sound,
-    the_first_difference_decides, the_round_is_the_first,
+    legality_is_judged, loads_are_sums_of_slots, long_waits_yield_to_long_waits,
+    opening_books_are_sound, patience_bounds_preemptions, preemptions_gain,
+    preemptions_have_causes, sound_rows_stay_sound, the_first_difference_decides,
+    the_round_is_the_first,
 };
 pub use names::Name;
-pub use placements::{cost_of, cost_of_load, legal, loads_of, ranks_before, weight_of};
+pub use placements::{cost_of, cost_of_load, legal, loads_of, ranks_before, slot_cost, weight_of};
 pub use preferences::{MOST_PREFERENCES, Preferred};
 pub use recent::{MOST_COSTS, RecentCosts};
 pub use replies::{Outcome, Refusal, Reply};

@@ -3,7 +3,8 @@
 ghost use Rattle.std.specs.Prelude.{ℕ, ◌≡◌, ◌<◌, ◌^◌, ◌≤◌, true, pos, length, slice_index, bytes_eq};
 ghost use Rattle.std.specs.List.{position_or_len};
 ghost use Rattle.firm_rules.specs.Book.{job_names};
-ghost use Rattle.firm_rules.specs.Placement.{comes_before, is_legal, load, load_cost, placement_cost};
+ghost use Rattle.firm_rules.specs.Placement.{comes_before, is_legal, load, load_cost, placement_cost, slot_cost};
+ghost use Rattle.firm_rules.specs.SlotCosts.{most_slot_cost};
 ghost use Rattle.firm_rules.specs.SoundBook.{is_cost};
 ghost use Rattle.firm_rules.specs.Round.{case_of, weight_at};
 
@@ -66,6 +67,18 @@ pub fn loads_of(placement: &[Choice]) -> [u32; MOST_MACHINES]
         }
     }
     loads
+}
+
+/// What a task costs in a machine's slot of this number, counted from 0: nothing in the first, and in each further one
+/// `spread` more than in the one before. `loads_are_sums_of_slots` compares slots, and adds them up.
+pub fn slot_cost(spread: u64, slot: u64) -> u64
+    requires least_spread { spread ≤ 1000 }
+    requires few_slots { slot ≤ 4096 }
+    ensures cost { result ≡ slot_cost spread slot }
+    ensures most { result ≤ 2 ^ 22 }
+    ensures of_machine { slot < 64 → result ≤ most_slot_cost }
+{
+    slot * spread
 }
 
 /// What a load of `tasks` tasks costs on one machine: nothing for the first, and for each further one `spread` more
