@@ -113,8 +113,8 @@ impl Classes {
     }
 }
 
-/// How many classes there are at most for so many places: each parting leaves two classes for one, and each machine
-/// is parted by itself once.
+/// The most classes there are for a number of places: each parting leaves two classes for one, and each machine is
+/// parted by itself once.
 pub(crate) fn most_classes(nodes: usize) -> usize {
     nodes.saturating_mul(2)
 }

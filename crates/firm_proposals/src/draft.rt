@@ -162,14 +162,13 @@ impl Draft {
     /// What one more task on the machine costs as a load.
     #[inline(always)]
     pub(crate) fn next_slot_cost(&self, table: &Table, machine: u32) -> u32 {
-        self.loads.at(machine).saturating_mul(table.spread())
+        table.slot_cost(self.loads.at(machine))
     }
 
     /// What the last task on the machine costs as a load.
     #[inline(always)]
     pub(crate) fn last_slot_cost(&self, table: &Table, machine: u32) -> u32 {
-        let others = self.loads.at(machine).saturating_sub(1);
-        others.saturating_mul(table.spread())
+        table.slot_cost(self.loads.at(machine).saturating_sub(1))
     }
 
     /// Whether a task more would be worth its slot at the machine's price.

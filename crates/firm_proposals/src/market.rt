@@ -10,6 +10,12 @@ use std::alloc::{AllocError, Global};
 /// How often prices fall at most; then the tasks that prefer machines are left out.
 const MOST_PASSES: u32 = 64;
 
+/// More than one in this many tasks are many to be left out at a price.
+const MANY: u32 = 32;
+
+/// Bringing a unit to the hub takes as long as sending this many tasks, or longer.
+const PULL: u32 = 2;
+
 /// The most machines that a task prefers.
 const MOST_PREFERRED: u32 = 4;
 
@@ -27,6 +33,8 @@ pub(crate) struct Market {
     pub(crate) ties: u32,
     /// Tasks on their own machines, at the hub's price, that had as well wait.
     pub(crate) movable: u32,
+    /// Tasks that had rather not wait, and find no slot where they had rather be than at the hub.
+    pub(crate) left: u32,
 }
 
 impl Market {
@@ -45,6 +53,22 @@ impl Market {
     /// How far the price is from right.
     pub(crate) fn gap(&self) -> u32 {
         self.lacks().max(self.rest())
+    }
+
+    /// Whether the price is right and few tasks are left, by the number of all.
+    pub(crate) fn is_right(&self, tasks: u32) -> bool {
+        self.gap() == 0 && self.left.saturating_mul(MANY) <= tasks
+    }
+
+    /// Whether the price is at least as near to right as another, or leaves fewer searches.
+    pub(crate) fn is_better(&self, other: Market) -> bool {
+        self.gap() <= other.gap() || self.searches() < other.searches()
+    }
+
+    // About how many searches the price leaves to do, in those that send a task.
+    fn searches(&self) -> u32 {
+        let pulls = self.lacks().saturating_mul(PULL);
+        pulls.saturating_add(self.rest()).saturating_add(self.left)
     }
 }
 
@@ -101,6 +125,7 @@ impl Traders {
             sure: 0,
             ties: 0,
             movable: 0,
+            left: 0,
         };
         for task in 0..table.tasks() {
             if !work.look() {
@@ -191,14 +216,15 @@ fn prefer(table: &Table, draft: &mut Draft, task: u32, count: u32) {
     draft.set_price(machine, top);
 }
 
-// Of the ways for which this much is paid the one to the machine that fewest tasks prefer.
+// Of the ways for which this much is paid the one to the machine with room that fewest tasks prefer; `NONE` if there is
+// none.
 fn least_wanted(table: &Table, draft: &Draft, ways: Span, paid: u32) -> u32 {
     let mut best = NONE;
     let mut fewest = NONE;
     for number in ways.from..ways.to {
         let way = table.way(number);
         let demand = table.demand(way.place);
-        if draft.paid(way) == paid && demand < fewest {
+        if draft.paid(way) == paid && demand < fewest && draft.has_room(table, way.place) {
             best = number;
             fewest = demand;
         }
@@ -241,27 +267,12 @@ fn forget(table: &Table, draft: &mut Draft) {
     }
 }
 
-// Has a task that is left out take its cheapest way, unless that leads to a machine without room; counts it.
+// Has a task that is left out take its cheapest way, unless that leads to machines without room; counts it.
 fn settle(table: &Table, draft: &mut Draft, task: u32, market: &mut Market) {
-    let waits = draft.paid(table.way(table.wait_way(task)));
     if draft.taken(task) == NONE {
-        let best = draft.cheapest(table, table.ways_of(task), NONE);
-        let hub_way = table.hub_way(task);
-        let place = table.way(best.way).place;
-        if best.way > hub_way {
-            draft.take(task, best.way);
-        } else if place < table.machines() && draft.has_room(table, place) {
-            draft.take(task, best.way);
-            draft.add_load(place);
-        } else if draft.paid(table.way(hub_way)) == best.paid {
-            draft.take(task, hub_way);
-            if waits > best.paid {
-                market.sure = market.sure.saturating_add(1);
-            } else {
-                market.ties = market.ties.saturating_add(1);
-            }
-        }
+        settle_left(table, draft, task, market);
     }
+    let waits = draft.paid(table.way(table.wait_way(task)));
     let home = table.home(task);
     if home != NONE
         && draft.taken(task) == table.own_way(task)
@@ -272,13 +283,40 @@ fn settle(table: &Table, draft: &mut Draft, task: u32, market: &mut Market) {
     }
 }
 
+fn settle_left(table: &Table, draft: &mut Draft, task: u32, market: &mut Market) {
+    let ways = table.ways_of(task);
+    let hub_way = table.hub_way(task);
+    let best = draft.cheapest(table, ways, NONE);
+    if best.way > hub_way {
+        draft.take(task, best.way);
+        return;
+    }
+    let machine_ways = Span {
+        from: ways.from,
+        to: hub_way,
+    };
+    let way = least_wanted(table, draft, machine_ways, best.paid);
+    let is_sure = draft.paid(table.way(table.wait_way(task))) > best.paid;
+    if way != NONE {
+        draft.take(task, way);
+        draft.add_load(table.way(way).place);
+    } else if draft.paid(table.way(hub_way)) == best.paid {
+        draft.take(task, hub_way);
+        market.sure = market.sure.saturating_add(u32::from(is_sure));
+        market.ties = market.ties.saturating_add(u32::from(!is_sure));
+    } else {
+        market.left = market.left.saturating_add(u32::from(is_sure));
+    }
+}
+
 /// How many slots are left on machines of this price that cost less, and how many that cost as much.
 pub(crate) fn count_slots(table: &Table, draft: &Draft, price: u32) -> Span {
     let mut needs = 0u32;
     let mut spares = 0u32;
+    let at_price = table.slots_at(price);
     for machine in 0..table.machines() {
         if draft.price(machine) == price {
-            let slots = table.slots_at(machine, price);
+            let slots = at_price.up_to(table.slots(machine));
             let load = draft.load(machine);
             needs = needs.saturating_add(slots.from.saturating_sub(load));
             spares = spares.saturating_add(slots.to.saturating_sub(load.max(slots.from)));

@@ -8,7 +8,7 @@ ghost use Rattle.firm_proposals.specs.inner.Written.{SameSize};
 
 use crate::numbers::{NONE, Numbers};
 use arrayvec::ArrayVec;
-use firm_rules::{Case, Choice};
+use firm_rules::{Case, Choice, slot_cost};
 use std::alloc::{AllocError, Global};
 
 /// What a task can do: go to a place, at a cost of its own.
@@ -35,6 +35,23 @@ pub(crate) struct Span {
     pub(crate) to: u32,
 }
 
+impl Span {
+    /// As far as up to this number.
+    #[inline(always)]
+    pub(crate) fn up_to(self, most: u32) -> Span {
+        Span {
+            from: self.from.min(most),
+            to: self.to.min(most),
+        }
+    }
+}
+
+/// The most slots of a machine.
+pub(crate) const MOST_SLOTS: u32 = 64;
+
+/// How often a count of slots can be halved.
+const SLOT_HALVINGS: u32 = 6;
+
 /// What a round is about.
 #[derive(Drop)]
 pub(crate) struct Table {
@@ -49,7 +66,8 @@ pub(crate) struct Table {
     demands: Numbers,
     tasks: u32,
     machines: u32,
-    spread: u32,
+    // What the slots of a machine cost, in the order in which they are filled: later ones no less than earlier ones.
+    slot_costs: Numbers,
 }
 
 /// How many times a machine may be named near a task: as its own, and four times as preferred.
@@ -63,6 +81,7 @@ impl Table {
         let homes = Numbers::new(alloc, nodes)?;
         let slots = Numbers::new(alloc, nodes)?;
         let demands = Numbers::new(alloc, nodes)?;
+        let slot_costs = Numbers::new(alloc, MOST_SLOTS as usize)?;
         Ok(Table {
             ways: table,
             way_count: 0,
@@ -72,7 +91,7 @@ impl Table {
             demands,
             tasks: 0,
             machines: 0,
-            spread: 0,
+            slot_costs,
         })
     }
 
@@ -86,10 +105,6 @@ impl Table {
         ensures { result ≡ self.now.machines }
     {
         self.machines
-    }
-
-    pub(crate) fn spread(&self) -> u32 {
-        self.spread
     }
 
     /// The place over which a task goes to any machine.
@@ -178,22 +193,30 @@ impl Table {
         is_near
     }
 
-    /// How many slots of a machine cost less than this price, and how many no more.
+    /// What a task costs in a machine's slot of this number, counted from 0; `NONE` behind the last.
     #[inline(always)]
-    pub(crate) fn slots_at(&self, machine: u32, price: u32) -> Span {
-        let slots = self.slots.at(machine);
-        let Some(whole) = price.checked_div(self.spread) else {
-            return Span {
-                from: if price > 0 { slots } else { 0 },
-                to: slots,
-            };
-        };
-        let is_even = whole.saturating_mul(self.spread) == price;
-        let less = whole.saturating_add(if is_even { 0 } else { 1 });
+    pub(crate) fn slot_cost(&self, slot: u32) -> u32 {
+        self.slot_costs.at(slot)
+    }
+
+    /// How many slots cost less than this price, and how many no more, on a machine that has the most.
+    #[inline(always)]
+    pub(crate) fn slots_at(&self, price: u32) -> Span {
         Span {
-            from: slots.min(less),
-            to: slots.min(whole.saturating_add(1)),
+            from: self.slots_below(price),
+            to: self.slots_below(price.saturating_add(1)),
         }
+    }
+
+    fn slots_below(&self, price: u32) -> u32 {
+        let mut below = 0u32;
+        for halving in 0..=SLOT_HALVINGS {
+            let more = below.saturating_add(MOST_SLOTS >> halving);
+            if self.slot_costs.at(more.saturating_sub(1)) < price {
+                below = more;
+            }
+        }
+        below
     }
 
     /// Whether the round's rows found room in the tables.
@@ -203,8 +226,8 @@ impl Table {
     {
         self.tasks = case.task_count() as u32;
         self.machines = case.machine_count() as u32;
-        self.spread = case.spread() as u32;
         self.way_count = 0;
+        self.read_slot_costs(case);
         self.read_machines(case);
         self.read_tasks(case);
         let ways = self.way_count;
@@ -212,6 +235,15 @@ impl Table {
         self.firsts.set(self.tasks, ways);
         let have_machines = machines == 0 || self.slots.at(machines.saturating_sub(1)) != NONE;
         have_machines && self.firsts.at(self.tasks) == ways && ways as usize <= self.ways.len()
+    }
+
+    fn read_slot_costs(&mut self, case: &Case)
+        ensures { SameSize self.old self.new }
+    {
+        for slot in 0..MOST_SLOTS {
+            let cost = slot_cost(case.spread(), u64::from(slot)) as u32;
+            self.slot_costs.set(slot, cost);
+        }
     }
 
     fn read_machines(&mut self, case: &Case)
