@@ -1,6 +1,6 @@
 -- Flows as cheap as the one that the net shows: those of placements, and what no attempt can do.
-use Rattle.std.proofs.Common.{◌≡◌, ℕ, ◌*◌, ◌≤◌, List, ◌++◌}
-use Rattle.std.proofs.Common.{Some, refl, sym, ap, subst, ◌∙◌, arith}
+use Rattle.std.proofs.Common.{◌≡◌, ℕ, ◌*◌, ◌<◌, ◌≤◌, List, [], ◌∷◌, ◌++◌, length, Some, refl, sym, ap, subst, ◌∙◌}
+use Rattle.std.proofs.Common.{arith}
 use Rattle.std.specs.Prelude.{Contains}
 use Rattle.std.specs.List.{All, sum_by}
 use Rattle.std.proofs.lemmas.List.Elements.{All-contains}
@@ -20,10 +20,11 @@ use Rattle.firm_graph.specs.declared.network.Key.TheVariants.{Through, Slot, Exi
 use Rattle.firm_graph.specs.Network.{arc, network, task_nodes, IsSound, IsKeyOf}
 use Rattle.firm_graph.specs.View.{View, lows, flows, spot_of, named}
 use Rattle.firm_canon.specs.inner.Placed.{placed}
-use Rattle.firm_canon.specs.inner.Choosing.{low_of, Keeps, best, IsAsCheap}
+use Rattle.firm_canon.specs.inner.Choosing.{low_of, Keeps, best, IsAsCheap, IsSpent}
 use Rattle.firm_canon.proofs.Placed.{sum_network, cost_placed, balanced_placed}
 use Rattle.firm_canon.proofs.Parts.{OnParts, parts, whole, within_placed}
-use Rattle.firm_canon.proofs.First.{low-le}
+use Rattle.firm_canon.proofs.First.{carried_sum, low-le}
+use Rattle.firm_canon.proofs.Take.{lows_one}
 use Rattle.firm_canon.proofs.Shown.{network_same, row_shown, arc_at, key_at, flow_at, listed_at}
 
 -- the network with the lower bounds of the prefix is the one that the net shows
@@ -39,13 +40,13 @@ abbrev pub Carries : Arc Node Key → Type 0
 Carries a = (a.low ≤ a.flow) × (a.flow ≤ a.cap)
 
 -- what holds of each arc with one flow, of the arc with another
-flow_on : (P Q : Arc Node Key → Type 0) (c : Case) (low x y : Key → ℕ)
+flow_on : (P Q : Arc Node Key → Type 0) (c : Case) (low longer x y : Key → ℕ)
     → ((key : Key) (tail head : Node) (cap cost : ℕ) → P (arc low x key tail head cap cost)
-    → Q (arc low y key tail head cap cost))
-    → All P (network c low x) → All Q (network c low y)
-flow_on P Q c low x y lift h =
+    → Q (arc longer y key tail head cap cost))
+    → All P (network c low x) → All Q (network c longer y)
+flow_on P Q c low longer x y lift h =
     let at : OnParts P c low x = parts P c low x h in
-    whole Q c low y (record {
+    whole Q c longer y (record {
       through = λ j l. lift (Through j) _ _ _ _ (at.through j l);
       slot = λ j k l r. lift (Slot j k) _ _ _ _ (at.slot j k l r);
       exit = λ k l. lift (Exit k) _ _ _ _ (at.exit k l);
@@ -70,7 +71,7 @@ flow_placed c p r most sound legal cheap =
     let low : Key → ℕ = low_of c p in
     let x : Key → ℕ = placed c (p ++ r) in
     record {
-      within = flow_on (Between x) Carries c low x x (λ key tail head cap cost between. between)
+      within = flow_on (Between x) Carries c low low x x (λ key tail head cap cost between. between)
           (within_placed c (p ++ r) low x sound legal (low-le c p r));
       balanced = λ w. omega (
         arith,
@@ -86,6 +87,34 @@ flow_placed c p r most sound legal cheap =
       );
     }
 
+-- what is spent stays so as the prefix grows
+pub spent_longer : (c : Case) (p : List Choice) (o : Choice) (most : ℕ) (key : Key) → length p < length c.tasks
+    → IsSpent c p most key → IsSpent c (p ++ o ∷ []) most key
+spent_longer c p o most key l spent x flow =
+    let low : Key → ℕ = low_of c p in
+    let longer : Key → ℕ = low_of c (p ++ o ∷ []) in
+    omega (
+      arith,
+      lows_one c p o key l,
+      spent x (record {
+        within = flow_on Carries Carries c longer low x x
+            (λ k tail head cap cost is. (omega (arith, lows_one c p o k l, is.0), is.1)) flow.within;
+        balanced = λ w. omega (
+          arith,
+          flow.balanced w,
+          carried_sum (λ tail head cost flow. w head * flow) c longer low x,
+          carried_sum (λ tail head cost flow. w tail * flow) c longer low x,
+        );
+        cheap = omega (arith, flow.cheap, carried_sum (λ tail head cost flow. cost * flow) c longer low x);
+      }),
+    )
+
+-- and carries no more than is held
+pub spent_few : (v : View) (price : ℕ → ℕ) (p : List Choice) (key : Key) → Keeps v price p
+    → IsSpent v.case p (best v p) key → flows v key ≤ low_of v.case p key
+spent_few v price p key keeps spent =
+    spent (flows v) (record { within = keeps.stands.within; balanced = keeps.stands.balanced; cheap = omega arith })
+
 -- such a flow on the arcs that the net shows
 pub record IsOther (v : View) (p : List Choice) (g : Key → ℕ) : Type 0 where
   pub within : IsWithinBounds (network v.case (low_of v.case p) (flows v)) (λ a. g a.key)
@@ -98,7 +127,7 @@ as_other v p g flow =
     let low : Key → ℕ = low_of c p in
     let x : Key → ℕ = flows v in
     record {
-      within = flow_on Carries (Between g) c low g x (λ key tail head cap cost between. between) flow.within;
+      within = flow_on Carries (Between g) c low low g x (λ key tail head cap cost between. between) flow.within;
       balanced = λ w. omega (
         arith,
         flow.balanced w,

@@ -1,23 +1,19 @@
 -- What attempts rule out, and what a choice rests on.
-use Rattle.std.proofs.Common.{◌≡◌, ℕ, suc, ◌+◌, ◌<◌, ◌≤◌, Bool, true, false, cond, eqb, List, ◌∷◌, ◌++◌, ◌⊎◌}
-use Rattle.std.proofs.Common.{[], append_assoc, length, Some, None, Option, refl, sym, ap, subst, arith}
-use Rattle.std.proofs.Common.{⊎_elim}
+use Rattle.std.proofs.Common.{◌≡◌, ℕ, suc, ◌+◌, ◌<◌, ◌≤◌, Bool, true, false, cond, eqb, List, ◌∷◌, ◌++◌, ◌⊎◌, []}
+use Rattle.std.proofs.Common.{append_assoc, length, Some, None, Option, refl, sym, ap, subst, arith, ⊎_elim}
 use Rattle.std.proofs.lemmas.Bool.{cases_Bool, cases_eq, cond-true, cond-false, eqb-true, eq-eqb, ne_eqb}
 use Rattle.firm_paths.specs.Network.{Arc}
 use Rattle.firm_rules.specs.declared.rounds.Choice.{Choice}
 use Rattle.firm_rules.specs.declared.rounds.Choice.TheVariants.{On, Wait}
-use Rattle.firm_rules.specs.Placement.{Case, Demand, rank, runs_at, prefers}
+use Rattle.firm_rules.specs.Placement.{Case, Demand, rank, runs_at, prefers, IsLegal, IsPlace, placement_cost as cost}
 use Rattle.firm_graph.specs.declared.network.Node.{Node}
 use Rattle.firm_graph.specs.declared.network.Key.{Key}
 use Rattle.firm_graph.specs.declared.network.Key.TheVariants.{Through, Wide, Stay, Wait as WaitArc, Prefer}
-use Rattle.firm_graph.specs.Network.{demand, preferred_at, stay_head}
-use Rattle.firm_rules.specs.Placement.{IsLegal, IsPlace, placement_cost as cost}
-use Rattle.firm_graph.specs.Network.{runs}
+use Rattle.firm_graph.specs.Network.{demand, preferred_at, stay_head, runs, IsNodeOf}
 use Rattle.firm_canon.specs.inner.Placed.{wide, near, number, prefer, guests, placed, aside}
 use Rattle.firm_graph.specs.View.{View, Shows, IsSameCase, flows, spot_of}
-use Rattle.firm_graph.specs.Network.{IsNodeOf}
-use Rattle.firm_canon.specs.inner.Choosing.{low_of, Keeps, Shut, Barred, best, IsChosen, IsSpent, HasRoom}
-use Rattle.firm_canon.specs.inner.Choosing.{IsBare, next_number}
+use Rattle.firm_canon.specs.inner.Choosing.{low_of, Keeps, Shut, Barred, best, IsChosen, IsSpent, HasRoom, IsBare}
+use Rattle.firm_canon.specs.inner.Choosing.{next_number}
 use Rattle.firm_canon.proofs.Parts.{parts}
 use Rattle.firm_canon.proofs.Read.{task_sends}
 use Rattle.firm_canon.proofs.Totals.{total_zero}

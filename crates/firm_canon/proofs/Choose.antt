@@ -1,12 +1,11 @@
 -- Which choices are left for the next task: what each refusal of the search rules out.
-use Rattle.std.proofs.Common.{◌≡◌, ℕ, zero, suc, ◌<◌, ◌≤◌, true, false, List, [], ◌∷◌, length}
-use Rattle.std.proofs.Common.{arith, refl, sym, ap, ◌∙◌, inl, inr, ◌⊎◌, ⊎_elim, Option, None}
-use Rattle.std.proofs.lemmas.Bool.{cases_Bool, cases_lt, cond-true, cond-false}
+use Rattle.std.proofs.Common.{◌≡◌, ℕ, zero, suc, ◌<◌, ◌≤◌, Bool, true, false, cond, List, [], ◌∷◌, length, arith, refl}
+use Rattle.std.proofs.Common.{sym, ap, ◌∙◌, inl, inr, ◌⊎◌, ⊎_elim, Option, None}
+use Rattle.std.proofs.lemmas.Bool.{cases_lt}
 use Rattle.firm_rules.specs.declared.rounds.Choice.{Choice}
 use Rattle.firm_rules.specs.declared.rounds.Choice.TheVariants.{On, Wait}
 use Rattle.firm_paths.specs.Network.{Arc}
-use Rattle.firm_rules.specs.Placement.{Case, total, rank, runs_at}
-use Rattle.firm_rules.specs.Placement.{IsPlace}
+use Rattle.firm_rules.specs.Placement.{Case, total, rank, runs_at, IsPlace}
 use Rattle.firm_graph.specs.declared.network.Node.{Node}
 use Rattle.firm_graph.specs.declared.network.Key.{Key}
 use Rattle.firm_graph.specs.declared.network.Key.TheVariants.{Through, Wide}
@@ -24,32 +23,22 @@ pick_beyond [] i h = refl
 pick_beyond (o ∷ p) zero h = absurd (omega arith)
 pick_beyond (o ∷ p) (suc i) h = pick_beyond p i (omega arith)
 
+waits-last : (own : Bool) (m o : ℕ) → o < m → suc m < cond own 0 (suc o) → ⊥
+waits-last true m o l h = omega (arith, h)
+waits-last false m o l h = omega (arith, l, h)
+
+own-or-before : (own other : Bool) (j o : ℕ) → cond other 0 (suc j) < cond own 0 (suc o)
+    → (other ≡ true) ⊎ ((other ≡ false) × (j < o))
+own-or-before own true j o h = inl refl
+own-or-before true false j o h = absurd (omega (arith, h))
+own-or-before false false j o h = inr (refl, omega (arith, h))
+
 -- before `On o` rank the task's own machine and the machines that stand before; before `Wait` every machine
 pub ranks_before_on : (m : ℕ) (home : Option ℕ) (o : ℕ) (b : Choice) → IsPlace m b → o < m
     → rank m home b < rank m home (On o)
     → (j : ℕ) × (b ≡ On j) × ((runs_at home j ≡ true) ⊎ ((runs_at home j ≡ false) × (j < o)))
-ranks_before_on m home o Wait place l h =
-    ⊎_elim (λ (f : runs_at home o ≡ true). absurd (omega (arith, h, cond-true {A = ℕ} (runs_at home o) 0 (suc o) f)))
-    (λ (f : runs_at home o ≡ false). absurd (omega (arith, l, h, cond-false {A = ℕ} (runs_at home o) 0 (suc o) f)))
-    (cases_Bool (runs_at home o))
-ranks_before_on m home o (On j) place l h = (
-  j,
-  refl,
-  ⊎_elim (λ (f : runs_at home j ≡ true). inl f)
-      (λ (f : runs_at home j ≡ false). inr (
-        f,
-        ⊎_elim (λ (g : runs_at home o ≡ true).
-            absurd (omega (arith, h, cond-true {A = ℕ} (runs_at home o) 0 (suc o) g)))
-            (λ (g : runs_at home o ≡ false). omega (
-              arith,
-              h,
-              cond-false {A = ℕ} (runs_at home o) 0 (suc o) g,
-              cond-false {A = ℕ} (runs_at home j) 0 (suc j) f,
-            ))
-            (cases_Bool (runs_at home o)),
-      ))
-      (cases_Bool (runs_at home j)),
-)
+ranks_before_on m home o Wait place l h = absurd (waits-last (runs_at home o) m o l h)
+ranks_before_on m home o (On j) place l h = (j, refl, own-or-before (runs_at home o) (runs_at home j) j o h)
 
 -- where the hub sends no machine more than the chosen guests, the next task does not come by the hub
 pub no_guest : (c : Case) (p : List Choice) (x : Key → ℕ) (price : Node → ℕ) → Stands c p x price

@@ -26,14 +26,14 @@ same_counts old new arcs limits begins searches looks proposed = record {
   proposed = proposed;
 }
 
-nothing_made : (s : Workspace) (arcs : ℕ) → HasSearched s s 0 arcs
+pub nothing_made : (s : Workspace) (arcs : ℕ) → HasSearched s s 0 arcs
 nothing_made s arcs = same_counts s s arcs refl refl refl refl refl
 
 pub none_made : (s : Workspace) (most arcs : ℕ) → HasMadeUpTo s s most arcs
 none_made s most arcs = record { made = 0; few = omega arith; searched = nothing_made s arcs }
 
 -- searches one after another
-made_both : (old now new : Workspace) (first then arcs : ℕ) → HasSearched old now first arcs
+pub made_both : (old now new : Workspace) (first then arcs : ℕ) → HasSearched old now first arcs
     → HasSearched now new then arcs → HasSearched old new (first + then) arcs
 made_both old now new first then arcs one two = record {
   limits = two.limits ∙ one.limits;

@@ -1,5 +1,5 @@
 -- How the choice of a task ends: with the first machine that it can reach, or with waiting.
-use Rattle.std.proofs.Common.{◌≡◌, ℕ, zero, suc, ◌<◌, ◌≤◌, ◌==◌, Bool, true, false, eqb, List, [], ◌∷◌, length, get_or}
+use Rattle.std.proofs.Common.{◌≡◌, ℕ, zero, suc, ◌<◌, ◌==◌, Bool, true, false, eqb, List, [], ◌∷◌, length, get_or}
 use Rattle.std.proofs.Common.{Option, Some, None, arith, sym, ap, subst, ◌∙◌, inl, inr, ⊎_elim}
 use Rattle.std.specs.List.{list_any}
 use Rattle.std.proofs.lemmas.Bool.{cases_Bool, both_ways, eq-eqb, eqb-true, or_parts}
@@ -9,8 +9,8 @@ use Rattle.firm_rules.specs.Placement.{Case, Demand, runs_at, prefers}
 use Rattle.firm_graph.specs.declared.network.Key.TheVariants.{Through, Wide, Stay}
 use Rattle.firm_graph.specs.Network.{demand}
 use Rattle.firm_graph.specs.View.{View, IsSameCase, flows}
-use Rattle.firm_canon.specs.inner.Placed.{guests}
 use Rattle.firm_canon.specs.inner.Choosing.{Keeps, HasRoom, IsBare, IsChosen, IsPassed, IsSpent, best}
+use Rattle.firm_canon.proofs.AsCheap.{spent_few}
 use Rattle.firm_canon.proofs.Choices.{shut_own, shut_far, shut_same, chose_wait, chosen_on, none_aside}
 
 -- a task that runs on a machine runs on no other
@@ -42,16 +42,14 @@ module _ (v : View) (price : ℕ → ℕ) (p : List Choice) (keeps : Keeps v pri
   -- one that is not preferred
   pub passed_far : (at_hub : Bool) (j : ℕ) → runs_at task.home j ≡ false → prefers task j ≡ false
       → (at_hub ≡ false → IsSpent v.case p (best v p) (Wide (length p)))
-      → (at_hub ≡ true
-      → (flows v (Through j) ≤ guests v.case p j) × IsSpent v.case p (best v p) (Through j))
-      → IsPassed v p at_hub j
+      → (at_hub ≡ true → IsSpent v.case p (best v p) (Through j)) → IsPassed v p at_hub j
   passed_far at_hub j other far apart there = record {
     bare = record {
       near = λ apart k l e. absurd (not_preferred task.preferred j k far l e);
-      far = λ hub. (there hub).0;
+      far = λ hub. spent_few v price p (Through j) keeps (there hub);
     };
     shut = shut_far v price p keeps next j other far
-        (⊎_elim (λ (hub : at_hub ≡ true). inl (there hub).1) (λ (off : at_hub ≡ false). inr (apart off))
+        (⊎_elim (λ (hub : at_hub ≡ true). inl (there hub)) (λ (off : at_hub ≡ false). inr (apart off))
         (cases_Bool at_hub));
   }
 

@@ -1,28 +1,26 @@
 -- The first of the least placements: what the loop over the tasks keeps.
-use Rattle.std.proofs.Common.{◌≡◌, ℕ, zero, suc, ◌+◌, ◌*◌, ◌<◌, ◌≤◌, true, false, cond, eqb, ltb, ◌&&◌, List, []}
+use Rattle.std.proofs.Common.{◌≡◌, ℕ, zero, suc, ◌+◌, ◌*◌, ◌<◌, ◌≤◌, Bool, true, false, cond, eqb, ltb, ◌&&◌, List, []}
 use Rattle.std.proofs.Common.{◌∷◌, ◌++◌, length, get_or, arith, refl, sym, ap, subst, ◌∙◌, inl, inr, ◌⊎◌, ⊎_elim}
 use Rattle.std.proofs.Common.{Option, Some, None}
 use Rattle.std.specs.List.{All, sum_by}
 use Rattle.std.proofs.lemmas.List.Elements.{All-head, All-tail, All-nil, All-cons, All-append}
-use Rattle.std.proofs.lemmas.Bool.{cases_Bool, cases_lt, cond-true, cond-false, eqb-true}
-use Rattle.std.proofs.lemmas.Bool.{le-ltb, or_parts, or_from, and_left, and_right, and_cases}
+use Rattle.std.proofs.lemmas.Bool.{cases_Bool, cases_lt, eqb-true, le-ltb, or_parts, or_from, and_left, and_right}
+use Rattle.std.proofs.lemmas.Bool.{and_cases}
 use Rattle.firm_rules.specs.declared.rounds.Choice.{Choice}
 use Rattle.firm_rules.specs.declared.rounds.Choice.TheVariants.{On, Wait}
-use Rattle.firm_rules.specs.Placement.{Demand}
+use Rattle.firm_rules.specs.Placement.{Demand, Case, runs_at, rank, IsLegal, placement_cost as cost, IsPlace}
+use Rattle.firm_rules.specs.Placement.{comes_before as before}
 use Rattle.firm_paths.specs.Network.{Arc, AreValid}
 use Rattle.firm_flow.specs.Flow.{IsWithinBounds, cost_of, carried}
-use Rattle.firm_rules.specs.Placement.{Case, runs_at, rank}
-use Rattle.firm_rules.specs.Placement.{IsLegal, placement_cost as cost, IsPlace, comes_before as before}
 use Rattle.firm_rules.specs.Round.{IsRound}
 use Rattle.firm_graph.specs.declared.network.Node.{Node}
 use Rattle.firm_graph.specs.declared.network.Node.TheVariants.{Sink}
 use Rattle.firm_graph.specs.declared.network.Key.{Key}
 use Rattle.firm_graph.specs.declared.network.Key.TheVariants.{Through, Slot, Exit, Wide, Stay, Wait as WaitArc, Prefer}
-use Rattle.firm_graph.specs.Network.{demand, network, task_nodes}
+use Rattle.firm_graph.specs.Network.{demand, network, task_nodes, IsSound}
 use Rattle.firm_canon.proofs.Totals.{total-le}
 use Rattle.firm_canon.specs.inner.Placed.{pick, wide, stay, waits, prefer, spot, guests, placed}
 use Rattle.firm_canon.proofs.Nears.{prefer_none}
-use Rattle.firm_graph.specs.Network.{IsSound}
 use Rattle.firm_canon.proofs.Placed.{sum_network, cost_placed, balanced_placed}
 use Rattle.firm_canon.proofs.Parts.{parts, whole, within_placed}
 use Rattle.firm_canon.proofs.Read.{read}
@@ -34,10 +32,6 @@ pick_append : (p r : List Choice) (i : ℕ) → (pick p i ≡ None) ⊎ (pick (p
 pick_append [] r i = inl refl
 pick_append (o ∷ p) r zero = inr refl
 pick_append (o ∷ p) r (suc i) = pick_append p r i
-
-pub pick_end : (p r : List Choice) (o : Choice) → pick (p ++ o ∷ r) (length p) ≡ Some o
-pick_end [] r o = refl
-pick_end (a ∷ p) r o = pick_end p r o
 
 pub pick_past : (p : List Choice) → pick p (length p) ≡ None
 pick_past [] = refl
@@ -82,35 +76,24 @@ before_none m [] q = refl
 before_none m (t ∷ ts) [] = refl
 before_none m (t ∷ ts) (b ∷ q) = refl
 
+ranks_last : (own : Bool) (k m : ℕ) → k < m → suc m ≡ cond own 0 (suc k) → ⊥
+ranks_last true k m below e = omega (arith, e)
+ranks_last false k m below e = omega (arith, below, e)
+
+same_place : (own other : Bool) (j k : ℕ) → (own ≡ true → other ≡ true → j ≡ k)
+    → cond own 0 (suc j) ≡ cond other 0 (suc k) → j ≡ k
+same_place true true j k same e = same refl refl
+same_place true false j k same e = absurd (omega (arith, e))
+same_place false true j k same e = absurd (omega (arith, e))
+same_place false false j k same e = omega (arith, e)
+
 -- two choices of one rank are one
 rank_is : (m : ℕ) (home : Option ℕ) (a b : Choice) → IsPlace m a → IsPlace m b → rank m home a ≡ rank m home b → a ≡ b
 rank_is m home Wait Wait pa pb e = refl
-rank_is m home Wait (On k) pa pb e =
-    ⊎_elim (λ (f : runs_at home k ≡ true). absurd (omega (arith, e, cond-true {A = ℕ} (runs_at home k) 0 (suc k) f)))
-    (λ (f : runs_at home k ≡ false). absurd (omega (arith, pb, e, cond-false {A = ℕ} (runs_at home k) 0 (suc k) f)))
-    (cases_Bool (runs_at home k))
-rank_is m home (On j) Wait pa pb e =
-    ⊎_elim (λ (f : runs_at home j ≡ true). absurd (omega (arith, e, cond-true {A = ℕ} (runs_at home j) 0 (suc j) f)))
-    (λ (f : runs_at home j ≡ false). absurd (omega (arith, pa, e, cond-false {A = ℕ} (runs_at home j) 0 (suc j) f)))
-    (cases_Bool (runs_at home j))
+rank_is m home Wait (On k) pa pb e = absurd (ranks_last (runs_at home k) k m pb e)
+rank_is m home (On j) Wait pa pb e = absurd (ranks_last (runs_at home j) j m pa (sym e))
 rank_is m home (On j) (On k) pa pb e =
-    ⊎_elim (λ (f : runs_at home j ≡ true).
-    ⊎_elim (λ (g : runs_at home k ≡ true). ap On (same_home home j k f g))
-    (λ (g : runs_at home k ≡ false). absurd (omega
-    (arith, e, cond-true {A = ℕ} (runs_at home j) 0 (suc j) f, cond-false {A = ℕ} (runs_at home k) 0 (suc k) g)))
-    (cases_Bool (runs_at home k)))
-    (λ (f : runs_at home j ≡ false).
-    ⊎_elim (λ (g : runs_at home k ≡ true). absurd
-    (omega (
-      arith,
-      e,
-      cond-false {A = ℕ} (runs_at home j) 0 (suc j) f,
-      cond-true {A = ℕ} (runs_at home k) 0 (suc k) g,
-    )))
-    (λ (g : runs_at home k ≡ false). ap On (omega
-    (arith, e, cond-false {A = ℕ} (runs_at home j) 0 (suc j) f, cond-false {A = ℕ} (runs_at home k) 0 (suc k) g)))
-    (cases_Bool (runs_at home k)))
-    (cases_Bool (runs_at home j))
+    ap On (same_place (runs_at home j) (runs_at home k) j k (same_home home j k) e)
   where
     same_home : (home : Option ℕ) (j k : ℕ) → runs_at home j ≡ true → runs_at home k ≡ true → j ≡ k
     same_home None j k f g = cc

@@ -1,6 +1,5 @@
 -- Lower bounds after the next task was held to its choice.
-use Rattle.std.proofs.Common.{◌≡◌, ◌≢◌, ℕ, ◌+◌, ◌<◌, ◌≤◌, true, false, cond, eqb, List, [], ◌∷◌, ◌++◌, length}
-use Rattle.std.proofs.Common.{Some}
+use Rattle.std.proofs.Common.{◌≡◌, ◌≢◌, ℕ, ◌+◌, ◌<◌, ◌≤◌, true, false, cond, eqb, List, [], ◌∷◌, ◌++◌, length, Some}
 use Rattle.std.proofs.Common.{None, Option, refl, sym, ap, ap₂, subst, ◌∙◌, arith, ⊎_elim}
 use Rattle.std.proofs.lemmas.Bool.{cases_eq, cond-false, ne_eqb}
 use Rattle.firm_net.specs.Net.{Net, row_at}
@@ -11,16 +10,14 @@ use Rattle.firm_rules.specs.declared.rounds.Choice.TheVariants.{On, Wait}
 use Rattle.firm_rules.specs.Placement.{Demand, runs_at, prefers}
 use Rattle.firm_graph.specs.declared.network.Key.{Key}
 use Rattle.firm_graph.specs.declared.network.Key.TheVariants.{Through, Slot, Exit, Wide, Stay, Wait as WaitArc, Prefer}
-use Rattle.firm_graph.specs.Network.{demand}
+use Rattle.firm_graph.specs.Network.{demand, IsKeyOf}
 use Rattle.firm_canon.specs.inner.Placed.{wide, stay, waits, near, number, prefer}
 use Rattle.firm_net.specs.Row.{Row}
 use Rattle.firm_graph.specs.View.{View, Shows, IsSameCase, CanHold, lows, low_of_row, flow_of_row}
-use Rattle.firm_graph.specs.Network.{IsKeyOf}
 use Rattle.firm_canon.specs.inner.Choosing.{low_of, Keeps, IsChosen}
 use Rattle.firm_canon.proofs.First.{pick_past, wide_none, stay_none}
-use Rattle.firm_canon.proofs.Nears.{wide_is, near_is, own_wide, own_near, near_wide, far_near, other_stay}
-use Rattle.firm_canon.proofs.Nears.{wait_stay, cond_zero}
-use Rattle.firm_canon.proofs.Nears.{number_in, prefer_none}
+use Rattle.firm_canon.proofs.Nears.{wide_is, near_is, own_wide, own_near, near_wide, far_near, other_stay, wait_stay}
+use Rattle.firm_canon.proofs.Nears.{cond_zero, number_in, prefer_none}
 use Rattle.firm_canon.proofs.Take.{added, adds_far, adds_near, adds_own, cond_here}
 use Rattle.firm_canon.proofs.Prefixes.{kept_one}
 

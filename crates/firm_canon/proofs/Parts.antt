@@ -1,6 +1,6 @@
 -- What holds of every arc of the network, arc by arc.
-use Rattle.std.proofs.Common.{◌≡◌, ℕ, zero, suc, ◌*◌, ◌<◌, ◌≤◌, Bool, true, false, cond, eqb, ltb, List, [], ◌∷◌}
-use Rattle.std.proofs.Common.{◌++◌, length, arith, sym, subst, ⊎_elim, Option, Some, None}
+use Rattle.std.proofs.Common.{◌≡◌, ℕ, zero, suc, ◌*◌, ◌<◌, ◌≤◌, Bool, true, false, cond, eqb, ltb, List, [], ◌∷◌, ◌++◌}
+use Rattle.std.proofs.Common.{length, arith, sym, subst, ⊎_elim, Option, Some, None}
 use Rattle.std.specs.List.{All}
 use Rattle.std.proofs.lemmas.List.Elements.{All-head, All-tail, All-nil, All-cons, All-append}
 use Rattle.std.proofs.lemmas.Bool.{cases_eq}
@@ -8,17 +8,14 @@ use Rattle.firm_rules.specs.declared.rounds.Choice.{Choice}
 use Rattle.firm_rules.specs.declared.rounds.Choice.TheVariants.{On, Wait}
 use Rattle.firm_paths.specs.Network.{Arc}
 use Rattle.firm_flow.specs.Flow.{IsWithinBounds}
-use Rattle.firm_rules.specs.Placement.{Case, total, load}
-use Rattle.firm_rules.specs.Placement.{IsLegal}
-use Rattle.firm_graph.specs.Network.{runs}
+use Rattle.firm_rules.specs.Placement.{Case, total, load, IsLegal}
+use Rattle.firm_graph.specs.Network.{runs, gather, arc, slots_of, demand, machine_arcs, job_arcs, task_arcs, network}
+use Rattle.firm_graph.specs.Network.{IsSound}
 use Rattle.firm_graph.specs.declared.network.Node.{Node}
 use Rattle.firm_graph.specs.declared.network.Node.TheVariants.{Sink, Hub, Machine, Owner}
 use Rattle.firm_graph.specs.declared.network.Key.{Key}
 use Rattle.firm_graph.specs.declared.network.Key.TheVariants.{Through, Slot, Exit, Wide, Stay, Wait as WaitArc, Prefer}
-use Rattle.firm_graph.specs.Network.{gather, arc, slots_of, demand, machine_arcs, job_arcs, task_arcs}
-use Rattle.firm_graph.specs.Network.{network}
 use Rattle.firm_canon.specs.inner.Placed.{pick, stay, waits, placed}
-use Rattle.firm_graph.specs.Network.{IsSound}
 use Rattle.firm_canon.proofs.Nears.{wide_le_one, prefer_le_one}
 use Rattle.firm_canon.proofs.Placed.{load_is, wide_arc, stay_arc, delay_arc, prefer_arc, count_at}
 

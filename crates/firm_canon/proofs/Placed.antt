@@ -10,26 +10,22 @@ use Rattle.std.proofs.lemmas.Bool.{cases_Bool, cases_lt, cond-true, cond-false, 
 use Rattle.std.proofs.Math.Nat.{mul-add, mul-zero}
 use Rattle.firm_rules.specs.declared.rounds.Choice.{Choice}
 use Rattle.firm_rules.specs.declared.rounds.Choice.TheVariants.{On, Wait}
-use Rattle.firm_rules.specs.Placement.{Demand}
+use Rattle.firm_rules.specs.Placement.{Demand, Case, total, load, load_cost, goes_to, task_cost, tasks_cost, leaves}
+use Rattle.firm_rules.specs.Placement.{runs_at, prefers, IsLegal, placement_cost as cost, IsPlace}
 use Rattle.firm_paths.specs.Network.{Arc}
 use Rattle.firm_flow.specs.Flow.{cost_of}
-use Rattle.firm_rules.specs.Placement.{Case, total, load, load_cost, goes_to, task_cost, tasks_cost, leaves}
-use Rattle.firm_rules.specs.Placement.{runs_at, prefers}
-use Rattle.firm_rules.specs.Placement.{IsLegal, placement_cost as cost, IsPlace}
-use Rattle.firm_graph.specs.Network.{runs}
+use Rattle.firm_graph.specs.Network.{runs, gather, arc, slots_of, demand, preferred_at, stay_head, machine_arcs}
+use Rattle.firm_graph.specs.Network.{job_arcs, task_arcs, network, task_nodes, IsSound}
 use Rattle.firm_graph.specs.declared.network.Node.{Node}
 use Rattle.firm_graph.specs.declared.network.Node.TheVariants.{Sink, Hub, Machine, Owner, Task}
 use Rattle.firm_graph.specs.declared.network.Key.{Key}
 use Rattle.firm_graph.specs.declared.network.Key.TheVariants.{Through, Slot, Exit, Wide, Stay, Wait as WaitArc, Prefer}
-use Rattle.firm_graph.specs.Network.{gather, arc, slots_of, demand, preferred_at, stay_head, machine_arcs}
-use Rattle.firm_graph.specs.Network.{job_arcs, task_arcs, network, task_nodes}
 use Rattle.firm_canon.proofs.Totals.{staircase, total_zero, total_same, total-add, total-mul, total_front}
 use Rattle.firm_canon.proofs.Totals.{total_regroup, sum_gather}
 use Rattle.firm_flow.specs.Balance.{Balanced}
 use Rattle.firm_canon.specs.inner.Placed.{pick, wide, stay, waits, near, prefer, spot, wide_at, stay_at, near_at}
 use Rattle.firm_canon.specs.inner.Placed.{prefer_at, guests, stayers, comers, placed}
 use Rattle.firm_canon.proofs.Nears.{one_way, prefer_weighed, prefer_all}
-use Rattle.firm_graph.specs.Network.{IsSound}
 
 pub pick_some : (q : List Choice) (i : ℕ) → i < length q → (o : Choice) × (pick q i ≡ Some o)
 pick_some [] i l = absurd (omega arith)

@@ -8,9 +8,8 @@ use Rattle.firm_rules.specs.Placement.{Case}
 use Rattle.firm_graph.specs.declared.network.Node.{Node}
 use Rattle.firm_graph.specs.declared.network.Node.TheVariants.{Sink}
 use Rattle.firm_graph.specs.declared.network.Key.{Key}
-use Rattle.firm_graph.specs.Network.{network, task_nodes}
+use Rattle.firm_graph.specs.Network.{network, task_nodes, IsKeyOf}
 use Rattle.firm_graph.specs.View.{View, Shows, IsSameCase, lows, flows, spot_of}
-use Rattle.firm_graph.specs.Network.{IsKeyOf}
 use Rattle.firm_canon.specs.inner.Choosing.{low_of, Stands, Keeps, IsChosen}
 use Rattle.firm_canon.proofs.Take.{added, lows_one, take_choice}
 use Rattle.firm_canon.proofs.Shown.{network_same}

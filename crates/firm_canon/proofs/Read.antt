@@ -6,14 +6,13 @@ use Rattle.std.proofs.lemmas.Bool.{cases_eq, eq-eqb, ne_eqb}
 use Rattle.firm_rules.specs.declared.rounds.Choice.{Choice}
 use Rattle.firm_paths.specs.Network.{Arc}
 use Rattle.firm_flow.specs.Flow.{IsWithinBounds, cost_of, carried}
-use Rattle.firm_rules.specs.Placement.{Case, total, load, load_cost, tasks_cost}
-use Rattle.firm_rules.specs.Placement.{IsLegal, placement_cost as cost, IsPlace}
-use Rattle.firm_graph.specs.Network.{runs}
+use Rattle.firm_rules.specs.Placement.{Case, total, load, load_cost, tasks_cost, IsLegal, placement_cost as cost}
+use Rattle.firm_rules.specs.Placement.{IsPlace}
+use Rattle.firm_graph.specs.Network.{runs, slots_of, demand, preferred_at, stay_head, network, task_nodes}
 use Rattle.firm_graph.specs.declared.network.Node.{Node}
 use Rattle.firm_graph.specs.declared.network.Node.TheVariants.{Sink, Hub, Machine, Owner, Task}
 use Rattle.firm_graph.specs.declared.network.Key.{Key}
 use Rattle.firm_graph.specs.declared.network.Key.TheVariants.{Through, Slot, Exit, Wide, Stay, Wait, Prefer}
-use Rattle.firm_graph.specs.Network.{slots_of, demand, preferred_at, stay_head, network, task_nodes}
 use Rattle.firm_canon.proofs.Totals.{total_zero, total_same, total-add, total-le, total-mul, total_at, total_tight}
 use Rattle.firm_canon.proofs.Totals.{staircase_least, tri_least, sum_gather}
 use Rattle.firm_canon.specs.inner.Placed.{pick, wide, stay, waits, near, prefer, spot, wide_at, stay_at, near_at}

@@ -10,7 +10,7 @@ use Rattle.firm_net.specs.declared.row.ArcId.{ArcId}
 use Rattle.firm_net.specs.declared.row.Way.TheVariants.{Backward}
 use Rattle.firm_paths.specs.Network.{Arc, Residual, Tight, IsResidual, leaves, enters}
 use Rattle.firm_paths.specs.NetArcs.{arc_of, arcs_of, arc_or, residual_of}
-use Rattle.firm_paths.specs.Paths.{ArePaths, IsTightPath}
+use Rattle.firm_paths.specs.Paths.{IsTightPath}
 use Rattle.firm_paths.specs.declared.search.Step.{Step}
 use Rattle.firm_rules.specs.declared.rounds.Choice.{Choice}
 use Rattle.firm_graph.specs.declared.network.Node.{Node}
@@ -114,28 +114,25 @@ module _ (v : View) (price : ℕ → ℕ) (p : List Choice) (keeps : Keeps v pri
       by false e at = facts.1 at (residual.may_fall e)
 
   -- FROM WHERE A PATH WAS FOUND TO, the tail of an arc is reached by no step more
-  pub round_by : (to : ℕ) (paths : ℕ → Option (List Step)) (key : Key) (arc : ArcId) (row : Row) (steps : List Step)
+  pub round_by : (to : ℕ) (key : Key) (arc : ArcId) (row : Row) (steps : List Step)
       → IsKeyOf v.case key → arc ≡ v.arc key → spot_of v (arc_at v.case low (flows v) key).tail ≡ to
-      → ArePaths v.net price to paths → row_at v.net arc ≡ Some row → paths row.head.id.place ≡ Some steps
+      → row_at v.net arc ≡ Some row → IsTightPath v.net price row.head.id.place to steps
       → IsTightPath v.net price row.head.id.place row.tail.id.place (steps ++ [])
-  round_by to paths key arc row steps own is tail are there found =
+  round_by to key arc row steps own is tail there path =
       let tail_is : to ≡ row.tail.id.place =
       sym tail ∙ ap (λ (b : Arc ℕ ArcId). b.tail) (named_is v price p keeps next key arc row own is there) in
       subst (IsTightPath v.net price row.head.id.place row.tail.id.place) (sym (append-nil steps))
-      (subst (λ (z : ℕ). IsTightPath v.net price row.head.id.place z steps) tail_is
-      (are.path row.head.id.place steps found))
+      (subst (λ (z : ℕ). IsTightPath v.net price row.head.id.place z steps) tail_is path)
 
   -- or by one against the unit at the hub
-  pub round_back : (paths : ℕ → Option (List Step)) (own_arc : TaskArc) (arc wide : ArcId) (row : Row)
-      (steps : List Step)
+  pub round_back : (own_arc : TaskArc) (arc wide : ArcId) (row : Row) (steps : List Step)
       → IsArcOf v.case n own_arc → arc ≡ v.arc (key_of n own_arc) → wide ≡ v.arc (Wide n) → flows v (Wide n) ≡ 1
       → IsTightAt v.net price wide
-      → ArePaths v.net price (spot_of v Hub) paths → row_at v.net arc ≡ Some row
-      → paths row.head.id.place ≡ Some steps
+      → row_at v.net arc ≡ Some row → IsTightPath v.net price row.head.id.place (spot_of v Hub) steps
       → IsTightPath v.net price row.head.id.place row.tail.id.place
       (steps ++ record { arc = wide; way = Backward } ∷ [])
   unfolding arc_at
-  round_back paths own_arc arc wide row steps is_arc is is_wide one tight are there found =
+  round_back own_arc arc wide row steps is_arc is is_wide one tight there path =
       let key : Key = key_of n own_arc in
       let own : IsKeyOf v.case key = own_key v price p keeps next own_arc is_arc in
       let named_row = named_is v price p keeps next key arc row own is there in
@@ -167,9 +164,8 @@ module _ (v : View) (price : ℕ → ℕ) (p : List Choice) (keeps : Keeps v pri
         tight by.row by_there,
       ) in
       subst (λ (z : ℕ). IsTightPath v.net price row.head.id.place z (steps ++ back ∷ [])) tail_is
-      (path_back v.net price row.head.id.place (spot_of v Hub) (spot_of v (Task n)) steps back
-      (are.path row.head.id.place steps found) (only_hub one) head_off (apart Hub tt refl)
-      facts.0 facts.1 facts.2 facts.3)
+      (path_back v.net price row.head.id.place (spot_of v Hub) (spot_of v (Task n)) steps back path (only_hub one)
+      head_off (apart Hub tt refl) facts.0 facts.1 facts.2 facts.3)
     where
       free_wide : low (Wide n) ≡ 0
       free_wide = ap (wide_of (demand v.case n)) (pick_past p) ∙ wide_none (demand v.case n)

@@ -1,9 +1,9 @@
 -- What is known of a net that shows a network is known of the network, and back.
-use Rattle.std.proofs.Common.{◌≡◌, ℕ, zero, suc, ◌*◌, ◌<◌, ◌≤◌, List, [], ◌∷◌, ◌++◌, length, get_or}
-use Rattle.std.proofs.Common.{Some, refl, sym, ap, ap₂, ◌∙◌, arith}
+use Rattle.std.proofs.Common.{◌≡◌, ℕ, zero, suc, ◌*◌, ◌<◌, ◌≤◌, List, [], ◌∷◌, ◌++◌, length, get_or, Some, refl, sym}
+use Rattle.std.proofs.Common.{ap, ap₂, ◌∙◌, arith, subst}
 use Rattle.std.specs.Prelude.{map, Contains}
 use Rattle.std.specs.List.{All, sum_by}
-use Rattle.std.proofs.lemmas.List.{length-map}
+use Rattle.std.proofs.lemmas.List.{get_or-map, length-map}
 use Rattle.std.proofs.lemmas.List.Sums.{sum_by-cons}
 use Rattle.std.proofs.lemmas.List.Sorted.{sum_by-IsPermutation, All-permutation, IsPermutation-sym, length_permutation}
 use Rattle.std.proofs.lemmas.List.Elements.{All-head, All-tail, All-nil, All-cons, All-map, All-contains}
@@ -18,7 +18,8 @@ use Rattle.firm_paths.specs.Laws.{EachArcHasItsRow, AsManyAsCounted}
 use Rattle.firm_rules.specs.ArenaUse.{arena_arcs}
 use Rattle.firm_graph.specs.Graph.{Graph}
 use Rattle.firm_graph.specs.Ids.{view_of}
-use Rattle.firm_graph.specs.Network.{NetworksAreCounted}
+use Rattle.firm_graph.specs.Network.{NetworksAreCounted, gather, arc, slots_of, demand, preferred_at, stay_head}
+use Rattle.firm_graph.specs.Network.{machine_arcs, job_arcs, task_arcs, network, task_nodes, IsSound, IsNodeOf, IsKeyOf}
 use Rattle.firm_flow.specs.Flow.{IsWithinBounds, cost_of, carried}
 use Rattle.firm_flow.specs.Balance.{Balanced}
 use Rattle.firm_rules.specs.Placement.{Case}
@@ -26,20 +27,13 @@ use Rattle.firm_graph.specs.declared.network.Node.{Node}
 use Rattle.firm_graph.specs.declared.network.Node.TheVariants.{Sink, Hub, Machine, Owner, Task}
 use Rattle.firm_graph.specs.declared.network.Key.{Key}
 use Rattle.firm_graph.specs.declared.network.Key.TheVariants.{Through, Slot, Exit, Wide, Stay, Wait, Prefer}
-use Rattle.firm_graph.specs.Network.{gather, arc, slots_of, demand, preferred_at, stay_head, machine_arcs, job_arcs}
-use Rattle.firm_graph.specs.Network.{task_arcs, network, task_nodes}
-use Rattle.firm_graph.specs.Network.{IsSound}
 use Rattle.firm_graph.specs.View.{View, Shows, lows, flows, spot_of, named}
-use Rattle.firm_graph.specs.Network.{IsNodeOf, IsKeyOf}
 use Rattle.firm_canon.specs.inner.Turns.{IsWhole}
 use Rattle.firm_canon.proofs.Placed.{wide_arc, stay_arc, delay_arc, prefer_arc, count_at}
 use Rattle.firm_canon.proofs.Parts.{OnParts, parts, whole, All-gather}
 
 All-unmap : {A B : Type 0} (f : A → B) (P : B → Type 0) (xs : List A) → All P (map f xs) → All (λ x. P (f x)) xs
-All-unmap {A} {B} f P [] h = All-nil (λ (x : A). P (f x))
-All-unmap {A} {B} f P (x ∷ xs) h =
-    All-cons (λ (y : A). P (f y)) x xs (All-head P (f x) (map f xs) h)
-    (All-unmap f P xs (All-tail P (f x) (map f xs) h))
+All-unmap f P xs h k d l = subst P (get_or-map f xs k d (f d) l) (h k (f d) (omega (arith, l, length-map xs f)))
 
 sums_at : {A : Type 0} (f g : A → ℕ) (xs : List A) → All (λ x. f x ≡ g x) xs → sum_by f xs ≡ sum_by g xs
 sums_at {A} f g [] h = refl
@@ -217,25 +211,26 @@ arc_at c low x (Stay i) = stay_arc c low x i
 arc_at c low x (Wait i) = delay_arc c low x i
 arc_at c low x (Prefer i k) = prefer_arc c low x i k
 
-pub key_at : (c : Case) (low x : Key → ℕ) (k : Key) → (arc_at c low x k).key ≡ k
+-- what the arc of a key carries
+fields_at : (c : Case) (low x : Key → ℕ) (k : Key)
+    → ((arc_at c low x k).key ≡ k) × ((arc_at c low x k).flow ≡ x k) × ((arc_at c low x k).low ≡ low k)
 unfolding arc_at
-key_at c low x (Through j) = refl
-key_at c low x (Slot j k) = refl
-key_at c low x (Exit k) = refl
-key_at c low x (Wide i) = refl
-key_at c low x (Stay i) = refl
-key_at c low x (Wait i) = refl
-key_at c low x (Prefer i k) = refl
+fields_at c low x (Through j) = (refl, refl, refl)
+fields_at c low x (Slot j k) = (refl, refl, refl)
+fields_at c low x (Exit k) = (refl, refl, refl)
+fields_at c low x (Wide i) = (refl, refl, refl)
+fields_at c low x (Stay i) = (refl, refl, refl)
+fields_at c low x (Wait i) = (refl, refl, refl)
+fields_at c low x (Prefer i k) = (refl, refl, refl)
+
+pub key_at : (c : Case) (low x : Key → ℕ) (k : Key) → (arc_at c low x k).key ≡ k
+key_at c low x k = (fields_at c low x k).0
 
 pub flow_at : (c : Case) (low x : Key → ℕ) (k : Key) → (arc_at c low x k).flow ≡ x k
-unfolding arc_at
-flow_at c low x (Through j) = refl
-flow_at c low x (Slot j k) = refl
-flow_at c low x (Exit k) = refl
-flow_at c low x (Wide i) = refl
-flow_at c low x (Stay i) = refl
-flow_at c low x (Wait i) = refl
-flow_at c low x (Prefer i k) = refl
+flow_at c low x k = (fields_at c low x k).1
+
+pub low_at : (c : Case) (low x : Key → ℕ) (k : Key) → (arc_at c low x k).low ≡ low k
+low_at c low x k = (fields_at c low x k).2
 
 pub listed_at : (c : Case) (low x : Key → ℕ) (k : Key) → IsKeyOf c k → Contains (network c low x) (arc_at c low x k)
 unfolding arc_at
@@ -252,13 +247,3 @@ listed_at c low x k l = by k l
     by (Stay i) l = listed.stays i l
     by (Wait i) l = listed.delays i l
     by (Prefer i k) l = listed.prefers i k l.0 l.1
-
-pub low_at : (c : Case) (low x : Key → ℕ) (k : Key) → (arc_at c low x k).low ≡ low k
-unfolding arc_at
-low_at c low x (Through j) = refl
-low_at c low x (Slot j k) = refl
-low_at c low x (Exit k) = refl
-low_at c low x (Wide i) = refl
-low_at c low x (Stay i) = refl
-low_at c low x (Wait i) = refl
-low_at c low x (Prefer i k) = refl

@@ -18,10 +18,9 @@ use Rattle.firm_graph.specs.declared.network.Node.{Node}
 use Rattle.firm_graph.specs.declared.network.Node.TheVariants.{Sink}
 use Rattle.firm_graph.specs.declared.network.Key.{Key}
 use Rattle.firm_graph.specs.declared.network.Key.TheVariants.{Through, Slot, Exit, Wide, Stay, Wait, Prefer}
-use Rattle.firm_graph.specs.Network.{network, demand, task_nodes}
+use Rattle.firm_graph.specs.Network.{network, demand, task_nodes, IsKeyOf}
 use Rattle.firm_canon.specs.inner.Placed.{wide}
 use Rattle.firm_graph.specs.View.{View, Shows, IsSameCase, lows, flows, spot_of}
-use Rattle.firm_graph.specs.Network.{IsKeyOf}
 use Rattle.firm_canon.specs.inner.Turns.{IsWhole}
 use Rattle.firm_canon.specs.inner.Choosing.{low_of, Keeps}
 use Rattle.firm_canon.proofs.Totals.{total_zero}

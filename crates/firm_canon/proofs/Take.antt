@@ -6,8 +6,7 @@ use Rattle.firm_rules.specs.declared.rounds.Choice.{Choice}
 use Rattle.firm_paths.specs.Network.{Arc}
 use Rattle.firm_flow.specs.Flow.{cost_of, carried}
 use Rattle.firm_rules.specs.declared.rounds.Choice.TheVariants.{On}
-use Rattle.firm_rules.specs.Placement.{Case, Demand, prefers, rank, runs_at}
-use Rattle.firm_rules.specs.Placement.{IsPlace}
+use Rattle.firm_rules.specs.Placement.{Case, Demand, prefers, rank, runs_at, IsPlace}
 use Rattle.firm_graph.specs.declared.network.Node.{Node}
 use Rattle.firm_graph.specs.declared.network.Key.{Key}
 use Rattle.firm_graph.specs.declared.network.Key.TheVariants.{Through, Slot, Exit, Wide, Stay, Wait, Prefer}

@@ -1,7 +1,7 @@
 -- What is known where no way was found: the arc carries more in no flow as cheap, and where it is the next task's, no
 -- unit is at its head that the task could follow.
 use Rattle.std.proofs.Common.{◌≡◌, ℕ, ◌+◌, ◌<◌, ◌≤◌, Bool, true, false, cond, List, [], length}
-use Rattle.std.proofs.Common.{Some, None, Option, arith, refl, sym, ap, subst, ◌∙◌, ◌⊎◌, inl, inr, ⊎_elim}
+use Rattle.std.proofs.Common.{Some, Option, arith, refl, sym, ap, subst, ◌∙◌, ◌⊎◌, inl, inr, ⊎_elim}
 use Rattle.std.specs.Prelude.{Contains}
 use Rattle.std.specs.List.{All}
 use Rattle.std.proofs.lemmas.Bool.{cases_Bool, cases_lt, both_ways}
@@ -11,8 +11,7 @@ use Rattle.firm_net.specs.Net.{row_at}
 use Rattle.firm_net.specs.declared.row.ArcId.{ArcId}
 use Rattle.firm_paths.specs.Network.{Arc, Tight, StaysInside}
 use Rattle.firm_paths.specs.NetArcs.{arc_of}
-use Rattle.firm_paths.specs.Paths.{ArePaths, IsTightCut}
-use Rattle.firm_paths.specs.declared.search.Step.{Step}
+use Rattle.firm_paths.specs.Paths.{IsTightCut}
 use Rattle.firm_rules.specs.declared.rounds.Choice.{Choice}
 use Rattle.firm_rules.specs.Placement.{Demand, total}
 use Rattle.firm_graph.specs.declared.network.Node.{Node}
@@ -23,7 +22,7 @@ use Rattle.firm_graph.specs.Network.{network, demand, preferred_at, stay_head, r
 use Rattle.firm_graph.specs.View.{View, IsSameCase, flows, flow_of_row, named, spot_of}
 use Rattle.firm_canon.specs.inner.Keys.{IsArcOf, key_of, machine_of}
 use Rattle.firm_canon.specs.inner.Placed.{wide, prefer, pick, wide_at, guests}
-use Rattle.firm_canon.specs.inner.Turns.{IsFullInto, IsLooseAt, IsStuck}
+use Rattle.firm_canon.specs.inner.Turns.{IsClosedAt, IsFullInto, IsLooseAt}
 use Rattle.firm_canon.specs.inner.Choosing.{low_of, Keeps, best, IsAsCheap, IsBare, IsSpent, StaysAtNoCost}
 use Rattle.firm_canon.specs.inner.State.{root}
 use Rattle.firm_canon.specs.declared.reads.TaskArc.{TaskArc}
@@ -101,16 +100,11 @@ module _ (v : View) (price : ℕ → ℕ) (p : List Choice) (keeps : Keeps v pri
       (b.cap ≤ b.flow)
       ⊎ ((Tight price b → ⊥) ⊎ ((inside : ℕ → Bool) × IsTightCut v.net price [] b.head to inside))
 
-  pub closed_at : (to : ℕ) (paths : ℕ → Option (List Step)) (key : Key) (arc : ArcId) → IsKeyOf v.case key
-      → arc ≡ v.arc key → ArePaths v.net price to paths → IsStuck v.net price paths arc
-      → IsClosedTo to (named v (at key))
-  closed_at to paths key arc own is are stuck =
+  pub closed_at : (to : ℕ) (key : Key) (arc : ArcId) → IsKeyOf v.case key → arc ≡ v.arc key
+      → IsClosedAt v.net price to arc → IsClosedTo to (named v (at key))
+  closed_at to key arc own is closed =
       let row : IsRowOfKey v p key = row_of_key v price p key keeps own in
-      subst (IsClosedTo to) (sym row.is)
-      (⊎_elim (λ (full : row.row.cap ≤ row.row.flow). inl full)
-      (λ rest. ⊎_elim (λ (loose : Tight price (arc_of arc row.row) → ⊥). inr (inl loose))
-      (λ (none : paths row.row.head.id.place ≡ None). inr (inr (are.cut row.row.head.id.place none))) rest)
-      (stuck row.row (ap (row_at v.net) is ∙ row.there)))
+      subst (IsClosedTo to) (sym row.is) (closed row.row (ap (row_at v.net) is ∙ row.there))
 
   module _ (y : Key → ℕ) (flow : IsAsCheap v.case p (best v p) y) where
     sends : y (Wide n) + y (Stay n) + y (Wait n) + total (λ k. y (Prefer n k)) (count_at v.case n) ≡ 1
@@ -219,11 +213,10 @@ module _ (v : View) (price : ℕ → ℕ) (p : List Choice) (keeps : Keeps v pri
       IsClosedTo (root v n at_hub) (named v (at (key_of n arc)))
       ⊎ ((at_hub ≡ true) × IsLooseAt v.net price (v.arc (Wide n)))
 
-  pub out_stuck : (at_hub : Bool) (paths : ℕ → Option (List Step)) (arc : TaskArc) (id : ArcId) → IsArcOf v.case n arc
-      → id ≡ v.arc (key_of n arc) → ArePaths v.net price (root v n at_hub) paths → IsStuck v.net price paths id
-      → IsOut at_hub arc
-  out_stuck at_hub paths arc id own is are stuck =
-      inl (closed_at (root v n at_hub) paths (key_of n arc) id (own_key arc own) is are stuck)
+  pub out_closed : (at_hub : Bool) (arc : TaskArc) (id : ArcId) → IsArcOf v.case n arc → id ≡ v.arc (key_of n arc)
+      → IsClosedAt v.net price (root v n at_hub) id → IsOut at_hub arc
+  out_closed at_hub arc id own is closed =
+      inl (closed_at (root v n at_hub) (key_of n arc) id (own_key arc own) is closed)
 
   pub own_spent : (at_hub : Bool) (arc : TaskArc) → IsArcOf v.case n arc → flows v (key_of n arc) ≡ 0
       → (at_hub ≡ true → flows v (Wide n) ≡ 1) → IsOut at_hub arc → IsSpent v.case p (best v p) (key_of n arc)

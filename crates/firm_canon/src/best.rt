@@ -65,6 +65,8 @@ fn write_by_search(
         prices,
         scratch,
         chosen,
+        searched: true,
+        spent: 0,
     };
     choosing.choose_all(tasks);
 }

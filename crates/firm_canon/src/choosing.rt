@@ -1,7 +1,11 @@
 //! The choice of a round under way: each task takes its first open choice, and is held to it.
-ghost use Rattle.std.specs.Prelude.{◌≡◌, ◌+◌, ◌*◌, ◌<◌, ◌≤◌, ◌∷◌, ◌++◌, [], ℕ, length, true, false, Some};
+ghost use Rattle.std.specs.Prelude.{◌≡◌, ◌+◌, ◌*◌, ◌<◌, ◌≤◌, ◌++◌, ℕ, Bool, List, [], length, true, false, Some, None};
 ghost use Rattle.std.specs.Prelude.{IfSome, IfNone, vec_len, vec_capacity};
-ghost use Rattle.firm_net.specs.Net.{IsArc, IsNode};
+ghost use Rattle.firm_net.specs.Row.{Row};
+ghost use Rattle.firm_net.specs.Net.{IsArc, IsNode, row_at};
+ghost use Rattle.firm_paths.specs.Paths.{IsTightCut, IsTightPath};
+ghost use Rattle.firm_paths.specs.Visits.{paths_of};
+ghost use Rattle.firm_paths.specs.declared.search.Step.{Step as AStep};
 ghost use Rattle.firm_rules.specs.ArenaUse.{arena_arcs};
 ghost use Rattle.firm_rules.specs.Placement.{runs_at};
 ghost use Rattle.firm_graph.specs.View.{flows};
@@ -10,8 +14,9 @@ ghost use Rattle.firm_canon.specs.inner.Graphs.{IsSameGraph};
 ghost use Rattle.firm_canon.specs.inner.Keys.{IsArcOf, key_of, machine_of};
 ghost use Rattle.firm_canon.specs.inner.Placed.{guests};
 ghost use Rattle.firm_canon.specs.inner.Choosing.{HasRoom, IsBare, IsChosen, IsPassed, IsSpent, best};
-ghost use Rattle.firm_canon.specs.inner.State.{GoesOn, HasWays, HasWaysBack, IsReady, IsReadyFor, IsUnchanged};
-ghost use Rattle.firm_canon.specs.inner.State.{prefix, root, view};
+ghost use Rattle.firm_canon.specs.inner.Turns.{IsClosedAt, IsIdle, Turned};
+ghost use Rattle.firm_canon.specs.inner.State.{GoesOn, HasWaysBack, IsReady, IsReadyFor, IsUnchanged};
+ghost use Rattle.firm_canon.specs.inner.State.{prefix, price, root, view};
 ghost use Rattle.firm_rules.specs.declared.rounds.Choice.TheVariants.{On};
 ghost use Rattle.firm_graph.specs.declared.network.Key.TheVariants.{Through, Wide, Stay};
 
@@ -20,7 +25,7 @@ use crate::reads::{
     TaskArc, Wishes, arcs_are_counted, flow_on, has_surplus_on, is_home, machine_count,
     preference_for, task_arc, through_arc, wishes_of,
 };
-use crate::turns::{is_tight_arc, turn};
+use crate::turns::{is_open, is_tight_arc, turn};
 use firm_graph::Graph;
 use firm_net::{ArcId, NodeId, Way};
 use firm_paths::{Prices, Scratch, Step, tight_paths};
@@ -33,18 +38,10 @@ pub(crate) struct Choosing<'a> {
     pub(crate) prices: &'a Prices,
     pub(crate) scratch: &'a mut Scratch,
     pub(crate) chosen: &'a mut Vec<Choice>,
-}
-
-/// Adds a value to a list with room for it.
-fn push_reserved(list: &mut Vec<Choice>, value: Choice)
-    requires { vec_len list.old < vec_capacity list.old }
-    ensures items { list.new.items ≡ list.old.items ++ value ∷ [] }
-    ensures capacity { vec_capacity list.old ≤ vec_capacity list.new }
-    ensures len { vec_len list.new ≡ vec_len list.old + 1 }
-{
-    let Ok(()) = list.push(value) else {
-        unreachable!()
-    };
+    /// Whether the ways back of the choice under way were searched for.
+    pub(crate) searched: bool,
+    /// The machines before this place are spent: the hub sends each as many units as are held, and can send no more.
+    pub(crate) spent: u32,
 }
 
 impl Choosing<'_> {
@@ -71,31 +68,98 @@ impl Choosing<'_> {
         flow_on(self.graph.net(), arc) > 0
     }
 
-    /// Searches for the ways to a node at no cost.
-    fn search_to(&mut self, node: NodeId)
+    /// Begins a choice: the ways back are searched for once they are asked for.
+    fn begin(&mut self)
         requires ready { IsReady self.old }
-        requires node { IsNode self.old.graph.now.net node }
         ensures goes_on { GoesOn self.old self.new 1 }
-        ensures graph { self.new.graph.now ≡ self.old.graph.now }
-        ensures ways { HasWays self.new node.id.place }
+        ensures unchanged { IsUnchanged self.old self.new }
+        ensures open { self.new.searched ≡ false }
     {
-        arcs_are_counted(self.graph);
-        tight_paths(self.scratch, self.graph.net(), self.prices, node);
+        self.searched = false;
     }
 
-    /// Searches for the ways to the next task.
-    fn search_to_task(&mut self)
-        requires ready { IsReady self.old }
-        requires next { length (prefix self.old) < length (view self.old).case.tasks }
-        ensures goes_on { GoesOn self.old self.new 1 }
-        ensures graph { self.new.graph.now ≡ self.old.graph.now }
-        ensures ways { HasWays self.new (root (view self.new) (length (prefix self.new)) false) }
+    /// Where the ways back end: at the next task or, where its unit is at the hub, at the hub.
+    fn root(&self, at_hub: bool) -> NodeId
+        requires ready { IsReady self.now }
+        requires next { length (prefix self.now) < length (view self.now).case.tasks }
+        ensures place { result.id.place ≡ root (view self.now) (length (prefix self.now)) at_hub }
+        ensures there { IsNode self.now.graph.now.net result }
     {
+        if at_hub {
+            return self.graph.hub();
+        }
         let wide = self.own_arc(TaskArc::Wide);
         let Some(row) = self.graph.net().arc(wide) else {
             unreachable!()
         };
-        self.search_to(row.tail());
+        row.tail()
+    }
+
+    /// Searches for the ways back, if none were searched for: up to the one from this node, if there is one.
+    fn search_back(&mut self, node: NodeId, at_hub: bool)
+        requires ready { IsReady self.old }
+        requires next { length (prefix self.old) < length (view self.old).case.tasks }
+        requires node { IsNode self.old.graph.now.net node }
+        requires ways { HasWaysBack self.old at_hub }
+        ensures goes_on { GoesOn self.old self.new 0 }
+        ensures unchanged { IsUnchanged self.old self.new }
+        ensures path { (steps : List AStep) → paths_of self.new.scratch.now.visits node.id.place ≡ Some steps
+            → IsTightPath self.new.graph.now.net (price self.new) node.id.place
+            (root (view self.new) (length (prefix self.new)) at_hub) steps }
+        ensures cut { paths_of self.new.scratch.now.visits node.id.place ≡ None → (inside : ℕ → Bool)
+            × IsTightCut self.new.graph.now.net (price self.new) [] node.id.place
+            (root (view self.new) (length (prefix self.new)) at_hub) inside }
+        ensures ways { paths_of self.new.scratch.now.visits node.id.place ≡ None → HasWaysBack self.new at_hub }
+    {
+        if self.searched {
+            return;
+        }
+        arcs_are_counted(self.graph);
+        let root = self.root(at_hub);
+        tight_paths(
+            self.scratch,
+            self.graph.net(),
+            self.prices,
+            root,
+            Some(node),
+        );
+        self.searched = true; // until the next choice begins
+    }
+
+    /// Sends one unit more along an arc at its lower bound, and round by a way back and these steps to the arc's tail,
+    /// if the arc is open and a way back is left.
+    fn go_round(&mut self, arc: ArcId, back: &[Step], at_hub: bool) -> bool
+        requires ready { IsReady self.old }
+        requires next { length (prefix self.old) < length (view self.old).case.tasks }
+        requires there { IsArc self.old.graph.now.net arc }
+        requires idle { IsIdle self.old.graph.now.net arc }
+        requires ways { HasWaysBack self.old at_hub }
+        requires round { (row : Row) (steps : List AStep) → row_at self.old.graph.now.net arc ≡ Some row
+            → IsTightPath self.old.graph.now.net (price self.old) row.head.id.place
+            (root (view self.old) (length (prefix self.old)) at_hub) steps
+            → IsTightPath self.old.graph.now.net (price self.old) row.head.id.place row.tail.id.place
+            (steps ++ back.now) }
+        ensures goes_on { GoesOn self.old self.new 0 }
+        ensures won { result ≡ true
+            → Turned self.old.graph.now.net self.new.graph.now.net (price self.old) arc }
+        ensures lost { result ≡ false → IsClosedAt self.old.graph.now.net (price self.old)
+            (root (view self.old) (length (prefix self.old)) at_hub) arc }
+        ensures unchanged { result ≡ false → IsUnchanged self.old self.new }
+        ensures ways { result ≡ false → HasWaysBack self.new at_hub }
+    {
+        if !is_open(self.graph, self.prices, arc) {
+            return false;
+        }
+        let Some(row) = self.graph.net().arc(arc) else {
+            unreachable!()
+        };
+        let head = row.head();
+        self.search_back(head, at_hub);
+        let Some(steps) = self.scratch.path_from(self.graph.net(), head) else {
+            return false;
+        };
+        turn(self.graph, arc, steps, back);
+        true
     }
 
     /// Sends the next task's unit to one of its arcs, if it is not there, where a way back is left: from the arc's head
@@ -104,8 +168,7 @@ impl Choosing<'_> {
         requires ready { IsReady self.old }
         requires next { length (prefix self.old) < length (view self.old).case.tasks }
         requires arc { IsArcOf (view self.old).case (length (prefix self.old)) arc }
-        requires ways { HasWays self.old (root (view self.old) (length (prefix self.old)) at_hub) }
-        requires hub { at_hub ≡ true → flows (view self.old) (Wide (length (prefix self.old))) ≡ 1 }
+        requires ways { HasWaysBack self.old at_hub }
         ensures goes_on { GoesOn self.old self.new 0 }
         ensures yes { result ≡ true → 1 ≤ flows (view self.new) (key_of (length (prefix self.old)) arc) }
         ensures none { result ≡ false → flows (view self.old) (key_of (length (prefix self.old)) arc) ≡ 0 }
@@ -115,13 +178,14 @@ impl Choosing<'_> {
             → machine_of (view self.old).case (length (prefix self.old)) arc ≡ Some j
             → IsBare (view self.old) (prefix self.old) at_hub j }
         ensures unchanged { result ≡ false → IsUnchanged self.old self.new }
+        ensures ways { result ≡ false → HasWaysBack self.new at_hub }
     {
         if self.carries(arc) {
             return true;
         }
         let arc = self.own_arc(arc);
         if !at_hub {
-            return turn(self.graph, self.prices, self.scratch, arc, &[]);
+            return self.go_round(arc, &[], at_hub);
         }
         let wide = self.own_arc(TaskArc::Wide);
         if !is_tight_arc(self.graph, self.prices, wide) {
@@ -131,7 +195,7 @@ impl Choosing<'_> {
             arc: wide,
             way: Way::Backward,
         };
-        turn(self.graph, self.prices, self.scratch, arc, &[back])
+        self.go_round(arc, &[back], at_hub)
     }
 
     /// Brings one unit more than there are tasks held to it from the hub to a machine, if it is not there, where a way
@@ -140,23 +204,42 @@ impl Choosing<'_> {
         requires ready { IsReady self.old }
         requires next { length (prefix self.old) < length (view self.old).case.tasks }
         requires machine { machine < length (view self.old).case.slots }
-        requires ways { HasWays self.old (root (view self.old) (length (prefix self.old)) true) }
-        requires hub { flows (view self.old) (Wide (length (prefix self.old))) ≡ 1 }
+        requires ways { HasWaysBack self.old true }
         ensures goes_on { GoesOn self.old self.new 0 }
         ensures hub { flows (view self.new) (Wide (length (prefix self.old))) ≡ 1 }
         ensures yes { result ≡ true → guests (view self.old).case (prefix self.old) machine
             < flows (view self.new) (Through machine) }
-        ensures none { result ≡ false → flows (view self.old) (Through machine)
-            ≤ guests (view self.old).case (prefix self.old) machine }
         ensures spent { result ≡ false → IsSpent (view self.old).case (prefix self.old)
             (best (view self.old) (prefix self.old)) (Through machine) }
         ensures unchanged { result ≡ false → IsUnchanged self.old self.new }
+        ensures ways { result ≡ false → HasWaysBack self.new true }
     {
+        if machine < self.spent {
+            return false;
+        }
         let arc = through_arc(self.graph, machine);
         if has_surplus_on(self.graph.net(), arc) {
             return true;
         }
-        turn(self.graph, self.prices, self.scratch, arc, &[])
+        if self.go_round(arc, &[], true) {
+            return true;
+        }
+        self.pass(machine);
+        false
+    }
+
+    /// Notes that a machine is spent, if all before it are.
+    fn pass(&mut self, machine: u32)
+        requires ready { IsReady self.old }
+        requires machine { machine < length (view self.old).case.slots }
+        requires spent { IsSpent (view self.old).case (prefix self.old)
+            (best (view self.old) (prefix self.old)) (Through machine) }
+        ensures goes_on { GoesOn self.old self.new 0 }
+        ensures same { self.new ≡ record self.old { spent = self.new.spent } }
+    {
+        if machine == self.spent {
+            self.spent = machine.saturating_add(1);
+        }
     }
 
     /// Chooses the next task's own machine, if it runs and is, or could be sent, there.
@@ -169,6 +252,7 @@ impl Choosing<'_> {
         ensures passed { IfNone result ((j : ℕ) → runs_at wishes.now.home j ≡ true
             → IsPassed (view self.old) (prefix self.old) at_hub j) }
         ensures unchanged { IfNone result (IsUnchanged self.old self.new) }
+        ensures ways { IfNone result (HasWaysBack self.new at_hub) }
     {
         let Some(own) = wishes.home else {
             return None;
@@ -193,6 +277,7 @@ impl Choosing<'_> {
             → HasRoom (view self.new).case (prefix self.new) (On machine) (flows (view self.new)) }
         ensures passed { result ≡ false → IsPassed (view self.old) (prefix self.old) at_hub machine }
         ensures unchanged { result ≡ false → IsUnchanged self.old self.new }
+        ensures ways { result ≡ false → HasWaysBack self.new at_hub }
     {
         match preference_for(&wishes.places, machine) {
             Some(number) => self.take(TaskArc::Prefer(number), at_hub),
@@ -230,7 +315,7 @@ impl Choosing<'_> {
         ensures some { IfSome result (IsChosen (view self.new) (prefix self.new)) }
         ensures none { IfNone result (flows (view self.new) (Wide (length (prefix self.new))) ≡ 1) }
     {
-        self.search_to_task();
+        self.begin();
         if let Some(choice) = self.reach_own(wishes, false) {
             return Some(choice);
         }
@@ -250,8 +335,7 @@ impl Choosing<'_> {
         ensures goes_on { GoesOn self.old self.new 1 }
         ensures chosen { IsChosen (view self.new) (prefix self.new) result }
     {
-        let hub = self.graph.hub();
-        self.search_to(hub);
+        self.begin();
         if let Some(choice) = self.reach_own(wishes, true) {
             return choice;
         }
@@ -282,6 +366,7 @@ impl Choosing<'_> {
         requires ready { IsReady self.old }
         requires next { length (prefix self.old) < length (view self.old).case.tasks }
         requires room { vec_len self.old.chosen.now < vec_capacity self.old.chosen.now }
+        requires idle { self.old.searched ≡ true }
         ensures same { IsSameGraph self.old.graph.now self.new.graph.now }
         ensures graph { self.new.graph.ghost_name ≡ self.old.graph.ghost_name }
         ensures scratch { self.new.scratch.ghost_name ≡ self.old.scratch.ghost_name }
@@ -293,11 +378,13 @@ impl Choosing<'_> {
         ensures capacity { vec_capacity self.old.chosen.now ≤ vec_capacity self.new.chosen.now }
         ensures len { vec_len self.new.chosen.now ≡ vec_len self.old.chosen.now + 1 }
         ensures more { length (prefix self.new) ≡ length (prefix self.old) + 1 }
+        ensures idle { self.new.searched ≡ true }
     {
         let wishes = wishes_of(self.graph, self.chosen.len());
         let choice = self.choose(&wishes);
         hold_choice(self.graph, self.prices, self.chosen, &wishes, choice);
-        push_reserved(self.chosen, choice);
+        self.chosen.push_reserved(choice);
+        self.searched = true;
     }
 
     /// Chooses for all tasks, one after another.
@@ -306,6 +393,7 @@ impl Choosing<'_> {
         requires tasks { tasks ≡ length (view self.old).case.tasks }
         requires none { vec_len self.old.chosen.now ≡ 0 }
         requires room { tasks ≤ vec_capacity self.old.chosen.now }
+        requires idle { self.old.searched ≡ true }
         ensures same { IsSameGraph self.old.graph.now self.new.graph.now }
         ensures graph { self.new.graph.ghost_name ≡ self.old.graph.ghost_name }
         ensures scratch { self.new.scratch.ghost_name ≡ self.old.scratch.ghost_name }

@@ -19,12 +19,15 @@
 //!
 //! - **Arcs.** A task reaches its own machine by the stay arc, a preferred one by the preference's arc, others by the
 //!   wide arc to the hub and then the hub's arc, which leaves the wide arc full.
-//! - **Two searches.** Where the task's unit is not at the hub, one search finds the ways to the task from all nodes:
-//!   it goes to its own machine at once, to the hub if that is open, else where it prefers to be, or it waits. Where
+//! - **Two searches.** Where the task's unit is not at the hub, it goes to its own machine at once, to the hub if that
+//!   is open, else where it prefers to be, or it waits: one search, against the arcs, finds the ways to the task. Where
 //!   the unit is at the hub, one search finds the ways to the hub; those to the task end with the unit's own way back.
-//!   The machines are then tried in order.
+//!   The machines are then tried in order. Neither search begins before an arc without a unit is met that is tight and
+//!   has room; it ends at that arc's head or, if there is no way from there, has found all ways.
 //! - **What a search leaves out.** The nodes that it did not find are a set that no tight residual arc leaves. So no
 //!   flow as cheap carries more on an arc that leads into the set, and no least placement goes that way.
+//! - **Spent machines.** A machine to which the hub can send no more than is held stays so, since each choice leaves
+//!   fewer flows. Those before the first other one are passed without a look.
 //! - **One is found.** The hub sends some machine a unit that is not held. If that is the task's own machine, or one
 //!   that it prefers, it is open to the task by its own arc, at no more cost.
 //! - **The bound.** The flow takes a search for each task, its choice at most two.

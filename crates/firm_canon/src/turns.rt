@@ -1,22 +1,20 @@
 //! Units sent round cycles that cost nothing.
-ghost use Rattle.std.specs.Prelude.{◌≡◌, ◌+◌, ◌↔◌, ◌++◌, List, true, false, Some};
+ghost use Rattle.std.specs.Prelude.{◌≡◌, ℕ, ◌+◌, ◌↔◌, ◌++◌, true, false, Some};
 ghost use Rattle.firm_net.specs.Row.{Row};
 ghost use Rattle.firm_net.specs.Net.{IsNode, IsNet, IsArc, row_at};
 ghost use Rattle.firm_paths.specs.NetArcs.{limits_of};
 ghost use Rattle.firm_paths.specs.Paths.{IsTightPath};
 ghost use Rattle.firm_paths.specs.PriceTable.{price_of};
-ghost use Rattle.firm_paths.specs.Visits.{paths_of};
-ghost use Rattle.firm_paths.specs.declared.search.Step.{Step as AStep};
 ghost use Rattle.firm_graph.specs.View.{Shows};
 ghost use Rattle.firm_graph.specs.Ids.{view_of};
 ghost use Rattle.firm_canon.specs.inner.Graphs.{IsSameGraph};
-ghost use Rattle.firm_canon.specs.inner.Turns.{SameLows, SameOff, CarriesOn, Turned, IsBlocked, IsIdle, IsStuck};
+ghost use Rattle.firm_canon.specs.inner.Turns.{SameLows, SameOff, CarriesOn, Turned, IsBlocked, IsIdle};
 ghost use Rattle.firm_canon.specs.inner.Turns.{IsOpen, IsTightAt, IsLooseAt};
 
 use firm_flow::round_a_cycle;
 use firm_graph::Graph;
 use firm_net::{ArcId, ArcRow, Net, Way};
-use firm_paths::{Prices, Scratch, Step, arcs_are_rows};
+use firm_paths::{Prices, Step, arcs_are_rows};
 
 /// Pushes one unit along each step.
 fn push_along(graph: &mut Graph, steps: &[Step])
@@ -62,7 +60,7 @@ pub(crate) fn is_tight_arc(graph: &Graph, prices: &Prices, arc: ArcId) -> bool
 }
 
 /// Whether an arc has room and the reduced cost 0.
-fn is_open(graph: &Graph, prices: &Prices, arc: ArcId) -> bool
+pub(crate) fn is_open(graph: &Graph, prices: &Prices, arc: ArcId) -> bool
     requires made_for { prices.now.limits ≡ limits_of graph.now.net }
     requires there { IsArc graph.now.net arc }
     ensures open { result ≡ true → IsOpen graph.now.net (price_of prices.now) arc }
@@ -77,43 +75,21 @@ fn is_open(graph: &Graph, prices: &Prices, arc: ArcId) -> bool
     is_tight(graph.net(), prices, row)
 }
 
-/// Sends one unit more along an arc at its lower bound, on from its head by the path that the last search found, and by
-/// the steps that lead back from there to its tail. False, and nothing changes, if the arc is not open or no path was
-/// found.
-pub(crate) fn turn(
-    graph: &mut Graph,
-    prices: &Prices,
-    scratch: &mut Scratch,
-    arc: ArcId,
-    back: &[Step],
-) -> bool
+/// Sends one unit more along an open arc at its lower bound, on from its head by these steps, and by those that lead
+/// back from there to its tail.
+pub(crate) fn turn(graph: &mut Graph, arc: ArcId, steps: &[Step], back: &[Step])
     requires shows { Shows (view_of graph.old) }
-    requires made_for { (prices.now.limits ≡ limits_of graph.old.net) × (scratch.old.limits ≡ limits_of graph.old.net) }
-    requires there { IsArc graph.old.net arc }
     requires idle { IsIdle graph.old.net arc }
-    requires round { (row : Row) (steps : List AStep) → row_at graph.old.net arc ≡ Some row
-        → paths_of scratch.old.visits row.head.id.place ≡ Some steps
-        → IsTightPath graph.old.net (price_of prices.now) row.head.id.place row.tail.id.place (steps ++ back.now) }
     ensures shows { Shows (view_of graph.new) }
     ensures same { IsSameGraph graph.old graph.new }
-    ensures scratch { scratch.new ≡ scratch.old }
-    ensures won { result ≡ true → Turned graph.old.net graph.new.net (price_of prices.now) arc }
-    ensures lost { result ≡ false → IsStuck graph.old.net (price_of prices.now) (paths_of scratch.old.visits) arc }
-    ensures unchanged { result ≡ false → graph.new ≡ graph.old }
+    ensures turned { (price : ℕ → ℕ) (row : Row) → row_at graph.old.net arc ≡ Some row
+        → IsOpen graph.old.net price arc
+        → IsTightPath graph.old.net price row.head.id.place row.tail.id.place (steps.now ++ back.now)
+        → Turned graph.old.net graph.new.net price arc }
 {
     arcs_are_rows();
     round_a_cycle();
-    if !is_open(graph, prices, arc) {
-        return false;
-    }
-    let Some(row) = graph.net().arc(arc) else {
-        unreachable!()
-    };
-    let Some(steps) = scratch.path_from(graph.net(), row.head()) else {
-        return false;
-    };
     graph.push(arc, Way::Forward);
     push_along(graph, steps);
     push_along(graph, back);
-    true
 }

@@ -1,11 +1,11 @@
 -- What a graph is once a row was added to it.
-use Rattle.std.proofs.Common.{◌≡◌, ℕ, zero, suc, replicate, get_or, bytes_eq, ◌+◌, ◌^◌, ◌<◌, ◌≤◌, true, Option, Some}
-use Rattle.std.proofs.Common.{None, IfSome, List, [], ◌∷◌, ◌++◌, map, length, arith, refl, sym, ap, ap₂, ◌∙◌, subst}
-use Rattle.std.proofs.Common.{length-append}
-use Rattle.std.proofs.lemmas.List.Elements.{All-head, All-tail}
-use Rattle.std.specs.List.{All, sum_by, position, position_or_len, slice_get}
+use Rattle.std.proofs.Common.{◌≡◌, ℕ, zero, suc, replicate, get_or, bytes_eq, ◌+◌, ◌^◌, ◌<◌, ◌≤◌, true, false, Option}
+use Rattle.std.proofs.Common.{Some, None, IfSome, List, [], ◌∷◌, ◌++◌, map, length, arith, refl, sym, ap, ap₂, ◌∙◌}
+use Rattle.std.proofs.Common.{subst, length-append}
+use Rattle.std.specs.List.{All, sum_by, position, slice_get}
 use Rattle.std.specs.Prelude.{slice_index_or}
 use Rattle.std.proofs.lemmas.List.{map-append, length-replicate, get_or-map, length-map}
+use Rattle.std.proofs.lemmas.Option.{get_or_from_slice_get}
 use Rattle.std.proofs.lemmas.List.Sums.{sum_by_push, sum_by-append, sum_by-cons}
 use Rattle.indexmap.proofs.SetLemmas.{AllZip-push}
 use Rattle.firm_arena.specs.Arena.{capacity_of, entries_from}
@@ -13,12 +13,13 @@ use Rattle.firm_arena.specs.declared.Id.{Id}
 use Rattle.firm_rules.specs.Limits.{TenantLimits}
 use Rattle.firm_net.specs.Laws.{nodes-sum, spans-sum, node_weight, span_weight}
 use Rattle.firm_graph.proofs.NetEdits.{edit-then, edit-same}
+use Rattle.firm_graph.proofs.Drops.{wide_arc, stay_arc, wait_arc}
 use Rattle.firm_graph.proofs.Said.{grown}
 use Rattle.firm_net.specs.Net.{Net, IsNode, added_of, node_count, arc_count, empty_net}
 use Rattle.firm_graph.proofs.Found.{job-there}
 use Rattle.firm_net.specs.declared.row.NodeId.{NodeId}
-use Rattle.firm_rules.specs.Book.{TenantRows, opening_rows, machine_names, job_names, with_machine, with_job}
-use Rattle.firm_rules.specs.Book.{new_task, with_task}
+use Rattle.firm_rules.specs.Book.{TenantRows, opening_rows, machine_names, job_names, with_machine, with_job, new_task}
+use Rattle.firm_rules.specs.Book.{with_task}
 use Rattle.firm_rules.specs.Names.{is_among}
 use Rattle.firm_rules.specs.ArenaUse.{arena_nodes, arena_arcs}
 use Rattle.firm_rules.specs.Sound.{AreSound}
@@ -30,26 +31,18 @@ use Rattle.firm_graph.specs.Parts.{MachineParts}
 use Rattle.firm_graph.specs.declared.ids.JobParts.{JobParts}
 use Rattle.firm_graph.specs.declared.ids.TaskParts.{TaskParts}
 use Rattle.firm_graph.specs.Graph.{Graph, Mirrors, machine_spans, slot_spans, job_spans, task_spans, Target, target_of}
-use Rattle.firm_graph.specs.Network.{away}
 use Rattle.firm_graph.specs.Graph.{preferred_spans, home_node, node_under, weight_under, machine_nodes, job_nodes}
-use Rattle.firm_graph.proofs.Totals.{preferred-count, slots-count, nodes-counted, arcs-counted, flat_sum-push}
-use Rattle.firm_graph.proofs.Totals.{nodes-total, spans-total, tasks-same, sum-one}
-use Rattle.firm_graph.proofs.Lookups.{position-is, node_under-at, weight_under-at, node_under-push}
+use Rattle.firm_graph.specs.Network.{away}
+use Rattle.firm_graph.proofs.Totals.{machines-paired, jobs-paired, preferred-count, slots-count, nodes-counted}
+use Rattle.firm_graph.proofs.Totals.{flat_sum-push, nodes-total, spans-total, tasks-same, sum-one}
+use Rattle.firm_graph.proofs.Counts.{arcs-counted}
+use Rattle.firm_graph.proofs.Lookups.{map-all, position-is, node_under-at, weight_under-at, node_under-push}
 use Rattle.firm_graph.proofs.Lookups.{weight_under-push}
 
 -- the graph with a job added last
 abbrev pub job_added : Graph → Net → JobParts → List ℕ → ℕ → Graph
 job_added g net parts name weight =
-    record {
-      rows = with_job g.rows name weight;
-      net = net;
-      hub = g.hub;
-      sink = g.sink;
-      machines = g.machines;
-      jobs = g.jobs ++ parts ∷ [];
-      tasks = g.tasks;
-      asked = g.asked + 1;
-    }
+    record g { rows = with_job g.rows name weight; net = net; jobs = g.jobs ++ parts ∷ []; asked = g.asked + 1 }
 
 job-target : (g : Graph) (net : Net) (parts : JobParts) (name : List ℕ) (weight : ℕ) (task : Task)
     → length g.jobs ≡ length g.rows.jobs
@@ -57,24 +50,16 @@ job-target : (g : Graph) (net : Net) (parts : JobParts) (name : List ℕ) (weigh
     → target_of (job_added g net parts name weight) task ≡ target_of g task
 job-target g net parts name weight task e there =
     let job : Job = record { name = name; weight = weight } in
-    let lengths : length (job_nodes g) ≡ length (job_names g.rows) =
-    length-map g.jobs (λ (p : JobParts). p.node) ∙ e ∙ sym (length-map g.rows.jobs (λ (j : Job). j.name)) in
     let owner : node_under (job_names (with_job g.rows name weight))
     (map (λ (p : JobParts). p.node) (g.jobs ++ parts ∷ [])) g.hub task.job
     ≡ node_under (job_names g.rows) (job_nodes g) g.hub task.job =
     ap₂ (λ (ns : List (List ℕ)) (xs : List NodeId). node_under ns xs g.hub task.job)
     (map-append (λ (j : Job). j.name) g.rows.jobs (job ∷ []))
     (map-append (λ (p : JobParts). p.node) g.jobs (parts ∷ []))
-    ∙ node_under-push (job_names g.rows) (job_nodes g) name parts.node g.hub task.job lengths there in
+    ∙ node_under-push (job_names g.rows) (job_nodes g) name parts.node g.hub task.job (jobs-paired g e) there in
     let weights : weight_under (g.rows.jobs ++ job ∷ []) task.job ≡ weight_under g.rows.jobs task.job =
     weight_under-push g.rows.jobs job task.job there in
-    ap₂ (λ (n : NodeId) (w : ℕ). let t : Target = record {
-      home = home_node (machine_names g.rows) (machine_nodes g) g.hub task.machine;
-      owner = n;
-      preferred = map (node_under (machine_names g.rows) (machine_nodes g) g.hub) task.preferred;
-      delay = w +
-          task.waited;
-    } in t)
+    ap₂ (λ (n : NodeId) (w : ℕ). let t : Target = record (target_of g task) { owner = n; delay = w + task.waited } in t)
     owner weights
 
 pub job-added : (g : Graph) (net after : Net) (parts : JobParts) (name : List ℕ) (weight : ℕ) → Mirrors g
@@ -132,16 +117,8 @@ room-left i now n a e is fits =
 -- the graph with a waiting task added last
 abbrev pub task_added : Graph → Net → TaskParts → List ℕ → List ℕ → List (List ℕ) → Graph
 task_added g net parts job name preferred =
-    record {
-      rows = with_task g.rows job name preferred;
-      net = net;
-      hub = g.hub;
-      sink = g.sink;
-      machines = g.machines;
-      jobs = g.jobs;
-      tasks = g.tasks ++ parts ∷ [];
-      asked = g.asked + 1;
-    }
+    record g
+    { rows = with_task g.rows job name preferred; net = net; tasks = g.tasks ++ parts ∷ []; asked = g.asked + 1 }
 
 -- the nodes of the machines of some names
 abbrev pub nodes_under : Graph → List (List ℕ) → List NodeId
@@ -152,11 +129,9 @@ pub task-added : (g : Graph) (n1 n2 n3 n4 n5 : Net) (parts : TaskParts) (job nam
     → Mirrors g
     → IsEdit g.net n1 [] (parts.node ∷ []) [] []
     → IsEdit n1 n2 [] [] [] (preferred_spans parts.node 0 (nodes_under g preferred) parts.arcs.preferred)
-    → IsEdit n2 n3 [] [] [] (record { arc = parts.arcs.wait; tail = parts.node; head = owner; cap = 1; cost = weight }
-    ∷ [])
-    → IsEdit n3 n4 [] [] [] (record { arc = parts.arcs.stay; tail = parts.node; head = g.hub; cap = 0; cost = 0 } ∷ [])
-    → IsEdit n4 n5 [] [] [] (record { arc = parts.arcs.wide; tail = parts.node; head = g.hub; cap = 1; cost = far }
-    ∷ [])
+    → IsEdit n2 n3 [] [] [] (wait_arc owner weight parts ∷ [])
+    → IsEdit n3 n4 [] [] [] (stay_arc g.hub false parts ∷ [])
+    → IsEdit n4 n5 [] [] [] (wide_arc g.hub far parts ∷ [])
     → owner ≡ node_under (job_names g.rows) (job_nodes g) g.hub job → weight ≡ weight_under g.rows.jobs job
     → far ≡ away g.rows.limits.remote preferred → length parts.arcs.preferred ≡ length preferred
     → length preferred ≤ 4
@@ -167,29 +142,15 @@ task-added g n1 n2 n3 n4 n5 parts job name preferred owner far weight is node ne
     let task : Task = new_task job name preferred in
     let cost : weight ≡ weight_under g.rows.jobs job + 0 + 0 = omega (arith, weight_is) in
     let way : far ≡ 0 + away g.rows.limits.remote preferred = omega (arith, far_is) in
-    let s1 : Span = record { arc = parts.arcs.wide; tail = parts.node; head = g.hub; cap = 1; cost = far } in
-    let s2 : Span = record { arc = parts.arcs.stay; tail = parts.node; head = g.hub; cap = 0; cost = 0 } in
-    let s3 : Span = record { arc = parts.arcs.wait; tail = parts.node; head = owner; cap = 1; cost = weight } in
+    let s1 : Span = wide_arc g.hub far parts in
+    let s2 : Span = stay_arc g.hub false parts in
+    let s3 : Span = wait_arc owner weight parts in
     let ss : List Span = preferred_spans parts.node 0 (nodes_under g preferred) parts.arcs.preferred in
-    let t1 : Span = record {
-      arc = parts.arcs.wide;
-      tail = parts.node;
-      head = g.hub;
-      cap = 1;
-      cost = 0 + away g.rows.limits.remote preferred;
-    } in
-    let t3 : Span = record {
-      arc = parts.arcs.wait;
-      tail = parts.node;
-      head = node_under (job_names g.rows)
-          (job_nodes g) g.hub job;
-      cap = 1;
-      cost = weight_under g.rows.jobs job + 0 + 0;
-    } in
-    let e1 : s1 ≡ t1 = ap (λ (c : ℕ). let s : Span = record
-    { arc = parts.arcs.wide; tail = parts.node; head = g.hub; cap = 1; cost = c } in s) way in
-    let e3 : s3 ≡ t3 = ap₂ (λ (n : NodeId) (c : ℕ). let s : Span = record
-    { arc = parts.arcs.wait; tail = parts.node; head = n; cap = 1; cost = c } in s) owner_is cost in
+    let t1 : Span = wide_arc g.hub (0 + away g.rows.limits.remote preferred) parts in
+    let t3 : Span = wait_arc (node_under (job_names g.rows) (job_nodes g) g.hub job)
+    (weight_under g.rows.jobs job + 0 + 0) parts in
+    let e1 : s1 ≡ t1 = ap (λ (c : ℕ). wide_arc g.hub c parts) way in
+    let e3 : s3 ≡ t3 = ap₂ (λ (n : NodeId) (c : ℕ). wait_arc n c parts) owner_is cost in
     let to_near = edit-then g.net n1 n2 (parts.node ∷ []) [] ss node near in
     let to_wait = edit-then g.net n2 n3 (parts.node ∷ []) ss (s3 ∷ []) to_near wait in
     let to_stay = edit-then g.net n3 n4 (parts.node ∷ []) (ss ++ s3 ∷ []) (s2 ∷ []) to_wait stay in
@@ -249,16 +210,8 @@ task-added g n1 n2 n3 n4 n5 parts job name preferred owner far weight is node ne
 -- the graph with a machine added last
 abbrev pub machine_added : Graph → Net → MachineParts → List ℕ → ℕ → Graph
 machine_added g net parts name slots =
-    record {
-      rows = with_machine g.rows name slots;
-      net = net;
-      hub = g.hub;
-      sink = g.sink;
-      machines = g.machines ++ parts ∷ [];
-      jobs = g.jobs;
-      tasks = g.tasks;
-      asked = g.asked + 1;
-    }
+    record g
+    { rows = with_machine g.rows name slots; net = net; machines = g.machines ++ parts ∷ []; asked = g.asked + 1 }
 
 home-push : (g : Graph) (parts : MachineParts) (name : List ℕ) (slots : ℕ) (home : Option (List ℕ))
     → length g.machines ≡ length g.rows.machines
@@ -269,13 +222,10 @@ home-push : (g : Graph) (parts : MachineParts) (name : List ℕ) (slots : ℕ) (
 home-push g parts name slots None e there = refl
 home-push g parts name slots (Some m) e there =
     let machine : Machine = record { name = name; slots = slots } in
-    let lengths : length (machine_nodes g) ≡ length (machine_names g.rows) =
-    length-map g.machines (λ (p : MachineParts). p.node) ∙ e ∙ sym
-    (length-map g.rows.machines (λ (j : Machine). j.name)) in
     ap₂ (λ (ns : List (List ℕ)) (xs : List NodeId). node_under ns xs g.hub m)
     (map-append (λ (j : Machine). j.name) g.rows.machines (machine ∷ []))
     (map-append (λ (p : MachineParts). p.node) g.machines (parts ∷ []))
-    ∙ node_under-push (machine_names g.rows) (machine_nodes g) name parts.node g.hub m lengths there
+    ∙ node_under-push (machine_names g.rows) (machine_nodes g) name parts.node g.hub m (machines-paired g e) there
 
 -- machines that are there are found as before
 preferred-push : (g : Graph) (parts : MachineParts) (name : List ℕ) (slots : ℕ) (preferred : List (List ℕ))
@@ -284,12 +234,11 @@ preferred-push : (g : Graph) (parts : MachineParts) (name : List ℕ) (slots : �
     → map (node_under (machine_names (with_machine g.rows name slots))
     (map (λ (p : MachineParts). p.node) (g.machines ++ parts ∷ [])) g.hub) preferred
     ≡ nodes_under g preferred
-preferred-push g parts name slots [] e there = refl
-preferred-push g parts name slots (m ∷ preferred) e there =
-    let P : List ℕ → Type 0 = λ (n : List ℕ). is_among (machine_names g.rows) n ≡ true in
-    ap₂ (λ (n : NodeId) (l : List NodeId). n ∷ l)
-    (home-push g parts name slots (Some m) e (All-head P m preferred there))
-    (preferred-push g parts name slots preferred e (All-tail P m preferred there))
+preferred-push g parts name slots preferred e there =
+    map-all (node_under (machine_names (with_machine g.rows name slots))
+    (map (λ (p : MachineParts). p.node) (g.machines ++ parts ∷ [])) g.hub)
+    (node_under (machine_names g.rows) (machine_nodes g) g.hub) preferred
+    (λ k d below. home-push g parts name slots (Some (get_or preferred k d)) e (there k d below))
 
 machine-target : (g : Graph) (net : Net) (parts : MachineParts) (name : List ℕ) (slots : ℕ) (task : Task)
     → length g.machines ≡ length g.rows.machines
@@ -297,13 +246,7 @@ machine-target : (g : Graph) (net : Net) (parts : MachineParts) (name : List ℕ
     → All (λ m. is_among (machine_names g.rows) m ≡ true) task.preferred
     → target_of (machine_added g net parts name slots) task ≡ target_of g task
 machine-target g net parts name slots task e there preferred =
-    ap₂ (λ (n : NodeId) (l : List NodeId). let t : Target = record {
-      home = n;
-      owner = node_under (job_names g.rows) (job_nodes g) g.hub task.job;
-      preferred = l;
-      delay = weight_under
-          g.rows.jobs task.job + task.waited;
-    } in t)
+    ap₂ (λ (n : NodeId) (l : List NodeId). let t : Target = record (target_of g task) { home = n; preferred = l } in t)
     (home-push g parts name slots task.machine e there)
     (preferred-push g parts name slots task.preferred e preferred)
 
@@ -441,17 +384,12 @@ pub weight-read : (rows : TenantRows) (name : List ℕ) (place : ℕ) (job : Job
     → Some job ≡ slice_get rows.jobs place → job.weight ≡ weight_under rows.jobs name
 weight-read rows name place job e there =
     let at = position-is (bytes_eq name) (job_names rows) place e in
-    let below : position_or_len (bytes_eq name) (job_names rows) < length rows.jobs = omega
-    (arith, at.0, at.1, length-map rows.jobs (λ (j : Job). j.name)) in
-    let read : get_or rows.jobs place job ≡ job = got rows.jobs place job there in
+    let below : place < length rows.jobs = omega (arith, at.1, length-map rows.jobs (λ (j : Job). j.name)) in
+    let read : get_or rows.jobs place job ≡ job = get_or_from_slice_get rows.jobs place job job (sym there) in
     sym (ap (λ (j : Job). j.weight) read)
-    ∙ sym (ap (λ (k : ℕ). (get_or rows.jobs k job).weight) at.0)
-    ∙ sym (weight_under-at rows.jobs name job below)
-  where
-    got : (jobs : List Job) (i : ℕ) (j : Job) → Some j ≡ slice_get jobs i → get_or jobs i j ≡ j
-    got [] i j h = refl
-    got (x ∷ jobs) zero j h = let s : Some j ≡ Some x = h in cc
-    got (x ∷ jobs) (suc i) j h = got jobs i j h
+    ∙ sym (get_or-map (λ (j : Job). j.weight) rows.jobs place job 0 below)
+    ∙ sym (ap (λ (k : ℕ). get_or (map (λ (j : Job). j.weight) rows.jobs) k 0) at.0)
+    ∙ sym (weight_under-at rows.jobs name)
 
 -- the node of the job at a position is there
 pub job-read : (g : Graph) (place : ℕ) (read : JobParts) → Mirrors g → (name : List ℕ)
@@ -465,6 +403,4 @@ job-read g place read is name e at =
 
 -- what a read at an index gave
 pub read-at : {X : Type 0} (xs : List X) (i : ℕ) (x : X) → Some x ≡ slice_get xs i → (d : X) → get_or xs i d ≡ x
-read-at [] i x h d = let none : Some x ≡ None = h in absurd cc
-read-at (y ∷ xs) zero x h d = let s : Some x ≡ Some y = h in let e : y ≡ x = cc in e
-read-at (y ∷ xs) (suc i) x h d = read-at xs i x h d
+read-at xs i x h d = get_or_from_slice_get xs i x d (sym h)

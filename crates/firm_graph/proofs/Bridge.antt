@@ -1,11 +1,8 @@
 -- The network told by rows, one by one, is the network of their case.
-use Rattle.std.proofs.Common.{◌≡◌, ℕ, zero, suc, ◌+◌, ◌*◌, ◌<◌, Bool, true, false, cond, ltb, not, is_some, Option}
-use Rattle.std.proofs.Common.{Some}
-use Rattle.std.proofs.Common.{None, List, [], ◌∷◌, ◌++◌, map, length, get_or, bytes_eq, append_assoc, arith, refl, sym}
-use Rattle.std.proofs.Common.{ap, ap₂, ◌∙◌, ⊎_elim}
+use Rattle.std.proofs.Common.{◌≡◌, ℕ, zero, suc, ◌+◌, ◌*◌, ◌<◌, Bool, cond, ltb, is_some, Option, Some, None, List, []}
+use Rattle.std.proofs.Common.{◌∷◌, ◌++◌, map, length, get_or, bytes_eq, append_assoc, arith, refl, sym, ap, ap₂, ◌∙◌}
 use Rattle.std.specs.List.{position_or_len}
-use Rattle.std.proofs.lemmas.List.{map-append, get_or-map, length-map}
-use Rattle.std.proofs.lemmas.Bool.{cases_Bool, cond-true, cond-false, not_from_true, not_from_false}
+use Rattle.std.proofs.lemmas.List.{append-nil, map-append, get_or-map, length-map}
 use Rattle.firm_paths.specs.Network.{Arc}
 use Rattle.firm_rules.specs.Book.{TenantRows, machine_names, job_names}
 use Rattle.firm_rules.specs.Placement.{Case, Demand}
@@ -13,13 +10,13 @@ use Rattle.firm_rules.specs.Round.{case_of, place_of, machine_place, job_place, 
 use Rattle.firm_rules.specs.declared.book.Machine.{Machine}
 use Rattle.firm_rules.specs.declared.book.Job.{Job}
 use Rattle.firm_rules.specs.declared.book.Task.{Task}
+use Rattle.firm_graph.proofs.Lookups.{weight_under-at}
 use Rattle.firm_graph.specs.declared.network.Node.{Node}
 use Rattle.firm_graph.specs.declared.network.Node.TheVariants.{Sink, Hub, Machine as MachineAt, Owner, Task as TaskAt}
 use Rattle.firm_graph.specs.declared.network.Key.{Key}
 use Rattle.firm_graph.specs.declared.network.Key.TheVariants.{Through, Slot, Exit, Wide, Stay, Wait, Prefer}
 use Rattle.firm_graph.specs.Network.{gather, arc, slots_of, demand, runs, stay_head, away, machine_arcs, job_arcs}
-use Rattle.firm_graph.specs.Network.{task_arcs}
-use Rattle.firm_graph.specs.Network.{network}
+use Rattle.firm_graph.specs.Network.{task_arcs, network}
 use Rattle.firm_graph.specs.Graph.{weight_under}
 
 abbrev pub bare : Key → Node → Node → ℕ → ℕ → Arc Node Key
@@ -79,11 +76,7 @@ from f j (suc n) = f j ++ from f (j + 1) n
 
 from_last : {A : Type 0} (f : ℕ → List A) (j n : ℕ) → from f j (suc n) ≡ from f j n ++ f (j + n)
 unfolding from
-from_last {A} f j zero = app_none (f j) ∙ ap f (let e : j ≡ j + 0 = omega arith in e)
-  where
-    app_none : {A : Type 0} (xs : List A) → xs ++ [] ≡ xs
-    app_none [] = refl
-    app_none {A} (x ∷ xs) = ap (λ (z : List A). x ∷ z) (app_none xs)
+from_last {A} f j zero = append-nil (f j) ∙ ap f (let e : j ≡ j + 0 = omega arith in e)
 from_last {A} f j (suc n) =
     ap (λ (z : List A). f j ++ z) (from_last f (j + 1) n)
     ∙ (sym (append_assoc (f j) (from f (j + 1) n) (f (j + 1 + n))) ∙ ap (λ (k : ℕ). (f j ++ from f (j + 1) n) ++ f k)
@@ -132,26 +125,6 @@ module _ (rows : TenantRows) (low x : Key → ℕ) where
   jobs_same k [] = refl
   jobs_same k (j ∷ js) = ap (λ (z : List (Arc Node Key)). arc low x (Exit k) (Owner k) Sink c.limit 0 ∷ z)
       (jobs_same (k + 1) js)
-
-  weight_same : (jobs : List Job) (name : List ℕ) → weight_under jobs name ≡ get_or (map (λ job. job.weight) jobs)
-      (position_or_len (bytes_eq name) (map (λ job. job.name) jobs)) 0
-  weight_same [] name = refl
-  weight_same (job ∷ jobs) name =
-      let b : Bool = bytes_eq name job.name in
-      let ws : List ℕ = map (λ job. job.weight) jobs in
-      let q : ℕ = position_or_len (bytes_eq name) (map (λ job. job.name) jobs) in
-      let at : ℕ = cond (not b) (1 + q) 0 in
-      let all : List ℕ = job.weight ∷ ws in
-      ⊎_elim
-      (λ (t : b ≡ true).
-      let zero_at : at ≡ 0 = cond-false {A = ℕ} (not b) (1 + q) 0 (not_from_true b t) in
-      cond-true b job.weight (weight_under jobs name) t ∙ sym (ap (λ (k : ℕ). get_or all k 0) zero_at))
-      (λ (f : b ≡ false).
-      let next : at ≡ suc q = cond-true {A = ℕ} (not b) (1 + q) 0 (not_from_false b f) ∙
-      (let e : 1 + q ≡ suc q = omega arith in e) in
-      cond-false b job.weight (weight_under jobs name) f ∙
-      (weight_same jobs name ∙ sym (ap (λ (k : ℕ). get_or all k 0) next)))
-      (cases_Bool b)
 
   runs_same : (home : Option (List ℕ)) → is_some home ≡ runs (machine_place rows home)
   runs_same None = refl
@@ -204,7 +177,7 @@ module _ (rows : TenantRows) (low x : Key → ℕ) where
       ap (λ (b : Bool). mine b (head_of (machine_names rows) t.machine) (weight_under rows.jobs t.job))
       (runs_same t.machine)
       ∙ (ap (λ (n : Node). mine (runs q.home) n (weight_under rows.jobs t.job)) (head_same t.machine)
-      ∙ (ap (λ (w : ℕ). mine (runs q.home) (stay_head q.home) w) (weight_same rows.jobs t.job)
+      ∙ (ap (λ (w : ℕ). mine (runs q.home) (stay_head q.home) w) (weight_under-at rows.jobs t.job)
       ∙ ap₂ (λ (n : ℕ) (l : List (Arc Node Key)).
       arc low x (Wide i) (TaskAt i) Hub 1 (cost + cond (ltb 0 n) c.remote 0)
       ∷ arc low x (Stay i) (TaskAt i) (stay_head q.home) (cond (runs q.home) 1 0) 0

@@ -4,8 +4,12 @@ use Rattle.std.proofs.Common.{sym, ap, length-append}
 use Rattle.std.proofs.lemmas.List.{length-map}
 use Rattle.std.specs.List.{sum_by}
 use Rattle.std.proofs.lemmas.List.Sums.{sum_by-cons}
+use Rattle.firm_arena.specs.Arena.{entries}
+use Rattle.firm_arena.specs.Laws.{length-entries_from}
+use Rattle.firm_net.specs.Net.{arc_count}
+use Rattle.firm_net.specs.Edits.{Span, span_of, spans_of}
 use Rattle.firm_paths.specs.Network.{Arc}
-use Rattle.firm_rules.specs.ArenaUse.{preference_count}
+use Rattle.firm_rules.specs.ArenaUse.{arena_arcs, preference_count}
 use Rattle.firm_rules.specs.Book.{TenantRows, machine_names}
 use Rattle.firm_rules.specs.Placement.{Case}
 use Rattle.firm_rules.specs.Round.{case_of, demand_of}
@@ -16,6 +20,10 @@ use Rattle.firm_graph.specs.declared.network.Node.{Node}
 use Rattle.firm_graph.specs.declared.network.Node.TheVariants.{Machine as MachineAt, Owner as JobAt, Task as TaskAt}
 use Rattle.firm_graph.specs.declared.network.Key.{Key}
 use Rattle.firm_graph.specs.Network.{gather, task_nodes, IsCounted}
+use Rattle.firm_graph.specs.Graph.{Graph, Mirrors, graph_spans}
+use Rattle.firm_graph.specs.Ids.{node_id, arc_id}
+use Rattle.firm_graph.proofs.Totals.{often-length}
+use Rattle.firm_graph.proofs.Networks.{shown, graph-shown}
 use Rattle.firm_graph.proofs.Bridge.{slot_rows, machine_rows, job_rows, preferred_rows, task_rows, rows_network, fill}
 use Rattle.firm_graph.proofs.Bridge.{network_is}
 use Rattle.firm_graph.proofs.Shown.{gather-count}
@@ -60,6 +68,31 @@ tasks-count rows i (t ∷ ts) =
       sum_by-cons (λ (task : Task). length task.preferred) t ts,
     )
 
+rows-counted : (rows : TenantRows) → length (rows_network rows) ≡ arena_arcs rows
+rows-counted rows =
+    omega (
+      arith,
+      length-append (machine_rows rows.limits.spread 0 rows.machines)
+          (job_rows rows.limits.nodes 0 rows.jobs ++ task_rows rows 0 rows.tasks),
+      length-append (job_rows rows.limits.nodes 0 rows.jobs) (task_rows rows 0 rows.tasks),
+      machines-count rows.limits.spread 0 rows.machines,
+      jobs-count rows.limits.nodes 0 rows.jobs,
+      tasks-count rows 0 rows.tasks,
+    )
+
+-- the net holds as many arcs as the rows use
+pub arcs-counted : (g : Graph) → Mirrors g → arc_count g.net ≡ arena_arcs g.rows
+arcs-counted g is =
+    omega (
+      arith,
+      often-length (spans_of g.net) (graph_spans g) is.spans,
+      length-map (entries g.net.arcs) (λ e. span_of (record { id = e.0 }) e.1),
+      length-entries_from 0 g.net.arcs.held,
+      ap (λ (l : List Span). length l) (graph-shown g is),
+      length-map (rows_network g.rows) (shown (node_id g) (arc_id g)),
+      rows-counted g.rows,
+    )
+
 pub counted : (rows : TenantRows) → IsCounted rows
 counted rows =
     let c : Case = case_of rows in
@@ -81,11 +114,6 @@ counted rows =
             arith,
             ap (λ (l : List (Arc Node Key)). length l) (sym (network_is rows low flow)),
             length-map (rows_network rows) (fill low flow),
-            length-append (machine_rows rows.limits.spread 0 rows.machines)
-                (job_rows rows.limits.nodes 0 rows.jobs ++ task_rows rows 0 rows.tasks),
-            length-append (job_rows rows.limits.nodes 0 rows.jobs) (task_rows rows 0 rows.tasks),
-            machines-count rows.limits.spread 0 rows.machines,
-            jobs-count rows.limits.nodes 0 rows.jobs,
-            tasks-count rows 0 rows.tasks,
+            rows-counted rows,
           );
     }

@@ -6,13 +6,11 @@ use Rattle.std.specs.List.{sum_by, All, list_any}
 use Rattle.std.proofs.lemmas.Bool.{cases_Bool, cases_eq, cond-true, cond-false}
 use Rattle.std.proofs.lemmas.List.Sums.{sum_by-cons, count_by-le-length, get_or-le-sum_by}
 use Rattle.std.proofs.lemmas.List.{length-map, get_or_default}
-use Rattle.std.specs.List.Sorted.{IsPermutation}
-use Rattle.std.proofs.lemmas.List.Sorted.{All-permutation, sum_by-IsPermutation, length_permutation}
-use Rattle.std.proofs.lemmas.List.Elements.{All-head, All-tail}
+use Rattle.std.proofs.lemmas.List.Elements.{All-head, All-tail, Contains-append_right}
 use Rattle.firm_arena.specs.Arena.{entries}
 use Rattle.firm_arena.specs.declared.Id.{Id}
 use Rattle.firm_net.specs.Row.{Row}
-use Rattle.firm_net.specs.Net.{Net, IsNode}
+use Rattle.firm_net.specs.Net.{Net}
 use Rattle.firm_net.specs.declared.row.NodeId.{NodeId}
 use Rattle.firm_net.specs.declared.row.ArcId.{ArcId}
 use Rattle.firm_paths.specs.Network.{Arc}
@@ -28,12 +26,13 @@ use Rattle.firm_net.specs.Edits.{Span, spans_of}
 use Rattle.firm_graph.specs.declared.ids.JobParts.{JobParts}
 use Rattle.firm_graph.specs.declared.ids.TaskParts.{TaskParts}
 use Rattle.firm_graph.specs.Graph.{Graph, Mirrors, flat_zip, job_spans, task_spans, Target, target_of, node_under}
-use Rattle.firm_graph.specs.Network.{away}
 use Rattle.firm_graph.specs.Graph.{preferred_spans, graph_spans, graph_nodes, machine_nodes, job_nodes, task_nodes}
-use Rattle.firm_graph.proofs.Found.{ones, same_id-refl, node-there, sink-there, Contains-skip}
-use Rattle.firm_graph.proofs.Drops.{is_node, node-once, four-sum}
+use Rattle.firm_graph.specs.Network.{away}
+use Rattle.firm_graph.proofs.Found.{ones, same_id-refl, node-there, sink-there}
+use Rattle.firm_graph.proofs.Drops.{is_node, node-once, four-sum, wide_arc, stay_arc, wait_arc}
 use Rattle.firm_net.specs.Laws.{sum-map, spans-sum}
-use Rattle.firm_graph.proofs.Totals.{nodes-total, spans-total}
+use Rattle.firm_graph.proofs.Lookups.{cond-case}
+use Rattle.firm_graph.proofs.Totals.{jobs-paired, nodes-total, spans-total}
 
 -- what an arc carries out of a set of places
 abbrev pub out_weight : (ℕ → Bool) → Span → ℕ
@@ -67,18 +66,15 @@ jobs-out inside sink limit (j ∷ js) (p ∷ ps) e f some =
     (λ (t : inside p.node.id.place ≡ true).
     let own : out_weight inside s ≡ limit = cond-true (inside p.node.id.place) (cond (inside sink.id.place) 0 limit) 0
     t ∙ cond-false (inside sink.id.place) 0 limit f in
-    let done : limit ≤ sum_by (out_weight inside) (s ∷ rest) = omega (arith, sum, own) in
-    done)
+    omega (arith, sum, own))
     (λ (g : inside p.node.id.place ≡ false).
     let none : v p ≡ ones false = ap ones g in
-    let done : limit ≤ sum_by (out_weight inside) (s ∷ rest) =
     omega (
       arith,
       sum,
       jobs-out inside sink limit js ps (omega arith) f
           (omega (arith, some, none, sum_by-cons v p ps)),
-    ) in
-    done)
+    ))
     (cases_Bool (inside p.node.id.place))
 
 -- a task inside whose job is outside lets one out
@@ -96,29 +92,9 @@ tasks-out inside hub churn remote target (t ∷ ts) (p ∷ ps) e h =
     let w : Span → ℕ = out_weight inside in
     let more : List Span = flat_zip (task_spans hub churn remote target) ts ps in
     let leaving : ℕ = cond (is_some t.machine) churn 0 in
-    let s1 : Span = record {
-      arc = p.arcs.wide;
-      tail = p.node;
-      head = hub;
-      cap = 1;
-      cost = leaving + away remote t.preferred;
-    } in
-    let s2 : Span = record {
-      arc = p.arcs.stay;
-      tail = p.node;
-      head = (target t).home;
-      cap = cond (is_some t.machine) 1
-          0;
-      cost = 0;
-    } in
-    let s3 : Span = record {
-      arc = p.arcs.wait;
-      tail = p.node;
-      head = (target t).owner;
-      cap = 1;
-      cost =
-          (target t).delay + leaving;
-    } in
+    let s1 : Span = wide_arc hub (leaving + away remote t.preferred) p in
+    let s2 : Span = stay_arc (target t).home (is_some t.machine) p in
+    let s3 : Span = wait_arc (target t).owner ((target t).delay + leaving) p in
     let own : w s3 ≡ v p = ap (λ (b : Bool). cond (inside p.node.id.place) (cond b 0 1) 0) (All-head P t ts h) in
     let ss : List Span = preferred_spans p.node leaving (target t).preferred p.arcs.preferred in
     omega (
@@ -135,55 +111,42 @@ among-weight : (w : NodeId → ℕ) (names : List (List ℕ)) (nodes : List Node
     → is_among names name ≡ true → w (node_under names nodes other name) ≤ sum_by w nodes
 among-weight w [] nodes other name e h = let clash : false ≡ true = h in absurd cc
 among-weight w (n ∷ names) [] other name e h = absurd (omega arith)
-among-weight w (n ∷ names) (node ∷ nodes) other name e h = ⊎_elim
-    (λ (t : bytes_eq name n ≡ true).
-    omega (
+among-weight w (n ∷ names) (node ∷ nodes) other name e h =
+    cond-case (λ (m : NodeId). w m ≤ sum_by w (node ∷ nodes)) (bytes_eq name n) node (node_under names nodes other name)
+    (λ _. omega (arith, sum_by-cons w node nodes))
+    (λ f. omega (
       arith,
-      ap w (cond-true (bytes_eq name n) node (node_under names nodes other name) t),
-      sum_by-cons w node
-          nodes,
+      sum_by-cons w node nodes,
+      among-weight w names nodes other name (omega arith)
+          (sym (ap (λ (b : Bool). b || list_any (bytes_eq name) names) f) ∙ h),
     ))
-    (λ (f : bytes_eq name n ≡ false).
-    let there : is_among names name ≡ true = sym (ap (λ (b : Bool). b || list_any (bytes_eq name) names) f) ∙ h in
-    omega (
-      arith,
-      ap w (cond-false (bytes_eq name n) node (node_under names nodes other name) f),
-      sum_by-cons w node
-          nodes,
-      among-weight w names nodes other name (omega arith) there,
-    ))
-    (cases_Bool (bytes_eq name n))
 
 ones-none : (b : Bool) → ones b ≡ 0 → b ≡ false
 ones-none true e = absurd (omega (arith, e))
 ones-none false e = refl
 
 -- no set of nodes without the sink holds more tasks than its arcs let out
-pub no-cut : (g : Graph) (order : List NodeId) (inside : ℕ → Bool) → Mirrors g → AreSound g.rows
-    → IsPermutation (task_nodes g) order → IsDeficientCut (arcs_of g.net) (places order) g.sink.id.place inside → ⊥
-no-cut g order inside is sound same cut =
+pub no-cut : (g : Graph) (inside : ℕ → Bool) → Mirrors g → AreSound g.rows
+    → IsDeficientCut (arcs_of g.net) (places (task_nodes g)) g.sink.id.place inside → ⊥
+no-cut g inside is sound cut =
+    let nodes : List NodeId = task_nodes g in
     let w : Span → ℕ = out_weight inside in
     let u : NodeId → ℕ = in_set inside in
     let whole : capacity_out (arcs_of g.net) inside ≡ sum_by w (graph_spans g) = out-sum inside g.net ∙ is.spans.weighs
     w in
     let parts = spans-total w g in
-    let sources : count_by inside (places order) ≡ sum_by (λ p. u p.node) g.tasks =
-    sum-map (λ (v : ℕ). ones (inside v)) (λ (n : NodeId). n.id.place) order
-    ∙ sum_by-IsPermutation u (task_nodes g) order same
+    let sources : count_by inside (places nodes) ≡ sum_by (λ p. u p.node) g.tasks =
+    sum-map (λ (v : ℕ). ones (inside v)) (λ (n : NodeId). n.id.place) nodes
     ∙ sum-map u (λ (p : TaskParts). p.node) g.tasks in
-    let most : count_by inside (places order) ≤ length g.tasks =
+    let most : count_by inside (places nodes) ≤ length g.tasks =
     omega (
       arith,
-      count_by-le-length inside (places order),
-      length-map order
-          (λ (n : NodeId). n.id.place),
-      length_permutation (task_nodes g) order same,
+      count_by-le-length inside (places nodes),
+      length-map nodes (λ (n : NodeId). n.id.place),
       length-map g.tasks (λ (p : TaskParts). p.node),
     ) in
     elim (cases_eq (sum_by (λ p. u p.node) g.jobs) 0) [
       | inl none ↦
-          let lengths : length (job_nodes g) ≡ length (job_names g.rows) =
-          length-map g.jobs (λ (p : JobParts). p.node) ∙ is.jobs ∙ sym (length-map g.rows.jobs (λ (j : Job). j.name)) in
           let outside : All (λ t. inside (target_of g t).owner.id.place ≡ false) g.rows.tasks =
           λ k d below.
           let name : List ℕ = (get_or g.rows.tasks k d).job in
@@ -193,7 +156,7 @@ no-cut g order inside is sound same cut =
             none,
             sum-map u (λ (p : JobParts). p.node) g.jobs,
             among-weight u (job_names g.rows)
-                (job_nodes g) g.hub name lengths (sound.jobs_there k d below),
+                (job_nodes g) g.hub name (jobs-paired g is.jobs) (sound.jobs_there k d below),
           )) in
           absurd (omega (
             arith,
@@ -228,42 +191,35 @@ two w (x ∷ xs) zero (suc j) d before below =
 two w (x ∷ xs) (suc i) (suc j) d before below =
     omega (arith, sum_by-cons w x xs, two w xs i j d (omega arith) (omega arith))
 
-pub distinct : (g : Graph) (order : List NodeId) → Mirrors g → IsPermutation (task_nodes g) order
-    → AreDistinctNodes g.net order g.sink
-distinct g order is same =
+pub distinct : (g : Graph) → Mirrors g → AreDistinctNodes g.net (task_nodes g) g.sink
+distinct g is =
+    let nodes : List NodeId = task_nodes g in
     record {
-      nodes = All-permutation (IsNode g.net) (task_nodes g) order same
-          (λ k d below.
-          let n : NodeId = get_or (task_nodes g) k d in
+      nodes = λ k d below.
+          let n : NodeId = get_or nodes k d in
           node-there g.net (graph_nodes g) n is.nodes
-          (Contains-skip (g.hub ∷ g.sink ∷ machine_nodes g) (job_nodes g ++ task_nodes g) n
-          (Contains-skip (job_nodes g) (task_nodes g) n (k, below, get_or_default (task_nodes g) k n d below))));
+          (Contains-append_right (g.hub ∷ g.sink ∷ machine_nodes g) (job_nodes g ++ nodes) n
+          (Contains-append_right (job_nodes g) nodes n (k, below, get_or_default nodes k n d below)));
       sink_there = sink-there g is;
       apart = λ i j d before below e.
-          let n : NodeId = get_or order i d in
+          let n : NodeId = get_or nodes i d in
           let w : NodeId → ℕ = is_node n in
-          let own : w n ≡ ones true = ap ones (same_id-refl n.id) in
-          let other : w (get_or order j d) ≡ w n = ap w (sym e) in
           absurd (omega (
             arith,
-            own,
-            other,
-            two w order i j d before below,
-            sum_by-IsPermutation w (task_nodes g) order same,
+            ap ones (same_id-refl n.id),
+            ap w e,
+            two w nodes i j d before below,
             node-once g.net (graph_nodes g) n is.nodes,
             nodes-total w g,
             sum-map w (λ (p : TaskParts). p.node) g.tasks,
           ));
       others = λ k d below e.
           let w : NodeId → ℕ = is_node g.sink in
-          let own : w g.sink ≡ ones true = ap ones (same_id-refl g.sink.id) in
-          let other : w (get_or order k d) ≡ w g.sink = ap w e in
           absurd (omega (
             arith,
-            own,
-            other,
-            get_or-le-sum_by w order k d below,
-            sum_by-IsPermutation w (task_nodes g) order same,
+            ap ones (same_id-refl g.sink.id),
+            ap w e,
+            get_or-le-sum_by w nodes k d below,
             node-once g.net (graph_nodes g) g.sink is.nodes,
             nodes-total w g,
             sum-map w (λ (p : TaskParts). p.node) g.tasks,

@@ -1,13 +1,12 @@
 -- What a graph is once a row was removed from it, and what its net holds on the way.
-use Rattle.std.proofs.Common.{◌≡◌, ℕ, zero, suc, ◌+◌, ◌*◌, ◌<◌, ◌≤◌, true, false, cond, is_some, ◌⊎◌, inl, inr, ⊎_elim}
-use Rattle.std.proofs.Common.{Option, Some, None, List, [], ◌∷◌, ◌++◌, map, length, get_or, drop, bytes_eq}
-use Rattle.std.proofs.Common.{arith}
-use Rattle.std.proofs.Common.{refl, sym, ap, ◌∙◌, subst, drop-cons}
+use Rattle.std.proofs.Common.{◌≡◌, ℕ, zero, suc, ◌+◌, ◌*◌, ◌<◌, ◌≤◌, Bool, true, false, cond, is_some, ◌⊎◌, inl, inr}
+use Rattle.std.proofs.Common.{Option, Some, None, List, [], ◌∷◌, ◌++◌, map, length, get_or, drop, bytes_eq, arith, refl}
+use Rattle.std.proofs.Common.{sym, ap, ◌∙◌, subst, drop-cons}
 use Rattle.std.specs.List.{sum_by, AllZip, Contains, remove}
-use Rattle.std.proofs.lemmas.Bool.{cases_Bool, cond-true, cond-false}
 use Rattle.std.proofs.lemmas.List.Sums.{sum_by-cons, sum_by-append, sum_by-remove}
 use Rattle.std.proofs.lemmas.List.Edits.{length-remove}
-use Rattle.std.proofs.lemmas.List.{get_or-map, length-map}
+use Rattle.std.proofs.lemmas.List.{drop_all, length-map}
+use Rattle.std.proofs.lemmas.List.Elements.{Contains-append_right}
 use Rattle.firm_arena.specs.Changes.{find-held}
 use Rattle.firm_arena.specs.Arena.{entries_from}
 use Rattle.firm_arena.specs.declared.Id.{Id}
@@ -18,12 +17,11 @@ use Rattle.firm_net.specs.declared.row.ArcId.{ArcId}
 use Rattle.firm_net.specs.declared.links.Side.{Side}
 use Rattle.firm_net.specs.declared.links.Side.TheVariants.{Out, In}
 use Rattle.firm_rules.specs.Book.{machine_names, job_names}
-use Rattle.firm_graph.specs.inner.Steps.{task_gone, no_task}
+use Rattle.firm_graph.specs.inner.Steps.{task_gone, no_task, Holds}
 use Rattle.firm_rules.specs.declared.book.Machine.{Machine}
 use Rattle.firm_rules.specs.declared.book.Job.{Job}
 use Rattle.firm_rules.specs.declared.book.Task.{Task}
 use Rattle.firm_net.specs.Edits.{Span, span_of, nodes_of, spans_of, AsOften, IsEdit}
-use Rattle.firm_graph.specs.inner.Steps.{Holds}
 use Rattle.firm_graph.specs.Parts.{MachineParts}
 use Rattle.firm_graph.specs.declared.ids.JobParts.{JobParts}
 use Rattle.firm_graph.specs.declared.ids.TaskParts.{TaskParts}
@@ -31,11 +29,10 @@ use Rattle.firm_graph.specs.Graph.{Graph, Mirrors, flat_zip, machine_spans, slot
 use Rattle.firm_graph.specs.Graph.{target_of, home_node, node_under, graph_nodes, graph_spans, machine_nodes, job_nodes}
 use Rattle.firm_graph.specs.Graph.{preferred_spans, task_nodes}
 use Rattle.firm_graph.specs.Network.{away}
-use Rattle.firm_arena.specs.Sums.{sum-slot}
-use Rattle.firm_arena.specs.Sums.{sum-without}
-use Rattle.firm_net.specs.Laws.{nodes-sum, spans-sum, span_weight, sum-map, row-below}
-use Rattle.firm_graph.proofs.Found.{Contains-skip, node-there, span-there, HasRow, ones, same_id, same_id-true}
-use Rattle.firm_graph.proofs.Found.{same_id-refl}
+use Rattle.firm_arena.specs.Sums.{sum-slot, sum-without}
+use Rattle.firm_net.specs.Laws.{nodes-sum, spans-sum, span_weight, sum-map, row-below, contains-mapped}
+use Rattle.firm_graph.proofs.Found.{node-there, span-there, HasRow, ones, same_id, same_id-true, same_id-refl}
+use Rattle.firm_graph.proofs.Lookups.{cond-case}
 use Rattle.firm_graph.proofs.Said.{shrunk}
 use Rattle.firm_graph.proofs.Totals.{nodes-total, spans-total, sum-one}
 
@@ -93,42 +90,34 @@ holds-through base old new ns ss ts h edit =
       added = omega (arith, after.added, h.added);
     }
 
--- an id is that of one entry at most
-pub once-from : {X : Type 0} (id : Id) (p : ℕ) (held : List (Option (ℕ × X)))
-    → (id.place < p → sum_by (λ e. ones (same_id e.0 id)) (entries_from p held) ≡ 0) ×
-    (sum_by (λ e. ones (same_id e.0 id)) (entries_from p held) ≤ 1)
-once-from id p [] = (λ _. refl, omega arith)
-once-from id p (None ∷ held) =
-    let rest = once-from id (p + 1) held in
+-- where a test passes at one place alone, it passes for one entry at most
+once-more : (b : Bool) (p place rest sum : ℕ) → (b ≡ true → p ≡ place) → sum ≡ ones b + rest
+    → (place < p + 1 → rest ≡ 0) → rest ≤ 1 → (place < p → sum ≡ 0) × (sum ≤ 1)
+once-more true p place rest sum only e none few =
+    let own : p ≡ place = only refl in
+    (λ h. absurd (omega (arith, own, h)), omega (arith, e, none (omega (arith, own))))
+once-more false p place rest sum only e none few =
+    (λ h. omega (arith, e, none (omega (arith, h))), omega (arith, e, few))
+
+pub once-from : {X : Type 0} (test : Id → Bool) (place : ℕ) → ((i : Id) → test i ≡ true → i.place ≡ place)
+    → (p : ℕ) (held : List (Option (ℕ × X))) → (place < p → sum_by (λ e. ones (test e.0)) (entries_from p held) ≡ 0) ×
+    (sum_by (λ e. ones (test e.0)) (entries_from p held) ≤ 1)
+once-from test place only p [] = (λ _. refl, omega arith)
+once-from test place only p (None ∷ held) =
+    let rest = once-from test place only (p + 1) held in
     (λ h. rest.0 (omega (arith, h)), rest.1)
-once-from {X} id p (Some own ∷ held) =
-    let w : Id × X → ℕ = λ (e : Id × X). ones (same_id e.0 id) in
+once-from {X} test place only p (Some own ∷ held) =
+    let w : Id × X → ℕ = λ (e : Id × X). ones (test e.0) in
     let here : Id = record { place = p; stamp = own.0 } in
-    let rest = once-from id (p + 1) held in
-    let sum : sum_by w (entries_from p (Some own ∷ held)) ≡ ones (same_id here id) + sum_by w
-    (entries_from (p + 1) held) = sum-slot w p (Some own) held in (
-      λ h. ⊎_elim
-          (λ (t : same_id here id ≡ true). absurd (let e : p ≡ id.place = ap (λ (i : Id). i.place)
-          (same_id-true here id t) in omega (arith, e, h)))
-          (λ (f : same_id here id ≡ false).
-          let none : ones (same_id here id) ≡ ones false = ap ones f in
-          let later : sum_by w (entries_from (p + 1) held) ≡ 0 = rest.0 (omega (arith, h)) in
-          let e : sum_by w (entries_from p (Some own ∷ held)) ≡ 0 = omega (arith, sum, none, later) in
-          e)
-          (cases_Bool (same_id here id)),
-      ⊎_elim
-          (λ (t : same_id here id ≡ true).
-          let one : ones (same_id here id) ≡ ones true = ap ones t in
-          let e : p ≡ id.place = ap (λ (i : Id). i.place) (same_id-true here id t) in
-          let later : sum_by w (entries_from (p + 1) held) ≡ 0 = rest.0 (omega (arith, e)) in
-          let most : sum_by w (entries_from p (Some own ∷ held)) ≤ 1 = omega (arith, sum, one, later) in
-          most)
-          (λ (f : same_id here id ≡ false).
-          let none : ones (same_id here id) ≡ ones false = ap ones f in
-          let most : sum_by w (entries_from p (Some own ∷ held)) ≤ 1 = omega (arith, sum, none, rest.1) in
-          most)
-          (cases_Bool (same_id here id)),
-    )
+    let rest = once-from test place only (p + 1) held in
+    once-more (test here) p place (sum_by w (entries_from (p + 1) held)) (sum_by w (entries_from p (Some own ∷ held)))
+    (only here) (sum-slot w p (Some own) held) rest.0 rest.1
+
+-- an id is that of one entry at most
+pub id-once : {X : Type 0} (id : Id) (held : List (Option (ℕ × X)))
+    → sum_by (λ e. ones (same_id e.0 id)) (entries_from 0 held) ≤ 1
+id-once id held =
+    (once-from (λ (i : Id). same_id i id) id.place (λ i t. ap (λ (j : Id). j.place) (same_id-true i id t)) 0 held).1
 
 -- a node stands once at most among those that a net holds
 abbrev pub is_node : NodeId → NodeId → ℕ
@@ -136,7 +125,7 @@ is_node n m = ones (same_id m.id n.id)
 
 pub node-once : (net : Net) (ns : List NodeId) (n : NodeId) → AsOften (nodes_of net) ns → sum_by (is_node n) ns ≤ 1
 node-once net ns n often =
-    omega (arith, often.weighs (is_node n), nodes-sum (is_node n) net, (once-from n.id 0 net.nodes.held).1)
+    omega (arith, often.weighs (is_node n), nodes-sum (is_node n) net, id-once n.id net.nodes.held)
 
 -- the ends of a graph's arcs are among its nodes: where these weigh nothing, those do neither
 abbrev pub end_weight : (NodeId → ℕ) → Span → ℕ
@@ -146,23 +135,10 @@ under-weight : (w : NodeId → ℕ) (names : List (List ℕ)) (nodes : List Node
     → w (node_under names nodes other name) ≤ w other + sum_by w nodes
 under-weight w [] nodes other name = omega arith
 under-weight w (n ∷ names) [] other name = omega arith
-under-weight w (n ∷ names) (node ∷ nodes) other name = ⊎_elim
-    (λ (t : bytes_eq name n ≡ true).
-    omega (
-      arith,
-      ap w (cond-true (bytes_eq name n) node (node_under names nodes other name) t),
-      sum_by-cons w node
-          nodes,
-    ))
-    (λ (f : bytes_eq name n ≡ false).
-    omega (
-      arith,
-      ap w (cond-false (bytes_eq name n) node (node_under names nodes other name) f),
-      sum_by-cons w node
-          nodes,
-      under-weight w names nodes other name,
-    ))
-    (cases_Bool (bytes_eq name n))
+under-weight w (n ∷ names) (node ∷ nodes) other name =
+    cond-case (λ (m : NodeId). w m ≤ w other + sum_by w (node ∷ nodes)) (bytes_eq name n) node
+    (node_under names nodes other name) (λ _. omega (arith, sum_by-cons w node nodes))
+    (λ _. omega (arith, sum_by-cons w node nodes, under-weight w names nodes other name))
 
 pub home-weight : (w : NodeId → ℕ) (names : List (List ℕ)) (nodes : List NodeId) (hub : NodeId) (home : Option (List ℕ))
     → w (home_node names nodes hub home) ≤ w hub + sum_by w nodes
@@ -227,6 +203,16 @@ four-sum w s1 s2 s3 ss rest =
       sum_by-append w ss rest,
     )
 
+-- a task's arc to the hub, its arc home, and the arc by which it waits
+abbrev pub wide_arc : NodeId → ℕ → TaskParts → Span
+wide_arc hub cost p = record { arc = p.arcs.wide; tail = p.node; head = hub; cap = 1; cost = cost }
+
+abbrev pub stay_arc : NodeId → Bool → TaskParts → Span
+stay_arc home runs p = record { arc = p.arcs.stay; tail = p.node; head = home; cap = cond runs 1 0; cost = 0 }
+
+abbrev pub wait_arc : NodeId → ℕ → TaskParts → Span
+wait_arc owner cost p = record { arc = p.arcs.wait; tail = p.node; head = owner; cap = 1; cost = cost }
+
 -- names that are looked up weigh nothing where the nodes don't
 under-none : (w : NodeId → ℕ) (names : List (List ℕ)) (nodes : List NodeId) (other : NodeId) (asked : List (List ℕ))
     → w other ≡ 0 → sum_by w nodes ≡ 0 → sum_by w (map (node_under names nodes other) asked) ≡ 0
@@ -274,25 +260,10 @@ tasks-weight w hub churn remote target (x ∷ ts) (p ∷ ps) a t c =
     let own : w p.node ≡ 0 = omega (arith, c, sum_by-cons v p ps) in
     let rest : sum_by v ps ≡ 0 = omega (arith, c, sum_by-cons v p ps) in
     let more : List Span = flat_zip (task_spans hub churn remote target) ts ps in
-    let runs = is_some x.machine in
-    let leaving : ℕ = cond runs churn 0 in
-    let s1 : Span = record {
-      arc = p.arcs.wide;
-      tail = p.node;
-      head = hub;
-      cap = 1;
-      cost = leaving + away remote x.preferred;
-    } in
-    let s2 : Span = record { arc = p.arcs.stay; tail = p.node; head = (target x).home; cap = cond runs 1 0; cost = 0 }
-    in
-    let s3 : Span = record {
-      arc = p.arcs.wait;
-      tail = p.node;
-      head = (target x).owner;
-      cap = 1;
-      cost =
-          (target x).delay + leaving;
-    } in
+    let leaving : ℕ = cond (is_some x.machine) churn 0 in
+    let s1 : Span = wide_arc hub (leaving + away remote x.preferred) p in
+    let s2 : Span = stay_arc (target x).home (is_some x.machine) p in
+    let s3 : Span = wait_arc (target x).owner ((target x).delay + leaving) p in
     let ss : List Span = preferred_spans p.node leaving (target x).preferred p.arcs.preferred in
     omega (
       arith,
@@ -432,16 +403,7 @@ AllZip-at R (x ∷ xs) (y ∷ ys) (suc i) d e h below = AllZip-at R xs ys i d e 
 -- the graph without the task at a place
 abbrev pub task_dropped : Graph → Net → ℕ → Graph
 task_dropped g net place =
-    record {
-      rows = task_gone g.rows place;
-      net = net;
-      hub = g.hub;
-      sink = g.sink;
-      machines = g.machines;
-      jobs = g.jobs;
-      tasks = remove g.tasks place;
-      asked = g.asked;
-    }
+    record g { rows = task_gone g.rows place; net = net; tasks = remove g.tasks place }
 
 abbrev pub task_at : Graph → ℕ → Task
 task_at g place = get_or g.rows.tasks place no_task
@@ -452,34 +414,15 @@ leaving_of g place = cond (is_some (task_at g place).machine) g.rows.limits.chur
 
 abbrev pub wide_of : Graph → ℕ → TaskParts → Span
 wide_of g place parts =
-    record {
-      arc = parts.arcs.wide;
-      tail = parts.node;
-      head = g.hub;
-      cap = 1;
-      cost = leaving_of g place + away g.rows.limits.remote (task_at g place).preferred;
-    }
+    wide_arc g.hub (leaving_of g place + away g.rows.limits.remote (task_at g place).preferred) parts
 
 abbrev pub stay_of : Graph → ℕ → TaskParts → Span
-stay_of g place parts =
-    record {
-      arc = parts.arcs.stay;
-      tail = parts.node;
-      head = (target_of g (task_at g place)).home;
-      cap = cond
-          (is_some (task_at g place).machine) 1 0;
-      cost = 0;
-    }
+stay_of g place parts = stay_arc (target_of g (task_at g place)).home (is_some (task_at g place).machine) parts
 
 abbrev pub wait_of : Graph → ℕ → TaskParts → Span
 wait_of g place parts =
-    record {
-      arc = parts.arcs.wait;
-      tail = parts.node;
-      head = (target_of g (task_at g place)).owner;
-      cap = 1;
-      cost = (target_of g (task_at g place)).delay + cond (is_some (task_at g place).machine) g.rows.limits.churn 0;
-    }
+    let to : Target = target_of g (task_at g place) in
+    wait_arc to.owner (to.delay + leaving_of g place) parts
 
 abbrev pub preferred_of : Graph → ℕ → TaskParts → List Span
 preferred_of g place parts =
@@ -556,12 +499,9 @@ task-dropped g before after place parts is below at h edit =
 pub task-listed : (g : Graph) (place : ℕ) (parts : TaskParts) → place < length g.tasks
     → parts ≡ get_or g.tasks place parts → Contains (graph_nodes g) parts.node
 task-listed g place parts below at =
-    let n : NodeId = parts.node in
-    let listed : place < length (task_nodes g) = omega (arith, below, length-map g.tasks (λ (p : TaskParts). p.node)) in
-    let own : get_or (task_nodes g) place n ≡ n = get_or-map (λ (p : TaskParts). p.node) g.tasks place parts n below ∙
-    ap (λ (p : TaskParts). p.node) (sym at) in
-    Contains-skip (g.hub ∷ g.sink ∷ machine_nodes g) (job_nodes g ++ task_nodes g) n
-    (Contains-skip (job_nodes g) (task_nodes g) n (place, listed, own))
+    Contains-append_right (g.hub ∷ g.sink ∷ machine_nodes g) (job_nodes g ++ task_nodes g) parts.node
+    (Contains-append_right (job_nodes g) (task_nodes g) parts.node
+    (contains-mapped (λ (p : TaskParts). p.node) g.tasks parts (place, below, sym at)))
 
 -- what an edit leaves of a net that holds a task's arcs to the machines that it prefers
 abbrev pub LeavesRest : Net → Net → List ArcId → Type 0
@@ -632,10 +572,4 @@ pub slots-end : (base now : Net) (ns : List NodeId) (ss : List Span) (node sink 
     (slots : List ArcId) → length slots ≤ i
     → Holds base now ns (slot_spans node sink spread i (drop i slots) ++ ss) → Holds base now ns ss
 slots-end base now ns ss node sink spread i slots all h =
-    subst (λ (l : List ArcId). Holds base now ns (slot_spans node sink spread i l ++ ss)) (past slots i all) h
-  where
-    past : (xs : List ArcId) (k : ℕ) → length xs ≤ k → drop k xs ≡ []
-    past [] zero below = refl
-    past [] (suc k) below = refl
-    past (x ∷ xs) zero below = absurd (omega arith)
-    past (x ∷ xs) (suc k) below = past xs k (omega arith)
+    subst (λ (l : List ArcId). Holds base now ns (slot_spans node sink spread i l ++ ss)) (drop_all i slots all) h

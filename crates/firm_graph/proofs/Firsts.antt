@@ -1,11 +1,10 @@
 -- Steps of a loop that changes the elements of a list in turn.
-use Rattle.std.proofs.Common.{◌≡◌, ℕ, zero, suc, ◌+◌, ◌<◌, ◌≤◌, true, false, not, ⊎_elim, Option, None, List, []}
-use Rattle.std.proofs.Common.{◌∷◌, map}
-use Rattle.std.proofs.Common.{length, get_or, bytes_eq, arith, refl, sym, ap, ap₂, ◌∙◌, subst}
+use Rattle.std.proofs.Common.{◌≡◌, ℕ, zero, suc, ◌+◌, ◌<◌, ◌≤◌, true, false, not, Option, None, List, [], ◌∷◌, map}
+use Rattle.std.proofs.Common.{length, get_or, bytes_eq, arith, refl, sym, ap, ap₂, ◌∙◌}
 use Rattle.std.specs.List.{All}
-use Rattle.std.proofs.lemmas.Bool.{cond-true, cond-false, cases_Bool, not-true}
+use Rattle.std.proofs.lemmas.Bool.{cond-true, cond-false, not-true}
 use Rattle.std.proofs.lemmas.List.{get_or-map, length-map}
-use Rattle.std.proofs.lemmas.List.Elements.{All-nil, All-cons, filter_passes}
+use Rattle.std.proofs.lemmas.List.Elements.{All-map, filter_passes}
 use Rattle.firm_rules.specs.Book.{TenantRows, is_on, forgetting, evicted}
 use Rattle.firm_rules.specs.Preferences.{without_preference}
 use Rattle.firm_rules.specs.Round.{task_after, rows_after, zipped}
@@ -13,8 +12,9 @@ use Rattle.firm_rules.specs.declared.book.Task.{Task}
 use Rattle.firm_rules.specs.declared.rounds.Choice.{Choice}
 use Rattle.firm_rules.specs.declared.rounds.Choice.TheVariants.{On, Wait}
 use Rattle.firm_graph.specs.inner.Steps.{update_at, placed, with_task_at, changed_first, settled_first, no_task}
-use Rattle.firm_graph.specs.inner.Steps.{task_at}
-use Rattle.firm_graph.specs.inner.Steps.{forgetting_rows, thrown_out, thrown_out_first}
+use Rattle.firm_graph.specs.inner.Steps.{task_at, forgetting_rows, thrown_out, thrown_out_first}
+use Rattle.firm_graph.proofs.Lookups.{cond-case}
+use Rattle.firm_graph.proofs.Permutes.{map-map}
 
 module _ {X : Type 0} (f : ℕ → X → X) where
   pub length-first : (i n : ℕ) (xs : List X) → length (changed_first f i n xs) ≡ length xs
@@ -121,11 +121,6 @@ throw-no rows name n below f =
     (first-stays (λ (_ : ℕ). thrown_out name) n rows.tasks no_task below
     (cond-false (is_on name (task_at rows n).machine) (placed None 0 (task_at rows n)) (task_at rows n) f))
 
-forgotten-thrown : (name : List ℕ) (tasks : List Task)
-    → map (thrown_out name) (map (forgetting name) tasks) ≡ map (evicted name) tasks
-forgotten-thrown name [] = refl
-forgotten-thrown name (t ∷ tasks) = ap (λ (l : List Task). evicted name t ∷ l) (forgotten-thrown name tasks)
-
 -- tasks that forget a machine, and are then thrown out of it, are evicted
 pub throw-end : (rows : TenantRows) (name : List ℕ) (n : ℕ) → length rows.tasks ≤ n
     → thrown_out_first (forgetting_rows rows name) name n ≡ record rows { tasks = map (evicted name) rows.tasks }
@@ -133,16 +128,13 @@ throw-end rows name n all =
     ap (λ (l : List Task). let s : TenantRows = record rows { tasks = l } in s)
     (first-all (thrown_out name) 0 n (map (forgetting name) rows.tasks)
     (omega (arith, all, length-map rows.tasks (forgetting name)))
-    ∙ forgotten-thrown name rows.tasks)
+    ∙ map-map (thrown_out name) (forgetting name) rows.tasks)
 
 -- no task runs on a machine whose tasks were evicted, or prefers it
 evicted-off : (name : List ℕ) (task : Task) → is_on name (evicted name task).machine ≡ false
-evicted-off name task = ⊎_elim
-    (λ (t : is_on name task.machine ≡ true). ap (λ (x : Task). is_on name x.machine)
-    (cond-true (is_on name task.machine) (placed None 0 (forgetting name task)) (forgetting name task) t))
-    (λ (f : is_on name task.machine ≡ false). ap (λ (x : Task). is_on name x.machine)
-    (cond-false (is_on name task.machine) (placed None 0 (forgetting name task)) (forgetting name task) f) ∙ f)
-    (cases_Bool (is_on name task.machine))
+evicted-off name task =
+    cond-case (λ (x : Task). is_on name x.machine ≡ false) (is_on name task.machine)
+    (placed None 0 (forgetting name task)) (forgetting name task) (λ _. refl) (λ f. f)
 
 forgotten : (name : List ℕ) (preferred : List (List ℕ))
     → All (λ m. bytes_eq name m ≡ false) (without_preference name preferred)
@@ -152,29 +144,21 @@ forgotten name preferred k d below =
 
 evicted-loose : (name : List ℕ) (task : Task) → All (λ m. bytes_eq name m ≡ false) (evicted name task).preferred
 evicted-loose name task =
-    let P : Task → Type 0 = λ (x : Task). All (λ m. bytes_eq name m ≡ false) x.preferred in
-    ⊎_elim
-    (λ (t : is_on name task.machine ≡ true). subst P
-    (sym (cond-true (is_on name task.machine) (placed None 0 (forgetting name task)) (forgetting name task) t))
-    (forgotten name task.preferred))
-    (λ (f : is_on name task.machine ≡ false). subst P
-    (sym (cond-false (is_on name task.machine) (placed None 0 (forgetting name task)) (forgetting name task) f))
-    (forgotten name task.preferred))
-    (cases_Bool (is_on name task.machine))
+    cond-case (λ (x : Task). All (λ m. bytes_eq name m ≡ false) x.preferred) (is_on name task.machine)
+    (placed None 0 (forgetting name task)) (forgetting name task) (λ _. forgotten name task.preferred)
+    (λ _. forgotten name task.preferred)
 
 pub all-out : (name : List ℕ) (tasks : List Task)
     → All (λ task. is_on name task.machine ≡ false) (map (evicted name) tasks)
-all-out name [] = All-nil (λ (t : Task). is_on name t.machine ≡ false)
-all-out name (t ∷ tasks) =
-    All-cons (λ (x : Task). is_on name x.machine ≡ false) (evicted name t) (map (evicted name) tasks)
-    (evicted-off name t) (all-out name tasks)
+all-out name tasks =
+    All-map (λ (x : Task). is_on name x.machine ≡ false) (evicted name) tasks
+    (λ k d _. evicted-off name (get_or tasks k d))
 
 pub all-loose : (name : List ℕ) (tasks : List Task)
     → All (λ task. All (λ m. bytes_eq name m ≡ false) task.preferred) (map (evicted name) tasks)
-all-loose name [] = All-nil (λ (t : Task). All (λ m. bytes_eq name m ≡ false) t.preferred)
-all-loose name (t ∷ tasks) =
-    All-cons (λ (x : Task). All (λ m. bytes_eq name m ≡ false) x.preferred) (evicted name t) (map (evicted name) tasks)
-    (evicted-loose name t) (all-loose name tasks)
+all-loose name tasks =
+    All-map (λ (x : Task). All (λ m. bytes_eq name m ≡ false) x.preferred) (evicted name) tasks
+    (λ k d _. evicted-loose name (get_or tasks k d))
 
 -- the rows, in a step of the loop that settles a round
 pub settle-step : (rows : TenantRows) (choices : List Choice) (n : ℕ) (choice : Choice) (home : Option (List ℕ))

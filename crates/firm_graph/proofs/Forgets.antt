@@ -1,12 +1,12 @@
 -- What a graph is once a task prefers a machine no longer.
-use Rattle.std.proofs.Common.{◌≡◌, ℕ, zero, suc, ◌+◌, ◌<◌, ◌≤◌, Bool, true, false, not, cond, ⊎_elim, Some}
-use Rattle.std.proofs.Common.{None, List, [], ◌∷◌, ◌++◌, map, length, get_or, set, bytes_eq, arith, refl, sym, ap, ap₂}
-use Rattle.std.proofs.Common.{◌∙◌, ltb, subst}
+use Rattle.std.proofs.Common.{◌≡◌, ℕ, zero, suc, ◌+◌, ◌<◌, ◌≤◌, Bool, true, false, not, cond, Option, Some, None, List}
+use Rattle.std.proofs.Common.{[], ◌∷◌, ◌++◌, map, length, get_or, set, bytes_eq, arith, refl, sym, ap, ap₂, ◌∙◌, ltb}
+use Rattle.std.proofs.Common.{subst}
 use Rattle.std.specs.List.{sum_by, AllZip, AllByRecursion, IsDistinct, remove, position, position_or_len}
-use Rattle.std.proofs.lemmas.Bool.{cases_Bool, cond-true, ltb-false}
-use Rattle.std.proofs.lemmas.List.{length-set}
-use Rattle.std.proofs.Math.Seq.{map-set_same}
-use Rattle.std.proofs.lemmas.List.Sums.{sum_by-cons, sum_by-append, sum_by-set}
+use Rattle.std.proofs.lemmas.Bool.{ltb-false, not-false}
+use Rattle.std.proofs.lemmas.List.{length-set, set-get_or}
+use Rattle.std.proofs.lemmas.List.Edits.{length-remove}
+use Rattle.std.proofs.lemmas.List.Sums.{sum_by-cons, sum_by-set}
 use Rattle.std.proofs.lemmas.Map.Keys.{IsDistinct-head, IsDistinct-tail}
 use Rattle.std.proofs.lemmas.Slice.Eq.{bytes_eq-Decides}
 use Rattle.indexmap.proofs.SetLemmas.{map-remove}
@@ -20,24 +20,18 @@ use Rattle.firm_rules.specs.Preferences.{without_preference}
 use Rattle.firm_rules.specs.declared.book.Task.{Task}
 use Rattle.firm_graph.specs.declared.ids.TaskParts.{TaskParts}
 use Rattle.firm_graph.specs.Network.{away}
-use Rattle.firm_graph.specs.Graph.{Graph, Mirrors, flat_zip, preferred_spans, task_spans, target_of, node_under}
-use Rattle.firm_graph.specs.Graph.{graph_nodes, graph_spans, machine_nodes}
+use Rattle.firm_graph.specs.Graph.{Graph, Mirrors, preferred_spans, task_spans, target_of, node_under, graph_nodes}
+use Rattle.firm_graph.specs.Graph.{graph_spans, machine_nodes}
 use Rattle.firm_graph.specs.inner.Steps.{Holds, near, update_at, refitted, with_forgetting_at, IsFitting, no_task}
-use Rattle.firm_graph.specs.inner.Steps.{task_at}
-use Rattle.firm_graph.specs.inner.Steps.{forgetting_first, forgetting_rows}
+use Rattle.firm_graph.specs.inner.Steps.{task_at, forgetting_first, forgetting_rows}
 use Rattle.firm_graph.proofs.Totals.{nodes-total, spans-total}
-use Rattle.firm_graph.proofs.Lookups.{position-is}
+use Rattle.firm_graph.proofs.Lookups.{cond-case, position-is}
 use Rattle.firm_graph.proofs.Drops.{holds-unlinked, task_dropped, task-start, wide_of, stay_of, wait_of, preferred_of}
 use Rattle.firm_graph.proofs.Drops.{leaving_of, four-sum, preferred-paired, heads-counted}
-use Rattle.firm_graph.proofs.Places.{Rates, rated, holds-same, holds-rated, length-updated}
+use Rattle.firm_graph.proofs.Places.{flat_sum-both, Rates, rated, holds-same, holds-rated, length-updated}
 use Rattle.firm_graph.proofs.Firsts.{first-read, first-more, first-all}
 
 -- names of which one is forgotten
-drop-first : (name n : List ℕ) (names : List (List ℕ)) → bytes_eq name n ≡ true
-    → without_preference name (n ∷ names) ≡ without_preference name names
-drop-first name n names t =
-    ap (λ (b : Bool). cond (not b) (n ∷ without_preference name names) (without_preference name names)) t
-
 keep-first : (name n : List ℕ) (names : List (List ℕ)) → bytes_eq name n ≡ false
     → without_preference name (n ∷ names) ≡ n ∷ without_preference name names
 keep-first name n names f =
@@ -56,47 +50,37 @@ forget-place : (name : List ℕ) (names : List (List ℕ)) (k : ℕ) → IsDisti
 forget-place name [] k apart e below = absurd (omega arith)
 forget-place name (n ∷ names) k apart e below =
     let later : ℕ = position_or_len (bytes_eq name) names in
-    ⊎_elim
-    (λ (t : bytes_eq name n ≡ true).
-    let first : 0 ≡ k = sym (ap (λ (b : Bool). cond (not b) (1 + later) 0) t) ∙ e in
-    drop-first name n names t ∙ keep-all name n names t (IsDistinct-head bytes_eq n names apart)
-    ∙ ap (λ (i : ℕ). remove (n ∷ names) i) first)
-    (λ (f : bytes_eq name n ≡ false).
-    let next : 1 + later ≡ k = sym (ap (λ (b : Bool). cond (not b) (1 + later) 0) f) ∙ e in
-    let own : suc later ≡ k = (let z : suc later ≡ 1 + later = omega arith in z) ∙ next in
-    keep-first name n names f
-    ∙ ap (λ (l : List (List ℕ)). n ∷ l)
+    let rest : List (List ℕ) = without_preference name names in
+    cond-case (λ (l : List (List ℕ)). l ≡ remove (n ∷ names) k) (not (bytes_eq name n)) (n ∷ rest) rest
+    (λ t.
+    let own : suc later ≡ k = omega (arith, e, ap (λ (b : Bool). cond b (1 + later) 0) t) in
+    ap (λ (l : List (List ℕ)). n ∷ l)
     (forget-place name names later (IsDistinct-tail bytes_eq n names apart) refl (omega (arith, own, below)))
     ∙ ap (λ (i : ℕ). remove (n ∷ names) i) own)
-    (cases_Bool (bytes_eq name n))
+    (λ f.
+    let first : 0 ≡ k = omega (arith, e, ap (λ (b : Bool). cond b (1 + later) 0) f) in
+    keep-all name n names (not-false (bytes_eq name n) f) (IsDistinct-head bytes_eq n names apart)
+    ∙ ap (λ (i : ℕ). remove (n ∷ names) i) first)
 
 forget-none : (name : List ℕ) (names : List (List ℕ)) → length names ≤ position_or_len (bytes_eq name) names
     → without_preference name names ≡ names
 forget-none name [] none = refl
 forget-none name (n ∷ names) none =
     let later : ℕ = position_or_len (bytes_eq name) names in
-    ⊎_elim
-    (λ (t : bytes_eq name n ≡ true).
-    let first : position_or_len (bytes_eq name) (n ∷ names) ≡ 0 = ap (λ (b : Bool). cond (not b) (1 + later) 0) t in
-    absurd (omega (arith, first, none)))
-    (λ (f : bytes_eq name n ≡ false).
-    let next : position_or_len (bytes_eq name) (n ∷ names) ≡ 1 + later = ap (λ (b : Bool). cond (not b) (1 + later) 0)
-    f in
-    keep-first name n names f
-    ∙ ap (λ (l : List (List ℕ)). n ∷ l) (forget-none name names (omega (arith, next, none))))
-    (cases_Bool (bytes_eq name n))
+    let rest : List (List ℕ) = without_preference name names in
+    cond-case (λ (l : List (List ℕ)). l ≡ n ∷ names) (not (bytes_eq name n)) (n ∷ rest) rest
+    (λ t. ap (λ (l : List (List ℕ)). n ∷ l)
+    (forget-none name names (omega (arith, none, ap (λ (b : Bool). cond b (1 + later) 0) t))))
+    (λ f. absurd (omega (arith, none, ap (λ (b : Bool). cond b (1 + later) 0) f)))
 
 nowhere : (name : List ℕ) (names : List (List ℕ)) → position (bytes_eq name) names ≡ None
     → length names ≤ position_or_len (bytes_eq name) names
 nowhere name names e =
     let at : ℕ = position_or_len (bytes_eq name) names in
-    ⊎_elim
-    (λ (t : ltb at (length names) ≡ true).
-    let some : position (bytes_eq name) names ≡ Some at = cond-true (ltb at (length names)) (Some at) None t in
-    let clash : Some at ≡ None = sym some ∙ e in
-    absurd cc)
-    (λ (f : ltb at (length names) ≡ false). ltb-false at (length names) f)
-    (cases_Bool (ltb at (length names)))
+    let by : position (bytes_eq name) names ≡ None → length names ≤ at =
+    cond-case (λ (o : Option ℕ). o ≡ None → length names ≤ at) (ltb at (length names)) (Some at) None
+    (λ _ clash. absurd cc) (λ f _. ltb-false at (length names) f) in
+    by e
 
 -- an arc less to the machines that a task prefers
 near-out : (w : Span → ℕ) (node : NodeId) (cost k : ℕ) (heads : List NodeId) (arcs : List ArcId) (h : NodeId)
@@ -118,23 +102,6 @@ near-out w node cost (suc k) (head ∷ heads) (arc ∷ arcs) h a e below =
       near-out w node cost k heads arcs h a (omega arith) (omega arith),
     )
 
--- both elements at a place of two lists said anew
-flat_sum-both : {A B C : Type 0} (w : C → ℕ) (f : A → B → List C) (h : A → A) (xs : List A) (ys : List B) (i : ℕ)
-    (d : A) (y : B) → i < length xs → length ys ≡ length xs
-    → sum_by w (flat_zip f (update_at xs i h) (set ys i y)) ≡ sum_by w (flat_zip f (remove xs i) (remove ys i)) + sum_by
-    w (f (h (get_or xs i d)) y)
-flat_sum-both w f h [] ys i d y below same = absurd (omega arith)
-flat_sum-both w f h (x ∷ xs) [] i d y below same = absurd (omega arith)
-flat_sum-both w f h (x ∷ xs) (z ∷ ys) zero d y below same =
-    omega (arith, sum_by-append w (f (h x) y) (flat_zip f xs ys))
-flat_sum-both w f h (x ∷ xs) (z ∷ ys) (suc i) d y below same =
-    omega (
-      arith,
-      sum_by-append w (f x z) (flat_zip f (update_at xs i h) (set ys i y)),
-      sum_by-append w (f x z) (flat_zip f (remove xs i) (remove ys i)),
-      flat_sum-both w f h xs ys i d y (omega arith) (omega arith),
-    )
-
 AllZip-both : {A B : Type 0} (R : A → B → Type 0) (xs : List A) (ys : List B) (i : ℕ) (h : A → A) (d : A) (y : B)
     → AllZip R xs ys → R (h (get_or xs i d)) y → AllZip R (update_at xs i h) (set ys i y)
 AllZip-both R [] [] i h d y all own = all
@@ -143,22 +110,9 @@ AllZip-both R (x ∷ xs) [] i h d y all own = absurd all
 AllZip-both R (x ∷ xs) (z ∷ ys) zero h d y all own = (own, all.1)
 AllZip-both R (x ∷ xs) (z ∷ ys) (suc i) h d y all own = (all.0, AllZip-both R xs ys i h d y all.1 own)
 
-length-less : {X : Type 0} (xs : List X) (i : ℕ) → i < length xs → length (remove xs i) + 1 ≡ length xs
-length-less [] i below = absurd (omega arith)
-length-less (x ∷ xs) zero below = omega arith
-length-less (x ∷ xs) (suc i) below = omega (arith, length-less xs i (let b : i < length xs = omega arith in b))
-
 -- the parts of a task without the arc to one of the machines that it prefers
 abbrev pub fewer : TaskParts → ℕ → TaskParts
-fewer parts k = record {
-  node = parts.node;
-  arcs = record {
-    wide = parts.arcs.wide;
-    stay = parts.arcs.stay;
-    wait = parts.arcs.wait;
-    preferred = remove parts.arcs.preferred k;
-  };
-}
+fewer parts k = record parts { arcs = record parts.arcs { preferred = remove parts.arcs.preferred k } }
 
 module _ (g : Graph) (place : ℕ) (parts : TaskParts) (name : List ℕ) (k : ℕ) (is : Mirrors g)
     (below : place < length g.tasks) (at : parts ≡ get_or g.tasks place parts)
@@ -188,8 +142,8 @@ module _ (g : Graph) (place : ℕ) (parts : TaskParts) (name : List ℕ) (k : �
         arith,
         whole,
         its-place.1,
-        length-less parts.arcs.preferred k (omega (arith, whole, its-place.1)),
-        length-less task.preferred k its-place.1,
+        length-remove parts.arcs.preferred k (omega (arith, whole, its-place.1)),
+        length-remove task.preferred k its-place.1,
         ap (λ (l : List (List ℕ)). length l) its-place.0,
       )
 
@@ -303,9 +257,7 @@ update-same {X} (x ∷ xs) zero f d below e = ap (λ (y : X). y ∷ xs) e
 update-same {X} (x ∷ xs) (suc i) f d below e = ap (λ (l : List X). x ∷ l) (update-same xs i f d (omega arith) e)
 
 set-same : {X : Type 0} (xs : List X) (i : ℕ) (y : X) → y ≡ get_or xs i y → set xs i y ≡ xs
-set-same [] i y e = refl
-set-same {X} (x ∷ xs) zero y e = ap (λ (z : X). z ∷ xs) e
-set-same {X} (x ∷ xs) (suc i) y e = ap (λ (l : List X). x ∷ l) (set-same xs i y e)
+set-same {X} xs i y e = ap (λ (z : X). set xs i z) e ∙ set-get_or xs i y
 
 pub not-preferred : (g : Graph) (place : ℕ) (parts : TaskParts) (name : List ℕ) (net : Net) → Mirrors g → g.net ≡ net
     → place < length g.tasks → parts ≡ get_or g.tasks place parts
@@ -351,14 +303,3 @@ pub forget-end : (rows : TenantRows) (name : List ℕ) (n : ℕ) → length rows
 forget-end rows name n all =
     ap (λ (l : List Task). let r : TenantRows = record rows { tasks = l } in r)
     (first-all (forgetting name) 0 n rows.tasks all)
-
--- the nodes of tasks of which one was said anew, with its node
-pub node-said : (tasks : List TaskParts) (place : ℕ) (after d : TaskParts) → after.node ≡ (get_or tasks place d).node
-    → map (λ p. p.node) (set tasks place after) ≡ map (λ p. p.node) tasks
-node-said tasks place after d e = map-set_same (λ (p : TaskParts). p.node) tasks place after d e
-
-pub left-unsaid : {X : Type 0} (xs : List X) (i k : ℕ) (y d : X) → i + 1 ≤ k → get_or (set xs i y) k d ≡ get_or xs k d
-left-unsaid [] i k y d later = refl
-left-unsaid (x ∷ xs) i zero y d later = absurd (omega arith)
-left-unsaid (x ∷ xs) zero (suc k) y d later = refl
-left-unsaid (x ∷ xs) (suc i) (suc k) y d later = left-unsaid xs i k y d (omega arith)

@@ -1,10 +1,11 @@
 -- What has weight in a net is there.
 use Rattle.std.proofs.Common.{◌≡◌, ◌≢◌, ℕ, suc, ◌+◌, ◌<◌, ◌≤◌, ◌==◌, ◌&&◌, Bool, true, false, cond, inl, inr, Option}
-use Rattle.std.proofs.Common.{Some, None, IsSome, List, [], ◌∷◌, ◌++◌, length-append, length, get_or, arith, refl, sym}
-use Rattle.std.proofs.Common.{ap, ap₂, ◌∙◌, subst}
+use Rattle.std.proofs.Common.{Some, None, IsSome, List, [], ◌∷◌, ◌++◌, length, get_or, arith, refl, sym, ap, ap₂, ◌∙◌}
+use Rattle.std.proofs.Common.{subst}
 use Rattle.std.specs.List.{sum_by, All, Contains}
 use Rattle.std.proofs.lemmas.List.Sums.{get_or-le-sum_by}
 use Rattle.std.proofs.lemmas.Bool.{cases_eq, eqb-true, eq-eqb}
+use Rattle.std.proofs.lemmas.List.Elements.{Contains-append_left, Contains-append_right}
 use Rattle.firm_arena.specs.Arena.{Arena, entries_from, entries, find}
 use Rattle.firm_arena.specs.declared.Id.{Id}
 use Rattle.firm_net.specs.Row.{Row}
@@ -15,7 +16,7 @@ use Rattle.firm_arena.specs.Changes.{find-held_own}
 use Rattle.firm_net.specs.Edits.{Span, span_of, nodes_of, spans_of, AsOften}
 use Rattle.firm_graph.specs.Graph.{Graph, Mirrors, graph_nodes, machine_nodes, job_nodes, task_nodes}
 use Rattle.firm_graph.specs.declared.ids.JobParts.{JobParts}
-use Rattle.std.proofs.lemmas.List.{get_or-map, get_or_default, length-map, get_or_append_left}
+use Rattle.std.proofs.lemmas.List.{get_or-map, get_or_default, length-map}
 use Rattle.firm_arena.specs.Sums.{sum-slot}
 use Rattle.firm_net.specs.Laws.{node_weight, span_weight, nodes-sum, spans-sum}
 
@@ -25,17 +26,20 @@ module _ {X : Type 0} where
     pub index : ℕ
     pub own : ℕ × X
     pub there : get_or held index None ≡ Some own
-    pub heavy : 0 < f (record { place = p + index; stamp = own.0 }, own.1)
+    pub place : ℕ
+    pub at : place ≡ p + index
+    pub heavy : 0 < f (record { place = place; stamp = own.0 }, own.1)
 
   heavy-later : (f : Id × X → ℕ) (p : ℕ) (o : Option (ℕ × X)) (held : List (Option (ℕ × X))) → Heavy f (p + 1) held →
       Heavy f p (o ∷ held)
   heavy-later f p o held h =
-      let e : p + 1 + h.index ≡ p + suc h.index = omega arith in
       record {
         index = suc h.index;
         own = h.own;
         there = h.there;
-        heavy = subst (λ (q : ℕ). 0 < f (record { place = q; stamp = h.own.0 }, h.own.1)) e h.heavy;
+        place = h.place;
+        at = omega (arith, h.at);
+        heavy = h.heavy;
       }
 
   heavy-from : (f : Id × X → ℕ) (p : ℕ) (held : List (Option (ℕ × X))) → 0 < sum_by f (entries_from p held) → Heavy f p
@@ -53,10 +57,9 @@ module _ {X : Type 0} where
               index = 0;
               own = own;
               there = refl;
-              heavy =
-                  let positive : 0 < w = omega (arith, some_here) in
-                  subst (λ (q : ℕ). 0 < f (record { place = q; stamp = own.0 }, own.1))
-                  (let z : p ≡ p + 0 = omega arith in z) positive;
+              place = p;
+              at = omega arith;
+              heavy = omega (arith, some_here);
             }
       ]
 
@@ -70,7 +73,7 @@ module _ {X : Type 0} where
   pub found : (f : Id × X → ℕ) (a : Arena X) → 0 < sum_by f (entries a) → Found f a
   found f a some =
       let h = heavy-from f 0 a.held some in
-      let e : 0 + h.index ≡ h.index = omega arith in
+      let e : h.place ≡ h.index = omega (arith, h.at) in
       record {
         id = record { place = h.index; stamp = h.own.0 };
         value = h.own.1;
@@ -117,34 +120,11 @@ same_span-true s t h =
     let head : s.head.id ≡ t.head.id = same_id-true s.head.id t.head.id d.0 in
     let cap : s.cap ≡ t.cap = eqb-true s.cap t.cap e.0 in
     let cost : s.cost ≡ t.cost = eqb-true s.cost t.cost e.1 in
-    ap (λ (i : Id). let x : Span = record {
-      arc = record { id = i };
-      tail = s.tail;
-      head = s.head;
-      cap = s.cap;
-      cost =
-          s.cost;
-    } in x) arc
-    ∙ ap (λ (i : Id). let x : Span = record {
-      arc = t.arc;
-      tail = record { id = i };
-      head = s.head;
-      cap = s.cap;
-      cost =
-          s.cost;
-    } in x) tail
-    ∙ ap (λ (i : Id). let x : Span = record {
-      arc = t.arc;
-      tail = t.tail;
-      head = record { id = i };
-      cap = s.cap;
-      cost =
-          s.cost;
-    } in x) head
-    ∙ ap (λ (n : ℕ). let x : Span = record { arc = t.arc; tail = t.tail; head = t.head; cap = n; cost = s.cost } in x)
-    cap
-    ∙ ap (λ (n : ℕ). let x : Span = record { arc = t.arc; tail = t.tail; head = t.head; cap = t.cap; cost = n } in x)
-    cost
+    ap (λ (i : Id). let x : Span = record s { arc = record { id = i } } in x) arc
+    ∙ ap (λ (i : Id). let x : Span = record s { arc = t.arc; tail = record { id = i } } in x) tail
+    ∙ ap (λ (i : Id). let x : Span = record t { head = record { id = i }; cap = s.cap; cost = s.cost } in x) head
+    ∙ ap (λ (n : ℕ). let x : Span = record t { cap = n; cost = s.cost } in x) cap
+    ∙ ap (λ (n : ℕ). let x : Span = record t { cost = n } in x) cost
 
 pub same_span-refl : (s : Span) → same_span s s ≡ true
 same_span-refl s =
@@ -234,16 +214,6 @@ hub-there g is = node-there g.net (graph_nodes g) g.hub is.nodes (0, omega arith
 pub sink-there : (g : Graph) → Mirrors g → IsNode g.net g.sink
 sink-there g is = node-there g.net (graph_nodes g) g.sink is.nodes (1, omega arith, refl)
 
-pub Contains-skip : {X : Type 0} (xs ys : List X) (x : X) → Contains ys x → Contains (xs ++ ys) x
-Contains-skip [] ys x c = c
-Contains-skip (y ∷ xs) ys x c =
-    let rest = Contains-skip xs ys x c in
-    (suc rest.0, omega (arith, rest.1), rest.2)
-
-pub Contains-front : {X : Type 0} (xs ys : List X) (x : X) → Contains xs x → Contains (xs ++ ys) x
-Contains-front xs ys x c =
-    (c.0, omega (arith, c.1, length-append xs ys), get_or_append_left xs ys x c.0 c.1 ∙ c.2)
-
 -- the node of a job is there
 pub job-there : (g : Graph) (place : ℕ) (d : JobParts) → Mirrors g → place < length g.jobs
     → IsNode g.net (get_or g.jobs place d).node
@@ -252,14 +222,14 @@ job-there g place d is below =
     let own : get_or (job_nodes g) place n ≡ n = get_or-map (λ (p : JobParts). p.node) g.jobs place d n below in
     let listed : place < length (job_nodes g) = omega (arith, below, length-map g.jobs (λ (p : JobParts). p.node)) in
     node-there g.net (graph_nodes g) n is.nodes
-    (Contains-skip (g.hub ∷ g.sink ∷ machine_nodes g) (job_nodes g ++ task_nodes g) n
-    (Contains-front (job_nodes g) (task_nodes g) n (place, listed, own)))
+    (Contains-append_right (g.hub ∷ g.sink ∷ machine_nodes g) (job_nodes g ++ task_nodes g) n
+    (Contains-append_left (job_nodes g) (task_nodes g) n (place, listed, own)))
 
 -- the nodes of the machines are there
 pub machines-there : (g : Graph) → Mirrors g → All (IsNode g.net) (machine_nodes g)
 machines-there g is k d below =
     let n : NodeId = get_or (machine_nodes g) k d in
     node-there g.net (graph_nodes g) n is.nodes
-    (Contains-skip (g.hub ∷ g.sink ∷ []) (machine_nodes g ++ (job_nodes g ++ task_nodes g)) n
-    (Contains-front (machine_nodes g) (job_nodes g ++ task_nodes g) n
+    (Contains-append_right (g.hub ∷ g.sink ∷ []) (machine_nodes g ++ (job_nodes g ++ task_nodes g)) n
+    (Contains-append_left (machine_nodes g) (job_nodes g ++ task_nodes g) n
     (k, below, get_or_default (machine_nodes g) k n d below)))

@@ -1,8 +1,9 @@
 -- Tables that begin with arcs and are empty past them.
 use Rattle.std.proofs.Common.{◌≡◌, ℕ, zero, suc, ◌+◌, ◌-◌, ◌<◌, ◌≤◌, Option, Some, None, List, [], ◌∷◌, ◌++◌, map}
-use Rattle.std.proofs.Common.{length}
-use Rattle.std.proofs.Common.{set, replicate, append_assoc, arith, refl, sym, ap, ◌∙◌}
+use Rattle.std.proofs.Common.{length, set, replicate, append_assoc, length-append, arith, refl, sym, ap, ◌∙◌}
 use Rattle.std.specs.List.{remove}
+use Rattle.std.proofs.Math.Seq.{set-append_seam}
+use Rattle.std.proofs.lemmas.List.Edits.{length-remove}
 use Rattle.firm_net.specs.declared.row.ArcId.{ArcId}
 use Rattle.firm_graph.specs.inner.Tables.{arcs_in, padded, AreFront}
 
@@ -43,17 +44,13 @@ set-front : (xs : List ArcId) (m : ℕ) (arc : ArcId)
 set-front [] m arc = refl
 set-front (x ∷ xs) m arc = ap (λ (l : List (Option ArcId)). Some x ∷ l) (set-front xs m arc)
 
-length-push : (xs : List ArcId) (arc : ArcId) → length (xs ++ arc ∷ []) ≡ length xs + 1
-length-push [] arc = refl
-length-push (x ∷ xs) arc = omega (arith, length-push xs arc)
-
 pub front-added : (table : List (Option ArcId)) (count : ℕ) (arc : ArcId) → AreFront table count → count < 4
     → set table count (Some arc) ≡ padded (arcs_in table ++ arc ∷ [])
 front-added table count arc is room =
     let xs : List ArcId = arcs_in table in
     let m : ℕ = 4 - (length xs + 1) in
     let more : 4 - length xs ≡ suc m = omega (arith, is.counted, room) in
-    let less : m ≡ 4 - length (xs ++ arc ∷ []) = omega (arith, is.counted, room, length-push xs arc) in
+    let less : m ≡ 4 - length (xs ++ arc ∷ []) = omega (arith, is.counted, room, length-append xs (arc ∷ [])) in
     ap (λ (t : List (Option ArcId)). set t count (Some arc)) is.rest
     ∙ ap (λ (k : ℕ). set (front xs k) count (Some arc)) more
     ∙ ap (λ (k : ℕ). set (front xs (suc m)) k (Some arc)) (sym is.counted)
@@ -62,10 +59,7 @@ front-added table count arc is room =
 
 -- one arc less: the places from its own on are turned by one, and the last is emptied
 set-last : {X : Type 0} (t : List X) (y z : X) (i : ℕ) → length t ≡ i → set (t ++ y ∷ []) i z ≡ t ++ z ∷ []
-set-last [] y z zero e = refl
-set-last [] y z (suc i) e = absurd (omega arith)
-set-last (x ∷ t) y z zero e = absurd (omega arith)
-set-last {X} (x ∷ t) y z (suc i) e = ap (λ (l : List X). x ∷ l) (set-last t y z i (omega arith))
+set-last t y z i e = ap (λ (k : ℕ). set (t ++ y ∷ []) k z) (sym e) ∙ set-append_seam t y [] z
 
 replicate-push : {X : Type 0} (m : ℕ) (x : X) → replicate m x ++ x ∷ [] ≡ replicate (suc m) x
 replicate-push zero x = refl
@@ -77,11 +71,6 @@ remove-front (x ∷ xs) m zero below = refl
 remove-front (x ∷ xs) m (suc i) below =
     ap (λ (l : List (Option ArcId)). Some x ∷ l) (remove-front xs m i (omega arith))
 
-length-removed : (xs : List ArcId) (i : ℕ) → i < length xs → length (remove xs i) + 1 ≡ length xs
-length-removed [] i below = absurd (omega arith)
-length-removed (x ∷ xs) zero below = omega arith
-length-removed (x ∷ xs) (suc i) below = omega (arith, length-removed xs i (let b : i < length xs = omega arith in b))
-
 pub front-removed : (table : List (Option ArcId)) (count place : ℕ) (last : Option ArcId) → AreFront table count
     → place < count → set (remove table place ++ last ∷ []) 3 None ≡ padded (remove (arcs_in table) place)
 front-removed table count place last is below =
@@ -92,8 +81,8 @@ front-removed table count place last is below =
     let removed : remove table place ≡ front left m =
     ap (λ (t : List (Option ArcId)). remove t place) is.rest ∙ remove-front xs m place here in
     let three : length (front left m) ≡ 3 = omega
-    (arith, is.few, here, length-front left m, length-removed xs place here) in
-    let more : suc m ≡ 4 - length left = omega (arith, is.few, here, length-removed xs place here) in
+    (arith, is.few, here, length-front left m, length-remove xs place here) in
+    let more : suc m ≡ 4 - length left = omega (arith, is.few, here, length-remove xs place here) in
     ap (λ (t : List (Option ArcId)). set (t ++ last ∷ []) 3 None) removed
     ∙ set-last (front left m) last None 3 three
     ∙ append_assoc (map Some left) (replicate m None) (None ∷ [])
@@ -103,11 +92,11 @@ front-removed table count place last is below =
 pub removed-counted : (table : List (Option ArcId)) (count place : ℕ) → AreFront table count → place < count
     → length (remove (arcs_in table) place) ≡ count - 1
 removed-counted table count place is below =
-    omega (arith, length-removed (arcs_in table) place (omega (arith, below, is.counted)), is.counted)
+    omega (arith, length-remove (arcs_in table) place (omega (arith, below, is.counted)), is.counted)
 
 pub added-counted : (table : List (Option ArcId)) (count : ℕ) (arc : ArcId) → AreFront table count
     → length (arcs_in table ++ arc ∷ []) ≡ count + 1
-added-counted table count arc is = omega (arith, length-push (arcs_in table) arc, is.counted)
+added-counted table count arc is = omega (arith, length-append (arcs_in table) (arc ∷ []), is.counted)
 
 pub front-length : (table : List (Option ArcId)) (count : ℕ) → AreFront table count → length table ≡ 4
 front-length table count is =

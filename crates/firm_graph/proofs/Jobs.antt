@@ -4,25 +4,24 @@ use Rattle.std.proofs.Common.{bytes_eq, arith, sym, ap, ap₂, ◌∙◌, refl}
 use Rattle.std.specs.List.{sum_by, All, Contains, remove, position}
 use Rattle.std.specs.Prelude.{slice_index_or}
 use Rattle.std.proofs.lemmas.Bool.{cond-false}
-use Rattle.std.proofs.lemmas.List.{get_or-map, length-map}
 use Rattle.std.proofs.lemmas.List.Sums.{sum_by-cons, sum_by-remove}
 use Rattle.std.proofs.lemmas.List.Edits.{length-remove}
 use Rattle.indexmap.proofs.SetLemmas.{map-remove}
+use Rattle.std.proofs.lemmas.List.Elements.{Contains-append_left, Contains-append_right}
 use Rattle.firm_net.specs.Row.{Row}
+use Rattle.firm_net.specs.Laws.{contains-mapped}
 use Rattle.firm_net.specs.Net.{Net, row_at}
 use Rattle.firm_net.specs.declared.row.NodeId.{NodeId}
-use Rattle.firm_rules.specs.Book.{machine_names, job_names}
-use Rattle.firm_graph.specs.inner.Steps.{job_gone}
+use Rattle.firm_rules.specs.Book.{job_names}
+use Rattle.firm_graph.specs.inner.Steps.{job_gone, Holds}
 use Rattle.firm_rules.specs.declared.book.Job.{Job}
 use Rattle.firm_rules.specs.declared.book.Task.{Task}
 use Rattle.firm_net.specs.Edits.{Span, span_of, IsEdit}
-use Rattle.firm_graph.specs.inner.Steps.{Holds}
 use Rattle.firm_graph.specs.declared.ids.JobParts.{JobParts}
-use Rattle.firm_graph.specs.Graph.{Graph, Mirrors, job_spans, Target, target_of, home_node, node_under, weight_under}
-use Rattle.firm_graph.specs.Graph.{graph_nodes, graph_spans, machine_nodes, job_nodes, task_nodes}
-use Rattle.firm_graph.proofs.Found.{Contains-skip, Contains-front}
+use Rattle.firm_graph.specs.Graph.{Graph, Mirrors, job_spans, Target, target_of, node_under, weight_under, graph_nodes}
+use Rattle.firm_graph.specs.Graph.{graph_spans, machine_nodes, job_nodes, task_nodes}
 use Rattle.firm_graph.proofs.Said.{shrunk}
-use Rattle.firm_graph.proofs.Totals.{nodes-total, spans-total, tasks-same, sum-one}
+use Rattle.firm_graph.proofs.Totals.{jobs-paired, nodes-total, spans-total, tasks-same, sum-one}
 use Rattle.firm_graph.proofs.Drops.{holds-start, holds-unlinked, flat_sum-remove, free, IsFree}
 use Rattle.firm_graph.proofs.Machines.{node_under-remove, name-at}
 
@@ -38,16 +37,7 @@ weight_under-remove (j ∷ jobs) (suc i) name below f =
 -- the graph without the job at a place
 abbrev pub job_dropped : Graph → Net → ℕ → Graph
 job_dropped g net place =
-    record {
-      rows = job_gone g.rows place;
-      net = net;
-      hub = g.hub;
-      sink = g.sink;
-      machines = g.machines;
-      jobs = remove g.jobs place;
-      tasks = g.tasks;
-      asked = g.asked;
-    }
+    record g { rows = job_gone g.rows place; net = net; jobs = remove g.jobs place }
 
 abbrev no_job : Job
 no_job = record { name = []; weight = 0 }
@@ -67,24 +57,17 @@ module _ (g : Graph) (net : Net) (place : ℕ) (name : List ℕ) (parts : JobPar
   job-target k d here =
       let task : Task = slice_index_or g.rows.tasks k d in
       let other : bytes_eq task.job (get_or (job_names g.rows) place []) ≡ false = apart task (off k d here) in
-      let lengths : length (job_nodes g) ≡ length (job_names g.rows) =
-      length-map g.jobs (λ (p : JobParts). p.node) ∙ is.jobs ∙ sym (length-map g.rows.jobs (λ (j : Job). j.name)) in
       let owner : node_under (job_names (job_gone g.rows place)) (map (λ (p : JobParts). p.node) (remove g.jobs place))
       g.hub task.job
       ≡ node_under (job_names g.rows) (job_nodes g) g.hub task.job =
       ap₂ (λ (ns : List (List ℕ)) (xs : List NodeId). node_under ns xs g.hub task.job)
       (map-remove (λ (j : Job). j.name) g.rows.jobs place) (map-remove (λ (p : JobParts). p.node) g.jobs place)
-      ∙ node_under-remove (job_names g.rows) (job_nodes g) place g.hub task.job lengths
+      ∙ node_under-remove (job_names g.rows) (job_nodes g) place g.hub task.job (jobs-paired g is.jobs)
       (name-at (job_names g.rows) name place named).1 other in
       let weight : weight_under (remove g.rows.jobs place) task.job ≡ weight_under g.rows.jobs task.job =
       weight_under-remove g.rows.jobs place task.job (omega (arith, below, is.jobs)) other in
-      ap₂ (λ (n : NodeId) (w : ℕ). let t : Target = record {
-        home = home_node (machine_names g.rows) (machine_nodes g) g.hub task.machine;
-        owner = n;
-        preferred = map (node_under (machine_names g.rows) (machine_nodes g) g.hub) task.preferred;
-        delay = w +
-            task.waited;
-      } in t) owner weight
+      ap₂ (λ (n : NodeId) (w : ℕ). let t : Target = record (target_of g task) { owner = n; delay = w + task.waited } in
+      t) owner weight
 
   pub job-start : Holds g.net g.net (graph_nodes g) (exit_of g parts ∷ graph_spans (job_dropped g net place))
   job-start =
@@ -119,12 +102,9 @@ module _ (g : Graph) (net : Net) (place : ℕ) (name : List ℕ) (parts : JobPar
 
   pub job-listed : Contains (graph_nodes g) parts.node
   job-listed =
-      let n : NodeId = parts.node in
-      let listed : place < length (job_nodes g) = omega (arith, below, length-map g.jobs (λ (p : JobParts). p.node)) in
-      let own : get_or (job_nodes g) place n ≡ n = get_or-map (λ (p : JobParts). p.node) g.jobs place parts n below ∙
-      ap (λ (p : JobParts). p.node) (sym at) in
-      Contains-skip (g.hub ∷ g.sink ∷ machine_nodes g) (job_nodes g ++ task_nodes g) n
-      (Contains-front (job_nodes g) (task_nodes g) n (place, listed, own))
+      Contains-append_right (g.hub ∷ g.sink ∷ machine_nodes g) (job_nodes g ++ task_nodes g) parts.node
+      (Contains-append_left (job_nodes g) (task_nodes g) parts.node
+      (contains-mapped (λ (p : JobParts). p.node) g.jobs parts (place, below, sym at)))
 
   pub job-unlinked : (n1 : Net) → ((row : Row) → row_at g.net parts.exit ≡ Some row → IsEdit g.net n1 [] []
       (span_of parts.exit row ∷ []) [])

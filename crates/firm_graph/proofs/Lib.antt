@@ -16,7 +16,6 @@ pub mod Permutes
 pub mod Firsts
 pub mod Machines
 pub mod Jobs
-pub mod Lineups
 pub mod Names
 pub mod Cuts
 pub mod Shown

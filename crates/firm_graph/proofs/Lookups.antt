@@ -1,8 +1,9 @@
 -- Look-ups by name, where a name is added last.
-use Rattle.std.proofs.Common.{◌≡◌, ℕ, suc, not, ltb, get_or, Some, None, ◌+◌, ◌<◌, Bool, true, false, cond, ◌||◌, List}
-use Rattle.std.proofs.Common.{[], ◌∷◌, ◌++◌, map, length, bytes_eq, arith, refl, sym, ap, ◌∙◌, ⊎_elim}
-use Rattle.std.specs.List.{list_any, position_or_len, position}
-use Rattle.std.proofs.lemmas.Bool.{cases_Bool, cond-true, cond-false, ltb-true, or_left}
+use Rattle.std.proofs.Common.{◌≡◌, ℕ, zero, suc, not, ltb, get_or, Option, Some, None, ◌+◌, ◌<◌, Bool, true, false}
+use Rattle.std.proofs.Common.{cond, ◌||◌, List, [], ◌∷◌, ◌++◌, map, length, bytes_eq, arith, refl, sym, ap, ap₂, ◌∙◌}
+use Rattle.std.proofs.lemmas.List.Elements.{All-head, All-tail}
+use Rattle.std.specs.List.{All, AllByRecursion, list_any, position_or_len, position}
+use Rattle.std.proofs.lemmas.Bool.{ltb-true}
 use Rattle.firm_net.specs.declared.row.NodeId.{NodeId}
 use Rattle.firm_rules.specs.Names.{is_among}
 use Rattle.firm_rules.specs.declared.book.Job.{Job}
@@ -11,16 +12,29 @@ use Rattle.firm_graph.specs.Graph.{node_under, weight_under}
 pub or-false : (a b : Bool) → a ≡ false → a || b ≡ b
 or-false a b e = ap (λ (x : Bool). x || b) e
 
--- a name that is among some is among more
-pub is_among-push : (names more : List (List ℕ)) (name : List ℕ) → is_among names name ≡ true
-    → is_among (names ++ more) name ≡ true
-is_among-push [] more name h = let e : false ≡ true = h in absurd cc
-is_among-push (n ∷ names) more name h = ⊎_elim
-    (λ (t : bytes_eq name n ≡ true). or_left (bytes_eq name n) (list_any (bytes_eq name) (names ++ more)) t)
-    (λ (f : bytes_eq name n ≡ false).
-    or-false (bytes_eq name n) (list_any (bytes_eq name) (names ++ more)) f
-    ∙ is_among-push names more name (sym (or-false (bytes_eq name n) (list_any (bytes_eq name) names) f) ∙ h))
-    (cases_Bool (bytes_eq name n))
+-- what holds of each element holds of the one at a place
+pub all-at : {X : Type 0} (P : X → Type 0) (xs : List X) (i : ℕ) (d : X) → AllByRecursion P xs → i < length xs
+    → P (get_or xs i d)
+all-at P [] i d h below = absurd (omega arith)
+all-at P (x ∷ xs) zero d h below = h.0
+all-at P (x ∷ xs) (suc i) d h below = all-at P xs i d h.1 (omega arith)
+
+-- two functions that agree on a list make the same of it
+pub map-all : {A B : Type 0} (f g : A → B) (xs : List A) → All (λ x. f x ≡ g x) xs → map f xs ≡ map g xs
+map-all f g [] same = refl
+map-all {A} {B} f g (x ∷ xs) same =
+    let P : A → Type 0 = λ (y : A). f y ≡ g y in
+    ap₂ (λ (y : B) (l : List B). y ∷ l) (All-head P x xs same) (map-all f g xs (All-tail P x xs same))
+
+-- what holds of each branch where it is taken holds of the choice
+pub cond-case : {X : Type 0} (P : X → Type 0) (b : Bool) (x y : X) → (b ≡ true → P x) → (b ≡ false → P y)
+    → P (cond b x y)
+cond-case P true x y first second = first refl
+cond-case P false x y first second = second refl
+
+cond-same : {X : Type 0} (b : Bool) (x y z : X) → (b ≡ false → y ≡ z) → cond b x y ≡ cond b x z
+cond-same true x y z same = refl
+cond-same false x y z same = same refl
 
 pub node_under-push : (names : List (List ℕ)) (nodes : List NodeId) (n : List ℕ) (node other : NodeId) (name : List ℕ)
     → length nodes ≡ length names
@@ -29,47 +43,29 @@ pub node_under-push : (names : List (List ℕ)) (nodes : List NodeId) (n : List 
 node_under-push [] nodes n node other name e h = let clash : false ≡ true = h in absurd cc
 node_under-push (m ∷ names) [] n node other name e h = absurd (omega arith)
 node_under-push (m ∷ names) (x ∷ nodes) n node other name e h =
-    let shorter : length nodes ≡ length names = omega arith in
-    ⊎_elim
-    (λ (t : bytes_eq name m ≡ true).
-    cond-true (bytes_eq name m) x (node_under (names ++ n ∷ []) (nodes ++ node ∷ []) other name) t
-    ∙ sym (cond-true (bytes_eq name m) x (node_under names nodes other name) t))
-    (λ (f : bytes_eq name m ≡ false).
-    cond-false (bytes_eq name m) x (node_under (names ++ n ∷ []) (nodes ++ node ∷ []) other name) f
-    ∙ node_under-push names nodes n node other name shorter
-    (sym (or-false (bytes_eq name m) (list_any (bytes_eq name) names) f) ∙ h)
-    ∙ sym (cond-false (bytes_eq name m) x (node_under names nodes other name) f))
-    (cases_Bool (bytes_eq name m))
+    cond-same (bytes_eq name m) x (node_under (names ++ n ∷ []) (nodes ++ node ∷ []) other name)
+    (node_under names nodes other name)
+    (λ f. node_under-push names nodes n node other name (omega arith)
+    (sym (or-false (bytes_eq name m) (list_any (bytes_eq name) names) f) ∙ h))
 
 pub weight_under-push : (jobs : List Job) (job : Job) (name : List ℕ) → is_among (map (λ j. j.name) jobs) name ≡ true
     → weight_under (jobs ++ job ∷ []) name ≡ weight_under jobs name
 weight_under-push [] job name h = let clash : false ≡ true = h in absurd cc
-weight_under-push (j ∷ jobs) job name h = ⊎_elim
-    (λ (t : bytes_eq name j.name ≡ true).
-    cond-true (bytes_eq name j.name) j.weight (weight_under (jobs ++ job ∷ []) name) t
-    ∙ sym (cond-true (bytes_eq name j.name) j.weight (weight_under jobs name) t))
-    (λ (f : bytes_eq name j.name ≡ false).
-    cond-false (bytes_eq name j.name) j.weight (weight_under (jobs ++ job ∷ []) name) f
-    ∙ weight_under-push jobs job name (sym (or-false (bytes_eq name j.name)
-    (list_any (bytes_eq name) (map (λ i. i.name) jobs)) f) ∙ h)
-    ∙ sym (cond-false (bytes_eq name j.name) j.weight (weight_under jobs name) f))
-    (cases_Bool (bytes_eq name j.name))
+weight_under-push (j ∷ jobs) job name h =
+    cond-same (bytes_eq name j.name) j.weight (weight_under (jobs ++ job ∷ []) name) (weight_under jobs name)
+    (λ f. weight_under-push jobs job name (sym (or-false (bytes_eq name j.name)
+    (list_any (bytes_eq name) (map (λ i. i.name) jobs)) f) ∙ h))
 
 -- what a position says
 pub position-is : {X : Type 0} (p : X → Bool) (xs : List X) (i : ℕ) → position p xs ≡ Some i
     → (position_or_len p xs ≡ i) × (i < length xs)
-position-is p xs i e = ⊎_elim
-    (λ (t : ltb (position_or_len p xs) (length xs) ≡ true).
-    let same : Some (position_or_len p xs) ≡ Some i = sym
-    (cond-true (ltb (position_or_len p xs) (length xs)) (Some (position_or_len p xs)) None t) ∙ e in
-    let is : position_or_len p xs ≡ i = cc in
-    let below : position_or_len p xs < length xs = ltb-true (position_or_len p xs) (length xs) t in
-    (is, omega (arith, is, below)))
-    (λ (f : ltb (position_or_len p xs) (length xs) ≡ false).
-    let none : None ≡ Some i = sym (cond-false (ltb (position_or_len p xs) (length xs)) (Some (position_or_len p xs))
-    None f) ∙ e in
-    absurd cc)
-    (cases_Bool (ltb (position_or_len p xs) (length xs)))
+position-is p xs i e =
+    let at : ℕ = position_or_len p xs in
+    let by : position p xs ≡ Some i → (at ≡ i) × (i < length xs) =
+    cond-case (λ (o : Option ℕ). o ≡ Some i → (at ≡ i) × (i < length xs)) (ltb at (length xs)) (Some at) None
+    (λ t same. let is : at ≡ i = cc in (is, omega (arith, is, ltb-true at (length xs) t)))
+    (λ _ clash. absurd cc) in
+    by e
 
 -- a look-up reads at the position
 pub node_under-at : (names : List (List ℕ)) (nodes : List NodeId) (other : NodeId) (name : List ℕ)
@@ -87,22 +83,15 @@ node_under-at (m ∷ names) (n ∷ nodes) other name e =
       | false ↦ node_under-at names nodes other name shorter ∙ sym (ap (λ (k : ℕ). get_or (n ∷ nodes) k other) next)
     ]
 
-pub weight_under-at : (jobs : List Job) (name : List ℕ) (d : Job)
-    → position_or_len (bytes_eq name) (map (λ j. j.name) jobs) < length jobs
-    → weight_under jobs name ≡ (get_or jobs (position_or_len (bytes_eq name) (map (λ j. j.name) jobs)) d).weight
-weight_under-at [] name d below = absurd (omega arith)
-weight_under-at (j ∷ jobs) name d below =
-    let later : ℕ = position_or_len (bytes_eq name) (map (λ i. i.name) jobs) in
+pub weight_under-at : (jobs : List Job) (name : List ℕ) → weight_under jobs name
+    ≡ get_or (map (λ job. job.weight) jobs) (position_or_len (bytes_eq name) (map (λ job. job.name) jobs)) 0
+weight_under-at [] name = refl
+weight_under-at (job ∷ jobs) name =
+    let weights : List ℕ = map (λ (j : Job). j.weight) jobs in
+    let later : ℕ = position_or_len (bytes_eq name) (map (λ (j : Job). j.name) jobs) in
     let next : 1 + later ≡ suc later = omega arith in
-    ⊎_elim
-    (λ (t : bytes_eq name j.name ≡ true).
-    cond-true (bytes_eq name j.name) j.weight (weight_under jobs name) t
-    ∙ sym (ap (λ (b : Bool). (get_or (j ∷ jobs) (cond (not b) (1 + later) 0) d).weight) t))
-    (λ (f : bytes_eq name j.name ≡ false).
-    let at : cond (not (bytes_eq name j.name)) (1 + later) 0 ≡ suc later = ap
-    (λ (b : Bool). cond (not b) (1 + later) 0) f ∙ next in
-    let shorter : later < length jobs = omega (arith, below, at) in
-    cond-false (bytes_eq name j.name) j.weight (weight_under jobs name) f
-    ∙ weight_under-at jobs name d shorter
-    ∙ sym (ap (λ (k : ℕ). (get_or (j ∷ jobs) k d).weight) at))
-    (cases_Bool (bytes_eq name j.name))
+    elim (bytes_eq name job.name) as (λ b. cond b job.weight (weight_under jobs name)
+    ≡ get_or (job.weight ∷ weights) (cond (not b) (1 + later) 0) 0) [
+      | true ↦ refl
+      | false ↦ weight_under-at jobs name ∙ sym (ap (λ (k : ℕ). get_or (job.weight ∷ weights) k 0) next)
+    ]

@@ -1,32 +1,30 @@
 -- What a graph is once a machine was removed from it.
-use Rattle.std.proofs.Common.{◌≡◌, ℕ, zero, suc, ◌+◌, ◌<◌, true, false, true≢false, cond, ⊎_elim, Option}
-use Rattle.std.proofs.Common.{Some, None, List, [], ◌∷◌, ◌++◌, map, length, get_or, bytes_eq, arith, refl, sym, ap, ap₂}
-use Rattle.std.proofs.Common.{◌∙◌}
-use Rattle.std.specs.List.{sum_by, All, Contains, remove, position, position_or_len}
+use Rattle.std.proofs.Common.{◌≡◌, ℕ, zero, suc, ◌+◌, ◌<◌, false, cond, Option, Some, None, List, [], ◌∷◌, ◌++◌, map}
+use Rattle.std.proofs.Common.{length, get_or, bytes_eq, arith, refl, sym, ap, ap₂, ◌∙◌}
+use Rattle.std.specs.List.{sum_by, All, Contains, remove, position}
 use Rattle.std.specs.Prelude.{slice_index_or}
-use Rattle.std.proofs.lemmas.Bool.{cases_Bool, cond-false}
-use Rattle.std.proofs.lemmas.List.{get_or-map, length-map}
-use Rattle.std.proofs.lemmas.List.Elements.{All-head, All-tail}
-use Rattle.std.proofs.lemmas.List.Sums.{sum_by-append, sum_by-remove, passes_at_first}
+use Rattle.std.proofs.lemmas.Bool.{cond-false, both_ways, false_from_ne_true}
+use Rattle.std.proofs.lemmas.List.Elements.{Contains-append_left, Contains-append_right}
+use Rattle.std.proofs.lemmas.List.Quantifiers.{position-Some}
+use Rattle.std.proofs.lemmas.List.Sums.{sum_by-append, sum_by-remove}
 use Rattle.std.proofs.lemmas.List.Edits.{length-remove}
 use Rattle.std.proofs.lemmas.Slice.Eq.{bytes_eq-Decides}
 use Rattle.indexmap.proofs.SetLemmas.{map-remove}
 use Rattle.firm_net.specs.Row.{Row}
+use Rattle.firm_net.specs.Laws.{contains-mapped}
 use Rattle.firm_net.specs.Net.{Net, row_at}
 use Rattle.firm_net.specs.declared.row.NodeId.{NodeId}
-use Rattle.firm_rules.specs.Book.{machine_names, job_names, is_on}
-use Rattle.firm_graph.specs.inner.Steps.{machine_gone}
+use Rattle.firm_rules.specs.Book.{machine_names, is_on}
+use Rattle.firm_graph.specs.inner.Steps.{machine_gone, Holds}
 use Rattle.firm_rules.specs.declared.book.Machine.{Machine}
 use Rattle.firm_rules.specs.declared.book.Task.{Task}
 use Rattle.firm_net.specs.Edits.{Span, span_of, IsEdit}
-use Rattle.firm_graph.specs.inner.Steps.{Holds}
 use Rattle.firm_graph.specs.Parts.{MachineParts}
 use Rattle.firm_graph.specs.Graph.{Graph, Mirrors, machine_spans, slot_spans, Target, target_of, home_node, node_under}
-use Rattle.firm_graph.specs.Graph.{weight_under, graph_nodes, graph_spans, machine_nodes, job_nodes, task_nodes}
-use Rattle.firm_graph.proofs.Found.{Contains-skip, Contains-front}
+use Rattle.firm_graph.specs.Graph.{graph_nodes, graph_spans, machine_nodes, job_nodes, task_nodes}
+use Rattle.firm_graph.proofs.Lookups.{map-all}
 use Rattle.firm_graph.proofs.Said.{shrunk}
-use Rattle.firm_graph.proofs.Totals.{nodes-total, spans-total, tasks-same}
-use Rattle.firm_graph.proofs.Lookups.{position-is}
+use Rattle.firm_graph.proofs.Totals.{machines-paired, nodes-total, spans-total, tasks-same}
 use Rattle.firm_graph.proofs.Drops.{holds-start, holds-unlinked, holds-through, flat_sum-remove, AllZip-remove, free}
 use Rattle.firm_graph.proofs.Drops.{IsFree}
 
@@ -46,35 +44,20 @@ node_under-remove (m ∷ names) (n ∷ nodes) (suc i) other name e below f =
 -- the graph without the machine at a place
 abbrev pub machine_dropped : Graph → Net → ℕ → Graph
 machine_dropped g net place =
-    record {
-      rows = machine_gone g.rows place;
-      net = net;
-      hub = g.hub;
-      sink = g.sink;
-      machines = remove g.machines place;
-      jobs = g.jobs;
-      tasks = g.tasks;
-      asked = g.asked;
-    }
+    record g { rows = machine_gone g.rows place; net = net; machines = remove g.machines place }
 
 -- two names differ either way
 pub bytes_eq-swap : (a b : List ℕ) → bytes_eq a b ≡ false → bytes_eq b a ≡ false
-bytes_eq-swap a b f = ⊎_elim
-    (λ (t : bytes_eq b a ≡ true).
-    let clash : false ≡ true = sym f ∙ (bytes_eq-Decides a b).1 (sym ((bytes_eq-Decides b a).0 t)) in
-    absurd (true≢false (sym clash)))
-    (λ (e : bytes_eq b a ≡ false). e)
-    (cases_Bool (bytes_eq b a))
+bytes_eq-swap a b f =
+    false_from_ne_true (bytes_eq b a)
+    (λ t. both_ways (bytes_eq a b) f ((bytes_eq-Decides a b).1 (sym ((bytes_eq-Decides b a).0 t))))
 
 -- the machine of a name stands at its position
 pub name-at : (names : List (List ℕ)) (name : List ℕ) (place : ℕ) → position (bytes_eq name) names ≡ Some place
     → (get_or names place [] ≡ name) × (place < length names)
 name-at names name place e =
-    let at = position-is (bytes_eq name) names place e in
-    let below : position_or_len (bytes_eq name) names < length names = omega (arith, at.0, at.1) in
-    let t : bytes_eq name (get_or names place []) ≡ true =
-    ap (λ (k : ℕ). bytes_eq name (get_or names k [])) (sym at.0) ∙ passes_at_first (bytes_eq name) names [] below in
-    (sym ((bytes_eq-Decides name (get_or names place [])).0 t), at.1)
+    let at = position-Some (bytes_eq name) names place [] e in
+    (sym ((bytes_eq-Decides name (get_or names place [])).0 at.1), at.0)
 
 home-elsewhere : (g : Graph) (place : ℕ) (name : List ℕ) (home : Option (List ℕ))
     → length g.machines ≡ length g.rows.machines
@@ -85,13 +68,10 @@ home-elsewhere : (g : Graph) (place : ℕ) (name : List ℕ) (home : Option (Lis
 home-elsewhere g place name None e at off = refl
 home-elsewhere g place name (Some m) e at off =
     let n = name-at (machine_names g.rows) name place at in
-    let lengths : length (machine_nodes g) ≡ length (machine_names g.rows) =
-    length-map g.machines (λ (p : MachineParts). p.node) ∙ e ∙ sym
-    (length-map g.rows.machines (λ (j : Machine). j.name)) in
     ap₂ (λ (ns : List (List ℕ)) (xs : List NodeId). node_under ns xs g.hub m)
     (map-remove (λ (j : Machine). j.name) g.rows.machines place)
     (map-remove (λ (p : MachineParts). p.node) g.machines place)
-    ∙ node_under-remove (machine_names g.rows) (machine_nodes g) place g.hub m lengths n.1
+    ∙ node_under-remove (machine_names g.rows) (machine_nodes g) place g.hub m (machines-paired g e) n.1
     (ap (λ (x : List ℕ). bytes_eq m x) n.0 ∙ bytes_eq-swap name m off)
 
 preferred-elsewhere : (g : Graph) (place : ℕ) (name : List ℕ) (preferred : List (List ℕ))
@@ -100,12 +80,11 @@ preferred-elsewhere : (g : Graph) (place : ℕ) (name : List ℕ) (preferred : L
     → map (node_under (machine_names (machine_gone g.rows place))
     (map (λ (p : MachineParts). p.node) (remove g.machines place)) g.hub) preferred
     ≡ map (node_under (machine_names g.rows) (machine_nodes g) g.hub) preferred
-preferred-elsewhere g place name [] e at off = refl
-preferred-elsewhere g place name (m ∷ preferred) e at off =
-    let P : List ℕ → Type 0 = λ (n : List ℕ). bytes_eq name n ≡ false in
-    ap₂ (λ (n : NodeId) (l : List NodeId). n ∷ l)
-    (home-elsewhere g place name (Some m) e at (All-head P m preferred off))
-    (preferred-elsewhere g place name preferred e at (All-tail P m preferred off))
+preferred-elsewhere g place name preferred e at off =
+    map-all (node_under (machine_names (machine_gone g.rows place))
+    (map (λ (p : MachineParts). p.node) (remove g.machines place)) g.hub)
+    (node_under (machine_names g.rows) (machine_nodes g) g.hub) preferred
+    (λ k d below. home-elsewhere g place name (Some (get_or preferred k d)) e at (off k d below))
 
 abbrev no_machine : Machine
 no_machine = record { name = []; slots = 0 }
@@ -132,14 +111,8 @@ module _ (g : Graph) (net : Net) (place : ℕ) (name : List ℕ) (parts : Machin
   pub machine-target : All (λ task. target_of (machine_dropped g net place) task ≡ target_of g task) g.rows.tasks
   machine-target k d here =
       let task : Task = slice_index_or g.rows.tasks k d in
-      ap₂ (λ (n : NodeId) (l : List NodeId). let t : Target = record {
-        home = n;
-        owner = node_under (job_names g.rows) (job_nodes g) g.hub task.job;
-        preferred = l;
-        delay = weight_under
-            g.rows.jobs task.job + task.waited;
-      } in t)
-      (home-elsewhere g place name task.machine is.machines named (off k d here))
+      ap₂ (λ (n : NodeId) (l : List NodeId). let t : Target = record (target_of g task) { home = n; preferred = l } in
+      t) (home-elsewhere g place name task.machine is.machines named (off k d here))
       (preferred-elsewhere g place name task.preferred is.machines named (loose k d here))
 
   pub machine-start : Holds g.net g.net (graph_nodes g)
@@ -177,13 +150,9 @@ module _ (g : Graph) (net : Net) (place : ℕ) (name : List ℕ) (parts : Machin
 
   pub machine-listed : Contains (graph_nodes g) parts.node
   machine-listed =
-      let n : NodeId = parts.node in
-      let listed : place < length (machine_nodes g) = omega
-      (arith, below, length-map g.machines (λ (p : MachineParts). p.node)) in
-      let own : get_or (machine_nodes g) place n ≡ n = get_or-map (λ (p : MachineParts). p.node) g.machines place parts
-      n below ∙ ap (λ (p : MachineParts). p.node) (sym at) in
-      Contains-skip (g.hub ∷ g.sink ∷ []) (machine_nodes g ++ (job_nodes g ++ task_nodes g)) n
-      (Contains-front (machine_nodes g) (job_nodes g ++ task_nodes g) n (place, listed, own))
+      Contains-append_right (g.hub ∷ g.sink ∷ []) (machine_nodes g ++ (job_nodes g ++ task_nodes g)) parts.node
+      (Contains-append_left (machine_nodes g) (job_nodes g ++ task_nodes g) parts.node
+      (contains-mapped (λ (p : MachineParts). p.node) g.machines parts (place, below, sym at)))
 
   pub machine-free : (now : Net) → Holds g.net now (graph_nodes g) (graph_spans (machine_dropped g net place)) → IsFree
       now parts.node

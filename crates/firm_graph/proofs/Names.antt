@@ -1,7 +1,8 @@
 -- Rows whose machines, jobs or tasks are said by name and by place.
-use Rattle.std.proofs.Common.{◌≡◌, ℕ, Bool, true, false, ◌||◌, List, [], ◌∷◌, map, bytes_eq, refl, sym, ap, ◌∙◌}
+use Rattle.std.proofs.Common.{◌≡◌, ℕ, Bool, false, List, map, get_or, bytes_eq, sym, ap, ◌∙◌}
 use Rattle.std.specs.List.{remove, All, list_any}
-use Rattle.std.proofs.lemmas.List.Elements.{All-nil, All-cons}
+use Rattle.std.proofs.lemmas.Bool.{both_ways, false_from_ne_true}
+use Rattle.std.proofs.lemmas.List.Folds.{list_any_at}
 use Rattle.firm_rules.specs.Book.{TenantRows, evicted, without_machine, without_job, without_task}
 use Rattle.firm_rules.specs.declared.book.Machine.{Machine}
 use Rattle.firm_rules.specs.declared.book.Job.{Job}
@@ -32,17 +33,8 @@ machine-rows new old name place e f =
 -- no task is of a job that has none
 pub none-of : (name : List ℕ) (tasks : List Task) → list_any (λ task. bytes_eq name task.job) tasks ≡ false
     → All (λ task. bytes_eq task.job name ≡ false) tasks
-none-of name [] h = All-nil (λ (t : Task). bytes_eq t.job name ≡ false)
-none-of name (t ∷ tasks) h =
-    let rest : Bool = list_any (λ (x : Task). bytes_eq name x.job) tasks in
-    All-cons (λ (x : Task). bytes_eq x.job name ≡ false) t tasks
-    (bytes_eq-swap name t.job (left (bytes_eq name t.job) rest h))
-    (none-of name tasks (right (bytes_eq name t.job) rest h))
-  where
-    left : (a b : Bool) → a || b ≡ false → a ≡ false
-    left true b h = h
-    left false b h = refl
-
-    right : (a b : Bool) → a || b ≡ false → b ≡ false
-    right true b h = let clash : true ≡ false = h in absurd cc
-    right false b h = h
+none-of name tasks h k d below =
+    let test : Task → Bool = λ (t : Task). bytes_eq name t.job in
+    let task : Task = get_or tasks k d in
+    bytes_eq-swap name task.job (false_from_ne_true (test task)
+    (λ t. both_ways (list_any test tasks) h (list_any_at test tasks k d below t)))

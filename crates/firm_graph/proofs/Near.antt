@@ -1,10 +1,9 @@
 -- A task's arcs to the machines that it prefers, as they are added, changed and removed one by one.
 use Rattle.std.proofs.Common.{◌≡◌, ℕ, zero, suc, ◌+◌, ◌<◌, ◌≤◌, Some, List, [], ◌∷◌, ◌++◌, map, length, get_or, take}
-use Rattle.std.proofs.Common.{drop}
-use Rattle.std.proofs.Common.{arith, refl, sym, ap, ap₂, ◌∙◌, subst, drop-cons}
+use Rattle.std.proofs.Common.{drop, arith, refl, sym, ap, ap₂, ◌∙◌, subst, drop-cons}
 use Rattle.std.specs.List.{sum_by}
 use Rattle.std.proofs.lemmas.List.Sums.{sum_by-cons, sum_by-append}
-use Rattle.std.proofs.lemmas.List.{map-append, length-map}
+use Rattle.std.proofs.lemmas.List.{drop_all, length-take-le, map-append, length-map, take_more}
 use Rattle.firm_net.specs.Row.{Row}
 use Rattle.firm_net.specs.Net.{Net, row_at, added_of}
 use Rattle.firm_net.specs.Edits.{Span, span_of, IsEdit}
@@ -41,29 +40,6 @@ near-push node cost (h ∷ heads) [] head arc e = absurd (omega arith)
 near-push node cost (h ∷ heads) (a ∷ arcs) head arc e =
     ap (λ (l : List Span). near node h cost a ∷ l) (near-push node cost heads arcs head arc (omega arith))
 
-take-next : {X : Type 0} (xs : List X) (i : ℕ) (x : X) → i < length xs → x ≡ get_or xs i x
-    → take (i + 1) xs ≡ take i xs ++ x ∷ []
-take-next {X} xs i x below at =
-    ap (λ (k : ℕ). take k xs) (let z : i + 1 ≡ suc i = omega arith in z) ∙ next xs i x below at
-  where
-    next : {X : Type 0} (xs : List X) (i : ℕ) (x : X) → i < length xs → x ≡ get_or xs i x → take (suc i) xs ≡ take i xs
-        ++ x ∷ []
-    next [] i x below at = absurd (omega arith)
-    next {X} (y ∷ xs) zero x below at = ap (λ (z : X). z ∷ []) (sym at)
-    next {X} (y ∷ xs) (suc i) x below at = ap (λ (l : List X). y ∷ l) (next xs i x (omega arith) at)
-
-length-front : {X : Type 0} (xs : List X) (i : ℕ) → i ≤ length xs → length (take i xs) ≡ i
-length-front [] zero below = refl
-length-front [] (suc i) below = absurd (omega arith)
-length-front (x ∷ xs) zero below = refl
-length-front (x ∷ xs) (suc i) below = omega (arith, length-front xs i (let b : i ≤ length xs = omega arith in b))
-
-pub take-whole : {X : Type 0} (xs : List X) (i : ℕ) → length xs ≤ i → take i xs ≡ xs
-take-whole [] zero all = refl
-take-whole [] (suc i) all = refl
-take-whole (x ∷ xs) zero all = absurd (omega arith)
-take-whole {X} (x ∷ xs) (suc i) all = ap (λ (l : List X). x ∷ l) (take-whole xs i (omega arith))
-
 -- a step of the loop that adds an arc to the node of each name
 pub link-step : (base old new : Net) (node : NodeId) (under : List ℕ → NodeId) (names : List (List ℕ)) (i : ℕ)
     (name : List ℕ) (head : NodeId) (arcs more : List ArcId) (arc : ArcId) → i < length names
@@ -74,13 +50,12 @@ pub link-step : (base old new : Net) (node : NodeId) (under : List ℕ → NodeI
 link-step base old new node under names i name head arcs more arc below at head_is counted more_is so_far edit =
     let heads : List NodeId = map under (take i names) in
     let whole : map under (take (i + 1) names) ≡ heads ++ head ∷ [] =
-    ap (map under) (take-next names i name below at) ∙ map-append under (take i names) (name ∷ [])
-    ∙ ap (λ (n : NodeId). heads ++ n ∷ []) (sym head_is) in
+    ap (map under) (take_more names i name below ∙ ap (λ (n : List ℕ). take i names ++ n ∷ []) (sym at))
+    ∙ map-append under (take i names) (name ∷ []) ∙ ap (λ (n : NodeId). heads ++ n ∷ []) (sym head_is) in
     let paired : length heads ≡ length arcs = omega (
       arith,
       length-map (take i names) under,
-      length-front names i
-          (let b : i ≤ length names = omega (arith, below) in b),
+      length-take-le i names (let b : i ≤ length names = omega (arith, below) in b),
       counted,
     ) in
     let spans : preferred_spans node 0 (map under (take (i + 1) names)) more ≡ preferred_spans node 0 heads arcs ++
@@ -89,12 +64,6 @@ link-step base old new node under names i name head arcs more arc below at head_
     ∙ near-push node 0 heads arcs head arc paired in
     subst (λ (l : List Span). IsEdit base new [] [] [] l) (sym spans)
     (edit-then base old new [] (preferred_spans node 0 heads arcs) (near node head 0 arc ∷ []) so_far edit)
-
-past : {X : Type 0} (xs : List X) (k : ℕ) → length xs ≤ k → drop k xs ≡ []
-past [] zero below = refl
-past [] (suc k) below = refl
-past (x ∷ xs) zero below = absurd (omega arith)
-past (x ∷ xs) (suc k) below = past xs k (omega arith)
 
 -- a step of the loop that removes the arcs
 pub unlink-step : (base old new : Net) (ns : List NodeId) (ss : List Span) (node : NodeId) (cost i : ℕ)
@@ -123,7 +92,7 @@ pub unlink-end : (base now : Net) (ns : List NodeId) (ss : List Span) (node : No
     → Holds base now ns (preferred_spans node cost (drop i heads) (drop i arcs) ++ ss) → Holds base now ns ss
 unlink-end base now ns ss node cost i heads arcs e all h =
     subst (λ (l : List NodeId). Holds base now ns (preferred_spans node cost l (drop i arcs) ++ ss))
-    (past heads i (omega (arith, e, all))) h
+    (drop_all i heads (omega (arith, e, all))) h
 
 -- the arcs but one, the ones before it at another cost
 abbrev others : NodeId → ℕ → ℕ → ℕ → List NodeId → List ArcId → List Span
@@ -133,38 +102,26 @@ others node new old zero (head ∷ heads) (arc ∷ arcs) = preferred_spans node 
 others node new old (suc n) (head ∷ heads) (arc ∷ arcs) =
     near node head new arc ∷ others node new old n heads arcs
 
-old-sum : (w : Span → ℕ) (node : NodeId) (new old n : ℕ) (heads : List NodeId) (arcs : List ArcId) (h : NodeId)
+-- what the arcs weigh before and after the next one has its cost
+mixed-sums : (w : Span → ℕ) (node : NodeId) (new old n : ℕ) (heads : List NodeId) (arcs : List ArcId) (h : NodeId)
     (a : ArcId) → length heads ≡ length arcs → n < length arcs
-    → sum_by w (mixed_spans node new old n heads arcs)
-    ≡ w (near node (get_or heads n h) old (get_or arcs n a)) + sum_by w (others node new old n heads arcs)
-old-sum w node new old n [] [] h a e below = absurd (omega arith)
-old-sum w node new old n [] (arc ∷ arcs) h a e below = absurd (omega arith)
-old-sum w node new old n (head ∷ heads) [] h a e below = absurd (omega arith)
-old-sum w node new old zero (head ∷ heads) (arc ∷ arcs) h a e below =
-    sum_by-cons w (near node head old arc) (preferred_spans node old heads arcs)
-old-sum w node new old (suc n) (head ∷ heads) (arc ∷ arcs) h a e below =
-    omega (
-      arith,
-      sum_by-cons w (near node head new arc) (mixed_spans node new old n heads arcs),
-      sum_by-cons w (near node head new arc) (others node new old n heads arcs),
-      old-sum w node new old n heads arcs h a (omega arith) (omega arith),
-    )
-
-new-sum : (w : Span → ℕ) (node : NodeId) (new old n : ℕ) (heads : List NodeId) (arcs : List ArcId) (h : NodeId)
-    (a : ArcId) → length heads ≡ length arcs → n < length arcs
-    → sum_by w (mixed_spans node new old (suc n) heads arcs)
-    ≡ w (near node (get_or heads n h) new (get_or arcs n a)) + sum_by w (others node new old n heads arcs)
-new-sum w node new old n [] [] h a e below = absurd (omega arith)
-new-sum w node new old n [] (arc ∷ arcs) h a e below = absurd (omega arith)
-new-sum w node new old n (head ∷ heads) [] h a e below = absurd (omega arith)
-new-sum w node new old zero (head ∷ heads) (arc ∷ arcs) h a e below =
-    sum_by-cons w (near node head new arc) (preferred_spans node old heads arcs)
-new-sum w node new old (suc n) (head ∷ heads) (arc ∷ arcs) h a e below =
-    omega (
-      arith,
-      sum_by-cons w (near node head new arc) (mixed_spans node new old (suc n) heads arcs),
-      sum_by-cons w (near node head new arc) (others node new old n heads arcs),
-      new-sum w node new old n heads arcs h a (omega arith) (omega arith),
+    → (sum_by w (mixed_spans node new old n heads arcs)
+    ≡ w (near node (get_or heads n h) old (get_or arcs n a)) + sum_by w (others node new old n heads arcs))
+    × (sum_by w (mixed_spans node new old (suc n) heads arcs)
+    ≡ w (near node (get_or heads n h) new (get_or arcs n a)) + sum_by w (others node new old n heads arcs))
+mixed-sums w node new old n [] [] h a e below = absurd (omega arith)
+mixed-sums w node new old n [] (arc ∷ arcs) h a e below = absurd (omega arith)
+mixed-sums w node new old n (head ∷ heads) [] h a e below = absurd (omega arith)
+mixed-sums w node new old zero (head ∷ heads) (arc ∷ arcs) h a e below = (
+  sum_by-cons w (near node head old arc) (preferred_spans node old heads arcs),
+  sum_by-cons w (near node head new arc) (preferred_spans node old heads arcs),
+)
+mixed-sums w node new old (suc n) (head ∷ heads) (arc ∷ arcs) h a e below =
+    let rest = mixed-sums w node new old n heads arcs h a (omega arith) (omega arith) in
+    let s : Span = near node head new arc in
+    let left = sum_by-cons w s (others node new old n heads arcs) in (
+      omega (arith, sum_by-cons w s (mixed_spans node new old n heads arcs), left, rest.0),
+      omega (arith, sum_by-cons w s (mixed_spans node new old (suc n) heads arcs), left, rest.1),
     )
 
 -- a step of the loop that gives the arcs another cost
@@ -186,7 +143,7 @@ rate-step base was now ns ss node new old i heads arcs arc e below at h edit non
     holds-same base was ns (mixed i ++ ss) (s ∷ rest ++ ss) h
     (λ w. omega (
       arith,
-      old-sum w node new old i heads arcs node arc e below,
+      (mixed-sums w node new old i heads arcs node arc e below).0,
       its w old,
       sum_by-append w (mixed i) ss,
       sum_by-append w (s ∷ rest) ss,
@@ -197,7 +154,7 @@ rate-step base was now ns ss node new old i heads arcs arc e below at h edit non
     (holds-rated base was now ns s (rest ++ ss) 1 new front edit none)
     (λ w. omega (
       arith,
-      new-sum w node new old i heads arcs node arc e below,
+      (mixed-sums w node new old i heads arcs node arc e below).1,
       its w new,
       sum_by-append w (mixed (suc i)) ss,
       sum_by-append w (t ∷ rest) ss,

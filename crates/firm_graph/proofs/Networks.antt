@@ -2,7 +2,7 @@
 use Rattle.std.proofs.Common.{◌≡◌, ℕ, suc, ◌+◌, ◌*◌, ◌<◌, cond, is_some, Option, Some, None, List, [], ◌∷◌, ◌++◌, map}
 use Rattle.std.proofs.Common.{length, get_or, bytes_eq, arith, refl, sym, ap, ap₂, ◌∙◌, subst}
 use Rattle.std.specs.List.{AllZip, position_or_len}
-use Rattle.std.proofs.lemmas.List.{map-append, get_or-map, length-map}
+use Rattle.std.proofs.lemmas.List.{map-append, get_or-map}
 use Rattle.firm_net.specs.declared.row.NodeId.{NodeId}
 use Rattle.firm_net.specs.declared.row.ArcId.{ArcId}
 use Rattle.firm_paths.specs.Network.{Arc}
@@ -26,7 +26,9 @@ use Rattle.firm_graph.specs.Ids.{node_id, arc_id, no_arc, no_machine, no_arcs}
 use Rattle.firm_graph.specs.Network.{away}
 use Rattle.firm_graph.proofs.Bridge.{bare, slot_rows, machine_rows, job_rows, preferred_rows, one_task_rows, task_rows}
 use Rattle.firm_graph.proofs.Bridge.{head_of, rows_network}
-use Rattle.firm_graph.proofs.Lookups.{node_under-at}
+use Rattle.firm_graph.proofs.Drops.{wide_arc, stay_arc, wait_arc}
+use Rattle.firm_graph.proofs.Totals.{machines-paired, jobs-paired}
+use Rattle.firm_graph.proofs.Lookups.{map-all, node_under-at}
 
 -- an arc of the network under ids
 abbrev pub shown : (Node → NodeId) → (Key → ArcId) → Arc Node Key → Span
@@ -152,55 +154,26 @@ one-shown : (name : Node → NodeId) (id : Key → ArcId) (rows : TenantRows) (t
     ≡ task_spans (name Hub) rows.limits.churn rows.limits.remote target x p
 one-shown name id rows target i x p e t own =
     let leaving : ℕ = cond (is_some x.machine) rows.limits.churn 0 in
-    let made : TaskParts → Target → List Span = λ (q : TaskParts) (to : Target).
-    record {
-      arc = q.arcs.wide;
-      tail = q.node;
-      head = name Hub;
-      cap = 1;
-      cost = leaving + away rows.limits.remote x.preferred;
-    }
-    ∷ record { arc = q.arcs.stay; tail = q.node; head = to.home; cap = cond (is_some x.machine) 1 0; cost = 0 }
-    ∷ record { arc = q.arcs.wait; tail = q.node; head = to.owner; cap = 1; cost = to.delay + leaving }
-    ∷ preferred_spans p.node leaving to.preferred p.arcs.preferred in
-    let ids : TaskParts = record {
+    let made : TaskParts → Target → List Span → List Span = λ (q : TaskParts) (to : Target) (near : List Span).
+    wide_arc (name Hub) (leaving + away rows.limits.remote x.preferred) q
+    ∷ stay_arc to.home (is_some x.machine) q
+    ∷ wait_arc to.owner (to.delay + leaving) q ∷ near in
+    let near : Target → List Span = λ (to : Target). preferred_spans p.node leaving to.preferred p.arcs.preferred in
+    let ids : TaskParts = record p {
       node = name (TaskAt i);
-      arcs = record { wide = id (Wide i); stay = id (Stay i); wait = id (Wait i); preferred = [] };
+      arcs = record p.arcs { wide = id (Wide i); stay = id (Stay i); wait = id (Wait i) };
     } in
-    let mine : TaskParts = record {
-      node = p.node;
-      arcs = record { wide = p.arcs.wide; stay = p.arcs.stay; wait = p.arcs.wait; preferred = [] };
-    } in
-    let same : mine ≡ ids =
-    ap₂ (λ (n : NodeId) (a : ArcId). let q : TaskParts = record {
-      node = n;
-      arcs = record { wide = a; stay = p.arcs.stay; wait = p.arcs.wait; preferred = [] };
-    } in q) own.node own.wide
-    ∙ ap₂ (λ (a b : ArcId). let q : TaskParts = record {
-      node = name (TaskAt i);
-      arcs = record { wide = id (Wide i); stay = a; wait = b; preferred = [] };
-    } in q) own.stay own.wait in
+    let same : p ≡ ids =
+    ap₂ (λ (n : NodeId) (a : ArcId). let q : TaskParts = record p { node = n; arcs = record p.arcs { wide = a } } in q)
+    own.node own.wide
+    ∙ ap₂ (λ (a b : ArcId). let q : TaskParts = record ids { arcs = record ids.arcs { stay = a; wait = b } } in q)
+    own.stay own.wait in
     let to : Target = target_by name rows x in
-    ap (λ (l : List Span).
-    record {
-      arc = id (Wide i);
-      tail = name (TaskAt i);
-      head = name Hub;
-      cap = 1;
-      cost = leaving + away rows.limits.remote x.preferred;
-    }
-    ∷ record {
-      arc = id (Stay i);
-      tail = name (TaskAt i);
-      head = to.home;
-      cap = cond (is_some x.machine) 1 0;
-      cost = 0;
-    }
-    ∷ record { arc = id (Wait i); tail = name (TaskAt i); head = to.owner; cap = 1; cost = to.delay + leaving } ∷ l)
+    ap (made ids to)
     (preferred-shown name id (machine_names rows) leaving i 0 p.node x.preferred p.arcs.preferred e own.node
     (λ j below. own.preferred j below ∙ ap (λ (q : ℕ). id (Prefer i q)) (let z : j ≡ 0 + j = omega arith in z)))
-    ∙ ap (λ (q : TaskParts). made q to) (sym same)
-    ∙ ap (made mine) (sym t)
+    ∙ ap (λ (q : TaskParts). made q to (near to)) (sym same)
+    ∙ ap (λ (t : Target). made p t (near t)) (sym t)
 
 tasks-shown : (name : Node → NodeId) (id : Key → ArcId) (rows : TenantRows) (target : Task → Target) (i : ℕ)
     (d : TaskParts) (ts : List Task) (ps : List TaskParts)
@@ -221,17 +194,11 @@ tasks-shown name id rows target i d (x ∷ ts) (p ∷ ps) e t h =
     ∙ ap₂ (λ (a b : List Span). a ++ b) (one-shown name id rows target i x p e.0 (t x) own)
     (tasks-shown name id rows target (i + 1) d ts ps e.1 t later)
 
-map-same : {A B : Type 0} (f g : A → B) → ((x : A) → f x ≡ g x) → (xs : List A) → map f xs ≡ map g xs
-map-same f g e [] = refl
-map-same {A} {B} f g e (x ∷ xs) = ap₂ (λ (y : B) (l : List B). y ∷ l) (e x) (map-same f g e xs)
-
 home-named : (g : Graph) (home : Option (List ℕ)) → length g.machines ≡ length g.rows.machines
     → home_node (machine_names g.rows) (machine_nodes g) g.hub home ≡ node_id g (head_of (machine_names g.rows) home)
 home-named g None e = refl
 home-named g (Some m) e =
-    node_under-at (machine_names g.rows) (machine_nodes g) g.hub m
-    (length-map g.machines (λ (p : MachineParts). p.node) ∙ e ∙ sym
-    (length-map g.rows.machines (λ (j : Machine). j.name)))
+    node_under-at (machine_names g.rows) (machine_nodes g) g.hub m (machines-paired g e)
 
 -- the graph's arcs are the network of its rows under its ids
 pub graph-shown : (g : Graph) → Mirrors g → map (shown (node_id g) (arc_id g)) (rows_network g.rows) ≡ graph_spans g
@@ -258,28 +225,15 @@ graph-shown g is =
       sym (get_or-map (λ (p : JobParts). p.node) g.jobs i none g.hub below) ∙ ap (λ (n : ℕ). name (JobAt n)) (at i),
       ap (λ (n : ℕ). id (Exit n)) (at i),
     )) in
-    let machine_lengths : length (machine_nodes g) ≡ length (machine_names g.rows) =
-    length-map g.machines (λ (p : MachineParts). p.node) ∙ is.machines ∙ sym
-    (length-map g.rows.machines (λ (j : Machine). j.name)) in
     let targets : (t : Task) → target_of g t ≡ target_by name g.rows t =
-    λ t. ap₂ (λ (a b : NodeId). let x : Target = record {
-      home = a;
-      owner = b;
-      preferred = map (node_under (machine_names g.rows) (machine_nodes g) g.hub) t.preferred;
-      delay = weight_under g.rows.jobs t.job + t.waited;
-    } in x)
+    λ t. ap₂ (λ (a b : NodeId). let x : Target = record (target_of g t) { home = a; owner = b } in x)
     (home-named g t.machine is.machines)
-    (node_under-at (job_names g.rows) (job_nodes g) g.hub t.job
-    (length-map g.jobs (λ (p : JobParts). p.node) ∙ is.jobs ∙ sym (length-map g.rows.jobs (λ (j : Job). j.name))))
-    ∙ ap (λ (l : List NodeId). let x : Target = record {
-      home = name (head_of (machine_names g.rows) t.machine);
-      owner = name (JobAt (position_or_len (bytes_eq t.job) (job_names g.rows)));
-      preferred = l;
-      delay = weight_under g.rows.jobs t.job + t.waited;
-    } in x)
-    (map-same (node_under (machine_names g.rows) (machine_nodes g) g.hub)
-    (λ m. name (MachineAt (position_or_len (bytes_eq m) (machine_names g.rows))))
-    (λ m. node_under-at (machine_names g.rows) (machine_nodes g) g.hub m machine_lengths) t.preferred) in
+    (node_under-at (job_names g.rows) (job_nodes g) g.hub t.job (jobs-paired g is.jobs))
+    ∙ ap (λ (l : List NodeId). let x : Target = record (target_by name g.rows t) { preferred = l } in x)
+    (map-all (node_under (machine_names g.rows) (machine_nodes g) g.hub)
+    (λ m. name (MachineAt (position_or_len (bytes_eq m) (machine_names g.rows)))) t.preferred
+    (λ k d _. node_under-at (machine_names g.rows) (machine_nodes g) g.hub (get_or t.preferred k d)
+    (machines-paired g is.machines))) in
     let tasks : map show (task_rows g.rows 0 g.rows.tasks) ≡ flat_zip
     (task_spans g.hub g.rows.limits.churn g.rows.limits.remote (target_of g)) g.rows.tasks g.tasks =
     tasks-shown name id g.rows (target_of g) 0 nothing g.rows.tasks g.tasks is.preferred targets

@@ -75,37 +75,24 @@ often-permutes (x ∷ xs) ys often =
 
 -- what is the same of each entry that is found is the same of all
 same-from : {X Y : Type 0} (f g : Id × X → Y) (p : ℕ) (held : List (Option (ℕ × X)))
-    → ((i : ℕ) (own : ℕ × X) → get_or held i None ≡ Some own → f (record { place = p + i; stamp = own.0 }, own.1) ≡ g
-    (record { place = p + i; stamp = own.0 }, own.1))
+    → ((i q : ℕ) (own : ℕ × X) → q ≡ p + i → get_or held i None ≡ Some own
+    → f (record { place = q; stamp = own.0 }, own.1) ≡ g (record { place = q; stamp = own.0 }, own.1))
     → map f (entries_from p held) ≡ map g (entries_from p held)
 same-from f g p [] h = refl
 same-from f g p (None ∷ held) h =
-    same-from f g (p + 1) held
-    (λ i own e.
-    let q : p + suc i ≡ p + 1 + i = omega arith in
-    subst (λ (n : ℕ). f (record { place = n; stamp = own.0 }, own.1) ≡ g (record { place = n; stamp = own.0 }, own.1))
-    q (h (suc i) own e))
+    same-from f g (p + 1) held (λ i q own at e. h (suc i) q own (omega (arith, at)) e)
 same-from {X} {Y} f g p (Some own ∷ held) h =
-    let q : p + 0 ≡ p = omega arith in
-    let here : f (record { place = p; stamp = own.0 }, own.1) ≡ g (record { place = p; stamp = own.0 }, own.1) =
-    subst (λ (n : ℕ). f (record { place = n; stamp = own.0 }, own.1) ≡ g (record { place = n; stamp = own.0 }, own.1))
-    q (h 0 own refl) in
-    ap₂ (λ (y : Y) (l : List Y). y ∷ l) here
-    (same-from f g (p + 1) held
-    (λ i o e.
-    let r : p + suc i ≡ p + 1 + i = omega arith in
-    subst (λ (n : ℕ). f (record { place = n; stamp = o.0 }, o.1) ≡ g (record { place = n; stamp = o.0 }, o.1)) r
-    (h (suc i) o e)))
+    ap₂ (λ (y : Y) (l : List Y). y ∷ l) (h 0 p own (omega arith) refl)
+    (same-from f g (p + 1) held (λ i q o at e. h (suc i) q o (omega (arith, at)) e))
 
 pub same-entries : {X Y : Type 0} (f g : Id × X → Y) (a : Arena X)
     → ((id : Id) (x : X) → find a id ≡ Some x → f (id, x) ≡ g (id, x))
     → map f (entries a) ≡ map g (entries a)
 same-entries f g a h =
     same-from f g 0 a.held
-    (λ i own e.
-    let q : 0 + i ≡ i = omega arith in
+    (λ i q own at e.
     subst (λ (n : ℕ). f (record { place = n; stamp = own.0 }, own.1) ≡ g (record { place = n; stamp = own.0 }, own.1))
-    (sym q)
+    (let z : i ≡ q = omega (arith, at) in z)
     (h (record { place = i; stamp = own.0 }) own.1 (find-held_own a i own e)))
 
 pub map-map : {A B C : Type 0} (f : B → C) (g : A → B) (xs : List A) → map f (map g xs) ≡ map (λ x. f (g x)) xs
@@ -130,17 +117,8 @@ all-flowing net =
     map-map (flowing net) (λ (e : Id × Row). span_of (record { id = e.0 }) e.1) (entries net.arcs)
     ∙ same-entries (λ (e : Id × Row). flowing net (span_of (record { id = e.0 }) e.1))
     (λ (e : Id × Row). arc_of (record { id = e.0 }) e.1) net.arcs
-    (λ id row e. ap₂ (λ (l f : ℕ). let a : Arc ℕ ArcId = record {
-      key = record { id = id };
-      tail = row.tail.id.place;
-      head = row.head.id.place;
-      low = l;
-      cap = row.cap;
-      cost =
-          row.cost;
-      flow = f;
-    } in a)
-    (ap low_of_row e) (ap flow_of_row e))
+    (λ id row e. ap₂ (λ (l f : ℕ). let a : Arc ℕ ArcId = record (arc_of (record { id = id }) row) { low = l; flow = f }
+    in a) (ap low_of_row e) (ap flow_of_row e))
 
 pub is-network : (g : Graph) → Mirrors g
     → IsPermutation (arcs_of g.net) (map (named (view_of g))

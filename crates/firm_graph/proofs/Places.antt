@@ -1,50 +1,60 @@
 -- What a graph is once it is said anew where a task runs.
-use Rattle.std.proofs.Common.{◌≡◌, ◌≢◌, ℕ, zero, suc, ◌+◌, ◌<◌, ◌≤◌, true, false, cond, is_some, ⊎_elim, Option, Some}
-use Rattle.std.proofs.Common.{None, List, [], ◌∷◌, ◌++◌, length, get_or, bytes_eq, arith, refl, sym, ap, ap₂, ◌∙◌}
-use Rattle.std.proofs.Common.{subst}
+use Rattle.std.proofs.Common.{◌≡◌, ◌≢◌, ℕ, zero, suc, ◌+◌, ◌<◌, ◌≤◌, true, cond, is_some, Option, Some, None, List, []}
+use Rattle.std.proofs.Common.{◌∷◌, ◌++◌, length, get_or, set, bytes_eq, arith, refl, sym, ap, ap₂, ◌∙◌, subst}
 use Rattle.std.specs.List.{sum_by, AllZip, Contains, remove}
-use Rattle.std.proofs.lemmas.Bool.{cases_Bool, cond-true, cond-false}
+use Rattle.std.proofs.lemmas.List.{set-get_or}
 use Rattle.std.proofs.lemmas.List.Sums.{sum_by-cons, sum_by-append, sum_by-remove}
+use Rattle.std.proofs.lemmas.List.Elements.{Contains-append_left}
 use Rattle.firm_net.specs.Row.{Row}
 use Rattle.firm_net.specs.Net.{Net, IsNode, row_at, added_of}
 use Rattle.firm_net.specs.declared.row.NodeId.{NodeId}
 use Rattle.firm_net.specs.declared.row.ArcId.{ArcId}
 use Rattle.firm_rules.specs.Book.{machine_names}
-use Rattle.firm_graph.specs.inner.Steps.{update_at, placed, with_task_at, no_task}
+use Rattle.firm_graph.specs.inner.Steps.{update_at, placed, with_task_at, no_task, Holds}
 use Rattle.firm_rules.specs.declared.book.Task.{Task}
 use Rattle.firm_net.specs.Edits.{Span, span_of, nodes_of, AsOften, IsEdit}
-use Rattle.firm_graph.specs.inner.Steps.{Holds}
 use Rattle.firm_graph.specs.Parts.{MachineParts}
 use Rattle.firm_graph.specs.declared.ids.TaskParts.{TaskParts}
 use Rattle.firm_graph.specs.Graph.{Graph, Mirrors, flat_zip, task_spans, target_of, home_node, node_under, weight_under}
-use Rattle.firm_graph.specs.Network.{away}
 use Rattle.firm_graph.specs.Graph.{preferred_spans, graph_nodes, graph_spans, machine_nodes, job_nodes, task_nodes}
+use Rattle.firm_graph.specs.Network.{away}
 use Rattle.firm_net.specs.Laws.{sum-map}
-use Rattle.firm_graph.proofs.Found.{ones, same_id-refl, node-there, Contains-front}
+use Rattle.firm_graph.proofs.Found.{ones, same_id-refl, node-there}
+use Rattle.firm_graph.proofs.Lookups.{cond-case}
 use Rattle.firm_graph.proofs.Totals.{nodes-total, spans-total, sum-one}
 use Rattle.firm_graph.proofs.Drops.{holds-row, task-start, task_dropped, task_at, wide_of, stay_of, wait_of, is_node}
-use Rattle.firm_graph.proofs.Drops.{preferred_of, leaving_of, four-sum, heads-counted, node-once, home-weight}
+use Rattle.firm_graph.proofs.Drops.{wide_arc, stay_arc, wait_arc, preferred_of, leaving_of, four-sum, heads-counted}
+use Rattle.firm_graph.proofs.Drops.{node-once, home-weight}
 
 pub length-updated : {X : Type 0} (xs : List X) (place : ℕ) (f : X → X) → length (update_at xs place f) ≡ length xs
 length-updated [] place f = refl
 length-updated (x ∷ xs) zero f = refl
 length-updated (x ∷ xs) (suc place) f = omega (arith, length-updated xs place f)
 
+-- both elements at a place of two lists said anew
+pub flat_sum-both : {A B C : Type 0} (w : C → ℕ) (f : A → B → List C) (h : A → A) (xs : List A) (ys : List B) (i : ℕ)
+    (d : A) (y : B) → i < length xs → length ys ≡ length xs
+    → sum_by w (flat_zip f (update_at xs i h) (set ys i y)) ≡ sum_by w (flat_zip f (remove xs i) (remove ys i)) + sum_by
+    w (f (h (get_or xs i d)) y)
+flat_sum-both w f h [] ys i d y below same = absurd (omega arith)
+flat_sum-both w f h (x ∷ xs) [] i d y below same = absurd (omega arith)
+flat_sum-both w f h (x ∷ xs) (z ∷ ys) zero d y below same =
+    omega (arith, sum_by-append w (f (h x) y) (flat_zip f xs ys))
+flat_sum-both w f h (x ∷ xs) (z ∷ ys) (suc i) d y below same =
+    omega (
+      arith,
+      sum_by-append w (f x z) (flat_zip f (update_at xs i h) (set ys i y)),
+      sum_by-append w (f x z) (flat_zip f (remove xs i) (remove ys i)),
+      flat_sum-both w f h xs ys i d y (omega arith) (omega arith),
+    )
+
 flat_sum-update : {A B C : Type 0} (w : C → ℕ) (f : A → B → List C) (h : A → A) (xs : List A) (ys : List B) (i : ℕ)
     (d : A) (e : B) → i < length xs → length ys ≡ length xs
     → sum_by w (flat_zip f (update_at xs i h) ys) ≡ sum_by w (flat_zip f (remove xs i) (remove ys i)) + sum_by w
     (f (h (get_or xs i d)) (get_or ys i e))
-flat_sum-update w f h [] ys i d e below same = absurd (omega arith)
-flat_sum-update w f h (x ∷ xs) [] i d e below same = absurd (omega arith)
-flat_sum-update w f h (x ∷ xs) (y ∷ ys) zero d e below same =
-    omega (arith, sum_by-append w (f (h x) y) (flat_zip f xs ys))
-flat_sum-update w f h (x ∷ xs) (y ∷ ys) (suc i) d e below same =
-    omega (
-      arith,
-      sum_by-append w (f x y) (flat_zip f (update_at xs i h) ys),
-      sum_by-append w (f x y) (flat_zip f (remove xs i) (remove ys i)),
-      flat_sum-update w f h xs ys i d e (omega arith) (omega arith),
-    )
+flat_sum-update {A} {B} w f h xs ys i d e below same =
+    ap (λ (l : List B). sum_by w (flat_zip f (update_at xs i h) l)) (sym (set-get_or ys i e))
+    ∙ flat_sum-both w f h xs ys i d (get_or ys i e) below same
 
 -- a net in which one arc was changed
 pub holds-changed : (base old new : Net) (ns : List NodeId) (s t : Span) (ss : List Span) → Holds base old ns (s ∷ ss)
@@ -110,10 +120,10 @@ holds-back base now ns s t u ss h =
 
 -- an arc's numbers, and its head, said anew
 abbrev pub rated : ℕ → ℕ → Span → Span
-rated cap cost s = record { arc = s.arc; tail = s.tail; head = s.head; cap = cap; cost = cost }
+rated cap cost s = record s { cap = cap; cost = cost }
 
 abbrev pub led : NodeId → Span → Span
-led head s = record { arc = s.arc; tail = s.tail; head = head; cap = s.cap; cost = s.cost }
+led head s = record s { head = head }
 
 pub holds-rated : (base old new : Net) (ns : List NodeId) (s : Span) (ss : List Span) (cap cost : ℕ)
     → Holds base old ns (s ∷ ss)
@@ -142,17 +152,10 @@ under-listed : (names : List (List ℕ)) (nodes : List NodeId) (other : NodeId) 
     → Contains (other ∷ nodes) (node_under names nodes other name)
 under-listed [] nodes other name = (0, omega arith, refl)
 under-listed (n ∷ names) [] other name = (0, omega arith, refl)
-under-listed (n ∷ names) (node ∷ nodes) other name = ⊎_elim
-    (λ (t : bytes_eq name n ≡ true).
-    let e : node_under (n ∷ names) (node ∷ nodes) other name ≡ node = cond-true (bytes_eq name n) node
-    (node_under names nodes other name) t in
-    subst (Contains (other ∷ node ∷ nodes)) (sym e) (1, omega arith, refl))
-    (λ (f : bytes_eq name n ≡ false).
-    let e : node_under (n ∷ names) (node ∷ nodes) other name ≡ node_under names nodes other name = cond-false
-    (bytes_eq name n) node (node_under names nodes other name) f in
-    subst (Contains (other ∷ node ∷ nodes)) (sym e)
-    (skip other node nodes (node_under names nodes other name) (under-listed names nodes other name)))
-    (cases_Bool (bytes_eq name n))
+under-listed (n ∷ names) (node ∷ nodes) other name =
+    cond-case (Contains (other ∷ node ∷ nodes)) (bytes_eq name n) node (node_under names nodes other name)
+    (λ _. (1, omega arith, refl))
+    (λ _. skip other node nodes (node_under names nodes other name) (under-listed names nodes other name))
   where
     skip-at : (other node : NodeId) (nodes : List NodeId) (x : NodeId) (k : ℕ) → k < length (other ∷ nodes) → get_or
         (other ∷ nodes) k x ≡ x → Contains (other ∷ node ∷ nodes) x
@@ -172,7 +175,7 @@ spread-at : (hub sink : NodeId) (nodes rest : List NodeId) (x : NodeId) (k : ℕ
     → get_or (hub ∷ nodes) k x ≡ x → Contains (hub ∷ sink ∷ nodes ++ rest) x
 spread-at hub sink nodes rest x zero below at = (0, omega arith, at)
 spread-at hub sink nodes rest x (suc k) below at =
-    let front : Contains (nodes ++ rest) x = Contains-front nodes rest x (k, omega (arith, below), at) in
+    let front : Contains (nodes ++ rest) x = Contains-append_left nodes rest x (k, omega (arith, below), at) in
     (suc (suc front.0), omega (arith, front.1), front.2)
 
 pub home-there : (g : Graph) (net : Net) (home : Option (List ℕ)) → AsOften (nodes_of net) (graph_nodes g)
@@ -206,47 +209,20 @@ home-other g place parts home is below at e =
 -- the graph with a task said anew
 abbrev pub task_placed : Graph → Net → ℕ → Option (List ℕ) → ℕ → Graph
 task_placed g net place home waited =
-    record {
-      rows = with_task_at g.rows place home waited;
-      net = net;
-      hub = g.hub;
-      sink = g.sink;
-      machines = g.machines;
-      jobs = g.jobs;
-      tasks = g.tasks;
-      asked = g.asked;
-    }
+    record g { rows = with_task_at g.rows place home waited; net = net }
 
 abbrev pub wide_to : Graph → ℕ → Option (List ℕ) → TaskParts → Span
 wide_to g place home parts =
-    record {
-      arc = parts.arcs.wide;
-      tail = parts.node;
-      head = g.hub;
-      cap = 1;
-      cost = cond (is_some home) g.rows.limits.churn 0 + away g.rows.limits.remote (task_at g place).preferred;
-    }
+    wide_arc g.hub (cond (is_some home) g.rows.limits.churn 0 + away g.rows.limits.remote (task_at g place).preferred)
+    parts
 
 abbrev pub stay_to : Graph → Option (List ℕ) → TaskParts → Span
-stay_to g home parts =
-    record {
-      arc = parts.arcs.stay;
-      tail = parts.node;
-      head = home_node (machine_names g.rows) (machine_nodes g) g.hub
-          home;
-      cap = cond (is_some home) 1 0;
-      cost = 0;
-    }
+stay_to g home parts = stay_arc (home_node (machine_names g.rows) (machine_nodes g) g.hub home) (is_some home) parts
 
 abbrev pub wait_to : Graph → ℕ → Option (List ℕ) → ℕ → TaskParts → Span
 wait_to g place home waited parts =
-    record {
-      arc = parts.arcs.wait;
-      tail = parts.node;
-      head = (target_of g (task_at g place)).owner;
-      cap = 1;
-      cost = weight_under g.rows.jobs (task_at g place).job + waited + cond (is_some home) g.rows.limits.churn 0;
-    }
+    wait_arc (target_of g (task_at g place)).owner
+    (weight_under g.rows.jobs (task_at g place).job + waited + cond (is_some home) g.rows.limits.churn 0) parts
 
 abbrev pub preferred_to : Graph → ℕ → Option (List ℕ) → TaskParts → List Span
 preferred_to g place home parts =

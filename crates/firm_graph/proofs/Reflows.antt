@@ -1,12 +1,12 @@
 -- What a graph is once its net carries another flow.
-use Rattle.std.proofs.Common.{◌≡◌, ℕ, zero, suc, Bool, true, false, Option, Some, None, List, [], ◌∷◌, map, length}
-use Rattle.std.proofs.Common.{get_or, set, arith, refl, sym, ap, ap₂, ◌∙◌}
+use Rattle.std.proofs.Common.{◌≡◌, ℕ, Bool, true, false, Option, Some, None, List, [], ◌∷◌, map, length, arith, refl}
+use Rattle.std.proofs.Common.{sym, ap, ap₂, ◌∙◌}
 use Rattle.std.specs.List.{sum_by}
 use Rattle.std.proofs.lemmas.List.{length-map}
+use Rattle.std.proofs.Math.Seq.{map-set_same}
 use Rattle.firm_arena.specs.Arena.{held_at, capacity_of}
 use Rattle.firm_net.specs.Row.{Row}
-use Rattle.firm_net.specs.Net.{Net, IsNet, row_at, added_of, with_row, without_flow, slot_changed}
-use Rattle.firm_net.specs.Net.{with_numbers}
+use Rattle.firm_net.specs.Net.{Net, IsNet, row_at, added_of, with_row, without_flow, slot_changed, with_numbers}
 use Rattle.firm_net.specs.declared.row.ArcId.{ArcId}
 use Rattle.firm_arena.specs.Changes.{find-held}
 use Rattle.firm_net.specs.Edits.{Span, nodes_of, spans_of}
@@ -49,12 +49,6 @@ reflowed g net is sound same =
       asked = is.asked;
     }
 
-map_set : {A B : Type 0} (f : A → B) (xs : List A) (i : ℕ) (y d : A) → f y ≡ f (get_or xs i d)
-    → map f (set xs i y) ≡ map f xs
-map_set {A} {B} f [] i y d e = refl
-map_set {A} {B} f (x ∷ xs) zero y d e = ap (λ (z : B). z ∷ map f xs) e
-map_set {A} {B} f (x ∷ xs) (suc i) y d e = ap (λ (zs : List B). f x ∷ zs) (map_set f xs i y d e)
-
 -- a change of one row's flow or lower bound
 pub row-reflowed : (net : Net) (a : ArcId) (row : Row) (f : Row → Row) → row_at net a ≡ Some row
     → cleared (f row) ≡ cleared row
@@ -68,7 +62,8 @@ row-reflowed net a row f there e =
     ∙ sym (ap (λ (o : Option (ℕ × Row)). slot_changed cleared o) at) in
     ap (λ (h : List (Option (ℕ × Row))). let n : Net = record
     { nodes = net.nodes; arcs = record { held = h; counter = net.arcs.counter } } in n)
-    (map_set (slot_changed cleared) net.arcs.held a.id.place (slot_changed f (held_at net.arcs a.id.place)) None slot)
+    (map-set_same (slot_changed cleared) net.arcs.held a.id.place (slot_changed f (held_at net.arcs a.id.place)) None
+    slot)
 
 cleared-twice : (held : List (Option (ℕ × Row)))
     → map (slot_changed cleared) (map (slot_changed cleared) held) ≡ map (slot_changed cleared) held

@@ -1,14 +1,14 @@
 -- The first of some rows fit as all of them do, and the next of them is new among them.
-use Rattle.std.proofs.Common.{◌≡◌, ℕ, zero, suc, ◌+◌, ◌<◌, ◌≤◌, false, cond, List, [], ◌∷◌, ◌++◌, map}
-use Rattle.std.proofs.Common.{take, length, get_or, Option, None, Some, IfSome, bytes_eq, slice_index_or, refl, sym, ap}
-use Rattle.std.proofs.Common.{◌∙◌, subst, arith}
-use Rattle.std.specs.List.{sum_by, All, AllByRecursion, IsDistinct, slice_get}
-use Rattle.std.proofs.lemmas.List.{take_more}
+use Rattle.std.proofs.Common.{◌≡◌, ℕ, zero, suc, ◌+◌, ◌<◌, ◌≤◌, false, cond, List, [], ◌∷◌, ◌++◌, map, take, length}
+use Rattle.std.proofs.Common.{get_or, Option, None, Some, IfSome, bytes_eq, slice_index_or, refl, sym, ap, ◌∙◌, subst}
+use Rattle.std.proofs.Common.{arith, length-append}
+use Rattle.std.specs.List.{sum_by, All, IsDistinct, slice_get}
+use Rattle.std.proofs.lemmas.List.{get_or-map, length-map, length-take, length-take-le, take_more}
 use Rattle.std.proofs.lemmas.List.Sums.{sum_by-cons, sum_by-append, sum_by-take-le}
 use Rattle.std.proofs.lemmas.Map.Keys.{IsDistinct-head, IsDistinct-tail}
 use Rattle.firm_rules.specs.Names.{is_among}
-use Rattle.firm_rules.specs.Book.{TenantRows, with_machine, with_job, with_task}
-use Rattle.firm_rules.specs.Book.{with_task_placed, placed_at, standing, new_task, is_on}
+use Rattle.firm_rules.specs.Book.{TenantRows, with_machine, with_job, with_task, with_task_placed, placed_at, standing}
+use Rattle.firm_rules.specs.Book.{new_task, is_on}
 use Rattle.firm_rules.specs.Sound.{AreSound, HasRoom}
 use Rattle.firm_rules.specs.declared.book.Machine.{Machine}
 use Rattle.firm_rules.specs.declared.book.Job.{Job}
@@ -17,24 +17,8 @@ use Rattle.firm_graph.specs.Graph.{LackNodes, LackArcs}
 use Rattle.firm_graph.specs.inner.Restored.{machines_first, jobs_first, tasks_first}
 use Rattle.firm_graph.specs.inner.Steps.{update_at, placed, with_task_at}
 use Rattle.firm_graph.proofs.Additions.{read-at}
-use Rattle.firm_graph.proofs.Lookups.{or-false}
+use Rattle.firm_graph.proofs.Lookups.{or-false, all-at}
 use Rattle.firm_graph.proofs.Machines.{bytes_eq-swap}
-
-pub length-first : {X : Type 0} (n : ℕ) (xs : List X) → length (take n xs) ≤ length xs
-length-first zero xs = omega arith
-length-first (suc n) [] = omega arith
-length-first (suc n) (x ∷ xs) = omega (arith, length-first n xs)
-
-pub length-below : {X : Type 0} (n : ℕ) (xs : List X) → n < length xs → length (take n xs) ≡ n
-length-below zero xs below = refl
-length-below (suc n) [] below = absurd (omega arith)
-length-below (suc n) (x ∷ xs) below = omega (arith, length-below n xs (omega arith))
-
-all-at : {X : Type 0} (P : X → Type 0) (xs : List X) (i : ℕ) (d : X) → AllByRecursion P xs → i < length xs
-    → P (get_or xs i d)
-all-at P [] i d h below = absurd (omega arith)
-all-at P (x ∷ xs) zero d h below = h.0
-all-at P (x ∷ xs) (suc i) d h below = all-at P xs i d h.1 (omega arith)
 
 module _ {Row : Type 0} (name_of : Row → List ℕ) where
   -- where names differ, the name at a place is not among those before it
@@ -44,8 +28,10 @@ module _ {Row : Type 0} (name_of : Row → List ℕ) where
   fresh-at [] place row differ below read = absurd (omega arith)
   fresh-at (first ∷ rows) zero row differ below read = refl
   fresh-at (first ∷ rows) (suc place) row differ below read =
-      let later : place < length (map name_of rows) = omega (arith, mapped rows) in
-      let named : get_or (map name_of rows) place [] ≡ name_of row = at rows place row read in
+      let here : place < length rows = omega (arith, below) in
+      let later : place < length (map name_of rows) = omega (arith, here, length-map rows name_of) in
+      let named : get_or (map name_of rows) place [] ≡ name_of row =
+      get_or-map name_of rows place row [] here ∙ ap name_of (read-at rows place row read row) in
       let apart : bytes_eq (name_of first) (name_of row) ≡ false =
       subst (λ (n : List ℕ). bytes_eq (name_of first) n ≡ false) named
       (all-at (λ (y : List ℕ). bytes_eq (name_of first) y ≡ false) (map name_of rows) place []
@@ -53,15 +39,6 @@ module _ {Row : Type 0} (name_of : Row → List ℕ) where
       or-false (bytes_eq (name_of row) (name_of first)) (is_among (map name_of (take place rows)) (name_of row))
       (bytes_eq-swap (name_of first) (name_of row) apart)
       ∙ fresh-at rows place row (IsDistinct-tail bytes_eq (name_of first) (map name_of rows) differ) (omega arith) read
-    where
-      mapped : (rs : List Row) → length (map name_of rs) ≡ length rs
-      mapped [] = refl
-      mapped (r ∷ rs) = omega (arith, mapped rs)
-
-      at : (rs : List Row) (i : ℕ) (r : Row) → Some r ≡ slice_get rs i → get_or (map name_of rs) i [] ≡ name_of r
-      at [] i r h = let clash : Some r ≡ None = h in absurd cc
-      at (x ∷ rs) zero r h = let same : Some r ≡ Some x = h in let is : r ≡ x = cc in ap name_of (sym is)
-      at (x ∷ rs) (suc i) r h = at rs i r h
 
 -- one row more of those that are the first
 pub take-next : {X : Type 0} (xs : List X) (place : ℕ) (x : X) → place < length xs → Some x ≡ slice_get xs place
@@ -113,7 +90,7 @@ module _ (rows : TenantRows) (sound : AreSound rows) where
         × (LackArcs (with_machine (machines_first rows place) machine.name machine.slots) → ⊥)
     machine-fits =
         let long = ap (λ (l : List Machine). length l) (take-next rows.machines place machine below read) in
-        let few = length-first (place + 1) rows.machines in
+        let few = length-take (place + 1) rows.machines in
         let wide = sum-next (λ (m : Machine). 1 + m.slots) rows.machines place machine below read in (
           λ lack. omega (arith, lack, long, few, sound.fits.nodes),
           λ lack. omega (arith, lack.1, wide, sound.fits.arcs),
@@ -130,7 +107,7 @@ module _ (rows : TenantRows) (sound : AreSound rows) where
           × (LackArcs (with_job (jobs_first rows place) job.name job.weight) → ⊥)
       job-fits =
           let long = ap (λ (l : List Job). length l) (take-next rows.jobs place job below read) in
-          let few = length-first (place + 1) rows.jobs in (
+          let few = length-take (place + 1) rows.jobs in (
             λ lack. omega (arith, lack, long, few, sound.fits.nodes),
             λ lack. omega (arith, lack.1, long, few, sound.fits.arcs),
           )
@@ -143,10 +120,10 @@ module _ (rows : TenantRows) (sound : AreSound rows) where
         let many : Task → ℕ = λ (t : Task). length t.preferred in
         let anew : Task = new_task task.job task.name task.preferred in
         let long = ap (λ (l : List Task). length l) (take-next rows.tasks place task below read) in
-        let few = length-first (place + 1) rows.tasks in
-        let as_long : length (take place rows.tasks ++ anew ∷ []) ≡ length (take place rows.tasks ++ task ∷ []) =
-        pushed-length (take place rows.tasks) anew task in
+        let few = length-take (place + 1) rows.tasks in
         let first : List Task = take place rows.tasks in
+        let as_long : length (first ++ anew ∷ []) ≡ length (first ++ task ∷ []) =
+        omega (arith, length-append first (anew ∷ []), length-append first (task ∷ [])) in
         let as_many : sum_by many (first ++ anew ∷ []) ≡ sum_by many (first ++ task ∷ []) =
         omega (
           arith,
@@ -159,17 +136,13 @@ module _ (rows : TenantRows) (sound : AreSound rows) where
           λ lack. omega (arith, lack, as_long, long, few, sound.fits.nodes),
           λ lack. omega (arith, lack.1, as_long, as_many, long, few, wide, sound.fits.arcs),
         )
-      where
-        pushed-length : {X : Type 0} (xs : List X) (x y : X) → length (xs ++ x ∷ []) ≡ length (xs ++ y ∷ [])
-        pushed-length [] x y = refl
-        pushed-length (z ∷ xs) x y = omega (arith, pushed-length xs x y)
 
     pub task-next : with_task_placed (with_task (tasks_first rows place) task.job task.name task.preferred) place
         task.machine task.waited ≡ tasks_first rows (place + 1)
     task-next =
         ap (λ (l : List Task). let r : TenantRows = record rows { tasks = l } in r)
         (placed-last (take place rows.tasks) place (new_task task.job task.name task.preferred) task.machine task.waited
-        (length-below place rows.tasks below)
+        (length-take-le place rows.tasks (omega (arith, below)))
         ∙ take-next rows.tasks place task below read)
 
     -- the first of the tasks take no more slots than all

@@ -5,10 +5,10 @@ use Rattle.std.proofs.Common.{arith, refl, sym, ap, ap₂, ◌∙◌, subst, len
 use Rattle.std.specs.List.{sum_by, All, Contains, position_or_len, list_any}
 use Rattle.std.specs.List.Sorted.{IsPermutation}
 use Rattle.std.specs.Option.{option_map}
-use Rattle.std.proofs.lemmas.Bool.{cases_Bool, cases_eq, cases_lt, eqb-true, eq-eqb}
+use Rattle.std.proofs.lemmas.Bool.{cases_Bool, cases_eq, cases_lt, eqb-true, eq-eqb, not-true}
 use Rattle.std.proofs.lemmas.List.{map-append, get_or-map, get_or_default, length-map}
 use Rattle.std.proofs.lemmas.List.Sums.{position_or_len_is, sum_by-append, sum_by-cons, sum_by_push}
-use Rattle.firm_arena.specs.Arena.{entries_from}
+use Rattle.std.proofs.lemmas.List.Elements.{Contains-append_left, Contains-append_right}
 use Rattle.firm_arena.specs.declared.Id.{Id}
 use Rattle.firm_arena.specs.Changes.{find-changed_all}
 use Rattle.firm_net.specs.Row.{Row}
@@ -40,11 +40,10 @@ use Rattle.firm_graph.specs.View.{View, Shows, IsAtRest, lows, flows, low_of_row
 use Rattle.firm_graph.specs.Graph.{Graph, IsGraph, Mirrors, graph_nodes, machine_nodes, job_nodes, task_nodes}
 use Rattle.firm_graph.specs.Ids.{node_id, arc_id, view_of}
 use Rattle.firm_graph.specs.inner.Steps.{no_task}
-use Rattle.firm_arena.specs.Sums.{sum-slot}
 use Rattle.firm_net.specs.Laws.{sum-map, contains-mapped, nodes-sum, spans-sum}
 use Rattle.firm_graph.proofs.Found.{ones, ones-true, same_id, same_id-refl, same_id-true, node-there, node-weighs}
-use Rattle.firm_graph.proofs.Found.{Contains-skip, Contains-front}
-use Rattle.firm_graph.proofs.Drops.{once-from, preferred-paired}
+use Rattle.firm_graph.proofs.Drops.{once-from, id-once, preferred-paired}
+use Rattle.firm_graph.proofs.Lookups.{cond-case}
 use Rattle.firm_graph.proofs.Cuts.{two}
 use Rattle.firm_graph.proofs.Bridge.{from, gather_from, fill, rows_network, network_is}
 use Rattle.firm_graph.proofs.Networks.{shown, graph-shown}
@@ -77,10 +76,10 @@ contains-gather : {X : Type 0} (f : ℕ → List X) (n i : ℕ) (x : X) → i < 
 contains-gather f zero i x below c = absurd (omega arith)
 contains-gather {X} f (suc n) i x below c =
     elim (cases_lt i n) [
-      | inl earlier ↦ Contains-front (gather f n) (f n) x (contains-gather f n i x earlier c)
+      | inl earlier ↦ Contains-append_left (gather f n) (f n) x (contains-gather f n i x earlier c)
       | inr last ↦
           let e : i ≡ n = omega (arith, below, last) in
-          Contains-skip (gather f n) (f n) x (subst (λ (k : ℕ). Contains (f k) x) e c)
+          Contains-append_right (gather f n) (f n) x (subst (λ (k : ℕ). Contains (f k) x) e c)
     ]
 
 pub gather-count : {X : Type 0} (h : ℕ → X) (n : ℕ) → length (gather (λ i. h i ∷ []) n) ≡ n
@@ -109,84 +108,43 @@ apart w xs i j d few below_i below_j heavy_i heavy_j =
           ]
     ]
 
--- a place is that of one entry at most
-place-once : {X : Type 0} (q : ℕ) (p : ℕ) (held : List (Option (ℕ × X)))
-    → (q < p → sum_by (λ e. ones (e.0.place == q)) (entries_from p held) ≡ 0) ×
-    (sum_by (λ e. ones (e.0.place == q)) (entries_from p held) ≤ 1)
-place-once q p [] = (λ _. refl, omega arith)
-place-once q p (None ∷ held) =
-    let rest = place-once q (p + 1) held in
-    (λ h. rest.0 (omega (arith, h)), rest.1)
-place-once {X} q p (Some own ∷ held) =
-    let w : Id × X → ℕ = λ (e : Id × X). ones (e.0.place == q) in
-    let rest = place-once q (p + 1) held in
-    let sum : sum_by w (entries_from p (Some own ∷ held)) ≡ ones (p == q) + sum_by w (entries_from (p + 1) held) =
-    sum-slot w p (Some own) held in (
-      λ h. ⊎_elim
-          (λ (t : p == q ≡ true). absurd (let e : p ≡ q = eqb-true p q t in omega (arith, e, h)))
-          (λ (f : p == q ≡ false).
-          let none : ones (p == q) ≡ ones false = ap ones f in
-          let later : sum_by w (entries_from (p + 1) held) ≡ 0 = rest.0 (omega (arith, h)) in
-          let e : sum_by w (entries_from p (Some own ∷ held)) ≡ 0 = omega (arith, sum, none, later) in
-          e)
-          (cases_Bool (p == q)),
-      ⊎_elim
-          (λ (t : p == q ≡ true).
-          let one : ones (p == q) ≡ ones true = ap ones t in
-          let e : p ≡ q = eqb-true p q t in
-          let later : sum_by w (entries_from (p + 1) held) ≡ 0 = rest.0 (omega (arith, e)) in
-          let most : sum_by w (entries_from p (Some own ∷ held)) ≤ 1 = omega (arith, sum, one, later) in
-          most)
-          (λ (f : p == q ≡ false).
-          let none : ones (p == q) ≡ ones false = ap ones f in
-          let most : sum_by w (entries_from p (Some own ∷ held)) ≤ 1 = omega (arith, sum, none, rest.1) in
-          most)
-          (cases_Bool (p == q)),
-    )
-
 -- a name that is there has a place
 among-below : (names : List (List ℕ)) (name : List ℕ) → is_among names name ≡ true
     → position_or_len (bytes_eq name) names < length names
 among-below [] name h = let clash : false ≡ true = h in absurd cc
 among-below (m ∷ names) name h =
-    let later : ℕ = position_or_len (bytes_eq name) names in
-    let at : ℕ = position_or_len (bytes_eq name) (m ∷ names) in
-    ⊎_elim
-    (λ (t : bytes_eq name m ≡ true).
-    let zero_at : at ≡ 0 = ap (λ (b : Bool). cond (not b) (1 + later) 0) t in
-    let below : at < length (m ∷ names) = omega (arith, zero_at) in
-    below)
-    (λ (f : bytes_eq name m ≡ false).
-    let next : at ≡ 1 + later = ap (λ (b : Bool). cond (not b) (1 + later) 0) f in
-    let rest : is_among names name ≡ true = sym (ap (λ (b : Bool). b || list_any (bytes_eq name) names) f) ∙ h in
-    let below : at < length (m ∷ names) = omega (arith, next, among-below names name rest) in
-    below)
-    (cases_Bool (bytes_eq name m))
+    cond-case (λ (n : ℕ). n < length (m ∷ names)) (not (bytes_eq name m))
+    (1 + position_or_len (bytes_eq name) names) 0
+    (λ t. omega (
+      arith,
+      among-below names name
+          (sym (ap (λ (b : Bool). b || list_any (bytes_eq name) names) (not-true (bytes_eq name m) t)) ∙ h),
+    ))
+    (λ _. omega arith)
 
--- each node and each key of a case is that of the network
-pub node-listed : (c : Case) (n : Node) → IsNodeOf c n → Contains (nodes c) n
-node-listed c Sink h =
-    second-of Hub Sink (gather (λ j. MachineAt j ∷ []) (length c.slots) ++
-    (gather (λ k. JobAt k ∷ []) c.jobs ++ case_tasks c))
-node-listed c Hub h =
-    first-of Hub (Sink ∷ gather (λ j. MachineAt j ∷ []) (length c.slots) ++
-    (gather (λ k. JobAt k ∷ []) c.jobs ++ case_tasks c))
-node-listed c (MachineAt j) h =
-    Contains-skip (Hub ∷ Sink ∷ []) (gather (λ j. MachineAt j ∷ []) (length c.slots) ++
-    (gather (λ k. JobAt k ∷ []) c.jobs ++ case_tasks c)) (MachineAt j)
-    (Contains-front (gather (λ j. MachineAt j ∷ []) (length c.slots))
-    (gather (λ k. JobAt k ∷ []) c.jobs ++ case_tasks c) (MachineAt j)
-    (contains-gather (λ j. MachineAt j ∷ []) (length c.slots) j (MachineAt j) h (first-of (MachineAt j) [])))
-node-listed c (JobAt k) h =
-    Contains-skip (Hub ∷ Sink ∷ gather (λ j. MachineAt j ∷ []) (length c.slots))
-    (gather (λ k. JobAt k ∷ []) c.jobs ++ case_tasks c) (JobAt k)
-    (Contains-front (gather (λ k. JobAt k ∷ []) c.jobs) (case_tasks c) (JobAt k)
-    (contains-gather (λ k. JobAt k ∷ []) c.jobs k (JobAt k) h (first-of (JobAt k) [])))
-node-listed c (TaskAt i) h =
-    Contains-skip (Hub ∷ Sink ∷ gather (λ j. MachineAt j ∷ []) (length c.slots))
-    (gather (λ k. JobAt k ∷ []) c.jobs ++ case_tasks c) (TaskAt i)
-    (Contains-skip (gather (λ k. JobAt k ∷ []) c.jobs) (case_tasks c) (TaskAt i)
-    (contains-gather (λ i. TaskAt i ∷ []) (length c.tasks) i (TaskAt i) h (first-of (TaskAt i) [])))
+module _ (c : Case) where
+  abbrev machine_places : List Node
+  machine_places = gather (λ j. MachineAt j ∷ []) (length c.slots)
+
+  abbrev job_places : List Node
+  job_places = gather (λ k. JobAt k ∷ []) c.jobs
+
+  -- each node of a case is that of the network
+  pub node-listed : (n : Node) → IsNodeOf c n → Contains (nodes c) n
+  node-listed Sink h = second-of Hub Sink (machine_places ++ (job_places ++ case_tasks c))
+  node-listed Hub h = first-of Hub (Sink ∷ machine_places ++ (job_places ++ case_tasks c))
+  node-listed (MachineAt j) h =
+      Contains-append_right (Hub ∷ Sink ∷ []) (machine_places ++ (job_places ++ case_tasks c)) (MachineAt j)
+      (Contains-append_left machine_places (job_places ++ case_tasks c) (MachineAt j)
+      (contains-gather (λ j. MachineAt j ∷ []) (length c.slots) j (MachineAt j) h (first-of (MachineAt j) [])))
+  node-listed (JobAt k) h =
+      Contains-append_right (Hub ∷ Sink ∷ machine_places) (job_places ++ case_tasks c) (JobAt k)
+      (Contains-append_left job_places (case_tasks c) (JobAt k)
+      (contains-gather (λ k. JobAt k ∷ []) c.jobs k (JobAt k) h (first-of (JobAt k) [])))
+  node-listed (TaskAt i) h =
+      Contains-append_right (Hub ∷ Sink ∷ machine_places) (job_places ++ case_tasks c) (TaskAt i)
+      (Contains-append_right job_places (case_tasks c) (TaskAt i)
+      (contains-gather (λ i. TaskAt i ∷ []) (length c.tasks) i (TaskAt i) h (first-of (TaskAt i) [])))
 
 -- where gathered elements weigh something, one of them does
 heavy-gathered : {X : Type 0} (w : X → ℕ) (h : ℕ → X) (n : ℕ) → 0 < sum_by w (gather (λ i. h i ∷ []) n)
@@ -259,7 +217,7 @@ module _ (c : Case) (low x : Key → ℕ) where
   of-machine j a key below has is =
       record {
         its = a;
-        listed = Contains-front machines (jobs ++ tasks) a
+        listed = Contains-append_left machines (jobs ++ tasks) a
             (contains-gather (machine_arcs c low x) (length c.slots) j a below has);
         keyed = is;
       }
@@ -269,8 +227,8 @@ module _ (c : Case) (low x : Key → ℕ) where
   of-task i a key below has is =
       record {
         its = a;
-        listed = Contains-skip machines (jobs ++ tasks) a
-            (Contains-skip jobs tasks a (contains-gather (task_arcs c low x) (length c.tasks) i a below has));
+        listed = Contains-append_right machines (jobs ++ tasks) a
+            (Contains-append_right jobs tasks a (contains-gather (task_arcs c low x) (length c.tasks) i a below has));
         keyed = is;
       }
 
@@ -294,7 +252,7 @@ module _ (c : Case) (low x : Key → ℕ) where
   key-listed (Slot j k) h =
       let a : Arc Node Key = arc low x (Slot j k) (MachineAt j) Sink 1 (k * c.spread) in
       of-machine j a (Slot j k) h.0
-      (Contains-skip (arc low x (Through j) Hub (MachineAt j) (slots_of c j) 0 ∷ [])
+      (Contains-append_right (arc low x (Through j) Hub (MachineAt j) (slots_of c j) 0 ∷ [])
       (gather (λ k. arc low x (Slot j k) (MachineAt j) Sink 1 (k * c.spread) ∷ []) (slots_of c j)) a
       (contains-gather (λ k. arc low x (Slot j k) (MachineAt j) Sink 1 (k * c.spread) ∷ []) (slots_of c j) k a h.1
       (first-of a []))) refl
@@ -302,8 +260,8 @@ module _ (c : Case) (low x : Key → ℕ) where
       let a : Arc Node Key = arc low x (Exit k) (JobAt k) Sink c.limit 0 in
       record {
         its = a;
-        listed = Contains-skip machines (jobs ++ tasks) a
-            (Contains-front jobs tasks a (contains-gather (job_arcs c low x) c.jobs k a h (first-of a [])));
+        listed = Contains-append_right machines (jobs ++ tasks) a
+            (Contains-append_left jobs tasks a (contains-gather (job_arcs c low x) c.jobs k a h (first-of a [])));
         keyed = refl;
       }
   key-listed (Wide i) h =
@@ -318,7 +276,7 @@ module _ (c : Case) (low x : Key → ℕ) where
   key-listed (Prefer i k) h =
       let a : Arc Node Key = preferred_arc i k in
       of-task i a (Prefer i k) h.0
-      (Contains-skip (wide_arc i ∷ stay_arc i ∷ delay_arc i ∷ []) (preferred_arcs c low x i) a
+      (Contains-append_right (wide_arc i ∷ stay_arc i ∷ delay_arc i ∷ []) (preferred_arcs c low x i) a
       (contains-gather (λ k. preferred_arc i k ∷ []) (length (demand c i).preferred) k a h.1 (first-of a []))) refl
 
 module _ (g : Graph) (is : IsGraph g) where
@@ -403,7 +361,7 @@ module _ (g : Graph) (is : IsGraph g) where
         ap (λ (l : List NodeId). sum_by w l) nodes-named,
         is.mirrors.nodes.weighs w,
         nodes-sum w g.net,
-        (place-once p 0 g.net.nodes.held).1,
+        (once-from (λ (i : Id). i.place == p) p (λ i t. eqb-true i.place p t) 0 g.net.nodes.held).1,
       )
 
   pub role-is : (n : Node) → IsNodeOf v.case n → role (spot_of v n) ≡ n
@@ -446,7 +404,7 @@ module _ (g : Graph) (is : IsGraph g) where
         ap (λ (l : List Span). sum_by w l) (graph-shown g is.mirrors),
         is.mirrors.spans.weighs w,
         spans-sum w g.net,
-        (once-from i 0 g.net.arcs.held).1,
+        id-once i g.net.arcs.held,
       )
 
   pub arcs-apart : (a b : Key) → IsKeyOf v.case a → IsKeyOf v.case b → arc_id g a ≡ arc_id g b → a ≡ b
@@ -588,9 +546,7 @@ same-fill : (low x low' x' : Key → ℕ) (arcs : List (Arc Node Key)) → ((key
 same-fill low x low' x' [] lows_same flows_same = refl
 same-fill low x low' x' (a ∷ arcs) lows_same flows_same =
     ap₂ (λ (b : Arc Node Key) (l : List (Arc Node Key)). b ∷ l)
-    (ap₂ (λ (m n : ℕ). let b : Arc Node Key = record
-    { key = a.key; tail = a.tail; head = a.head; low = m; cap = a.cap; cost = a.cost; flow = n } in b)
-    (lows_same a.key) (flows_same a.key))
+    (ap₂ (λ (m n : ℕ). let b : Arc Node Key = record a { low = m; flow = n } in b) (lows_same a.key) (flows_same a.key))
     (same-fill low x low' x' arcs lows_same flows_same)
 
 -- a graph whose net was cleared is the network of its rows, and nothing flows

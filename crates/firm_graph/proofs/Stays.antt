@@ -1,8 +1,7 @@
 -- What a graph is once a task stays where it was.
 use mathlib.Core.Bool.{beq}
-use Rattle.std.proofs.Common.{◌≡◌, ℕ, ◌+◌, ◌<◌, ◌≤◌, Bool, true, false, not, cond, is_some, Option, Some, List, []}
-use Rattle.std.proofs.Common.{◌∷◌, ◌++◌, get_or}
-use Rattle.std.proofs.Common.{length, arith, refl, sym, ap, ap₂, ◌∙◌}
+use Rattle.std.proofs.Common.{◌≡◌, ℕ, ◌+◌, ◌<◌, ◌≤◌, Bool, true, false, not, cond, is_some, Option, Some, List, [], ◌∷◌}
+use Rattle.std.proofs.Common.{◌++◌, get_or, length, arith, refl, sym, ap, ap₂, ◌∙◌}
 use Rattle.std.specs.List.{sum_by}
 use Rattle.firm_net.specs.Row.{Row}
 use Rattle.firm_net.specs.Net.{Net, IsNet, row_at, added_of}
@@ -15,8 +14,7 @@ use Rattle.firm_graph.specs.Graph.{preferred_spans, target_of}
 use Rattle.firm_graph.specs.Network.{away}
 use Rattle.firm_graph.specs.inner.Steps.{Holds}
 use Rattle.firm_graph.proofs.Drops.{task-start, task_dropped, task_at, wide_of, stay_of, wait_of, preferred_of}
-use Rattle.firm_graph.proofs.Drops.{four-sum}
-use Rattle.firm_graph.proofs.Drops.{holds-row}
+use Rattle.firm_graph.proofs.Drops.{four-sum, wide_arc, stay_arc, holds-row}
 use Rattle.firm_graph.proofs.Places.{task_placed, task-placed, wide_to, stay_to, wait_to, preferred_to, rated, rest_of}
 use Rattle.firm_graph.proofs.Places.{Rates, holds-back, holds-rated, holds-same, holds-swap}
 
@@ -76,15 +74,9 @@ stays g place parts home after waited cost is below at same cost_is h =
     let t2 : Span = stay_to g home parts in
     let t3 : Span = wait_to g place home waited parts in
     let ts : List Span = preferred_to g place home parts in
-    let e1 : s1 ≡ t1 = ap (λ (b : Bool). let s : Span = record {
-      arc = parts.arcs.wide;
-      tail = parts.node;
-      head = g.hub;
-      cap = 1;
-      cost = cond b g.rows.limits.churn 0 + away g.rows.limits.remote (task_at g place).preferred;
-    } in s) same.runs in
-    let e2 : s2 ≡ t2 = ap₂ (λ (n : NodeId) (b : Bool). let s : Span = record
-    { arc = parts.arcs.stay; tail = parts.node; head = n; cap = cond b 1 0; cost = 0 } in s) same.node same.runs in
+    let e1 : s1 ≡ t1 = ap (λ (b : Bool). wide_arc g.hub (cond b g.rows.limits.churn 0 + away g.rows.limits.remote
+    (task_at g place).preferred) parts) same.runs in
+    let e2 : s2 ≡ t2 = ap₂ (λ (n : NodeId) (b : Bool). stay_arc n b parts) same.node same.runs in
     let e3 : s3 ≡ t3 = ap (λ (n : ℕ). rated 1 n (wait_of g place parts)) cost_is in
     let es : ss ≡ ts = ap (λ (b : Bool). preferred_spans parts.node (cond b g.rows.limits.churn 0)
     (target_of g (task_at g place)).preferred parts.arcs.preferred) same.runs in

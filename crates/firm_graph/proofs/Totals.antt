@@ -1,28 +1,26 @@
 -- What the nodes and arcs of a graph weigh, part by part.
-use Rattle.std.proofs.Common.{◌≡◌, ℕ, ◌+◌, ◌*◌, cond, is_some, List, [], ◌∷◌, ◌++◌, length, arith, refl, sym, ap}
-use Rattle.std.proofs.Common.{ap₂, ◌∙◌}
-use Rattle.std.proofs.Common.{length-append}
+use Rattle.std.proofs.Common.{◌≡◌, ℕ, ◌+◌, List, [], ◌∷◌, ◌++◌, length, arith, refl, sym, ap, ap₂, ◌∙◌, length-append}
 use Rattle.std.proofs.lemmas.List.{length-map}
-use Rattle.std.specs.List.{sum_by, All, AllZip}
+use Rattle.std.specs.List.{sum_by, All}
 use Rattle.std.specs.Prelude.{slice_index_or}
 use Rattle.std.proofs.lemmas.List.Sums.{sum_by-cons, sum_by-append}
 use Rattle.std.proofs.lemmas.List.Elements.{All-head, All-tail}
 use Rattle.firm_arena.specs.Arena.{entries}
-use Rattle.firm_net.specs.Net.{node_count, arc_count}
+use Rattle.firm_net.specs.Net.{node_count}
 use Rattle.firm_net.specs.declared.row.NodeId.{NodeId}
 use Rattle.firm_net.specs.declared.row.ArcId.{ArcId}
-use Rattle.firm_rules.specs.Book.{machine_names}
-use Rattle.firm_rules.specs.ArenaUse.{arena_nodes, arena_arcs, preference_count}
+use Rattle.firm_rules.specs.ArenaUse.{arena_nodes}
+use Rattle.firm_rules.specs.declared.book.Task.{Task}
+use Rattle.firm_net.specs.Edits.{Span, nodes_of, AsOften}
+use Rattle.firm_rules.specs.Book.{machine_names, job_names}
 use Rattle.firm_rules.specs.declared.book.Machine.{Machine}
 use Rattle.firm_rules.specs.declared.book.Job.{Job}
-use Rattle.firm_rules.specs.declared.book.Task.{Task}
-use Rattle.firm_net.specs.Edits.{Span, span_of, nodes_of, spans_of, AsOften}
 use Rattle.firm_graph.specs.Parts.{MachineParts}
 use Rattle.firm_graph.specs.declared.ids.JobParts.{JobParts}
 use Rattle.firm_graph.specs.declared.ids.TaskParts.{TaskParts}
 use Rattle.firm_graph.specs.Graph.{Graph, Mirrors, flat_zip, machine_spans, slot_spans, job_spans, task_spans, Target}
-use Rattle.firm_graph.specs.Graph.{preferred_spans, node_under, target_of, graph_nodes, graph_spans, machine_nodes}
-use Rattle.firm_graph.specs.Graph.{job_nodes, task_nodes}
+use Rattle.firm_graph.specs.Graph.{preferred_spans, target_of, graph_nodes, graph_spans, machine_nodes, job_nodes}
+use Rattle.firm_graph.specs.Graph.{task_nodes}
 use Rattle.firm_arena.specs.Laws.{length-entries_from}
 use Rattle.firm_net.specs.Laws.{sum-map}
 
@@ -54,6 +52,16 @@ module _ {A B C : Type 0} where
 
 pub sum-one : {X : Type 0} (w : X → ℕ) (x : X) → sum_by w (x ∷ []) ≡ w x
 sum-one w x = sum_by-cons w x [] ∙ (let e : w x + 0 ≡ w x = omega arith in e)
+
+-- the nodes of the machines and of the jobs are as many as their names
+pub machines-paired : (g : Graph) → length g.machines ≡ length g.rows.machines
+    → length (machine_nodes g) ≡ length (machine_names g.rows)
+machines-paired g e =
+    length-map g.machines (λ (p : MachineParts). p.node) ∙ e
+    ∙ sym (length-map g.rows.machines (λ (m : Machine). m.name))
+
+pub jobs-paired : (g : Graph) → length g.jobs ≡ length g.rows.jobs → length (job_nodes g) ≡ length (job_names g.rows)
+jobs-paired g e = length-map g.jobs (λ (p : JobParts). p.node) ∙ e ∙ sym (length-map g.rows.jobs (λ (j : Job). j.name))
 
 -- what the nodes weigh
 pub nodes-total : (w : NodeId → ℕ) (g : Graph) → sum_by w (graph_nodes g)
@@ -99,20 +107,11 @@ pub tasks-same : (w : Span → ℕ) (g : Graph) (one other : Task → Target)
     → All (λ task. one task ≡ other task) g.rows.tasks
     → tasks_total w g one ≡ tasks_total w g other
 tasks-same w g one other same =
+    let f : (Task → Target) → Task → TaskParts → List Span = task_spans g.hub g.rows.limits.churn g.rows.limits.remote
+    in
     ap (λ (l : List Span). sum_by w l)
-    (flat_zip-same (task_spans g.hub g.rows.limits.churn g.rows.limits.remote one)
-    (task_spans g.hub g.rows.limits.churn g.rows.limits.remote other) g.rows.tasks
-    g.tasks
-    (λ k d below parts. same_target g.hub g.rows.limits.churn g.rows.limits.remote one other
-    (slice_index_or g.rows.tasks k d) parts
-    (same k d below)))
-  where
-    same_target : (hub : NodeId) (churn remote : ℕ) (one other : Task → Target) (task : Task) (parts : TaskParts)
-        → one task ≡
-        other task
-        → task_spans hub churn remote one task parts ≡ task_spans hub churn remote other task parts
-    same_target hub churn remote one other task parts e =
-        ap (λ (t : Target). task_spans hub churn remote (λ _. t) task parts) e
+    (flat_zip-same (f one) (f other) g.rows.tasks g.tasks
+    (λ k d below parts. ap (λ (t : Target). f (λ _. t) (slice_index_or g.rows.tasks k d) parts) (same k d below)))
 
 -- how much there is
 pub sum-ones : {X : Type 0} (xs : List X) → sum_by (λ _. 1) xs ≡ length xs
@@ -131,31 +130,6 @@ pub slots-count : (node sink : NodeId) (spread k : ℕ) (slots : List ArcId)
 slots-count node sink spread k [] = refl
 slots-count node sink spread k (arc ∷ rest) = omega (arith, slots-count node sink spread (k + 1) rest)
 
-machines-count : (hub sink : NodeId) (spread : ℕ) (ms : List Machine) (ps : List MachineParts)
-    → AllZip (λ machine parts. length parts.slots ≡ machine.slots) ms ps
-    → length (flat_zip (machine_spans hub sink spread) ms ps) ≡ sum_by (λ machine. 1 + machine.slots) ms
-machines-count hub sink spread [] [] h = refl
-machines-count hub sink spread [] (p ∷ ps) h = absurd h
-machines-count hub sink spread (m ∷ ms) [] h = absurd h
-machines-count hub sink spread (m ∷ ms) (p ∷ ps) h =
-    let w : Machine → ℕ = λ (machine : Machine). 1 + machine.slots in
-    omega (
-      arith,
-      length-append (machine_spans hub sink spread m p) (flat_zip (machine_spans hub sink spread) ms ps),
-      slots-count p.node sink spread 0 p.slots,
-      machines-count hub sink spread ms ps h.1,
-      h.0,
-      sum_by-cons w m ms,
-    )
-
-jobs-count : (sink : NodeId) (limit : ℕ) (js : List Job) (ps : List JobParts) → length ps ≡ length js
-    → length (flat_zip (job_spans sink limit) js ps) ≡ length js
-jobs-count sink limit [] ps e = refl
-jobs-count sink limit (j ∷ js) [] e = absurd (omega arith)
-jobs-count sink limit (j ∷ js) (p ∷ ps) e =
-    let shorter : length ps ≡ length js = omega arith in
-    omega (arith, jobs-count sink limit js ps shorter)
-
 pub preferred-count : (node : NodeId) (cost : ℕ) (heads : List NodeId) (arcs : List ArcId) → length arcs ≡ length heads
     → length (preferred_spans node cost heads arcs) ≡ length heads
 preferred-count node cost [] arcs e = refl
@@ -164,25 +138,7 @@ preferred-count node cost (head ∷ heads) (arc ∷ arcs) e =
     let shorter : length arcs ≡ length heads = omega arith in
     omega (arith, preferred-count node cost heads arcs shorter)
 
-tasks-count : (hub : NodeId) (churn remote : ℕ) (target : Task → Target) (ts : List Task) (ps : List TaskParts)
-    → AllZip (λ task parts. length parts.arcs.preferred ≡ length task.preferred) ts ps
-    → ((t : Task) → length (target t).preferred ≡ length t.preferred)
-    → length (flat_zip (task_spans hub churn remote target) ts ps) ≡ 3 * length ts + preference_count ts
-tasks-count hub churn remote target [] ps h each = refl
-tasks-count hub churn remote target (t ∷ ts) [] h each = absurd h
-tasks-count hub churn remote target (t ∷ ts) (p ∷ ps) h each =
-    let cost : ℕ = cond (is_some t.machine) churn 0 in
-    let own : List Span = preferred_spans p.node cost (target t).preferred p.arcs.preferred in
-    omega (
-      arith,
-      length-append own (flat_zip (task_spans hub churn remote target) ts ps),
-      preferred-count p.node cost (target t).preferred p.arcs.preferred (h.0 ∙ sym (each t)),
-      each t,
-      tasks-count hub churn remote target ts ps h.1 each,
-      sum_by-cons (λ (task : Task). length task.preferred) t ts,
-    )
-
--- the net holds as many nodes and arcs as the rows use
+-- the net holds as many nodes as the rows use
 pub nodes-counted : (g : Graph) → Mirrors g → node_count g.net ≡ arena_nodes g.rows
 nodes-counted g is =
     omega (
@@ -198,23 +154,4 @@ nodes-counted g is =
       is.machines,
       is.jobs,
       is.tasks,
-    )
-
-pub arcs-counted : (g : Graph) → Mirrors g → arc_count g.net ≡ arena_arcs g.rows
-arcs-counted g is =
-    let machines : List Span = flat_zip (machine_spans g.hub g.sink g.rows.limits.spread) g.rows.machines g.machines in
-    let jobs : List Span = flat_zip (job_spans g.sink g.rows.limits.nodes) g.rows.jobs g.jobs in
-    let tasks : List Span = flat_zip (task_spans g.hub g.rows.limits.churn g.rows.limits.remote (target_of g))
-    g.rows.tasks g.tasks in
-    omega (
-      arith,
-      often-length (spans_of g.net) (graph_spans g) is.spans,
-      length-map (entries g.net.arcs) (λ e. span_of (record { id = e.0 }) e.1),
-      length-entries_from 0 g.net.arcs.held,
-      length-append machines (jobs ++ tasks),
-      length-append jobs tasks,
-      machines-count g.hub g.sink g.rows.limits.spread g.rows.machines g.machines is.slots,
-      jobs-count g.sink g.rows.limits.nodes g.rows.jobs g.jobs is.jobs,
-      tasks-count g.hub g.rows.limits.churn g.rows.limits.remote (target_of g) g.rows.tasks g.tasks is.preferred
-          (λ t. length-map t.preferred (node_under (machine_names g.rows) (machine_nodes g) g.hub)),
     )

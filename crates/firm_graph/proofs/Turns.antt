@@ -1,7 +1,7 @@
 -- What a net holds once the arcs of a task were changed.
 use Rattle.std.proofs.Common.{◌≡◌, ◌≢◌, ℕ, zero, suc, ◌+◌, ◌<◌, true, false, Option, Some, None, List, [], ◌∷◌, map}
 use Rattle.std.proofs.Common.{length, get_or, bytes_eq, arith, refl, sym, ap, ◌∙◌, subst}
-use Rattle.std.specs.List.{AllByRecursion, IsDistinct}
+use Rattle.std.specs.List.{IsDistinct}
 use Rattle.std.proofs.lemmas.Bool.{cond-true, cond-false}
 use Rattle.std.proofs.lemmas.List.{get_or-map, length-map}
 use Rattle.std.proofs.lemmas.Map.Keys.{IsDistinct-head, IsDistinct-tail}
@@ -22,6 +22,7 @@ use Rattle.firm_graph.specs.declared.ids.Stand.{Stand}
 use Rattle.firm_graph.specs.Graph.{Graph, Mirrors, graph_nodes, home_node, node_under, machine_nodes}
 use Rattle.firm_graph.specs.inner.Steps.{IsPlacing, Stands, Holds, moved, with_task_at, thrown_out, thrown_out_first}
 use Rattle.firm_graph.specs.inner.Steps.{forgetting_rows, settled_first, no_task, task_at}
+use Rattle.firm_graph.proofs.Lookups.{all-at}
 use Rattle.firm_graph.proofs.Machines.{bytes_eq-swap}
 use Rattle.firm_graph.proofs.Drops.{holds-row}
 use Rattle.firm_graph.proofs.Places.{home-there, home-other}
@@ -118,12 +119,6 @@ settle-next g rows machines hub choices place choice parts stand before after ro
     (settle-step g.rows choices place choice home stand.waited there choice_is refl its.waited) made
 
 -- where names differ, the name at a place is looked up at that place
-all-at : {X : Type 0} (P : X → Type 0) (xs : List X) (i : ℕ) (d : X) → AllByRecursion P xs → i < length xs
-    → P (get_or xs i d)
-all-at P [] i d h below = absurd (omega arith)
-all-at P (x ∷ xs) zero d h below = h.0
-all-at P (x ∷ xs) (suc i) d h below = all-at P xs i d h.1 (omega arith)
-
 pub node_under-own : (names : List (List ℕ)) (nodes : List NodeId) (other : NodeId) (place : ℕ)
     → IsDistinct bytes_eq names → length nodes ≡ length names
     → place < length names → node_under names nodes other (get_or names place []) ≡ get_or nodes place other

@@ -9,6 +9,7 @@ use Rattle.firm_net.specs.declared.row.ArcId.{ArcId}
 use Rattle.firm_rules.specs.Book.{TenantRows, machine_names, job_names}
 use Rattle.firm_rules.specs.ArenaUse.{arena_nodes, arena_arcs}
 use Rattle.firm_rules.specs.Sound.{AreSound}
+use Rattle.firm_rules.specs.Placement.{slot_cost}
 use Rattle.firm_rules.specs.declared.book.Machine.{Machine}
 use Rattle.firm_rules.specs.declared.book.Job.{Job}
 use Rattle.firm_rules.specs.declared.book.Task.{Task}
@@ -40,7 +41,7 @@ flat_zip f (x ∷ xs) (y ∷ ys) = f x y ++ flat_zip f xs ys
 abbrev pub slot_spans : NodeId → NodeId → ℕ → ℕ → List ArcId → List Span
 slot_spans node sink spread k [] = []
 slot_spans node sink spread k (arc ∷ rest) =
-    record { arc = arc; tail = node; head = sink; cap = 1; cost = k * spread }
+    record { arc = arc; tail = node; head = sink; cap = 1; cost = slot_cost spread k }
     ∷ slot_spans node sink spread (k + 1) rest
 
 -- the arcs of a machine

@@ -17,7 +17,7 @@ ghost use Rattle.firm_graph.specs.inner.Steps.{Holds};
 use crate::ids::MachineIds;
 use crate::preferred::PreferredArcs;
 use firm_net::{ArcId, ArcRow, Net, NodeId};
-use firm_rules::{Limits, Name, Rows};
+use firm_rules::{Limits, Name, Rows, slot_cost};
 
 /// Adds a node to a net with room for it.
 pub(crate) fn put_node(net: &mut Net) -> NodeId
@@ -154,7 +154,8 @@ pub(crate) fn link_slots(net: &mut Net, ladder: SlotArcs, slots: &mut Vec<ArcId>
     ensures count { length slots.new.items ≡ ladder.count }
 {
     for k in 0..ladder.count {
-        let arc = link(net, ladder.node, ladder.sink, 1, k * ladder.spread);
+        let cost = slot_cost(u64::from(ladder.spread), u64::from(k)) as u32;
+        let arc = link(net, ladder.node, ladder.sink, 1, cost);
         push_reserved(slots, arc);
     }
 }

@@ -33,9 +33,8 @@ use crate::edits::{
 use crate::growth::{NewTask, grow_jobs, grow_machines, grow_tasks};
 use crate::ids::{GraphRefusal, JobParts, MachineIds, Stand, TaskArcs, TaskParts, find_machine};
 use crate::moves::{Heads, evict_tasks, forget_machine, home_of, place_task, settle_tasks};
-use crate::order::SearchOrder;
 use crate::proposals::Proposals;
-use firm_flow::{in_any_order, solve};
+use firm_flow::solve;
 use firm_net::{ArcId, Net, NodeId, Way};
 use firm_paths::{Prices, Scratch};
 use firm_rules::{
@@ -56,7 +55,6 @@ pub struct Graph {
     jobs: Vec<JobParts>,
     tasks: Vec<TaskParts>,
     sources: Vec<NodeId>,
-    order: SearchOrder,
     proposals: Proposals,
     asked: u64,
 }
@@ -81,7 +79,6 @@ impl Graph {
         ensures graph { IfOk result (λ graph. IsGraph graph) }
     {
         let mut net = Net::new(alloc, limits.nodes() as u32, limits.arcs() as u32)?;
-        let order = SearchOrder::new(alloc);
         let proposals = Proposals::open(alloc, limits)?;
         let hub = put_node(&mut net);
         let sink = put_node(&mut net);
@@ -94,7 +91,6 @@ impl Graph {
             jobs: Vec::new(alloc),
             tasks: Vec::new(alloc),
             sources: Vec::new(alloc),
-            order,
             proposals,
             asked: 0,
         })
@@ -184,13 +180,7 @@ impl Graph {
             name,
             preferred,
         };
-        let Ok(()) = grow_tasks(
-            &mut self.tasks,
-            &mut self.sources,
-            &mut self.order,
-            &mut self.rows,
-            task,
-        ) else {
+        let Ok(()) = grow_tasks(&mut self.tasks, &mut self.sources, &mut self.rows, task) else {
             return Err(GraphRefusal::Memory);
         };
         let owner = self.jobs[place].node;
@@ -291,7 +281,7 @@ impl Graph {
     }
 
     /// Makes the net carry a flow of least cost, one unit from each task to the sink, and gives its cost. One search
-    /// for each task sends its unit, the dearest to leave waiting first. Takes no memory.
+    /// for each task sends its unit, in order of submission. Takes no memory.
     pub fn least(&mut self, prices: &mut Prices, scratch: &mut Scratch) -> i64
         requires made_for { (prices.old.limits ≡ limits_of self.old.net)
             × (scratch.old.limits ≡ limits_of self.old.net) }
@@ -311,10 +301,7 @@ impl Graph {
         ensures graph { IsGraph self.new }
         ensures shows { Shows (view_of self.new) }
     {
-        in_any_order();
-        self.order.line_up(&self.net, &self.tasks);
-        let sources = self.order.nodes();
-        let Ok(cost) = solve(&mut self.net, prices, scratch, sources, self.sink) else {
+        let Ok(cost) = solve(&mut self.net, prices, scratch, &self.sources, self.sink) else {
             unreachable!()
         };
         cost

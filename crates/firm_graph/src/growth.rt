@@ -1,12 +1,11 @@
 //! All the memory that an added row takes. No net is at hand here, so that each growth comes before its first change.
-ghost use Rattle.std.specs.Prelude.{◌≡◌, ◌+◌, ◌<◌, ◌≤◌, false, true, [], IfOk, OnOk, OnErr, All, vec_len, vec_capacity};
+ghost use Rattle.std.specs.Prelude.{◌≡◌, ◌<◌, ◌≤◌, false, true, [], IfOk, OnOk, OnErr, All, vec_len, vec_capacity};
 ghost use Rattle.firm_rules.specs.ArenaUse.{FitsLimits};
 ghost use Rattle.firm_rules.specs.Book.{machine_names, job_names, task_names, with_machine, with_job, with_task};
 ghost use Rattle.firm_rules.specs.Names.{is_among};
 ghost use Rattle.firm_rules.specs.Sound.{AreSound};
 
 use crate::ids::{JobParts, MachineIds, TaskParts};
-use crate::order::SearchOrder;
 use firm_net::{ArcId, NodeId};
 use firm_rules::{Name, Preferred, Rows, Slots, Weight};
 use std::alloc::{AllocError, Allocator};
@@ -38,12 +37,11 @@ pub(crate) struct NewTask {
     pub(crate) preferred: Preferred,
 }
 
-/// Adds the row of a task, with room for its parts, its node and its place in the order of searches. The error comes
-/// for lack of memory alone, and leaves all as it was.
+/// Adds the row of a task, with room for its parts and its node. The error comes for lack of memory alone, and leaves
+/// all as it was.
 pub(crate) fn grow_tasks<A: Allocator>(
     parts: &mut Vec<TaskParts, A>,
     sources: &mut Vec<NodeId, A>,
-    order: &mut SearchOrder<A>,
     rows: &mut Rows<A>,
     task: NewTask,
 ) -> Result<(), AllocError>
@@ -55,15 +53,12 @@ pub(crate) fn grow_tasks<A: Allocator>(
     ensures sources { sources.new.items ≡ sources.old.items }
     ensures room { OnOk result (vec_len parts.new < vec_capacity parts.new) }
     ensures source_room { OnOk result (vec_len sources.new < vec_capacity sources.new) }
-    ensures order_room { OnOk result (vec_len parts.new + 1 ≤ order.new.room) }
-    ensures order_kept { order.old.room ≤ order.new.room }
     ensures ok { OnOk result (rows.new ≡ with_task rows.old task.job task.name task.preferred) }
     ensures err { OnErr result (rows.new ≡ rows.old) }
     ensures sound { OnOk result (AreSound rows.new) }
 {
     parts.reserve(1)?;
     sources.reserve(1)?;
-    order.reserve(parts.len() + 1)?;
     rows.add_task(task.job, task.name, task.preferred)
 }
 

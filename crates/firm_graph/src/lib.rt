@@ -11,8 +11,7 @@
 //! # How it works
 //!
 //! Each change of rows sets the costs that it changes, so `prepare` only clears. A walk over a task's arcs begins with
-//! the one to the hub, by which most paths lead on. `least` takes the tasks by falling cost of waiting, then in order
-//! of submission: a dear one that comes late would push cheap ones out of their slots, one by one.
+//! the one to the hub, by which most paths lead on.
 //!
 //! `propose` needs no net. A round is sought on flat tables by firm_proposals, which proves nothing of what it finds,
 //! and taken only if firm_rents shows it to be the round's. The tables are taken when the graph is opened, and the case
@@ -27,7 +26,6 @@ mod ids;
 mod laws;
 mod moves;
 mod network;
-mod order;
 mod preferred;
 mod proposals;
 mod restore;

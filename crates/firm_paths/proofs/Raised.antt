@@ -14,9 +14,8 @@ use Rattle.firm_paths.specs.Network.{AreValid, IsValidAt, StaysInside}
 use Rattle.firm_paths.specs.NetArcs.{arc_of, arcs_of}
 use Rattle.firm_paths.specs.Paths.{IsHighest, IsCut}
 use Rattle.firm_paths.specs.Visits.{visit}
-use Rattle.firm_paths.specs.inner.Search.{state, known, settled, label, IsReached, IsEnd, AreRaised}
-use Rattle.firm_paths.specs.inner.Search.{IsRaised, IsNotNegative, start_of, end_of}
-use Rattle.firm_paths.specs.inner.Search.{IsReachedBy}
+use Rattle.firm_paths.specs.inner.Search.{state, known, settled, label, IsReached, IsEnd, AreRaised, IsRaised}
+use Rattle.firm_paths.specs.inner.Search.{IsNotNegative, start_of, end_of, IsReachedBy}
 use Rattle.firm_paths.specs.declared.search.NodeState.{NodeState}
 use Rattle.firm_paths.specs.declared.search.Visit.{Visit}
 use Rattle.firm_paths.specs.Laws.{all_arcs, at_row}

@@ -12,17 +12,19 @@
 //! net, apart. Only the two `new` take memory. No clause bounds other work than looks.
 //!
 //! - `raise` requires two different nodes, valid prices, none above that of `to`, and that at most 2^60.
-//! - `tight_paths` finds a path to a node from every other that has one, in one search; `path_from` gives them.
+//! - `tight_paths` finds a path to a node from a goal or, where there is none, from every other that has one, in one
+//!   search; `path_from` gives them.
 //!
 //! # How it works
 //!
 //! `raise` is Dijkstra's search on reduced costs, up to the goal, which goes first among nodes as near. The queue is a
-//! tournament tree: for n nodes and m arcs a search changes at most 2 * m + 2 * n keys, in log n steps each. Prices are
-//! kept as distances below a base, so a raise touches settled nodes alone, unless the goal's price is below the base,
-//! as after a search for another goal.
+//! tournament tree: for n nodes and m arcs a search changes at most 2 * m + 2 * n keys, in log n steps each. Of equal
+//! keys it does not always give the first place, or searches would come to nodes that lead nowhere again and again.
+//! Prices are kept as distances below a base, so a raise touches settled nodes alone, unless the goal's price is below
+//! the base, as after a search for another goal.
 //!
 //! `tight_path` and `tight_paths` are one breadth-first search from the end of the paths against the arcs, up to where
-//! the path begins, or through all nodes. A search resets only the nodes that the one before visited.
+//! the path begins, or else through all nodes. A search resets only the nodes that the one before visited.
 
 mod laws;
 mod prices;

@@ -1,5 +1,5 @@
 //! An ordered queue of places, each with a key: a tournament of keys.
-ghost use Rattle.std.specs.Prelude.{◌≡◌, ℕ, ◌+◌, ◌*◌, ◌<◌, ◌≤◌, ◌^◌, length, drop, replicate, IfOk, MatchOption};
+ghost use Rattle.std.specs.Prelude.{◌≡◌, ℕ, ◌+◌, ◌*◌, ◌<◌, ◌≤◌, ◌^◌, ◌⊎◌, length, drop, replicate, IfOk, MatchOption};
 ghost use Rattle.std.specs.Prelude.{slice_index, slice_set};
 ghost use Rattle.firm_paths.specs.inner.Queue.{IsTournament, IsLeastKey};
 
@@ -9,11 +9,13 @@ use std::marker::Model;
 /// The key of a place that is not in the queue.
 pub const ABSENT: u64 = u64::MAX;
 
-/// A key for each place; the least is at hand.
+/// A key for each place; the least is at hand. Places with equal keys take turns, by the number of changes: were the
+/// same always first, searches would come anew to nodes from which those before found no way.
 #[derive(Drop)]
 pub struct Queue {
     places: usize,
     keys: Vec<u64>,
+    changes: u64,
 }
 
 impl Model for Queue {
@@ -36,6 +38,7 @@ impl Queue {
         Ok(Queue {
             places,
             keys: vec![in alloc; ABSENT; 2 * places]?,
+            changes: 0,
         })
     }
 
@@ -44,6 +47,7 @@ impl Queue {
         requires { place < length self.old }
         ensures { self.new ≡ slice_set self.old place key }
     {
+        self.changes = self.changes.wrapping_add(1);
         set_key(&mut self.keys, self.places, place, key);
     }
 
@@ -68,7 +72,7 @@ impl Queue {
             ((v : ℕ) → v < length self.now → slice_index self.now v ≡ 18446744073709551615)
             (IsLeastKey self.now) }
     {
-        least_place(&self.keys, self.places, preferred)
+        least_place(&self.keys, self.places, preferred, self.changes)
     }
 }
 
@@ -93,8 +97,23 @@ fn set_key(keys: &mut [u64], places: usize, place: usize, key: u64)
     }
 }
 
-/// The place of the least key: the preferred one, or found from the top down.
-fn least_place(keys: &[u64], places: usize, preferred: usize) -> Option<usize>
+/// The one of two neighbours that has the key: where both have it, the right one if that goes first.
+fn with_key(keys: &[u64], left: usize, key: u64, right_first: bool) -> usize
+    requires there { left + 1 < length keys.now }
+    requires one { (key ≡ slice_index keys.now left) ⊎ (key ≡ slice_index keys.now (left + 1)) }
+    ensures key { slice_index keys.now result ≡ key }
+    ensures from { left ≤ result }
+    ensures to { result ≤ left + 1 }
+{
+    if right_first && keys[left + 1] == key {
+        return left + 1;
+    }
+    if keys[left] == key { left } else { left + 1 }
+}
+
+/// The place of the least key: the preferred one, or found from the top down; of equal keys the one on the side that
+/// the next binary digit of `sides` tells.
+fn least_place(keys: &[u64], places: usize, preferred: usize, sides: u64) -> Option<usize>
     requires tournament { IsTournament places keys.now }
     ensures { MatchOption result
         ((v : ℕ) → v < places → slice_index keys.now (places + v) ≡ 18446744073709551615)
@@ -113,11 +132,10 @@ fn least_place(keys: &[u64], places: usize, preferred: usize) -> Option<usize>
         return Some(preferred);
     }
     let mut at = 1;
+    let mut sides = sides;
     while at < places {
-        at = 2 * at;
-        if keys[at] != top {
-            at += 1;
-        }
+        at = with_key(keys, 2 * at, top, sides % 2 == 1);
+        sides = sides / 2;
     }
     Some(at - places)
 }

@@ -1,6 +1,6 @@
 //! Paths over residual arcs of reduced cost 0.
 ghost use Rattle.std.specs.Prelude.{◌≡◌, ◌≢◌, ℕ, ◌+◌, ◌*◌, ◌^◌, ◌<◌, ◌≤◌, ◌↔◌, ◌⊎◌, Bool, false, true, [], length};
-ghost use Rattle.std.specs.Prelude.{Contains};
+ghost use Rattle.std.specs.Prelude.{Contains, List};
 ghost use Rattle.std.specs.Prelude.{IsTrue, Some, None, IfSome, IfNone, slice_index, slice_index_or, vec_capacity};
 ghost use Rattle.std.specs.Borrow.{sem};
 ghost use Rattle.firm_arena.specs.Arena.{capacity_of};
@@ -15,6 +15,7 @@ ghost use Rattle.firm_paths.specs.inner.Queue.{IsVisited};
 ghost use Rattle.firm_paths.specs.inner.Spread.{seen_with, visits_with, IsGrown, IsCounted, Spreads, SpreadsAll};
 ghost use Rattle.firm_paths.specs.inner.Spread.{SpreadsBoth, Agree, IsFoundBy, IsSpent};
 ghost use Rattle.firm_paths.specs.Workspace.{HasSearched};
+ghost use Rattle.firm_paths.specs.declared.search.Step.{Step as AStep};
 ghost use Rattle.firm_paths.specs.Lending.{Rests};
 
 use crate::prices::Prices;
@@ -310,13 +311,36 @@ pub fn tight_path<'s>(
     Some(&scratch.steps[..])
 }
 
-/// Searches for paths to `to` over residual arcs of reduced cost 0, from all nodes that have one. `Scratch::path_from`
-/// gives them, until the next search. Counts one search, and at most two looks for each arc. Takes no memory.
-pub fn tight_paths(scratch: &mut Scratch, net: &Net, prices: &Prices, to: NodeId)
+/// The place of a node, if one is given.
+fn place_of(net: &Net, node: Option<NodeId>) -> Option<usize>
+    requires { IfSome node (λ node. IsNode net.now node) }
+    ensures some { IfSome node (λ node. result ≡ Some node.id.place) }
+    ensures none { IfNone node (result ≡ None) }
+{
+    let Some(place) = net.place(node?) else {
+        unreachable!()
+    };
+    Some(place as usize)
+}
+
+/// Searches for paths to `to` over residual arcs of reduced cost 0: until one from the goal is found or, where there is
+/// none or no goal, from all nodes that have one. `Scratch::path_from` gives them, until the next search. Counts one
+/// search, and at most two looks for each arc. Takes no memory.
+pub fn tight_paths(
+    scratch: &mut Scratch,
+    net: &Net,
+    prices: &Prices,
+    to: NodeId,
+    goal: Option<NodeId>,
+)
     requires node { IsNode net.now to }
+    requires goal { IfSome goal (λ node. IsNode net.now node) }
     requires made_for { (prices.now.limits ≡ limits_of net.now) × (scratch.old.limits ≡ limits_of net.now) }
     ensures searched { HasSearched scratch.old scratch.new 1 (arc_count net.now) }
-    ensures paths { ArePaths net.now (price_of prices.now) to.id.place (paths_of scratch.new.visits) }
+    ensures path { (v : ℕ) (steps : List AStep) → paths_of scratch.new.visits v ≡ Some steps
+        → IsTightPath net.now (price_of prices.now) v to.id.place steps }
+    ensures paths { IfSome goal (λ node. paths_of scratch.new.visits node.id.place ≡ None)
+        → ArePaths net.now (price_of prices.now) to.id.place (paths_of scratch.new.visits) }
 {
     let _places = prices.places();
     let arcs = TightArcs {
@@ -324,7 +348,8 @@ pub fn tight_paths(scratch: &mut Scratch, net: &Net, prices: &Prices, to: NodeId
         prices,
         barred: &[],
     };
-    scratch.reach.find(&arcs, to, None);
+    let goal = place_of(net, goal);
+    scratch.reach.find(&arcs, to, goal);
     scratch.searches = scratch.searches.saturating_add(1);
     scratch.looks = scratch.looks.saturating_add(scratch.reach.looks);
 }

@@ -1,10 +1,11 @@
 -- A unit sent round a cycle of residual arcs of reduced cost 0. No public clause cites this module.
-use Rattle.std.specs.Prelude.{◌≡◌, ◌≢◌, ℕ, ◌+◌, ◌<◌, ◌≤◌, List, ◌++◌, All, Option, Some, None, map, ◌⊎◌}
+use Rattle.std.specs.Prelude.{◌≡◌, ◌≢◌, ℕ, ◌+◌, ◌<◌, ◌≤◌, Bool, List, [], ◌++◌, All, Option, Some, None, map, ◌⊎◌}
 use Rattle.firm_net.specs.Row.{Row}
 use Rattle.firm_net.specs.Net.{Net, row_at}
 use Rattle.firm_net.specs.declared.row.ArcId.{ArcId}
 use Rattle.firm_paths.specs.Network.{AreValid, Tight}
 use Rattle.firm_paths.specs.NetArcs.{arc_of, arcs_of, residual_of}
+use Rattle.firm_paths.specs.Paths.{IsTightCut}
 use Rattle.firm_paths.specs.declared.search.Step.{Step}
 use Rattle.firm_flow.specs.Flow.{IsWithinBounds, cost_of, carried}
 use Rattle.firm_flow.specs.Balance.{Balanced, OnTheWay}
@@ -67,8 +68,9 @@ abbrev pub IsBlocked : Net → (ℕ → ℕ) → ArcId → Type 0
 IsBlocked net price arc =
     (row : Row) → row_at net arc ≡ Some row → (row.cap ≤ row.flow) ⊎ (Tight price (arc_of arc row) → ⊥)
 
--- so it is, or no path was found from its head
-abbrev pub IsStuck : Net → (ℕ → ℕ) → (ℕ → Option (List Step)) → ArcId → Type 0
-IsStuck net price paths arc =
+-- so it is, or no way leads from its head to the place
+abbrev pub IsClosedAt : Net → (ℕ → ℕ) → ℕ → ArcId → Type 0
+IsClosedAt net price to arc =
     (row : Row) → row_at net arc ≡ Some row
-    → (row.cap ≤ row.flow) ⊎ ((Tight price (arc_of arc row) → ⊥) ⊎ (paths row.head.id.place ≡ None))
+    → (row.cap ≤ row.flow)
+    ⊎ ((Tight price (arc_of arc row) → ⊥) ⊎ ((inside : ℕ → Bool) × IsTightCut net price [] row.head.id.place to inside))

@@ -1,6 +1,5 @@
--- How a task's preferred arcs and the order of searches are kept.
+-- How a task's preferred arcs are kept.
 use Rattle.std.specs.Prelude.{◌≡◌, ℕ, ◌-◌, ◌≤◌, List, [], ◌∷◌, ◌++◌, map, length, replicate, Option, Some, None}
-use Rattle.firm_net.specs.declared.row.NodeId.{NodeId}
 use Rattle.firm_net.specs.declared.row.ArcId.{ArcId}
 
 -- the arcs of a table, up to its first empty place
@@ -18,8 +17,3 @@ pub record AreFront (table : List (Option ArcId)) (count : ℕ) : Type 0 where
   pub rest : table ≡ padded (arcs_in table)
   pub counted : length (arcs_in table) ≡ count
   pub few : length (arcs_in table) ≤ 4
-
--- how many tasks there is room for, and the nodes of those that were lined up
-pub record Lineup : Type 0 where
-  pub room : ℕ
-  pub nodes : List NodeId

@@ -24,6 +24,7 @@ choose_all-requires-clause-ready c =
       prices_fit = made.prices ∙ (c.requires.made_for.0 ∙ sym made.same.limits);
       scratch_fits = made.searched.searched.limits ∙ (c.requires.made_for.1 ∙ sym made.same.limits);
       keeps = subst (λ (p : List Choice). Keeps v (price_of c.start.new.prices) p) items made.keeps;
+      spent = λ j l. absurd (omega (arith, l));
     }
 
 pub returns-clause-round : goal.returns-clause-round

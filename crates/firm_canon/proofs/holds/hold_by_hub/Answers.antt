@@ -4,8 +4,7 @@ use Rattle.firm_rules.specs.declared.rounds.Choice.{Choice}
 use Rattle.firm_rules.specs.declared.rounds.Choice.TheVariants.{On}
 use Rattle.firm_graph.specs.declared.network.Key.TheVariants.{Through}
 use Rattle.firm_graph.specs.View.{View, IsSameCase}
-use Rattle.firm_canon.proofs.Tries.{low_is}
-use Rattle.firm_canon.proofs.Tries.{best_held}
+use Rattle.firm_canon.proofs.Tries.{low_is, best_held}
 use Rattle.firm_canon.proofs.Holdings.{held_other, can_come}
 use Rattle.firm_graph.specs.Ids.{view_of}
 use Rattle.firm_canon.proofs.holds.hold_by_hub.Goals as goal

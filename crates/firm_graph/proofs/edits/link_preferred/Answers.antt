@@ -5,8 +5,8 @@ use Rattle.firm_net.specs.declared.row.ArcId.{ArcId}
 use Rattle.firm_rules.specs.Book.{machine_names}
 use Rattle.firm_graph.specs.Parts.{MachineParts}
 use Rattle.firm_graph.specs.Graph.{node_under, preferred_spans}
-use Rattle.std.proofs.lemmas.List.{length-map}
-use Rattle.firm_graph.proofs.Near.{link-step, take-whole, spans-counted, spans-few}
+use Rattle.std.proofs.lemmas.List.{length-map, length-take, take_all}
+use Rattle.firm_graph.proofs.Near.{link-step, spans-counted, spans-few}
 use Rattle.firm_graph.proofs.edits.link_preferred.Goals as goal
 
 pub link-arc-requires-clause-room : goal.link-arc-requires-clause-room
@@ -67,7 +67,7 @@ returns-clause-edit c =
     (map (λ (p : MachineParts). p.node) c.args.machines.now) hub in
     subst (λ (l : List (List ℕ)). IsEdit c.args.net.now c.loop-name.net [] [] []
     (preferred_spans c.args.node 0 (map under l) c.loop-name.arcs))
-    (take-whole c.args.names.now c.loop-name.name-index c.loop-name-test.false) (c.loop-name.invariant.edit hub)
+    (take_all c.loop-name.name-index c.args.names.now c.loop-name-test.false) (c.loop-name.invariant.edit hub)
 
 pub returns-clause-arcs : goal.returns-clause-arcs
 returns-clause-arcs c =
@@ -79,8 +79,7 @@ returns-clause-arcs c =
       (c.loop-name.invariant.edit c.args.node).counted_arcs,
       spans-few c.args.node 0 (map under taken) c.loop-name.arcs,
       length-map taken under,
-      ap (λ (l : List (List ℕ)). length l)
-          (take-whole c.args.names.now c.loop-name.name-index c.loop-name-test.false),
+      length-take c.loop-name.name-index c.args.names.now,
     )
 
 pub returns-clause-added : goal.returns-clause-added
@@ -93,8 +92,7 @@ returns-clause-added c =
       (c.loop-name.invariant.edit c.args.node).added,
       spans-few c.args.node 0 (map under taken) c.loop-name.arcs,
       length-map taken under,
-      ap (λ (l : List (List ℕ)). length l)
-          (take-whole c.args.names.now c.loop-name.name-index c.loop-name-test.false),
+      length-take c.loop-name.name-index c.args.names.now,
     )
 
 pub returns-clause-arc_room : goal.returns-clause-arc_room

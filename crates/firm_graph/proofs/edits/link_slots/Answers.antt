@@ -1,6 +1,7 @@
-use Rattle.std.proofs.Common.{◌≡◌, ◌+◌, ℕ, arith, ap, sym, subst, ◌∙◌, List, [], ◌∷◌, ◌++◌, length, ◌*◌, length-append}
+use Rattle.std.proofs.Common.{◌≡◌, ◌+◌, ℕ, arith, ap, ap₂, sym, subst, ◌∙◌, List, [], ◌∷◌, ◌++◌, length, length-append}
 use Rattle.firm_net.specs.declared.row.ArcId.{ArcId}
 use Rattle.firm_net.specs.Edits.{IsEdit, Span}
+use Rattle.firm_rules.specs.Placement.{slot_cost}
 use Rattle.firm_graph.specs.Graph.{slot_spans}
 use Rattle.firm_graph.proofs.Totals.{slots-count}
 use Rattle.firm_graph.proofs.NetEdits.{edit-then, slots-push}
@@ -31,24 +32,26 @@ link-arc-requires-clause-stamps c =
 
 pub loop-k-preserved : goal.loop-k-preserved
 loop-k-preserved c =
-    let span : ℕ → Span = λ (k : ℕ). record {
+    let span : ℕ → Span = λ (n : ℕ). record {
       arc = c.link-arc.result;
       tail = c.args.ladder.node;
       head = c.args.ladder.sink;
       cap = 1;
-      cost = k * c.args.ladder.spread;
+      cost = n;
     } in
     let spans_on : List ArcId → List Span = slot_spans c.args.ladder.node c.args.ladder.sink c.args.ladder.spread 0 in
     let was : List ArcId = c.loop-k.slots.items in
-    let spans : spans_on c.push_reserved.new.list.items ≡ spans_on was ++ span c.loop-k.k ∷ [] =
+    let spans : spans_on c.push_reserved.new.list.items ≡ spans_on was ++ span c.slot_cost-cost.result ∷ [] =
     ap (λ (l : List ArcId). spans_on l) c.push_reserved.ensures.items
     ∙ slots-push c.args.ladder.node c.args.ladder.sink c.args.ladder.spread 0 was c.link-arc.result
-    ∙ ap (λ (k : ℕ). spans_on was ++ span k ∷ [])
-    (let e : 0 + length was ≡ c.loop-k.k = omega (arith, c.loop-k.invariant.so_far) in e) in
+    ∙ ap (λ (n : ℕ). spans_on was ++ span n ∷ [])
+    (ap (slot_cost c.args.ladder.spread)
+    (let e : 0 + length was ≡ c.loop-k.k = omega (arith, c.loop-k.invariant.so_far) in e)
+    ∙ sym (c.slot_cost-cost.ensures.cost ∙ ap₂ slot_cost c.from.ensures c.from-in-loop-k.ensures)) in
     record {
       edit = subst (λ (l : List Span). IsEdit c.args.net.now c.link-arc.new.net [] [] [] l) (sym spans)
           (edit-then c.args.net.now c.loop-k.net c.link-arc.new.net []
-          (spans_on was) (span c.loop-k.k ∷ [])
+          (spans_on was) (span c.slot_cost-cost.result ∷ [])
           c.loop-k.invariant.edit c.link-arc.ensures.edit);
       so_far = omega (
         arith,

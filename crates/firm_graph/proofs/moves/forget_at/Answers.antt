@@ -81,14 +81,8 @@ returns-clause-step c =
     c.unlink.new.net c.rate.new.net c.at.result (leaving + far) c.at.ensures
     (subst G (sym fit.over) c.unlink.ensures.edit) c.rate.ensures.edit c.rate.ensures.added in
     let P : List ArcId → Type 0 = λ (ids : List ArcId). Mirrors
-    (refitted g (with_forgetting_at g.rows place c.args.name) c.rate.new.net (set g.tasks place (record {
-      node = parts.node;
-      arcs = record {
-        wide = parts.arcs.wide;
-        stay = parts.arcs.stay;
-        wait = parts.arcs.wait;
-        preferred = ids;
-      };
+    (refitted g (with_forgetting_at g.rows place c.args.name) c.rate.new.net (set g.tasks place (record parts {
+      arcs = record parts.arcs { preferred = ids };
     }))) in
     subst P (sym c.remove.ensures)
     (forgot g place parts c.args.name k fit.mirrors fit.below fit.its_parts named apart c.rate.new.net leaving far held

@@ -3,9 +3,11 @@ use Rattle.firm_rules.specs.Book.{TenantRows}
 use Rattle.firm_rules.specs.declared.book.Task.{Task}
 use Rattle.firm_graph.specs.declared.ids.TaskParts.{TaskParts}
 use Rattle.firm_graph.specs.Graph.{Mirrors}
+use Rattle.std.proofs.Math.Seq.{map-set_same}
+use Rattle.std.proofs.lemmas.List.{get_or-set_other}
 use Rattle.firm_graph.specs.inner.Steps.{refitted, no_task}
 use Rattle.firm_graph.proofs.Drops.{AllZip-at}
-use Rattle.firm_graph.proofs.Forgets.{forget-next, forget-end, node-said, left-unsaid}
+use Rattle.firm_graph.proofs.Forgets.{forget-next, forget-end}
 use Rattle.firm_graph.proofs.moves.forget_machine.Goals as goal
 
 pub forget_at-requires-clause-preferred : goal.forget_at-requires-clause-preferred
@@ -26,10 +28,12 @@ loop-place-preserved c = record {
       (omega (arith, c.loop-place-test.true, c.loop-place.auto.tasks, c.requires.tasks))
       (omega (arith, c.loop-place-test.true)) c.index-tasks-place.is
       (c.loop-place.invariant.so_far g mirrors net_is rows_is tasks_is) c.forget_at.ensures.step;
-  nodes = node-said c.loop-place.tasks c.loop-place.place c.forget_at.result c.index-tasks-place.result
-      (c.forget_at.ensures.node ∙ ap (λ (p : TaskParts). p.node) c.index-tasks-place.is) ∙ c.loop-place.invariant.nodes;
+  nodes = map-set_same (λ (p : TaskParts). p.node) c.loop-place.tasks c.loop-place.place c.forget_at.result
+      c.index-tasks-place.result (c.forget_at.ensures.node ∙ ap (λ (p : TaskParts). p.node) c.index-tasks-place.is)
+      ∙ c.loop-place.invariant.nodes;
   left = λ k d later.
-      left-unsaid c.loop-place.tasks c.loop-place.place k c.forget_at.result d later
+      get_or-set_other c.loop-place.tasks c.loop-place.place k c.forget_at.result d
+      (λ (e : k ≡ c.loop-place.place). omega (arith, e, later))
       ∙ c.loop-place.invariant.left k d (omega (arith, later));
 }
 

@@ -1,22 +1,21 @@
-use Rattle.std.proofs.Common.{◌≡◌, ◌∙◌, ℕ, true, false, length, ap, arith, refl, sym, subst, ⊎_elim}
-use Rattle.std.proofs.lemmas.Bool.{cases_Bool}
+use Rattle.std.proofs.Common.{◌≡◌, ◌∙◌, ℕ, ◌≤◌, length, ap, arith, refl, sym, subst}
 use Rattle.firm_net.specs.Net.{Net, IsArc, row_at}
 use Rattle.firm_net.specs.declared.row.ArcId.{ArcId}
-use Rattle.firm_paths.specs.Visits.{paths_of}
 use Rattle.firm_graph.specs.declared.network.Node.TheVariants.{Hub}
 use Rattle.firm_graph.specs.declared.network.Key.{Key}
 use Rattle.firm_graph.specs.declared.network.Key.TheVariants.{Through, Wide}
-use Rattle.firm_graph.specs.Graph.{Graph}
-use Rattle.firm_graph.specs.Ids.{view_of}
 use Rattle.firm_graph.specs.View.{flows, spot_of, flow_of_row}
+use Rattle.firm_canon.specs.inner.Choosing.{IsSpent, best}
+use Rattle.firm_canon.specs.inner.Placed.{guests}
 use Rattle.firm_canon.specs.inner.State.{prefix, price, view}
 use Rattle.firm_canon.specs.declared.choosing.Choosing.{Choosing}
 use Rattle.firm_canon.proofs.Tries.{there_at, flow_is, low_is}
 use Rattle.firm_canon.proofs.Choices.{through_held}
 use Rattle.firm_canon.proofs.Ways.{closed_at, flows_at, through_spent, through_tail, wide_full}
 use Rattle.firm_canon.proofs.Returns.{round_by}
-use Rattle.firm_canon.proofs.States.{goes_turned}
+use Rattle.firm_canon.proofs.States.{still_on}
 use Rattle.firm_canon.proofs.choosing.Choosing.bring.Goals as goal
+use Rattle.firm_canon.proofs.choosing.Choosing.bring.Goals.{Else-go_round}
 
 pub has_surplus_on-requires : goal.has_surplus_on-requires
 has_surplus_on-requires c =
@@ -38,8 +37,23 @@ returns-then-has_surplus_on-clause-yes c e =
       c.requires.ready.keeps.lows (Through c.args.machine) c.requires.machine,
     )
 
-pub returns-clause-none : goal.returns-clause-none
-returns-clause-none c e =
+pub go_round-requires-clause-there : goal.go_round-requires-clause-there
+go_round-requires-clause-there c =
+    let s : Choosing = c.args.self.now in
+    there_at (view s) (price s) (prefix s) (Through c.args.machine) c.through_arc-arc.result c.requires.ready.keeps
+    c.requires.machine c.through_arc-arc.ensures
+
+pub go_round-requires-clause-round : goal.go_round-requires-clause-round
+go_round-requires-clause-round c row steps there path =
+    let s : Choosing = c.args.self.now in
+    round_by (view s) (price s) (prefix s) c.requires.ready.keeps c.requires.next (spot_of (view s) Hub)
+    (Through c.args.machine) c.through_arc-arc.result row steps c.requires.machine c.through_arc-arc.ensures
+    (through_tail (view s) (price s) (prefix s) c.requires.ready.keeps c.requires.next c.args.machine) there path
+
+-- the machine has no unit to spare
+few : (c : Else-go_round) → flows (view c.args.self.now) (Through c.args.machine)
+    ≤ guests (view c.args.self.now).case (prefix c.args.self.now) c.args.machine
+few c =
     let s : Choosing = c.args.self.now in
     omega (
       arith,
@@ -51,69 +65,55 @@ returns-clause-none c e =
       c.requires.ready.keeps.lows (Through c.args.machine) c.requires.machine,
     )
 
-pub turn-requires-clause-there : goal.turn-requires-clause-there
-turn-requires-clause-there c =
+spent : (c : Else-go_round) → IsSpent (view c.args.self.now).case (prefix c.args.self.now)
+    (best (view c.args.self.now) (prefix c.args.self.now)) (Through c.args.machine)
+spent c =
     let s : Choosing = c.args.self.now in
-    there_at (view s) (price s) (prefix s) (Through c.args.machine) c.through_arc-arc.result c.requires.ready.keeps
-    c.requires.machine c.through_arc-arc.ensures
+    through_spent (view s) (price s) (prefix s) c.requires.ready.keeps c.requires.next c.args.machine
+    c.requires.machine (few c)
+    (closed_at (view s) (price s) (prefix s) c.requires.ready.keeps c.requires.next (spot_of (view s) Hub)
+    (Through c.args.machine) c.through_arc-arc.result c.requires.machine c.through_arc-arc.ensures
+    (c.if-go_round.ensures.lost refl))
 
-pub turn-requires-clause-round : goal.turn-requires-clause-round
-turn-requires-clause-round c row steps there found =
+pub returns-clause-spent : goal.returns-clause-spent
+returns-clause-spent c e = spent (goal.at.returns-clause-spent c).Else-go_round
+
+pub pass-requires-clause-spent : goal.pass-requires-clause-spent
+pass-requires-clause-spent c =
+    let lost = c.if-go_round.ensures in
+    still_on (λ v z b. IsSpent v.case b (best v b) (Through c.args.machine)) c.args.self.now c.go_round.new.self 0
+    lost.goes_on (lost.unchanged refl) (spent (goal.at.pass-requires-clause-spent c).Else-go_round)
+
+pub returns-then-machine-self-clause-spent : goal.returns-then-machine-self-clause-spent
+returns-then-machine-self-clause-spent c e = c.requires.ready.spent c.args.machine c.if-machine-self.true
+
+pub returns-then-go_round-clause-hub : goal.returns-then-go_round-clause-hub
+returns-then-go_round-clause-hub c =
     let s : Choosing = c.args.self.now in
-    round_by (view s) (price s) (prefix s) c.requires.ready.keeps c.requires.next (spot_of (view s) Hub)
-    (paths_of s.scratch.now.visits) (Through c.args.machine) c.through_arc-arc.result row steps c.requires.machine
-    c.through_arc-arc.ensures
-    (through_tail (view s) (price s) (prefix s) c.requires.ready.keeps c.requires.next c.args.machine)
-    c.requires.ways there found
-
-pub returns-clause-goes_on : goal.returns-clause-goes_on
-returns-clause-goes_on c =
-    goes_turned c.args.self.now c.turn.new.graph c.turn.new.scratch c.through_arc-arc.result c.turn.result
-    c.requires.ready c.turn.ensures.same c.turn.ensures.shows c.turn.ensures.scratch c.turn.ensures.won
-    c.turn.ensures.unchanged
-
-pub returns-clause-hub : goal.returns-clause-hub
-returns-clause-hub c =
-    let s : Choosing = c.args.self.now in
-    let g : Graph = c.turn.new.graph in
     let wide : Key = Wide (length (prefix s)) in
-    ⊎_elim
-    (λ (t : c.turn.result ≡ true).
+    let won = c.if-go_round.ensures in
     omega (
       arith,
-      c.requires.hub,
-      ap flow_of_row ((c.turn.ensures.won t).others ((view s).arc wide)
+      c.requires.ways.hub refl,
+      ap flow_of_row ((won.won refl).others ((view s).arc wide)
           (λ e. apart (c.requires.ready.keeps.shows.arcs_apart wide (Through c.args.machine) c.requires.next
           c.requires.machine (e ∙ c.through_arc-arc.ensures)))
           (wide_full (view s) (price s) (prefix s) c.requires.ready.keeps c.requires.next c.args.machine
-          c.through_arc-arc.result c.requires.machine c.through_arc-arc.ensures c.requires.hub)),
-      flows_at (view s) (view_of g) wide ((view s).arc wide) c.turn.ensures.same.case refl,
-    ))
-    (λ (f : c.turn.result ≡ false).
-    subst (λ (z : Graph). flows (view_of z) wide ≡ 1) (sym (c.turn.ensures.unchanged f)) c.requires.hub)
-    (cases_Bool c.turn.result)
+          c.through_arc-arc.result c.requires.machine c.through_arc-arc.ensures (c.requires.ways.hub refl))),
+      flows_at (view s) (view c.go_round.new.self) wide ((view s).arc wide) won.goes_on.same.case refl,
+    )
   where
     apart : {n j : ℕ} → Wide n ≡ Through j → ⊥
     apart {n} {j} e = cc
 
-pub returns-clause-yes : goal.returns-clause-yes
-returns-clause-yes c e =
+pub returns-then-go_round-clause-yes : goal.returns-then-go_round-clause-yes
+returns-then-go_round-clause-yes c e =
     let s : Choosing = c.args.self.now in
-    let key : Key = Through c.args.machine in
     omega (
       arith,
-      (c.turn.ensures.won e).more,
+      (c.if-go_round.ensures.won refl).more,
       through_held (view s) (price s) (prefix s) c.args.machine c.requires.ready.keeps c.requires.machine,
       ap (λ (a : ArcId). flow_of_row (row_at s.graph.now.net a)) c.through_arc-arc.ensures,
-      flows_at (view s) (view_of c.turn.new.graph) key c.through_arc-arc.result c.turn.ensures.same.case
-          c.through_arc-arc.ensures,
+      flows_at (view s) (view c.go_round.new.self) (Through c.args.machine) c.through_arc-arc.result
+          c.if-go_round.ensures.goes_on.same.case c.through_arc-arc.ensures,
     )
-
-pub returns-clause-spent : goal.returns-clause-spent
-returns-clause-spent c e =
-    let s : Choosing = c.args.self.now in
-    through_spent (view s) (price s) (prefix s) c.requires.ready.keeps c.requires.next c.args.machine
-    c.requires.machine (returns-clause-none c e)
-    (closed_at (view s) (price s) (prefix s) c.requires.ready.keeps c.requires.next (spot_of (view s) Hub)
-    (paths_of s.scratch.now.visits) (Through c.args.machine) c.through_arc-arc.result c.requires.machine
-    c.through_arc-arc.ensures c.requires.ways (c.turn.ensures.lost e))

@@ -19,6 +19,7 @@ loop-task-init c =
       ready = c.requires.ready;
       so_far = omega (arith, c.requires.none, s.chosen.now.ok.0);
       count = c.requires.none;
+      idle = c.requires.idle;
       room = omega arith;
     }
 
@@ -40,6 +41,7 @@ loop-task-preserved c =
       ready = next.ready;
       so_far = omega (arith, next.more, kept.so_far);
       count = omega (arith, next.len, kept.count);
+      idle = next.idle;
       room = omega (arith, next.capacity, kept.room);
     }
 

@@ -1,4 +1,4 @@
-use Rattle.std.proofs.Common.{◌≡◌, ◌≤◌, ◌*◌, length}
+use Rattle.std.proofs.Common.{◌≡◌, ◌≤◌, ◌*◌, length, true}
 use Rattle.std.specs.Prelude.{vec_len, vec_capacity}
 use Rattle.firm_rules.specs.ArenaUse.{arena_arcs}
 use Rattle.firm_graph.specs.Graph.{Graph}
@@ -19,5 +19,6 @@ invariant-loop-task l =
       ready : IsReady l.self;
       so_far : length (prefix l.self) ≡ l.task;
       count : vec_len l.self.chosen.now ≡ l.task;
+      idle : l.self.searched ≡ true;
       room : vec_capacity l.fn.self.chosen.now ≤ vec_capacity l.self.chosen.now;
     }

@@ -1,13 +1,13 @@
-use Rattle.std.proofs.Common.{◌≡◌, ◌≤◌, length, arith, refl}
+use Rattle.std.proofs.Common.{◌≡◌, ◌≤◌, false, length, arith, refl}
 use Rattle.firm_rules.specs.declared.rounds.Choice.TheVariants.{Wait}
 use Rattle.firm_graph.specs.View.{flows}
 use Rattle.firm_graph.specs.declared.network.Key.TheVariants.{Wide, Stay}
-use Rattle.firm_canon.specs.inner.Choosing.{IsChosen, IsSpent, best}
-use Rattle.firm_canon.specs.inner.State.{IsReadyFor, prefix, price, view}
+use Rattle.firm_canon.specs.inner.Choosing.{IsChosen, IsPassed, IsSpent, best}
+use Rattle.firm_canon.specs.inner.State.{GoesOn, IsReadyFor, prefix, price, view}
 use Rattle.firm_canon.specs.declared.choosing.Choosing.{Choosing}
 use Rattle.firm_canon.proofs.Choices.{sends_one}
 use Rattle.firm_canon.proofs.Ends.{all_passed}
-use Rattle.firm_canon.proofs.States.{goes_both, kept_on, ready_on, still_on}
+use Rattle.firm_canon.proofs.States.{goes_more, kept_on, ready_on, still_on}
 use Rattle.firm_canon.proofs.choosing.Choosing.choose_apart.Goals as goal
 use Rattle.firm_canon.proofs.choosing.Choosing.choose_apart.Goals.{After-take}
 
@@ -15,8 +15,8 @@ use Rattle.firm_canon.proofs.choosing.Choosing.choose_apart.Goals.{After-take}
 ready : (c : After-take) → IsReadyFor c.take.new.self c.args.wishes.now
 ready c =
     ready_on c.reach_own.new.self c.take.new.self 0 _ c.take.ensures.goes_on
-    (ready_on c.search_to_task.new.self c.reach_own.new.self 0 _ c.reach_own.ensures.goes_on
-    (ready_on c.args.self.now c.search_to_task.new.self 1 _ c.search_to_task.ensures.goes_on c.requires.ready))
+    (ready_on c.begin.new.self c.reach_own.new.self 0 _ c.reach_own.ensures.goes_on
+    (ready_on c.args.self.now c.begin.new.self 1 _ c.begin.ensures.goes_on c.requires.ready))
 
 pub returns-then-take-clause-none : goal.returns-then-take-clause-none
 returns-then-take-clause-none c =
@@ -32,29 +32,54 @@ returns-then-take-clause-none c =
 pub find_machine-requires-clause-apart : goal.find_machine-requires-clause-apart
 find_machine-requires-clause-apart c off =
     let lost = c.if-take.ensures in
-    still_on (λ v b. IsSpent v.case b (best v b) (Wide (length b))) c.reach_own.new.self c.take.new.self 0 lost.goes_on
-    (lost.unchanged refl) (lost.spent refl)
+    still_on (λ v z b. IsSpent v.case b (best v b) (Wide (length b))) c.reach_own.new.self c.take.new.self 0
+    lost.goes_on (lost.unchanged refl) (lost.spent refl)
+
+pub find_machine-requires-clause-own : goal.find_machine-requires-clause-own
+find_machine-requires-clause-own c j own =
+    let none = c.in_default.ensures in
+    let lost = c.if-take.ensures in
+    still_on (λ v z b. IsPassed v b false j) c.reach_own.new.self c.take.new.self 0 lost.goes_on (lost.unchanged refl)
+    (still_on (λ v z b. IsPassed v b false j) c.begin.new.self c.reach_own.new.self 0 none.goes_on none.unchanged
+    (none.passed j own))
+
+pub returns-in-Some-clause-goes_on : goal.returns-in-Some-clause-goes_on
+returns-in-Some-clause-goes_on c =
+    goes_more c.args.self.now c.begin.new.self c.reach_own.new.self 1 c.begin.ensures.goes_on
+    c.reach_own.ensures.goes_on
+
+-- with no search more than may be made
+goes : (c : After-take) → GoesOn c.args.self.now c.take.new.self 1
+goes c =
+    goes_more c.args.self.now c.begin.new.self c.take.new.self 1 c.begin.ensures.goes_on
+    (goes_more c.begin.new.self c.reach_own.new.self c.take.new.self 0 c.reach_own.ensures.goes_on
+    c.take.ensures.goes_on)
+
+pub returns-then-take-clause-goes_on : goal.returns-then-take-clause-goes_on
+returns-then-take-clause-goes_on c = goes (goal.at.returns-then-take-clause-goes_on c).After-take
 
 pub returns-in-Some-find_machine-clause-goes_on : goal.returns-in-Some-find_machine-clause-goes_on
 returns-in-Some-find_machine-clause-goes_on c =
-    let end : Choosing = c.find_machine.new.self in
-    goes_both c.args.self.now c.search_to_task.new.self end 1 0 1 c.search_to_task.ensures.goes_on
-    (goes_both c.search_to_task.new.self c.reach_own.new.self end 0 0 0 c.reach_own.ensures.goes_on
-    (goes_both c.reach_own.new.self c.take.new.self end 0 0 0 c.take.ensures.goes_on c.find_machine.ensures.goes_on
-    (omega arith)) (omega arith)) (omega arith)
+    goes_more c.args.self.now c.take.new.self c.find_machine.new.self 1
+    (goes (goal.at.returns-in-Some-find_machine-clause-goes_on c).After-take) c.find_machine.ensures.goes_on
+
+pub returns-in-None-clause-goes_on : goal.returns-in-None-clause-goes_on
+returns-in-None-clause-goes_on c =
+    goes_more c.args.self.now c.take.new.self c.find_machine.new.self 1
+    (goes (goal.at.returns-in-None-clause-goes_on c).After-take) c.find_machine.ensures.goes_on
 
 pub returns-in-None-clause-some : goal.returns-in-None-clause-some
 returns-in-None-clause-some c =
-    let one : Choosing = c.search_to_task.new.self in
+    let one : Choosing = c.begin.new.self in
     let two : Choosing = c.reach_own.new.self in
     let three : Choosing = c.take.new.self in
     let none = c.in_default.ensures in
     let lost = c.if-take.ensures in
     let passed = c.in-None.ensures in
     let is = ready (goal.at.returns-in-None-clause-some c).After-take in
-    still_on (λ v b. IsChosen v b Wait) three c.find_machine.new.self 0 passed.goes_on passed.unchanged
+    still_on (λ v z b. IsChosen v b Wait) three c.find_machine.new.self 0 passed.goes_on passed.unchanged
     (all_passed (view three) (price three) (prefix three) is.ready.keeps is.next
-    (still_on (λ v b. flows v (Wide (length b)) ≡ 0) two three 0 lost.goes_on (lost.unchanged refl) (lost.none refl))
-    (still_on (λ v b. flows v (Stay (length b)) ≡ 0) two three 0 lost.goes_on (lost.unchanged refl)
-    (still_on (λ v b. flows v (Stay (length b)) ≡ 0) one two 0 none.goes_on none.unchanged none.idle))
+    (still_on (λ v z b. flows v (Wide (length b)) ≡ 0) two three 0 lost.goes_on (lost.unchanged refl) (lost.none refl))
+    (still_on (λ v z b. flows v (Stay (length b)) ≡ 0) two three 0 lost.goes_on (lost.unchanged refl)
+    (still_on (λ v z b. flows v (Stay (length b)) ≡ 0) one two 0 none.goes_on none.unchanged none.idle))
     passed.none)

@@ -1,13 +1,16 @@
-use Rattle.std.proofs.Common.{◌≡◌, ◌<◌, ℕ, List, [], ◌∷◌, ◌++◌, length, arith, sym, ap, subst, ◌∙◌}
+use Rattle.std.proofs.Common.{◌≡◌, ◌<◌, ℕ, Bool, List, [], ◌∷◌, ◌++◌, length, arith, sym, ap, subst, ◌∙◌}
 use Rattle.std.specs.Prelude.{vec_len}
 use Rattle.firm_rules.specs.declared.rounds.Choice.{Choice}
+use Rattle.firm_rules.specs.Placement.{Case}
+use Rattle.firm_graph.specs.declared.network.Key.TheVariants.{Through}
 use Rattle.firm_graph.specs.Ids.{view_of}
 use Rattle.firm_graph.specs.Network.{demand}
 use Rattle.firm_graph.specs.View.{View}
-use Rattle.firm_canon.specs.inner.Choosing.{Keeps, IsChosen}
-use Rattle.firm_canon.specs.inner.State.{IsReady, IsReadyFor, prefix, price, view}
+use Rattle.firm_canon.specs.inner.Choosing.{Keeps, IsChosen, IsSpent, best}
+use Rattle.firm_canon.specs.inner.State.{IsReady, IsReadyFor, left, prefix, price, view}
 use Rattle.firm_canon.specs.declared.choosing.Choosing.{Choosing}
 use Rattle.firm_canon.specs.declared.reads.Wishes.{Wishes}
+use Rattle.firm_canon.proofs.AsCheap.{spent_longer}
 use Rattle.firm_canon.proofs.States.{ready_on}
 use Rattle.firm_canon.proofs.choosing.Choosing.choose_next.Goals as goal
 use Rattle.firm_canon.proofs.choosing.Choosing.choose_next.Goals.{After-choose-choice}
@@ -63,7 +66,13 @@ hold_choice-requires-clause-chosen c =
     c.choose-choice.ensures.chosen
 
 pub returns-clause-searched : goal.returns-clause-searched
-returns-clause-searched c = c.choose-choice.ensures.goes_on.searched
+returns-clause-searched c =
+    let goes = c.choose-choice.ensures.goes_on in
+    record {
+      made = goes.made;
+      few = omega (arith, goes.few, ap (λ (b : Bool). left (record c.args.self.now { searched = b })) c.requires.idle);
+      searched = goes.searched;
+    }
 
 pub returns-clause-ready : goal.returns-clause-ready
 returns-clause-ready c =
@@ -78,4 +87,13 @@ returns-clause-ready c =
       keeps = subst (λ (q : List Choice). Keeps new (price mid) q)
           (ap (λ (q : List Choice). q ++ o ∷ []) c.deref.ensures.value ∙ sym c.push_reserved.ensures.items)
           hold.keeps;
+      spent = λ j l.
+          subst (λ (q : List Choice). IsSpent new.case q (best new q) (Through j)) (sym c.push_reserved.ensures.items)
+          (subst (λ (d : Case). IsSpent d (prefix mid ++ o ∷ []) (best new (prefix mid ++ o ∷ [])) (Through j))
+          (sym hold.same.case.case)
+          (subst (λ (most : ℕ). IsSpent (view mid).case (prefix mid ++ o ∷ []) most (Through j))
+          (sym (subst (λ (q : List Choice). best new (q ++ o ∷ []) ≡ best (view mid) q) c.deref.ensures.value
+          hold.best))
+          (spent_longer (view mid).case (prefix mid) o (best (view mid) (prefix mid)) (Through j)
+          (chosen (goal.at.returns-clause-ready c).After-choose-choice).next (ready.spent j l))));
     }

@@ -6,10 +6,10 @@ use Rattle.firm_rules.specs.Placement.{runs_at}
 use Rattle.firm_graph.specs.View.{flows}
 use Rattle.firm_graph.specs.declared.network.Key.TheVariants.{Wide}
 use Rattle.firm_canon.specs.inner.Choosing.{HasRoom, IsChosen, IsPassed, IsSpent, best}
-use Rattle.firm_canon.specs.inner.State.{GoesOn, IsUnchanged, prefix, view}
+use Rattle.firm_canon.specs.inner.State.{GoesOn, HasWaysBack, IsUnchanged, prefix, view}
 use Rattle.firm_canon.specs.declared.choosing.Choosing.{Choosing}
 use Rattle.firm_canon.proofs.Ends.{first_found}
-use Rattle.firm_canon.proofs.States.{case_on, goes_both, kept_back, kept_on, ready_on, still_back, still_on, ways_on}
+use Rattle.firm_canon.proofs.States.{case_on, goes_more, kept_back, kept_on, ready_on, still_back, still_on}
 use Rattle.firm_canon.proofs.choosing.Choosing.find_machine.Goals as goal
 use Rattle.firm_canon.proofs.choosing.Choosing.find_machine.Goals.{else-not-is_home-via-else-not-is_home}
 use Rattle.firm_canon.proofs.choosing.Choosing.find_machine.Goals.{else-not-is_home-via-then-not-is_home+else-reach}
@@ -17,11 +17,6 @@ use Rattle.firm_canon.proofs.choosing.Choosing.find_machine.Goals.{else-not-is_h
 pub reach-requires-clause-ready : goal.reach-requires-clause-ready
 reach-requires-clause-ready c =
     ready_on c.args.self.now c.loop-machine.self 0 c.args.wishes.now c.loop-machine.invariant.goes c.requires.ready
-
-pub reach-requires-clause-ways : goal.reach-requires-clause-ways
-reach-requires-clause-ways c =
-    let inv = c.loop-machine.invariant in
-    ways_on c.args.self.now c.loop-machine.self 0 c.args.at_hub inv.goes inv.still c.requires.ways
 
 pub reach-requires-clause-machine : goal.reach-requires-clause-machine
 reach-requires-clause-machine c =
@@ -31,8 +26,13 @@ reach-requires-clause-machine c =
 pub reach-requires-clause-apart : goal.reach-requires-clause-apart
 reach-requires-clause-apart c off =
     let inv = c.loop-machine.invariant in
-    still_on (λ v b. IsSpent v.case b (best v b) (Wide (length b))) c.args.self.now c.loop-machine.self 0 inv.goes
+    still_on (λ v z b. IsSpent v.case b (best v b) (Wide (length b))) c.args.self.now c.loop-machine.self 0 inv.goes
     inv.still (c.requires.apart off)
+
+pub returns-then-reach-clause-goes_on : goal.returns-then-reach-clause-goes_on
+returns-then-reach-clause-goes_on c =
+    goes_more c.args.self.now c.loop-machine.self c.reach.new.self 0 c.loop-machine.invariant.goes
+    c.if-reach.ensures.goes_on
 
 pub returns-then-reach-clause-some : goal.returns-then-reach-clause-some
 returns-then-reach-clause-some c =
@@ -41,7 +41,7 @@ returns-then-reach-clause-some c =
     let o : ℕ = c.loop-machine.machine in
     let inv = c.loop-machine.invariant in
     let done = c.if-reach.ensures in
-    let goes : GoesOn s now 0 = goes_both s c.loop-machine.self now 0 0 0 inv.goes done.goes_on (omega arith) in
+    let goes : GoesOn s now 0 = returns-then-reach-clause-goes_on c in
     kept_on (λ b. IsChosen (view now) b (On o)) s now 0 goes
     (first_found (view s) (view now) (prefix s) c.args.at_hub c.args.wishes.now.home o c.requires.ready.home
     goes.same.case
@@ -68,17 +68,19 @@ loop-machine-preserved c =
     let inv = c.loop-machine.invariant in
     elim c.else-not-is_home.branch [
       | else-not-is_home-via-then-not-is_home+else-reach w ↦ let lost = w.if-reach.ensures in
-          let same = lost.unchanged refl in
           record {
             goes = subst (λ (z : Choosing). GoesOn s z 0) (sym w.self-is)
-                (goes_both s t w.reach.new.self 0 0 0 inv.goes lost.goes_on (omega arith));
-            still = subst (IsUnchanged s) (sym w.self-is) (same.0 ∙ inv.still.0, same.1 ∙ inv.still.1);
+                (goes_more s t w.reach.new.self 0 inv.goes lost.goes_on);
+            still = subst (IsUnchanged s) (sym w.self-is) (lost.unchanged refl ∙ inv.still);
+            ways = subst (λ (z : Choosing). HasWaysBack z c.args.at_hub) (sym w.self-is) (lost.ways refl);
             passed = below_more _ _ inv.passed
-                (λ other. still_back (λ v b. IsPassed v b c.args.at_hub o) s t 0 inv.goes inv.still (lost.passed refl));
+                (λ other. still_back (λ v z b. IsPassed v b c.args.at_hub o) s t 0 inv.goes inv.still
+                (lost.passed refl));
           }
       | else-not-is_home-via-else-not-is_home w ↦ record {
         goes = subst (λ (z : Choosing). GoesOn s z 0) (sym w.self-is) inv.goes;
         still = subst (IsUnchanged s) (sym w.self-is) inv.still;
+        ways = subst (λ (z : Choosing). HasWaysBack z c.args.at_hub) (sym w.self-is) inv.ways;
         passed = below_more _ _ inv.passed
             (λ other. absurd (both_ways (runs_at home o) other (sym c.is_home.ensures ∙ w.if-not-is_home.false)));
       }

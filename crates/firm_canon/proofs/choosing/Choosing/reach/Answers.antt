@@ -77,7 +77,7 @@ returns-then-at_hub-clause-passed c e =
     passed_far (view s) (price s) (prefix s) ready.ready.keeps ready.next c.args.at_hub c.args.machine
     (other_at s c.args.wishes.now c.args.machine ready c.requires.other)
     (far_at s c.args.wishes.now c.deref.result.now c.args.machine ready c.deref.ensures.0 (sym c.in-None.ensures))
-    c.requires.apart (λ there. (c.bring.ensures.none e, c.bring.ensures.spent e))
+    c.requires.apart (λ there. c.bring.ensures.spent e)
 
 pub returns-else-at_hub-clause-passed : goal.returns-else-at_hub-clause-passed
 returns-else-at_hub-clause-passed c e =

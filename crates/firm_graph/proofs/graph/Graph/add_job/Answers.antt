@@ -38,16 +38,10 @@ link-exit-requires-clause-room c =
     )
 
 kept : (c : goal.After-self-1)
-    → Mirrors (record {
+    → Mirrors (record (graph_of c.self.inside) {
       rows = c.grow_jobs.new.rows;
       net = c.link-exit.new.net;
-      hub = c.self.inside.hub;
-      sink =
-          c.self.inside.sink;
-      machines = c.self.inside.machines.items;
       jobs = c.push_reserved.new.list.items;
-      tasks =
-          c.self.inside.tasks.items;
       asked = c.self.inside.asked + 1;
     })
 kept c =
@@ -70,7 +64,6 @@ invariant_of-self-2 c =
     record {
       graph = record { sound = c.in-Ok.ensures.sound; mirrors = kept c };
       sources = c.self.invariant.sources;
-      room = c.self.invariant.room;
     }
 
 pub returns-clause-graph : goal.returns-clause-graph

@@ -1,6 +1,5 @@
 use Rattle.std.proofs.Common.{◌≡◌, ◌≢◌, ◌+◌, ℕ, cond, ltb, map, length, get_or, arith, ap, ap₂, sym, ◌∙◌, subst, List}
-use Rattle.std.proofs.Common.{◌++◌, ◌∷◌, []}
-use Rattle.std.proofs.Common.{refl}
+use Rattle.std.proofs.Common.{◌++◌, ◌∷◌, [], refl}
 use Rattle.std.specs.List.{All}
 use Rattle.std.proofs.lemmas.List.{map-append}
 use Rattle.firm_net.specs.declared.row.NodeId.{NodeId}
@@ -144,27 +143,28 @@ link-wide-requires-clause-room c =
       c.link-stay.ensures.edit.arc_room,
     )
 
+abbrev its_parts : goal.After-self-1 → TaskParts
+its_parts c = record {
+  node = c.put_node-node.result;
+  arcs = record {
+    wide = c.link-wide.result;
+    stay = c.link-stay.result;
+    wait = c.link-wait.result;
+    preferred = c.link_preferred-preferred.result;
+  };
+}
+
 kept : (c : goal.After-self-1)
-    → Mirrors (record {
+    → Mirrors (record (graph_of c.self.inside) {
       rows = c.grow_tasks.new.rows;
       net = c.link-wide.new.net;
-      hub = c.self.inside.hub;
-      sink =
-          c.self.inside.sink;
-      machines = c.self.inside.machines.items;
-      jobs = c.self.inside.jobs.items;
-      tasks =
-          c.push_reserved-2.new.list.items;
+      tasks = c.push_reserved-2.new.list.items;
       asked = c.self.inside.asked + 1;
     })
 kept c =
     let g : Graph = graph_of c.self.inside in
     let ids : List ArcId = c.link_preferred-preferred.result in
-    let parts : TaskParts = record {
-      node = c.put_node-node.result;
-      arcs = record
-          { wide = c.link-wide.result; stay = c.link-stay.result; wait = c.link-wait.result; preferred = ids };
-    } in
+    let parts : TaskParts = its_parts c in
     let names : c.as_slice-names.result.now ≡ c.args.preferred = c.as_slice-names.ensures.names in
     let E : TenantRows → List MachineParts → List (List ℕ) → Type 0 =
     λ (r : TenantRows) (ms : List MachineParts) (asked : List (List ℕ)). IsEdit c.put_node-node.new.net
@@ -195,15 +195,7 @@ kept c =
 pub invariant_of-self-2 : goal.invariant_of-self-2
 invariant_of-self-2 c =
     let node : TaskParts → NodeId = λ (p : TaskParts). p.node in
-    let parts : TaskParts = record {
-      node = c.put_node-node.result;
-      arcs = record {
-        wide = c.link-wide.result;
-        stay = c.link-stay.result;
-        wait = c.link-wait.result;
-        preferred = c.link_preferred-preferred.result;
-      };
-    } in
+    let parts : TaskParts = its_parts c in
     record {
       graph = record { sound = c.in-Ok.ensures.sound; mirrors = kept c };
       sources = c.push_reserved.ensures.items
@@ -212,12 +204,6 @@ invariant_of-self-2 c =
           ∙ sym (map-append node c.self.inside.tasks.items (parts ∷ []))
           ∙ sym (ap (λ (l : List TaskParts). map node l)
           (c.push_reserved-2.ensures.items ∙ ap (λ (l : List TaskParts). l ++ parts ∷ []) c.grow_tasks.ensures.parts));
-      room = omega (
-        arith,
-        c.in-Ok.ensures.order_room,
-        c.push_reserved-2.ensures.len,
-        c.push_reserved-2.new.list.ok.0,
-      );
     }
 
 pub returns-clause-graph : goal.returns-clause-graph

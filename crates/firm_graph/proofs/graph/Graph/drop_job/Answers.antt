@@ -60,17 +60,10 @@ pub drop_node-requires-clause-into : goal.drop_node-requires-clause-into
 drop_node-requires-clause-into c = (unlinked c).free.into
 
 kept : (c : goal.After-drop_node)
-    → Mirrors (record {
+    → Mirrors (record (graph_of c.self.inside) {
       rows = c.close.new.self;
       net = c.drop_node.new.net;
-      hub = c.self.inside.hub;
-      sink =
-          c.self.inside.sink;
-      machines = c.self.inside.machines.items;
       jobs = c.remove-parts.new.self.items;
-      tasks =
-          c.self.inside.tasks.items;
-      asked = c.self.inside.asked;
     })
 kept c =
     let g : Graph = graph_of c.self.inside in
@@ -89,7 +82,6 @@ invariant_of-self c =
     record {
       graph = record { sound = c.close.ensures.sound; mirrors = kept c };
       sources = c.self.invariant.sources;
-      room = c.self.invariant.room;
     }
 
 pub returns-clause-graph : goal.returns-clause-graph

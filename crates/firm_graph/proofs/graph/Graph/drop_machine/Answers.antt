@@ -1,6 +1,5 @@
-use Rattle.std.proofs.Common.{◌≡◌, ◌≤◌, ◌<◌, ℕ, Some, length, map, get_or, bytes_eq, arith, refl, ap, subst, sym, ◌∙◌}
-use Rattle.std.proofs.Common.{List, []}
-use Rattle.std.proofs.Common.{◌∷◌, ◌++◌}
+use Rattle.std.proofs.Common.{◌≡◌, ◌<◌, ℕ, Some, length, map, get_or, bytes_eq, arith, refl, ap, subst, sym, ◌∙◌, List}
+use Rattle.std.proofs.Common.{[], ◌∷◌, ◌++◌}
 use Rattle.std.specs.List.{position}
 use Rattle.std.specs.Vec.{with_items}
 use Rattle.std.specs.Prelude.{Vec}
@@ -119,16 +118,11 @@ pub drop_node-requires-clause-into : goal.drop_node-requires-clause-into
 drop_node-requires-clause-into c = (free _ _ _ _ _ _ _ (at_node c)).into
 
 kept : (c : goal.After-drop-parts-inside)
-    → Mirrors (record {
+    → Mirrors (record (graph_of c.self.inside) {
       rows = c.drain-evicted.new.self;
       net = c.drop_node.new.net;
-      hub = c.self.inside.hub;
-      sink =
-          c.self.inside.sink;
       machines = c.remove-parts.new.self.items;
-      jobs = c.self.inside.jobs.items;
       tasks = (with_items c.self.inside.tasks c.forget_machine.new.tasks).items;
-      asked = c.self.inside.asked;
     })
 kept c =
     let g : Graph = graph_of c.self.inside in
@@ -156,17 +150,9 @@ invariant_of-self c =
     c.forget_machine.new.tasks c.deref_mut.ensures.value c.forget_machine.auto.tasks in
     let nodes : map node after ≡ map node c.self.inside.tasks.items =
     ap (map node) same ∙ c.forget_machine.ensures.nodes ∙ ap (map node) c.deref_mut.ensures.value in
-    let most : length after ≤ c.self.inside.order.room = omega (
-      arith,
-      c.self.invariant.room,
-      ap (λ (l : List TaskParts). length l) same,
-      ap (λ (l : List TaskParts). length l) c.deref_mut.ensures.value,
-      c.forget_machine.auto.tasks,
-    ) in
     record {
       graph = record { sound = c.drain-evicted.ensures.sound; mirrors = kept c };
       sources = c.self.invariant.sources ∙ sym nodes;
-      room = most;
     }
 
 pub returns-clause-graph : goal.returns-clause-graph

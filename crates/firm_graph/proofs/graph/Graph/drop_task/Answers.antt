@@ -36,17 +36,10 @@ pub drop_node-requires-clause-into : goal.drop_node-requires-clause-into
 drop_node-requires-clause-into c = (freed c).into
 
 kept : (c : goal.After-drop_node)
-    → Mirrors (record {
+    → Mirrors (record (graph_of c.self.inside) {
       rows = c.remove_task.new.self;
       net = c.drop_node.new.net;
-      hub = c.self.inside.hub;
-      sink =
-          c.self.inside.sink;
-      machines = c.self.inside.machines.items;
-      jobs = c.self.inside.jobs.items;
-      tasks =
-          c.remove-parts.new.self.items;
-      asked = c.self.inside.asked;
+      tasks = c.remove-parts.new.self.items;
     })
 kept c =
     let g : Graph = graph_of c.self.inside in
@@ -72,13 +65,6 @@ invariant_of-self c =
           ∙ ap (λ (l : List NodeId). remove l c.in-Some.place) c.self.invariant.sources
           ∙ sym (map-remove node c.self.inside.tasks.items c.in-Some.place)
           ∙ sym (ap (λ (l : List TaskParts). map node l) c.remove-parts.ensures.items);
-      room = omega (
-        arith,
-        c.self.invariant.room,
-        c.remove-parts.ensures.len,
-        c.remove-parts.new.self.ok.0,
-        c.self.inside.tasks.ok.0,
-      );
     }
 
 pub returns-clause-graph : goal.returns-clause-graph

@@ -15,8 +15,7 @@ kept c =
     c.cap.ensures.value c.cost.ensures.value c.set.ensures.sets c.set.ensures.unchanged)
 
 pub invariant_of-self : goal.invariant_of-self
-invariant_of-self c =
-    record { graph = kept c; sources = c.self.invariant.sources; room = c.self.invariant.room }
+invariant_of-self c = record { graph = kept c; sources = c.self.invariant.sources }
 
 pub returns-clause-graph : goal.returns-clause-graph
 returns-clause-graph c = kept c

@@ -5,7 +5,8 @@ use Rattle.firm_graph.specs.Ids.{view_of}
 use Rattle.firm_graph.specs.inner.Inside.{graph_of}
 use Rattle.firm_net.specs.Net.{CountsAre}
 use Rattle.firm_rules.specs.ArenaUse.{arena_nodes, arena_arcs}
-use Rattle.firm_graph.proofs.Totals.{nodes-counted, arcs-counted}
+use Rattle.firm_graph.proofs.Totals.{nodes-counted}
+use Rattle.firm_graph.proofs.Counts.{arcs-counted}
 use Rattle.firm_graph.proofs.Shown.{graph-shows}
 use Rattle.firm_graph.proofs.graph.Graph.net.Goals as goal
 

@@ -1,4 +1,4 @@
-use Rattle.std.proofs.Common.{◌≡◌, ℕ, ap, ap₂, arith, sym, ◌∙◌, List, map, length}
+use Rattle.std.proofs.Common.{◌≡◌, ℕ, ap, ap₂, sym, ◌∙◌, List, map}
 use Rattle.firm_net.specs.Net.{empty_net}
 use Rattle.firm_graph.specs.Graph.{Mirrors}
 use Rattle.firm_graph.specs.declared.ids.TaskParts.{TaskParts}
@@ -35,7 +35,6 @@ invariant_of-result c =
       graph = record { sound = c.new-2.ensures.sound; mirrors = kept c };
       sources = c.new-6.ensures.items ∙ ap
           (λ (l : List TaskParts). map (λ (p : TaskParts). p.node) l) (sym c.new-5.ensures.items);
-      room = omega (arith, ap (λ (l : List TaskParts). length l) c.new-5.ensures.items);
     }
 
 pub returns-clause-graph : goal.returns-clause-graph

@@ -48,7 +48,6 @@ invariant_of-self c =
     record {
       graph = record { sound = c.place_task-2.ensures.sound; mirrors = kept c };
       sources = c.self.invariant.sources;
-      room = c.self.invariant.room;
     }
 
 pub returns-clause-graph : goal.returns-clause-graph

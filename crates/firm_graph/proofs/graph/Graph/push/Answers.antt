@@ -10,8 +10,7 @@ kept c =
     c.push.ensures.same
 
 pub invariant_of-self : goal.invariant_of-self
-invariant_of-self c =
-    record { graph = kept c; sources = c.self.invariant.sources; room = c.self.invariant.room }
+invariant_of-self c = record { graph = kept c; sources = c.self.invariant.sources }
 
 pub returns-clause-graph : goal.returns-clause-graph
 returns-clause-graph c = kept c

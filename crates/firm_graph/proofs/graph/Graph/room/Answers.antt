@@ -2,7 +2,8 @@ use Rattle.std.proofs.Common.{◌≡◌, ◌+◌, arith, subst}
 use Rattle.firm_rules.specs.ArenaUse.{arena_nodes, arena_arcs}
 use Rattle.firm_graph.specs.Graph.{Graph}
 use Rattle.firm_graph.specs.inner.Inside.{graph_of}
-use Rattle.firm_graph.proofs.Totals.{nodes-counted, arcs-counted}
+use Rattle.firm_graph.proofs.Totals.{nodes-counted}
+use Rattle.firm_graph.proofs.Counts.{arcs-counted}
 use Rattle.firm_graph.proofs.graph.Graph.room.Goals as goal
 
 pub returns-clause-nodes : goal.returns-clause-nodes
