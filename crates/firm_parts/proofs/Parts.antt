@@ -1,6 +1,6 @@
 -- Books in a state that is cut, and that it is sound.
-use Rattle.std.proofs.Common.{◌≡◌, ◌∙◌, ◌<◌, ◌+◌, ◌++◌, ◌∷◌, ◌||◌, [], ℕ, suc, Bool, true, false, List, arith, refl}
-use Rattle.std.proofs.Common.{sym}
+use Rattle.std.proofs.Common.{◌≡◌, ◌∙◌, ◌<◌, ◌+◌, ◌++◌, ◌∷◌, ◌||◌, [], ℕ, zero, suc, Bool, true, false, List, arith}
+use Rattle.std.proofs.Common.{refl, sym}
 use Rattle.std.proofs.Common.{ap}
 use Rattle.std.proofs.Common.{subst, length, get_or, take, drop, drop-cons, cond, bytes_eq, is_some, Option, Some, None}
 use Rattle.std.specs.Prelude.{AllPairs, IsSome, map, option_map, set}
@@ -12,7 +12,7 @@ use Rattle.std.proofs.lemmas.List.Elements.{All-map}
 use Rattle.std.proofs.lemmas.Slice.Eq.{bytes_eq-Decides}
 use Rattle.firm_rules.specs.Book.{Book}
 use Rattle.firm_rules.specs.Names.{is_among}
-use Rattle.firm_text.specs.Registers.{AreApart, IsCounted}
+use Rattle.firm_text.specs.Registers.{AreApart, IsCounted, admissions_at}
 use Rattle.firm_text.specs.declared.registers.Entry.{Entry}
 use Rattle.firm_parts.specs.Parts.{book_in, cut_to, kept_place, kept_tenant}
 use Rattle.firm_parts.specs.Laws.{CutsKeepBooks}
@@ -135,6 +135,13 @@ cut_apart names places apart i j d before within name first second =
     apart i j (entry_of untouched) before (omega (arith, inside, long)) name (named i (omega arith) first)
     (named j inside second)
 
+-- and its places were given as often
+cut_as_often : (names : List (List ℕ)) (places : List SavedPlace) (at : ℕ)
+    → admissions_at (register_of places) at ≡ admissions_at (register_of (cut_to names places)) at
+cut_as_often names [] at = refl
+cut_as_often names (place ∷ places) zero = refl
+cut_as_often names (place ∷ places) (suc at) = cut_as_often names places at
+
 -- a cut state is sound
 pub cut_sound : (names : List (List ℕ)) (places : List SavedPlace) → IsSoundSaved places
     → IsSoundSaved (cut_to names places)
@@ -148,6 +155,12 @@ cut_sound names places sound = record {
         (λ k d within. kept_counted names (get_or places k d)
         (subst IsCounted (get_or-map entry_of places k d)
         (sound.register.counted k (entry_of d) (omega (arith, within, length-map places entry_of))))));
+  };
+  in_order = record {
+    first = subst (λ (n : ℕ). 0 < n) (cut_as_often names places 0) sound.in_order.first;
+    before = λ at behind less some. subst (λ (n : ℕ). 0 < n) (cut_as_often names places at)
+        (sound.in_order.before at behind less
+        (subst (λ (n : ℕ). 0 < n) (sym (cut_as_often names places behind)) some));
   };
   books = All-map IsSoundPlace (kept_place names) places
       (λ k d within. kept_sound names (get_or places k d) (sound.books k d within));

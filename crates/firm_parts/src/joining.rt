@@ -1,12 +1,12 @@
 //! Joining two states.
 ghost use Rattle.std.specs.Prelude.{◌≡◌, All, Some, OnOk};
 ghost use Rattle.firm_text.specs.Registers.{IsRegister};
-ghost use Rattle.firm_saved.specs.Saved.{entry_of, IsSoundPlace, register_of};
+ghost use Rattle.firm_saved.specs.Saved.{AreGivenInOrder, entry_of, IsSoundPlace, register_of};
 ghost use Rattle.firm_parts.specs.Parts.{joined, joined_by};
 ghost use Rattle.firm_parts.specs.inner.Joining.{Comes};
 
 use firm_rules::{Book, Name};
-use firm_saved::{Saved, SavedPlace};
+use firm_saved::{Saved, SavedPlace, places_are_given_in_order};
 use firm_text::{Entry, OperatorRefusal, PLACES, Register};
 
 /// A tenant that finds no place in another state, and why.
@@ -32,9 +32,11 @@ pub fn join(saved: Saved, other: Saved) -> Result<Saved, JoinFault>
 // Gives the tenants of the other places a place each. After an error some of them have one.
 fn settle_all(places: &mut Vec<SavedPlace>, mut others: Vec<SavedPlace>) -> Result<(), JoinFault>
     requires register { IsRegister (register_of places.old.items) }
+    requires in_order { AreGivenInOrder (register_of places.old.items) }
     requires books { All IsSoundPlace places.old.items }
     ensures joined { Comes places.new.items result (joined places.old.items others.items) }
     ensures register { OnOk result (IsRegister (register_of places.new.items)) }
+    ensures in_order { OnOk result (AreGivenInOrder (register_of places.new.items)) }
     ensures books { OnOk result (All IsSoundPlace places.new.items) }
 {
     let mut register = register(places);
@@ -53,9 +55,11 @@ fn settle_tenant(
     tenant: Option<(Name, Book)>,
 ) -> Result<(), JoinFault>
     requires register { register.old ≡ register_of places.old.items }
+    requires in_order { AreGivenInOrder register.old }
     requires books { All IsSoundPlace places.old.items }
     ensures joined { Comes places.new.items result (joined_by places.old.items tenant) }
     ensures register { OnOk result (register.new ≡ register_of places.new.items) }
+    ensures in_order { OnOk result (AreGivenInOrder register.new) }
     ensures books { OnOk result (All IsSoundPlace places.new.items) }
 {
     match tenant {
@@ -72,14 +76,17 @@ fn settle(
     book: Book,
 ) -> Result<(), JoinFault>
     requires register { register.old ≡ register_of places.old.items }
+    requires in_order { AreGivenInOrder register.old }
     requires books { All IsSoundPlace places.old.items }
     ensures joined { Comes places.new.items result (joined_by places.old.items (Some (name, book))) }
     ensures register { OnOk result (register.new ≡ register_of places.new.items) }
+    ensures in_order { OnOk result (AreGivenInOrder register.new) }
     ensures books { OnOk result (All IsSoundPlace places.new.items) }
 {
-    // A name has its form, and a book is sound, as these say.
+    // A name has its form, a book is sound, and the places stay given in their order, as these say.
     name.as_bytes();
     book.given();
+    places_are_given_in_order();
     match register.admit(name) {
         Ok(at) => {
             let admissions = places[at].admissions + 1;

@@ -45,8 +45,3 @@ as_bytes : state_text (filled places)
     ++ codes "task web a at m1 prefers m1\ntask web c waits 1\nplace admissions 2\nrows 8\n"
 unfolding digits
 as_bytes = refl
-
--- a state of which no place was ever given
-nothing_given : state_text (filled []) ≡ codes "firm state 1\nrows 0\n"
-unfolding digits
-nothing_given = refl

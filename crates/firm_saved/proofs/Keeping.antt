@@ -1,8 +1,11 @@
 -- A draft stays sound while rows are read.
-use Rattle.std.proofs.Common.{◌≡◌, ◌<◌, ◌≤◌, ◌-◌, ◌∙◌, ℕ, zero, suc, true, false, List, [], ◌∷◌, ◌++◌, length}
-use Rattle.std.proofs.Common.{Option, Some, None, Result, Ok, Err, refl, sym, ap, subst, arith, get_or, append_assoc}
-use Rattle.std.specs.Prelude.{ℤ, Bool, IfSome, IsSome, OnOk, if◌then◌else◌, is_some, nat_lt, option_map, replicate}
+use Rattle.std.proofs.Common.{◌≡◌, ◌<◌, ◌≤◌, ◌-◌, ◌∙◌, ℕ, suc, true, false, List, [], ◌∷◌, ◌++◌, length}
+use Rattle.std.proofs.Common.{Option, Some, None, Result, Ok, Err, refl, sym, ap, subst, arith, append_assoc}
+use Rattle.std.specs.Prelude.{◌||◌, ℤ, All, Bool, IfSome, IsSome, OnOk, if◌then◌else◌, is_some, nat_lt, option_map}
+use Rattle.std.specs.Prelude.{replicate}
+use Rattle.std.specs.Option.{is_none}
 use Rattle.std.proofs.lemmas.List.{length_push}
+use Rattle.std.proofs.lemmas.List.Elements.{All-push}
 use Rattle.firm_rules.specs.Book.{Book}
 use Rattle.firm_rules.specs.Limits.{TenantLimits}
 use Rattle.firm_rules.specs.Names.{is_name}
@@ -15,26 +18,13 @@ use Rattle.firm_saved.specs.declared.rows.Row.{Row}
 use Rattle.firm_saved.specs.declared.rows.Row.TheVariants as row
 use Rattle.firm_saved.specs.declared.saved.SavedPlace.{SavedPlace}
 use Rattle.firm_saved.specs.declared.tenant_drafts.TenantDraft.{TenantDraft as KeptTenant}
-use Rattle.firm_saved.specs.Drafts.{TenantDraft, booked, costs_fault, either, ends_given, grown, has_tenant}
+use Rattle.firm_saved.specs.Drafts.{TenantDraft, booked, costs_fault, grown, has_tenant}
 use Rattle.firm_saved.specs.Drafts.{job_fault, machine_fault, new_tenant, place_of, task_fault, tenant_fault}
-use Rattle.firm_saved.specs.Drafts.{vacancy_fault}
-use Rattle.firm_saved.specs.inner.Kept.{AreSoundPlaces, IsSoundDraft, IsSoundTenant}
-use Rattle.firm_saved.specs.inner.Kept.{view}
+use Rattle.firm_saved.specs.inner.Kept.{AreSoundPlaces, IsSoundDraft, IsSoundTenant, WasGiven, view}
 use Rattle.firm_saved.specs.inner.Loads.{AreLoads, view as tenant_view}
 use Rattle.firm_saved.specs.inner.Returned.{Gives}
 use Rattle.firm_saved.proofs.Places.{sound_push}
-use Rattle.firm_saved.proofs.Steps.{bind_ok, ok_is, unless_ok}
-
--- the last of some places
-pub ends_last : (places : List SavedPlace) (d : SavedPlace) → 1 ≤ length places
-    → ends_given places ≡ nat_lt 0 (get_or places (length places - 1) d).admissions
-ends_last [] d some = absurd (omega arith)
-ends_last (last ∷ []) d some =
-    let first : length (last ∷ []) - 1 ≡ 0 = omega arith in
-    ap (λ k. nat_lt 0 (get_or (last ∷ []) k d).admissions) (sym first)
-ends_last (place ∷ next ∷ rest) d some =
-    let more : suc (length (next ∷ rest) - 1) ≡ length (place ∷ next ∷ rest) - 1 = omega arith in
-    ends_last (next ∷ rest) d (omega arith) ∙ ap (λ k. nat_lt 0 (get_or (place ∷ next ∷ rest) k d).admissions) more
+use Rattle.firm_saved.proofs.Steps.{bind_ok, ok_is, place_count, unless_ok}
 
 -- filling up may begin with one
 pub fill_more : (places : List SavedPlace) → length places < most_places
@@ -53,27 +43,14 @@ none_if (Some x) none = absurd (none x refl)
 pub no_tenant : (kept : Kept) → IsSoundDraft kept → kept.present ≡ None → kept.tenant ≡ None
 no_tenant kept sound none = none_if kept.tenant (λ t is. (sound.tenant t is).placed none)
 
--- where there is no fault, the present place is vacant, and the name is new
-cleared : (some named : Bool) (vacancy rest : Option FaultKind)
-    → (if some then Some fault.Row else either vacancy (if named then Some fault.Repeated else rest)) ≡ None
-    → (vacancy ≡ None) × (named ≡ false)
-cleared true named vacancy rest e = absurd cc
-cleared false named (Some x) rest e = absurd cc
-cleared false true None rest e = absurd cc
-cleared false false None rest e = (refl, refl)
-
--- and it was given
-vacated : (present : Option ℕ) → vacancy_fault present ≡ None
-    → ((admissions : ℕ) → present ≡ Some admissions → 0 < admissions) × (present ≡ None → ⊥)
-vacated None e = absurd cc
-vacated (Some zero) e = absurd cc
-vacated (Some (suc more)) e = ((λ admissions is. over more admissions is), (λ is. none more is))
-  where
-    over : (more admissions : ℕ) → Some (suc more) ≡ Some admissions → 0 < admissions
-    over more admissions is = let same : suc more ≡ admissions = cc in omega arith
-
-    none : (more : ℕ) → Some (suc more) ≡ None → ⊥
-    none more is = absurd cc
+-- where there is no fault, there is a place, and the name is new
+cleared : (present : Option ℕ) (some named : Bool) (rest : Option FaultKind)
+    → (if is_none present || some then Some fault.Row else if named then Some fault.Repeated else rest) ≡ None
+    → (present ≡ None → ⊥) × (named ≡ false)
+cleared None some named rest e = absurd cc
+cleared (Some n) true named rest e = absurd cc
+cleared (Some n) false true rest e = absurd cc
+cleared (Some n) false false rest e = ((λ none. absurd cc), refl)
 
 -- a tenant without a fault may stay at the present place
 pub kept_tenant : (kept : Kept) (name : List ℕ) (limits : TenantLimits) (given : ℕ) (tenant : KeptTenant)
@@ -83,15 +60,17 @@ pub kept_tenant : (kept : Kept) (name : List ℕ) (limits : TenantLimits) (given
 kept_tenant kept name limits given tenant sound clear formed made loads =
     record {
       before = sound.before;
+      given = sound.given;
+      some = sound.some;
       room = sound.room;
       counted = sound.counted;
       tenant = λ other is. subst (IsSoundTenant kept.before.items kept.present) (the_same other is) stays;
     }
   where
-    free : (vacancy_fault kept.present ≡ None) × (has_tenant kept.before.items name ≡ false)
+    free : (kept.present ≡ None → ⊥) × (has_tenant kept.before.items name ≡ false)
     free =
-        cleared (is_some (option_map tenant_view kept.tenant)) (has_tenant kept.before.items name)
-        (vacancy_fault kept.present) (if nat_lt limits.life given then Some fault.Commands else None) clear
+        cleared kept.present (is_some (option_map tenant_view kept.tenant)) (has_tenant kept.before.items name)
+        (if nat_lt limits.life given then Some fault.Commands else None) clear
 
     its : tenant.name ≡ name
     its = ap (λ (t : TenantDraft). t.name) made
@@ -102,8 +81,7 @@ kept_tenant kept name limits given tenant sound clear formed made loads =
           loads = loads;
           named = subst (λ n. is_name n ≡ true) (sym its) formed;
           new = subst (λ n. has_tenant kept.before.items n ≡ false) (sym its) free.1;
-          given = (vacated kept.present free.0).0;
-          placed = (vacated kept.present free.0).1;
+          placed = free.0;
         }
 
     the_same : (other : KeptTenant) → Some tenant ≡ Some other → tenant ≡ other
@@ -120,6 +98,15 @@ booked_name t None tenant e = absurd cc
 booked_name t (Some costs) tenant e =
     ap (λ (x : List ℕ × Book). x.0)
     (unless_ok _ (t.name, record { rows = t.rows; costs = costs; given = t.given }) tenant e).1
+
+-- the present place was given, as those before it were
+pub placed_given : (kept : Kept) (admissions : ℕ) (place : SavedPlace) → IsSoundDraft kept
+    → kept.present ≡ Some admissions → place_of admissions (option_map tenant_view kept.tenant) ≡ Ok place
+    → All WasGiven (kept.before.items ++ place ∷ [])
+placed_given kept admissions place sound is made =
+    All-push WasGiven kept.before.items place sound.given
+    (subst (λ (n : ℕ). 0 < n) (place_count admissions (option_map tenant_view kept.tenant) place made)
+    (sound.some admissions is))
 
 -- the present place among those before it
 pub placed : (kept : Kept) (admissions : ℕ) (place : SavedPlace) → IsSoundDraft kept → kept.present ≡ Some admissions
@@ -155,7 +142,7 @@ placed kept admissions place sound is made whole = by kept.tenant refl made whol
         let given : admissions ≡ place.admissions = ap (λ (p : SavedPlace). p.admissions) here in
         let named : t.name ≡ tenant.0.0 = booked_name (tenant_view t) t.costs tenant.0 tenant.1 in
         let few = sound.counted admissions is in
-        let some = good.given admissions is in
+        let some = sound.some admissions is in
         sound_push kept.before.items place sound.before (sound.room admissions is) (omega arith, λ _. omega arith)
         (whole good.named)
         (λ name is-name.
@@ -188,13 +175,14 @@ kept_grown kept t t2 r (Ok done) sound is gives loads =
     let name : t.name ≡ t2.name = grown_name (tenant_view t) r (tenant_view t2) gives in
     record {
       before = sound.before;
+      given = sound.given;
+      some = sound.some;
       room = sound.room;
       counted = sound.counted;
       tenant = λ x x-is. let same : t2 ≡ x = cc in subst (IsSoundTenant kept.before.items kept.present) same (record {
         loads = loads;
         named = subst (λ n. is_name n ≡ true) name good.named;
         new = subst (λ n. has_tenant kept.before.items n ≡ false) name good.new;
-        given = good.given;
         placed = good.placed;
       });
     }

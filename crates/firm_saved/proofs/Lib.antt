@@ -5,6 +5,7 @@ pub mod Steps
 pub mod LineRows
 pub mod Complete
 pub mod Runs
+pub mod Orders
 pub mod Places
 pub mod RowFacts
 pub mod States

@@ -2,24 +2,26 @@
 use Rattle.std.proofs.Common.{◌≡◌, ◌<◌, ◌≤◌, ◌+◌, ◌-◌, ℕ, zero, suc, Bool, true, false, cond, ◌||◌, List, [], ◌∷◌}
 use Rattle.std.proofs.Common.{◌++◌, length}
 use Rattle.std.proofs.Common.{get_or, refl, sym, ap, subst, ◌∙◌, arith, append_assoc, Option, Some, None, true≢false}
-use Rattle.std.proofs.Common.{eqb}
+use Rattle.std.proofs.Common.{eqb, inl, inr}
 use Rattle.std.proofs.Common.{bytes_eq, take}
-use Rattle.std.specs.Prelude.{All, AllPairs, IsSome, replicate, option_map}
+use Rattle.std.specs.Prelude.{◌⊎◌, All, AllPairs, IsSome, replicate, option_map}
 use Rattle.std.specs.List.{AllByRecursion}
-use Rattle.std.proofs.lemmas.Bool.{eq-eqb, eqb-true, ne_eqb, lt-ltb, ltb-true}
+use Rattle.std.proofs.lemmas.Bool.{cases_lt, eq-eqb, eqb-true, ne_eqb}
 use Rattle.std.proofs.lemmas.List.{append-nil, length-append, length-map, length-replicate, map-append, length_push}
 use Rattle.std.proofs.lemmas.List.Elements.{All-append, All-from_recursion, All-replicate, recursion_from_All}
 use Rattle.std.proofs.lemmas.List.Quantifiers.{all_pairs_push}
 use Rattle.std.proofs.lemmas.Slice.Eq.{bytes_eq-Decides}
 use Rattle.firm_rules.specs.Book.{Book}
-use Rattle.firm_text.specs.Registers.{AreApart, IsCounted, IsRegister, is_named}
+use Rattle.firm_text.specs.Registers.{AreApart, IsCounted, IsRegister, admissions_at, is_named, vacant}
 use Rattle.firm_text.specs.Rosters.{most_places}
 use Rattle.firm_text.specs.declared.registers.Entry.{Entry}
-use Rattle.firm_saved.specs.Saved.{IsSoundPlace, IsSoundSaved, entry_of, filled, register_of, tenant_name, untouched}
+use Rattle.firm_saved.specs.Saved.{AreGivenInOrder, IsSoundPlace, IsSoundSaved, entry_of, filled, register_of}
+use Rattle.firm_saved.specs.Saved.{tenant_name, untouched}
 use Rattle.firm_saved.specs.StateText.{behind_place, given_places}
 use Rattle.firm_saved.specs.declared.saved.SavedPlace.{SavedPlace}
-use Rattle.firm_saved.specs.Drafts.{ends_given, has_tenant}
-use Rattle.firm_saved.specs.inner.Kept.{AreSoundPlaces}
+use Rattle.firm_saved.specs.Drafts.{has_tenant}
+use Rattle.firm_saved.specs.inner.Kept.{AreSoundPlaces, WasGiven}
+use Rattle.firm_saved.proofs.Orders.{AreGiven, given_in_order}
 
 -- a place that was never given has no tenant
 vacant_is : (place : SavedPlace) → IsCounted (entry_of place) → place.admissions ≡ 0 → place ≡ untouched
@@ -84,37 +86,79 @@ given_split (place ∷ rest) counted = by (given_places rest) refl (given_split 
         rw (is, more) (ap (λ (l : List SavedPlace). place ∷ l)
         (split ∙ ap (λ (l : List SavedPlace). l ++ replicate (length rest - length l) untouched) is))
 
--- the places up to the last given one end with one that was given
-pub given_ends : (places : List SavedPlace) → ends_given (given_places places) ≡ true
-given_ends [] = refl
-given_ends (place ∷ rest) = by (given_places rest) refl (given_ends rest)
-  where
-    by : (given : List SavedPlace) → given_places rest ≡ given → ends_given (given_places rest) ≡ true
-        → ends_given (behind_place place (given_places rest)) ≡ true
-    by [] is e = rw is (one (eqb place.admissions 0) refl)
-      where
-        one : (b : Bool) → eqb place.admissions 0 ≡ b → ends_given (cond b [] (place ∷ [])) ≡ true
-        one true e = refl
-        one false e = lt-ltb 0 place.admissions (some place.admissions e)
-          where
-            some : (n : ℕ) → eqb n 0 ≡ false → 0 < n
-            some zero e = absurd (true≢false e)
-            some (suc n) e = omega arith
-    by (next ∷ others) is e = rw is (subst (λ (l : List SavedPlace). ends_given l ≡ true) is e)
+-- a place that was given stays before others
+behind_whole : (place : SavedPlace) (rest : List SavedPlace) → WasGiven place → behind_place place rest ≡ place ∷ rest
+behind_whole place [] some =
+    ap (λ (b : Bool). cond b [] (place ∷ [])) (ne_eqb place.admissions 0 (λ none. omega arith))
+behind_whole place (next ∷ rest) some = refl
 
--- such places, filled up, are given up to there
+-- given places, filled up, are given up to there
 untouched_given : (n : ℕ) → given_places (replicate n untouched) ≡ []
 untouched_given zero = refl
 untouched_given (suc n) = ap (behind_place untouched) (untouched_given n)
 
-pub given_back : (places : List SavedPlace) (n : ℕ) → ends_given places ≡ true
+pub given_back : (places : List SavedPlace) (n : ℕ) → AllByRecursion WasGiven places
     → given_places (places ++ replicate n untouched) ≡ places
-given_back [] n e = untouched_given n
-given_back (last ∷ []) n e =
-    ap (behind_place last) (untouched_given n)
-    ∙ ap (λ (b : Bool). cond b [] (last ∷ []))
-    (ne_eqb last.admissions 0 (λ none. let some = ltb-true 0 last.admissions e in omega arith))
-given_back (place ∷ next ∷ rest) n e = ap (behind_place place) (given_back (next ∷ rest) n e)
+given_back [] n given = untouched_given n
+given_back (place ∷ rest) n given =
+    ap (behind_place place) (given_back rest n given.1) ∙ behind_whole place rest given.0
+
+-- how often the places of a state were given, in their order
+abbrev given_at : List SavedPlace → ℕ → ℕ
+given_at places at = admissions_at (register_of places) at
+
+abbrev InOrder : List SavedPlace → Type 0
+InOrder places = (at behind : ℕ) → at < behind → 0 < given_at places behind → 0 < given_at places at
+
+in_order_behind : (place : SavedPlace) (rest : List SavedPlace) → InOrder (place ∷ rest) → InOrder rest
+in_order_behind place rest order at behind less some = order (suc at) (suc behind) (omega arith) some
+
+-- places behind one that was never given were never given
+none_given : (places : List SavedPlace) → InOrder places → given_at places 0 ≡ 0 → given_places places ≡ []
+none_given [] order none = refl
+none_given (place ∷ rest) order none =
+    ap (behind_place place) (none_given rest (in_order_behind place rest order) (later (cases_lt 0 (given_at rest 0))))
+    ∙ ap (λ (b : Bool). cond b [] (place ∷ [])) (eq-eqb place.admissions 0 none)
+  where
+    later : (0 < given_at rest 0) ⊎ (given_at rest 0 ≤ 0) → given_at rest 0 ≡ 0
+    later (inl some) = absurd (let first = order 0 1 (omega arith) some in omega (arith, none))
+    later (inr few) = omega arith
+
+-- so the places up to the last that was given were given, and there is one
+pub all_given : (places : List SavedPlace) → InOrder places → AllByRecursion WasGiven (given_places places)
+all_given [] order = tt
+all_given (place ∷ rest) order =
+    by (cases_lt 0 place.admissions) (all_given rest (in_order_behind place rest order))
+  where
+    by : (0 < place.admissions) ⊎ (place.admissions ≤ 0) → AllByRecursion WasGiven (given_places rest)
+        → AllByRecursion WasGiven (given_places (place ∷ rest))
+    by (inl some) given =
+        subst (AllByRecursion WasGiven) (sym (behind_whole place (given_places rest) some)) (some, given)
+    by (inr few) given =
+        let none : place.admissions ≡ 0 = omega arith in
+        subst (AllByRecursion WasGiven) (sym (none_given (place ∷ rest) order none)) tt
+
+pub some_given : (places : List SavedPlace) → 0 < given_at places 0 → 0 < length (given_places places)
+some_given [] some = absurd (omega arith)
+some_given (place ∷ rest) some =
+    subst (λ (l : List SavedPlace). 0 < length l) (sym (behind_whole place (given_places rest) some)) (omega arith)
+
+-- and places that were given, filled up, were given in their order
+entries_given : (places : List SavedPlace) → AllByRecursion WasGiven places → AreGiven (register_of places)
+entries_given [] given = tt
+entries_given (place ∷ rest) given = (given.0, entries_given rest given.1)
+
+untouched_entries : (n : ℕ) → register_of (replicate n untouched) ≡ replicate n (vacant 0)
+untouched_entries zero = refl
+untouched_entries (suc n) = ap (λ (entries : List Entry). vacant 0 ∷ entries) (untouched_entries n)
+
+filled_in_order : (places : List SavedPlace) (n : ℕ) → AllByRecursion WasGiven places → 0 < length places
+    → AreGivenInOrder (register_of (places ++ replicate n untouched))
+filled_in_order places n given some =
+    subst AreGivenInOrder
+    (sym (map-append entry_of places (replicate n untouched)
+    ∙ ap (λ (entries : List Entry). register_of places ++ entries) (untouched_entries n)))
+    (given_in_order (register_of places) n (entries_given places given) (omega (arith, length-map places entry_of)))
 
 -- elements of a list in two parts
 pub at_left : {X : Type 0} (xs ys : List X) (k : ℕ) (d : X) → k < length xs → get_or (xs ++ ys) k d ≡ get_or xs k d
@@ -220,9 +264,10 @@ sound_filled (suc n) places sound few =
     (sound_push places untouched sound (omega arith) untouched_counted tt (λ name is. absurd cc))
     (omega (arith, length_push places untouched)))
 
--- filled up to 64 they are a sound state
-pub sound_state : (places : List SavedPlace) → AreSoundPlaces places → IsSoundSaved (filled places)
-sound_state places sound =
+-- filled up to 64 they are a sound state, where there are some and each was given
+pub sound_state : (places : List SavedPlace) → AreSoundPlaces places → AllByRecursion WasGiven places
+    → 0 < length places → IsSoundSaved (filled places)
+sound_state places sound given some =
     let n : ℕ = most_places - length places in
     let few = sound.few in
     let all = sound_filled n places sound (omega arith) in
@@ -233,6 +278,7 @@ sound_state places sound =
         apart = all.apart;
         counted = all.counted;
       };
+      in_order = filled_in_order places n given some;
       books = all.books;
     }
 
@@ -253,13 +299,14 @@ state_filled places sound = places_filled places sound.register
 
 -- where the places up to the last given one are sound, all are
 pub sound_from : (places : List SavedPlace) (entries : List Entry) (n : ℕ) → register_of places ≡ entries
-    → IsRegister entries → given_places places ≡ take n places → All IsSoundPlace (take n places)
-    → IsSoundSaved places
-sound_from places entries n is register given front =
+    → IsRegister entries → AreGivenInOrder entries → given_places places ≡ take n places
+    → All IsSoundPlace (take n places) → IsSoundSaved places
+sound_from places entries n is register in_order given front =
     let own : IsRegister (register_of places) = subst IsRegister (sym is) register in
     let count : ℕ = most_places - length (given_places places) in
     record {
       register = own;
+      in_order = subst AreGivenInOrder (sym is) in_order;
       books = subst (All IsSoundPlace) (places_filled places own)
           (All-append IsSoundPlace (given_places places) (replicate count untouched)
           (subst (All IsSoundPlace) (sym given) front) (All-replicate IsSoundPlace count untouched tt));
@@ -290,8 +337,7 @@ given_less (place ∷ front) last none = ap (behind_place place) (given_less fro
 
 pub given_whole : (front : List SavedPlace) (last : SavedPlace) → 0 < last.admissions
     → given_places (front ++ last ∷ []) ≡ front ++ last ∷ []
-given_whole [] last some =
-    ap (λ (b : Bool). cond b [] (last ∷ [])) (ne_eqb last.admissions 0 (λ none. omega arith))
+given_whole [] last some = behind_whole last [] some
 given_whole (place ∷ front) last some = ap (behind_place place) (given_whole front last some) ∙ more front
   where
     more : (front : List SavedPlace) → behind_place place (front ++ last ∷ []) ≡ place ∷ (front ++ last ∷ [])

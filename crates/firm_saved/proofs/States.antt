@@ -3,9 +3,9 @@ use Rattle.std.proofs.Common.{◌≡◌, ◌<◌, ◌+◌, ◌-◌, ◌^◌, ℕ
 use Rattle.std.proofs.Common.{◌++◌, length, map, refl, sym, ap, subst, ◌∙◌, arith, append_assoc, Option, Some, None}
 use Rattle.std.proofs.Common.{Result}
 use Rattle.std.proofs.Common.{Ok, Err, bytes_eq, eqb}
-use Rattle.std.specs.Prelude.{All, AllPairs, IsSome, IfSome, option_map}
+use Rattle.std.specs.Prelude.{All, AllPairs, IfSome, nat_lt, option_map}
 use Rattle.std.specs.List.{flat_map, list_all, slice_split, join_with_byte, AllByRecursion}
-use Rattle.std.proofs.lemmas.Bool.{and_from, le-ltb, lt-leb, eq-eqb}
+use Rattle.std.proofs.lemmas.Bool.{and_from, le-ltb, lt-leb, lt-ltb, eq-eqb, ne_eqb}
 use Rattle.std.proofs.lemmas.List.{append-nil, length-append, map-append}
 use Rattle.std.proofs.lemmas.List.Concat.{flat_map-append}
 use Rattle.std.proofs.lemmas.List.Elements.{recursion_from_All}
@@ -27,23 +27,24 @@ use Rattle.firm_saved.specs.declared.faults.FaultKind.TheVariants as fault
 use Rattle.firm_saved.specs.declared.rows.Row.{Row}
 use Rattle.firm_saved.specs.declared.rows.Row.TheVariants as row
 use Rattle.firm_saved.specs.declared.saved.SavedPlace.{SavedPlace}
-use Rattle.firm_saved.specs.Drafts.{Draft, TenantDraft, closed, empty_draft, ends_given, finished, has_tenant, kind_of}
+use Rattle.firm_saved.specs.Drafts.{Draft, TenantDraft, closed, empty_draft, finished, has_tenant, kind_of}
 use Rattle.firm_saved.specs.Drafts.{new_tenant, place_fault, tenant_fault, unless, whole}
-use Rattle.firm_saved.specs.inner.Kept.{AreSoundPlaces}
+use Rattle.firm_saved.specs.inner.Kept.{AreSoundPlaces, WasGiven}
 use Rattle.firm_saved.specs.Reading.{fault_at, pieces_state, rows_from, state_of}
 use Rattle.firm_saved.proofs.Clean.{above, ended_line, lines_split}
 use Rattle.firm_saved.proofs.Complete.{book_free, costs_run, draft_at, dsteps, jobs_run, machines_run, middle}
 use Rattle.firm_saved.proofs.Complete.{rounds_read, tasks_run, unless_none}
 use Rattle.firm_saved.proofs.LineRows.{IsRow, line_clean, row_back}
 use Rattle.firm_saved.proofs.RowFacts.{places_inner, rows_are}
-use Rattle.firm_saved.proofs.Places.{given_back, given_ends, given_sound, not_seated, pairs_middle, state_filled}
+use Rattle.firm_saved.proofs.Places.{all_given, given_back, given_sound, not_seated, pairs_middle, some_given}
+use Rattle.firm_saved.proofs.Places.{state_filled}
 use Rattle.firm_saved.proofs.Runs.{lines_read, lines_run, row_line, cond_ok}
-use Rattle.firm_saved.proofs.Steps.{IsOrderly, bind_ok, closed_rows, ok_is}
+use Rattle.firm_saved.proofs.Steps.{IsOrderly, bind_ok, closed_given, closed_rows, ok_is}
 
 -- ---- what is read is the text of its state
 
 empty_orderly : IsOrderly empty_draft
-empty_orderly = record { placed = λ _. refl; bare = λ t is none. absurd cc }
+empty_orderly = record { given = tt; some = λ n is. absurd cc; placed = λ _. refl; bare = λ t is none. absurd cc }
 
 -- lines, each with its line feed
 joined : (lines : List (List ℕ)) → join_with_byte 10 (lines ++ [] ∷ []) ≡ flat_map ended_line lines
@@ -74,11 +75,12 @@ text_is text places e = by (slice_split is_line_feed text) refl e
     state rest read cut =
         let r = lines_read 2 empty_draft rest places empty_orderly read in
         let given = bind_ok (whole r.last)
-        (λ places. cond (ends_given places) (Ok (filled places)) (Err fault.Places)) places r.done in
-        let ends = cond_ok (ends_given given.0) (Ok (filled given.0)) fault.Places places given.2 in
+        (λ places. cond (nat_lt 0 (length places)) (Ok (filled places)) (Err fault.Places)) places r.done in
+        let ends = cond_ok (nat_lt 0 (length given.0)) (Ok (filled given.0)) fault.Places places given.2 in
         let is : filled given.0 ≡ places = ok_is {E = FaultKind} (filled given.0) places ends.1 in
         let back : given_places places ≡ given.0 =
-        ap given_places (sym is) ∙ given_back given.0 (most_places - length given.0) ends.0 in
+        ap given_places (sym is)
+        ∙ given_back given.0 (most_places - length given.0) (closed_given r.last given.0 r.orderly given.1) in
         let rows : state_rows places ≡ r.rows =
         ap (flat_map place_rows) back
         ∙ closed_rows r.last.before r.last.present r.last.tenant given.0 r.orderly.placed given.1 ∙ r.taken in
@@ -123,6 +125,7 @@ draft_after done place =
 record MayFollow (done : List SavedPlace) (place : SavedPlace) : Type 0 where
   room : length done < most_places
   counted : IsCounted (entry_of place)
+  given : WasGiven place
   sound : IsSoundPlace place
   free : (name : List ℕ) → tenant_name place ≡ Some name → has_tenant done name ≡ false
 
@@ -153,16 +156,15 @@ whole_after done place sound = by place.tenant refl
 
 -- the rows of a tenant's book
 book_run : (done : List SavedPlace) (admissions : ℕ) (name : List ℕ) (book : Book) (tail : List Row) → IsSoundBook book
-    → 0 < admissions → has_tenant done name ≡ false
+    → has_tenant done name ≡ false
     → dsteps (record { before = done; present = Some admissions; tenant = None }) (book_rows name book ++ tail)
     ≡ dsteps (record { before = done; present = Some admissions; tenant = drafted (Some (name, book)) }) tail
-book_run done zero name book tail sound some free = absurd (omega arith)
-book_run done (suc more) name book tail sound some free =
-    let start : Draft = record { before = done; present = Some (suc more); tenant = None } in
+book_run done admissions name book tail sound free =
+    let start : Draft = record { before = done; present = Some admissions; tenant = None } in
     let seated : Draft =
     record start { tenant = Some (new_tenant name book.rows.limits book.given) } in
     let at = draft_at name book.costs book.given book.rows sound.rows sound.form sound.count sound.rounds done
-    (Some (suc more)) in
+    (Some admissions) in
     let fault_none : tenant_fault start name book.rows.limits book.given ≡ None =
     rw (free, le-ltb book.rows.limits.life book.given sound.life) refl in
     let rows : List Row = map row.Machine book.rows.machines ++ map row.Job book.rows.jobs
@@ -170,19 +172,19 @@ book_run done (suc more) name book tail sound some free =
     ap (λ (r : Result Draft FaultKind). r >>= λ after. dsteps after (row.Costs book.costs ∷ rows))
     (unless_none (tenant_fault start name book.rows.limits book.given) seated fault_none)
     ∙ costs_run name book.costs book.given book.rows sound.rows sound.form sound.count sound.rounds done
-    (Some (suc more)) rows
+    (Some admissions) rows
     ∙ ap (dsteps (at [] [] []))
     (append_assoc (map row.Machine book.rows.machines ++ map row.Job book.rows.jobs) (map row.Task book.rows.tasks) tail
     ∙ append_assoc (map row.Machine book.rows.machines) (map row.Job book.rows.jobs)
     (map row.Task book.rows.tasks ++ tail))
     ∙ machines_run name book.costs book.given book.rows sound.rows sound.form sound.count sound.rounds done
-    (Some (suc more)) [] book.rows.machines
+    (Some admissions) [] book.rows.machines
     (map row.Job book.rows.jobs ++ (map row.Task book.rows.tasks ++ tail)) refl
     ∙ jobs_run name book.costs book.given book.rows sound.rows sound.form sound.count sound.rounds done
-    (Some (suc more)) [] book.rows.jobs
+    (Some admissions) [] book.rows.jobs
     (map row.Task book.rows.tasks ++ tail) refl
     ∙ tasks_run name book.costs book.given book.rows sound.rows sound.form sound.count sound.rounds done
-    (Some (suc more)) [] book.rows.tasks tail refl
+    (Some admissions) [] book.rows.tasks tail refl
 
 -- the rows of a place
 place_run : (d : Draft) (done : List SavedPlace) (place : SavedPlace) (tail : List Row) → whole d ≡ Ok done
@@ -191,8 +193,11 @@ place_run : (d : Draft) (done : List SavedPlace) (place : SavedPlace) (tail : Li
 place_run d done place tail is follows =
     let opening : Draft = record { before = done; present = Some place.admissions; tenant = None } in
     let room : place_fault done place.admissions ≡ None =
-    rw (lt-leb most_places (length done) follows.room, le-ltb most_admissions place.admissions follows.counted.0)
-    refl in
+    rw (
+      lt-leb most_places (length done) follows.room,
+      ne_eqb place.admissions 0 (λ none. let some = follows.given in omega arith),
+      le-ltb most_admissions place.admissions follows.counted.0,
+    ) refl in
     ap (λ (r : Result (List SavedPlace) FaultKind). (r >>= λ places.
     unless (place_fault places place.admissions)
     (let x : Draft = record { before = places; present = Some place.admissions; tenant = None } in x))
@@ -209,8 +214,7 @@ place_run d done place tail is follows =
     by (Some tenant) is =
         let sound = subst (λ t. IfSome t
         (λ (x : List ℕ × Book). (is_name x.0 ≡ true) × IsSoundBook x.1)) is follows.sound in
-        let some = follows.counted.1 (subst (λ t. IsSome (option_map (λ (x : List ℕ × Book). x.0) t)) (sym is) refl) in
-        rw is (book_run done place.admissions tenant.0 tenant.1 tail sound.1 some
+        rw is (book_run done place.admissions tenant.0 tenant.1 tail sound.1
         (follows.free tenant.0 (ap (option_map (λ (x : List ℕ × Book). x.0)) is)))
 
 -- what the rows of some places behind others make
@@ -220,14 +224,15 @@ record AreTaken (d : Draft) (rows : List Row) (places : List SavedPlace) : Type 
   whole_is : whole last ≡ Ok places
 
 follows_at : (done rest : List SavedPlace) (place : SavedPlace) → AreSoundPlaces (done ++ place ∷ rest)
-    → MayFollow done place
-follows_at done rest place sound =
+    → WasGiven place → MayFollow done place
+follows_at done rest place sound given =
     let wide : register_of (done ++ place ∷ rest) ≡ register_of done ++ entry_of place ∷ register_of rest =
     map-append entry_of done (place ∷ rest) in
     record {
       room = omega (arith, sound.few, length-append done (place ∷ rest));
       counted = middle IsCounted (register_of done) (register_of rest) (entry_of place)
           (subst (All IsCounted) wide sound.counted);
+      given = given;
       sound = middle IsSoundPlace done rest place sound.books;
       free = λ name is. not_seated done place name
           (recursion_from_All (λ entry. AreApart entry (entry_of place)) (register_of done)
@@ -236,15 +241,15 @@ follows_at done rest place sound =
     }
 
 places_run : (d : Draft) (done places : List SavedPlace) → whole d ≡ Ok done → AreSoundPlaces (done ++ places)
-    → AreTaken d (flat_map place_rows places) (done ++ places)
-places_run d done [] is sound =
+    → AllByRecursion WasGiven places → AreTaken d (flat_map place_rows places) (done ++ places)
+places_run d done [] is sound given =
     record { last = d; taken = refl; whole_is = is ∙ ap Ok (sym (append-nil done)) }
-places_run d done (place ∷ places) is sound =
-    let follows = follows_at done places place sound in
+places_run d done (place ∷ places) is sound given =
+    let follows = follows_at done places place sound given.0 in
     let regrouped : done ++ place ∷ places
     ≡ (done ++ place ∷ []) ++ places = sym (append_assoc done (place ∷ []) places) in
     let others = places_run (draft_after done place) (done ++ place ∷ []) places (whole_after done place follows.sound)
-    (subst AreSoundPlaces regrouped sound) in
+    (subst AreSoundPlaces regrouped sound) given.1 in
     record {
       last = others.last;
       taken = place_run d done place (flat_map place_rows places) is follows ∙ others.taken;
@@ -279,16 +284,16 @@ lines_state places sound =
     let rows : List Row = state_rows places in
     let good = given_sound places sound in
     let facts = rows_are given good in
-    let run = places_run empty_draft [] given refl good in
+    let run = places_run empty_draft [] given refl good (all_given places sound.in_order.before) in
     let n : ℕ = length rows in
     let tail : List (List ℕ) = row_line (row.Rows n) ∷ [] ∷ [] in
     let count : 2 + n - 2 ≡ n = omega arith in
     let done : finished run.last ≡ Ok places =
     ap (λ (r : Result (List SavedPlace) FaultKind). r >>= λ places.
-    cond (ends_given places) (let x : Result (List SavedPlace) FaultKind = Ok (filled places) in x) (Err fault.Places))
-    run.whole_is
+    cond (nat_lt 0 (length places))
+    (let x : Result (List SavedPlace) FaultKind = Ok (filled places) in x) (Err fault.Places)) run.whole_is
     ∙ ap (λ (b : Bool). cond b (let x : Result (List SavedPlace) FaultKind = Ok (filled given) in x) (Err fault.Places))
-    (given_ends places)
+    (lt-ltb 0 (length given) (some_given places sound.in_order.first))
     ∙ ap Ok (state_filled places sound) in
     ap (λ (l : List (List ℕ)). rows_from 2 empty_draft l)
     (append_assoc (map row_line rows) (row_line (row.Rows n) ∷ []) ([] ∷ []))

@@ -1,9 +1,9 @@
 -- What is read of a row is that row behind those before it.
-use Rattle.std.proofs.Common.{◌≡◌, ℕ, Bool, true, false, cond, ◌||◌, List, [], ◌∷◌, ◌++◌, length}
+use Rattle.std.proofs.Common.{◌≡◌, ◌<◌, ℕ, zero, suc, Bool, true, false, cond, ◌||◌, List, [], ◌∷◌, ◌++◌, length, eqb}
 use Rattle.std.proofs.Common.{map, refl, sym, ap, subst, ◌∙◌, arith, append_assoc, Option, Some, None, Result, Ok, Err}
 use Rattle.std.proofs.Common.{true≢false}
-use Rattle.std.specs.Prelude.{ℤ, nat_lt}
-use Rattle.std.specs.List.{flat_map}
+use Rattle.std.specs.Prelude.{ℤ, nat_le, nat_lt}
+use Rattle.std.specs.List.{AllByRecursion, flat_map}
 use Rattle.std.specs.Option.{is_some, is_none}
 use Rattle.std.proofs.lemmas.Bool.{ltb-false, or_parts}
 use Rattle.std.proofs.lemmas.List.{append-nil, map-append, nil_from_length}
@@ -13,6 +13,8 @@ use Rattle.firm_rules.specs.declared.book.Machine.{Machine}
 use Rattle.firm_rules.specs.declared.book.Job.{Job}
 use Rattle.firm_rules.specs.declared.book.Task.{Task}
 use Rattle.firm_text.specs.Commands.{◌>>=◌}
+use Rattle.firm_text.specs.Registers.{most_admissions}
+use Rattle.firm_text.specs.Rosters.{most_places}
 use Rattle.firm_saved.specs.StateText.{place_rows, tenant_rows}
 use Rattle.firm_saved.specs.declared.faults.FaultKind.{FaultKind}
 use Rattle.firm_saved.specs.declared.faults.FaultKind.TheVariants as fault
@@ -21,8 +23,8 @@ use Rattle.firm_saved.specs.declared.rows.Row.TheVariants as row
 use Rattle.firm_saved.specs.declared.saved.SavedPlace.{SavedPlace}
 use Rattle.firm_saved.specs.Drafts.{Draft, TenantDraft, booked, closed, costs_fault}
 use Rattle.firm_saved.specs.Drafts.{either, grown, grown_in, job_fault, machine_fault, new_tenant}
-use Rattle.firm_saved.specs.Drafts.{place_fault, place_of, tenant_fault, taken, task_fault, unless, vacancy_fault}
-use Rattle.firm_saved.specs.Drafts.{whole}
+use Rattle.firm_saved.specs.Drafts.{place_fault, place_of, tenant_fault, taken, task_fault, unless, whole}
+use Rattle.firm_saved.specs.inner.Kept.{WasGiven}
 
 -- the value of a step that did not fail
 pub bind_ok : {A B E : Type 0} (r : Result A E) (f : A → Result B E) (y : B) → (r >>= f) ≡ Ok y
@@ -68,8 +70,10 @@ drafted_rows (Some tenant) =
 abbrev pub draft_rows : Draft → List Row
 draft_rows draft = (flat_map place_rows draft.before ++ present_rows draft.present) ++ drafted_rows draft.tenant
 
--- a tenant stays at a place, and has no rows before its costs
+-- each place was given; a tenant stays at one, and has no rows before its costs
 pub record IsOrderly (draft : Draft) : Type 0 where
+  pub given : AllByRecursion WasGiven draft.before
+  pub some : (admissions : ℕ) → draft.present ≡ Some admissions → 0 < admissions
   pub placed : draft.present ≡ None → draft.tenant ≡ None
   pub bare : (tenant : TenantDraft) → draft.tenant ≡ Some tenant → tenant.costs ≡ None → kept_rows tenant.rows ≡ []
 
@@ -113,6 +117,35 @@ closed_rows before (Some admissions) (Some t) places placed e =
     ap (λ (p : SavedPlace). before ++ p ∷ []) (ok_is {E = FaultKind} _ _ tenant.2)
     ∙ ok_is {E = FaultKind} _ _ place.2 in
     ap (flat_map place_rows) (sym same) ∙ closed_with before admissions t t.costs tenant.0 refl tenant.1
+
+-- a place is given as often as its row says
+pub place_count : (admissions : ℕ) (tenant : Option TenantDraft) (place : SavedPlace)
+    → place_of admissions tenant ≡ Ok place → admissions ≡ place.admissions
+place_count admissions None place e = ap (λ (p : SavedPlace). p.admissions) (ok_is {E = FaultKind} _ place e)
+place_count admissions (Some t) place e =
+    let made = bind_ok (booked t t.costs)
+    (λ tenant. let r : Result SavedPlace FaultKind = Ok
+    (record { admissions = admissions; tenant = Some tenant }) in r) place e in
+    ap (λ (p : SavedPlace). p.admissions) (ok_is {E = FaultKind} _ place made.2)
+
+-- the places that were read were given
+given_push : (before : List SavedPlace) (place : SavedPlace) → AllByRecursion WasGiven before → WasGiven place
+    → AllByRecursion WasGiven (before ++ place ∷ [])
+given_push [] place given here = (here, tt)
+given_push (first ∷ before) place given here = (given.0, given_push before place given.1 here)
+
+pub closed_given : (d : Draft) (places : List SavedPlace) → IsOrderly d → whole d ≡ Ok places
+    → AllByRecursion WasGiven places
+closed_given d places orderly e = by d.present refl e
+  where
+    by : (present : Option ℕ) → d.present ≡ present → closed d.before present d.tenant ≡ Ok places
+        → AllByRecursion WasGiven places
+    by None is e = subst (AllByRecursion WasGiven) (ok_is {E = FaultKind} d.before places e) orderly.given
+    by (Some admissions) is e =
+        let place = bind_ok (place_of admissions d.tenant) (λ place. Ok (d.before ++ place ∷ [])) places e in
+        subst (AllByRecursion WasGiven) (ok_is {E = FaultKind} _ places place.2)
+        (given_push d.before place.0 orderly.given
+        (subst (λ (n : ℕ). 0 < n) (place_count admissions d.tenant place.0 place.1) (orderly.some admissions is)))
 
 last_machine : (front : List Row) (ms : List Machine) (m : Machine) (jobs : List Job) (tasks : List Task)
     → jobs ≡ [] → tasks ≡ []
@@ -216,6 +249,8 @@ in_tenant d r d2 (Some t) orderly is e =
           ∙ ap (λ (o : Option TenantDraft). ((flat_map place_rows d.before ++ present_rows d.present) ++ drafted_rows o)
           ++ r ∷ []) (sym is),
       record {
+        given = orderly.given;
+        some = orderly.some;
         placed = λ none. absurd (let had : d.tenant ≡ None = orderly.placed none in cc);
         bare = λ x x-is none. absurd (grown_costs t r more.0 more.1
             (ap (λ (y : TenantDraft). y.costs) (let one : more.0 ≡ x = cc in one) ∙ none));
@@ -229,25 +264,40 @@ taken_rows d (row.Place n) d2 orderly e =
     (λ places. unless (place_fault places n) (record { before = places; present = Some n; tenant = None })) d2 e in
     let made = unless_ok (place_fault places.0 n) (record { before = places.0; present = Some n; tenant = None }) d2
     places.2 in
+    let room = none_cond (nat_le most_places (length places.0)) fault.Places _ made.0 in
+    let some = or_parts (eqb n 0) (nat_lt most_admissions n)
+    (none_cond (eqb n 0 || nat_lt most_admissions n) fault.BadNumber None room.1).0 in
     subst (λ (x : Draft). IsNext d (row.Place n) x) made.1 (
       append-nil (flat_map place_rows places.0 ++ row.Place n ∷ [])
           ∙ ap (λ (rows : List Row). rows ++ row.Place n ∷ [])
           (closed_rows d.before d.present d.tenant places.0 orderly.placed places.1),
-      record { placed = λ none. refl; bare = λ x x-is none. absurd cc },
+      record {
+        given = closed_given d places.0 orderly places.1;
+        some = λ admissions is. let same : n ≡ admissions = cc in
+            subst (λ (k : ℕ). 0 < k) same (not_none n some.0);
+        placed = λ none. refl;
+        bare = λ x x-is none. absurd cc;
+      },
     )
+  where
+    not_none : (n : ℕ) → eqb n 0 ≡ false → 0 < n
+    not_none zero e = absurd (true≢false e)
+    not_none (suc n) e = omega arith
 taken_rows d (row.Tenant name limits given) d2 orderly e =
     let made = unless_ok (tenant_fault d name limits given)
     (record d { tenant = Some (new_tenant name limits given) }) d2 e in
-    let first = none_cond (is_some d.tenant) fault.Row _ made.0 in
-    let second = either_none (vacancy_fault d.present) _ first.1 in
-    let none : d.tenant ≡ None = no_tenant d.tenant first.0 in
+    let first = or_parts (is_none d.present) (is_some d.tenant)
+    (none_cond (is_none d.present || is_some d.tenant) fault.Row _ made.0).0 in
+    let none : d.tenant ≡ None = no_tenant d.tenant first.1 in
     subst (λ (x : Draft). IsNext d (row.Tenant name limits given) x) made.1 (
       sym (ap (λ (o : Option TenantDraft). ((flat_map place_rows d.before ++ present_rows d.present) ++ drafted_rows o)
           ++ row.Tenant name limits given ∷ []) none
           ∙ ap (λ (rows : List Row). rows ++ row.Tenant name limits given ∷ [])
           (append-nil (flat_map place_rows d.before ++ present_rows d.present))),
       record {
-        placed = λ none. absurd (vacant d.present second.0 none);
+        given = orderly.given;
+        some = orderly.some;
+        placed = λ none. absurd (true≢false (sym (ap is_none none) ∙ first.0));
         bare = λ x x-is costs. let one : new_tenant name limits given ≡ x = cc in
             ap (λ (y : TenantDraft). kept_rows y.rows) (sym one);
       },
@@ -256,10 +306,6 @@ taken_rows d (row.Tenant name limits given) d2 orderly e =
     no_tenant : (o : Option TenantDraft) → is_some o ≡ false → o ≡ None
     no_tenant None e = refl
     no_tenant (Some t) e = absurd (true≢false e)
-
-    vacant : (o : Option ℕ) → vacancy_fault o ≡ None → o ≡ None → ⊥
-    vacant None e f = absurd cc
-    vacant (Some n) e f = absurd cc
 taken_rows d (row.Costs costs) d2 orderly e = in_tenant d (row.Costs costs) d2 d.tenant orderly refl e
 taken_rows d (row.Machine m) d2 orderly e = in_tenant d (row.Machine m) d2 d.tenant orderly refl e
 taken_rows d (row.Job j) d2 orderly e = in_tenant d (row.Job j) d2 d.tenant orderly refl e

@@ -1,5 +1,5 @@
 -- What the rows so far make of a state, and the next row.
-use Rattle.std.specs.Prelude.{ℕ, ℤ, zero, suc, Bool, true, not, ◌||◌, ◌+◌, List, [], ◌∷◌, ◌++◌, Option, Some, None}
+use Rattle.std.specs.Prelude.{ℕ, ℤ, Bool, true, not, ◌||◌, ◌==◌, ◌+◌, List, [], ◌∷◌, ◌++◌, Option, Some, None}
 use Rattle.std.specs.Prelude.{Result, Ok, Err, length, max, min, nat_le, nat_lt, option_map, if◌then◌else◌}
 use Rattle.std.specs.List.{list_all, list_any}
 use Rattle.std.specs.Option.{is_none, is_some}
@@ -199,7 +199,7 @@ whole draft = closed draft.before draft.present draft.tenant
 abbrev pub place_fault : List SavedPlace → ℕ → Option FaultKind
 place_fault places admissions =
     if nat_le most_places (length places) then Some fault.Places
-    else (if nat_lt most_admissions admissions then Some fault.BadNumber else None)
+    else (if admissions == 0 || nat_lt most_admissions admissions then Some fault.BadNumber else None)
 
 -- the draft once a place follows, which ends the rows of the one before
 abbrev pub after_place : Draft → ℕ → Result Draft FaultKind
@@ -211,18 +211,11 @@ after_place draft admissions = do
 abbrev pub has_tenant : List SavedPlace → List ℕ → Bool
 has_tenant places name = list_any (λ place. is_named name (tenant_name place)) places
 
--- why the place that was read last, if one was, may have no tenant: it must have been given
-abbrev pub vacancy_fault : Option ℕ → Option FaultKind
-vacancy_fault None = Some fault.Row
-vacancy_fault (Some zero) = Some fault.Places
-vacancy_fault (Some (suc more)) = None
-
 -- why a tenant may not be the next row
 abbrev pub tenant_fault : Draft → List ℕ → TenantLimits → ℕ → Option FaultKind
 tenant_fault draft name limits given =
-    if is_some draft.tenant then Some fault.Row
-    else either (vacancy_fault draft.present)
-    (if has_tenant draft.before name then Some fault.Repeated
+    if is_none draft.present || is_some draft.tenant then Some fault.Row
+    else (if has_tenant draft.before name then Some fault.Repeated
     else (if nat_lt limits.life given then Some fault.Commands else None))
 
 -- a tenant of which nothing more was read
@@ -248,14 +241,8 @@ taken draft (row.Job job) = grown_in draft draft.tenant (row.Job job)
 taken draft (row.Task task) = grown_in draft draft.tenant (row.Task task)
 taken draft (row.Rows count) = Err fault.Row
 
--- whether the last of the places, if there is one, was ever given
-abbrev pub ends_given : List SavedPlace → Bool
-ends_given [] = true
-ends_given (last ∷ []) = nat_lt 0 last.admissions
-ends_given (place ∷ next ∷ rest) = ends_given (next ∷ rest)
-
--- the state, if the rows end here
+-- the state, if the rows end here; a service has given one place at least
 abbrev pub finished : Draft → Result (List SavedPlace) FaultKind
 finished draft = do
   places ← whole draft
-  if ends_given places then Ok (filled places) else Err fault.Places
+  if nat_lt 0 (length places) then Ok (filled places) else Err fault.Places

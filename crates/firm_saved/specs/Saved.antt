@@ -1,10 +1,10 @@
 -- The state of a service: its 64 places, how often each was given, and the books of the tenants that stay there.
-use Rattle.std.specs.Prelude.{◌≡◌, ◌++◌, ◌-◌, ℕ, true, All, IfSome, List, length, map, replicate, Option, None}
+use Rattle.std.specs.Prelude.{◌≡◌, ◌<◌, ◌++◌, ◌-◌, ℕ, true, All, IfSome, List, length, map, replicate, Option, None}
 use Rattle.std.specs.Prelude.{option_map}
 use Rattle.firm_rules.specs.Book.{Book}
 use Rattle.firm_rules.specs.Names.{is_name}
 use Rattle.firm_rules.specs.SoundBook.{IsSoundBook}
-use Rattle.firm_text.specs.Registers.{IsRegister}
+use Rattle.firm_text.specs.Registers.{IsRegister, admissions_at}
 use Rattle.firm_text.specs.Rosters.{most_places}
 use Rattle.firm_text.specs.declared.registers.Entry.{Entry}
 use Rattle.firm_saved.specs.declared.saved.SavedPlace.{SavedPlace}
@@ -25,9 +25,15 @@ register_of places = map entry_of places
 abbrev pub IsSoundPlace : SavedPlace → Type 0
 IsSoundPlace place = IfSome place.tenant (λ (tenant : List ℕ × Book). (is_name tenant.0 ≡ true) × IsSoundBook tenant.1)
 
+-- places are first given in their order: the first was given, and so was each that stands before one that was
+pub record AreGivenInOrder (places : List Entry) : Type 0 where
+  pub first : 0 < admissions_at places 0
+  pub before : (at behind : ℕ) → at < behind → 0 < admissions_at places behind → 0 < admissions_at places at
+
 -- what holds of the state of a service at all times
 pub record IsSoundSaved (places : List SavedPlace) : Type 0 where
   pub register : IsRegister (register_of places)
+  pub in_order : AreGivenInOrder (register_of places)
   pub books : All IsSoundPlace places
 
 -- a place that was never given

@@ -1,12 +1,12 @@
 //! A state while its rows are read.
 ghost use Rattle.std.specs.Prelude.{◌≡◌, ◌⊎◌, ◌≤◌, ◌<◌, ◌++◌, ◌∷◌, [], OnOk, IfOk, IfSome, Ok, Err, None, Some, length};
-ghost use Rattle.std.specs.Prelude.{true, MatchResult, option_map, List};
+ghost use Rattle.std.specs.Prelude.{true, All, MatchResult, option_map, List};
 ghost use Rattle.firm_rules.specs.Names.{is_name};
 ghost use Rattle.firm_text.specs.Rosters.{most_places};
 ghost use Rattle.firm_saved.specs.Saved.{IsSoundPlace, IsSoundSaved, filled};
-ghost use Rattle.firm_saved.specs.Drafts.{ends_given, empty_draft, finished, after_place, has_tenant, place_of};
-ghost use Rattle.firm_saved.specs.Drafts.{tenant_fault, taken, vacancy_fault, whole};
-ghost use Rattle.firm_saved.specs.inner.Kept.{AreSoundPlaces, IsSoundDraft, view};
+ghost use Rattle.firm_saved.specs.Drafts.{empty_draft, finished, after_place, has_tenant, place_of};
+ghost use Rattle.firm_saved.specs.Drafts.{tenant_fault, taken, whole};
+ghost use Rattle.firm_saved.specs.inner.Kept.{AreSoundPlaces, IsSoundDraft, WasGiven, view};
 ghost use Rattle.firm_saved.specs.inner.Loads.{view as tenant_view};
 ghost use Rattle.firm_saved.specs.inner.Returned.{Gives};
 ghost use Rattle.firm_saved.specs.Reading.{line_read, stepped};
@@ -102,7 +102,7 @@ impl Draft {
         if self.before.len() >= PLACES {
             return Err(FaultKind::Places);
         }
-        if admissions > u64::from(MOST_ADMISSIONS) {
+        if admissions == 0 || admissions > u64::from(MOST_ADMISSIONS) {
             return Err(FaultKind::BadNumber);
         }
         self.present = Some(admissions as u32);
@@ -132,11 +132,8 @@ impl Draft {
     fn tenant_fault(&self, name: Name, limits: Limits, given: u64) -> Option<FaultKind>
         ensures { result ≡ tenant_fault (view self.now) name limits given }
     {
-        if self.tenant.is_some() {
+        if self.present.is_none() || self.tenant.is_some() {
             return Some(FaultKind::Row);
-        }
-        if let Some(kind) = vacancy_fault(self.present) {
-            return Some(kind);
         }
         if has_tenant(&self.before, name) {
             return Some(FaultKind::Repeated);
@@ -153,6 +150,7 @@ impl Draft {
         ensures closed { Gives (λ _. self.new.before.items) result (whole (view self.old)) }
         ensures none { OnOk result ((self.new.present ≡ None) × (self.new.tenant ≡ None)) }
         ensures sound { OnOk result (AreSoundPlaces self.new.before.items) }
+        ensures given { OnOk result (All WasGiven self.new.before.items) }
     {
         let Some(admissions) = self.present.take() else {
             return Ok(());
@@ -169,7 +167,7 @@ impl Draft {
     {
         self.close()?;
         let mut places = mem::replace(&mut self.before, Vec::new(alloc));
-        if !ends_given(&places) {
+        if places.is_empty() {
             return Err(FaultKind::Places);
         }
         fill(&mut places)?;
@@ -197,30 +195,10 @@ fn place_of(admissions: u32, tenant: Option<TenantDraft>) -> Result<SavedPlace, 
     }
 }
 
-// Why the place that was read last, if one was, may have no tenant: it must have been given.
-fn vacancy_fault(present: Option<u32>) -> Option<FaultKind>
-    ensures { result ≡ vacancy_fault present }
-{
-    match present {
-        None => Some(FaultKind::Row),
-        Some(0) => Some(FaultKind::Places),
-        Some(_) => None,
-    }
-}
-
 fn has_tenant(places: &[SavedPlace], name: Name) -> bool
     ensures { result ≡ has_tenant places.now name }
 {
     places.iter().any(|place| place.is_of(name))
-}
-
-fn ends_given(places: &[SavedPlace]) -> bool
-    ensures { result ≡ ends_given places.now }
-{
-    match places {
-        [] => true,
-        [.., last] => last.admissions > 0,
-    }
 }
 
 // Adds places that were never given, up to the 64th.

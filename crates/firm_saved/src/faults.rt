@@ -37,8 +37,7 @@ pub enum FaultKind {
     ArenaArcs,
     /// The tenant was given more commands than its life, or fewer than its rows and rounds up to here took.
     Commands,
-    /// It is the row of a 65th place, or of a tenant at a place that was never given; or no place but such a one
-    /// stands before the last row.
+    /// It is the row of a 65th place, or the last row with no place before it.
     Places,
     /// The last line is missing, has another count, or is not the last.
     Rows,

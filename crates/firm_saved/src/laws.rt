@@ -1,6 +1,7 @@
-//! A law of states and their texts, the contract of a function that does nothing.
+//! Laws of states and their texts, each the contract of a function that does nothing.
 ghost use Rattle.std.specs.Prelude.{◌≡◌, List};
 ghost use Rattle.firm_saved.specs.Saved.{IsSoundSaved};
+ghost use Rattle.firm_saved.specs.StateLaws.{AdmissionsKeepOrder, RetirementsKeepOrder, RostersGiveInOrder};
 ghost use Rattle.firm_saved.specs.StateText.{state_text};
 ghost use Rattle.firm_saved.specs.declared.saved.SavedPlace.{SavedPlace};
 
@@ -8,4 +9,12 @@ ghost use Rattle.firm_saved.specs.declared.saved.SavedPlace.{SavedPlace};
 pub fn a_text_has_one_state()
     ensures { (first second : List SavedPlace) → IsSoundSaved first → IsSoundSaved second
         → state_text first ≡ state_text second → first ≡ second }
+{}
+
+/// Places are first given in their order: a roster's tenants get the first ones, and an admission gets a place that was
+/// given before, or else the first that never was.
+pub fn places_are_given_in_order()
+    ensures rosters { RostersGiveInOrder }
+    ensures admissions { AdmissionsKeepOrder }
+    ensures retirements { RetirementsKeepOrder }
 {}

@@ -22,7 +22,7 @@ mod words;
 mod writing;
 
 pub use faults::{FaultKind, StateFault};
-pub use laws::a_text_has_one_state;
+pub use laws::{a_text_has_one_state, places_are_given_in_order};
 pub use rows::Row;
 pub use saved::{Saved, SavedPlace};
 pub use writing::{given_count, put_book, put_heading, put_place, put_row, put_state};

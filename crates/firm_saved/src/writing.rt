@@ -13,7 +13,7 @@ ghost use Rattle.firm_saved.specs.StateText.{words_text, row_words, row_text, he
 ghost use Rattle.firm_saved.specs.StateText.{patience_words};
 ghost use Rattle.firm_text.specs.Rosters.{most_places};
 ghost use Rattle.firm_text.specs.Registers.{IsRegister};
-ghost use Rattle.firm_saved.specs.Saved.{IsSoundPlace, IsSoundSaved, register_of};
+ghost use Rattle.firm_saved.specs.Saved.{AreGivenInOrder, IsSoundPlace, IsSoundSaved, register_of};
 ghost use Rattle.firm_saved.specs.StateText.{preference_words, book_rows, given_places, place_rows, state_text};
 ghost use Rattle.firm_saved.specs.declared.saved.SavedPlace.{SavedPlace as PlaceRow};
 
@@ -101,7 +101,7 @@ pub fn given_count(entries: &[Entry]) -> usize
         → given_places places ≡ take result places }
     ensures few { result ≤ length entries.now }
     ensures sound { (places : List PlaceRow) → register_of places ≡ entries.now → IsRegister entries.now
-        → All IsSoundPlace (take result places) → IsSoundSaved places }
+        → AreGivenInOrder entries.now → All IsSoundPlace (take result places) → IsSoundSaved places }
 {
     let mut rest = entries;
     while let [front @ .., last] = rest {

@@ -9,11 +9,18 @@ use Rattle.firm_parts.specs.Parts.{cut_to, joined}
 use Rattle.firm_parts.specs.declared.joining.JoinFault.{JoinFault}
 use Rattle.firm_saved.specs.Saved.{IsSoundSaved}
 use Rattle.firm_saved.specs.StateText.{state_text}
+use Rattle.firm_saved.specs.declared.faults.FaultKind.TheVariants as fault
+use Rattle.firm_saved.specs.declared.faults.StateFault.{StateFault}
 use Rattle.firm_saved.specs.declared.saved.SavedPlace.{SavedPlace}
+use Rattle.firm_program.specs.Faults.{fault_of_kind, fault_of_state}
+use Rattle.firm_program.specs.declared.faults.Fault.{Fault}
+use Rattle.firm_program.specs.declared.faults.Fault.TheVariants.{Service}
+use Rattle.firm_table.specs.declared.faults.ServeFault.TheVariants.{Memory}
 use Rattle.firm_table.specs.Service.{Device}
 use Rattle.firm_text.specs.Commands.{◌>>=◌}
 use Rattle.firm_state.specs.CommandLine.{Asked}
-use Rattle.firm_state.specs.Program.{ChangesText, CutsTo, FoldsText, JoinsAll, TellsState, all_joined, kept}
+use Rattle.firm_state.specs.Program.{ChangesText, CutsTo, FoldsText, JoinsAll, NoChange, NotAllJoined, NotThere}
+use Rattle.firm_state.specs.Program.{StopsCutting, StopsJoining, TellsState, all_joined, kept}
 
 -- no state was joined
 pub joins_none : (saved : List SavedPlace) → JoinsAll 0 saved saved
@@ -99,3 +106,41 @@ tells_changed asked reader text after folded change = record {
   file = folded.file;
   changed = change folded.saved folded.file.sound folded.is;
 }
+
+-- why a state that was read again is not changed: memory was refused, or what is asked is refused
+pub of_memory : (found : StateFault) → found.kind ≡ fault.Memory → fault_of_state found ≡ Service Memory
+of_memory found is = ap (fault_of_kind found) is
+
+module _ (names : List (List ℕ)) (count : ℕ) (saved alone : List SavedPlace) (is : alone ≡ saved) (n : ℕ)
+    (same : n ≡ count) where
+  pub not_joined : (fault : Fault) → StopsJoining n alone fault → NoChange names count saved fault
+  not_joined fault stops =
+      NotAllJoined (subst (λ (k : ℕ). StopsJoining k saved fault) same
+      (subst (λ (s : List SavedPlace). StopsJoining n s fault) is stops))
+
+  all_in : (both : List SavedPlace) → JoinsAll n alone both → JoinsAll count saved both
+  all_in both joins =
+      subst (λ (k : ℕ). JoinsAll k saved both) same (subst (λ (s : List SavedPlace). JoinsAll n s both) is joins)
+
+  pub not_there : (asked : List (List ℕ)) (both : List SavedPlace) (fault : Fault) → asked ≡ names
+      → JoinsAll n alone both → StopsCutting asked both fault → NoChange names count saved fault
+  not_there asked both fault named joins stops =
+      NotThere (record {
+        both = both;
+        joins = all_in both joins;
+        cutting = subst (λ (l : List (List ℕ)). StopsCutting l both fault) named stops;
+      })
+
+  pub changes : (asked : List (List ℕ)) (both after : List SavedPlace) (text : List ℕ) → asked ≡ names
+      → JoinsAll n alone both → CutsTo asked both after → IsSoundSaved after → text ≡ state_text after
+      → ChangesText names count saved text
+  changes asked both after text named joins cuts sound is_text = record {
+    after = after;
+    changed = record {
+      both = both;
+      joins = all_in both joins;
+      cuts = subst (λ (l : List (List ℕ)). CutsTo l both after) named cuts;
+    };
+    sound = sound;
+    is = is_text;
+  }

@@ -3,11 +3,11 @@
 ghost use Rattle.std.specs.Prelude.{◌≡◌, ◌<◌, ◌≤◌, IfOk, IsSome, length, option_map, slice_index_or};
 ghost use Rattle.firm_text.specs.Registers.{most_admissions};
 ghost use Rattle.firm_text.specs.Rosters.{most_places};
-ghost use Rattle.firm_saved.specs.Saved.{entry_of, untouched, register_of as register_saved};
+ghost use Rattle.firm_saved.specs.Saved.{AreGivenInOrder, entry_of, untouched, register_of as register_saved};
 ghost use Rattle.firm_table.specs.Places.{book_of, opening_places, register_of, unused_place};
 ghost use Rattle.firm_table.specs.Openings.{place_opened, places_opened};
 
-use firm_saved::{Saved, SavedPlace};
+use firm_saved::{Saved, SavedPlace, places_are_given_in_order};
 use firm_tenant::Tenant;
 use firm_text::{Entry, PLACES, Register, Roster};
 use std::alloc::{AllocError, Global};
@@ -39,10 +39,16 @@ impl Opening<'_> {
 
     /// Which tenant has which place before the first line, and how often each was given.
     pub fn register(&self) -> Register
-        ensures { result ≡ register_of (places_opened self.now) }
+        ensures places { result ≡ register_of (places_opened self.now) }
+        ensures in_order { AreGivenInOrder result }
     {
         match self {
-            Opening::Roster(roster) => Register::of(roster),
+            Opening::Roster(roster) => {
+                // A roster has a tenant, and a law: its places are given in their order.
+                prove!(roster.len() > 0);
+                places_are_given_in_order();
+                Register::of(roster)
+            }
             Opening::State(saved) => restored_register(saved),
         }
     }
@@ -74,7 +80,8 @@ impl Opening<'_> {
 
 // The register of a saved state.
 fn restored_register(saved: &Saved) -> Register
-    ensures { result ≡ register_saved saved.now }
+    ensures places { result ≡ register_saved saved.now }
+    ensures in_order { AreGivenInOrder result }
 {
     let places = saved.places();
     let mut entries = [Entry::EMPTY; PLACES];

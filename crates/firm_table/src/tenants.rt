@@ -17,7 +17,7 @@ ghost use Rattle.firm_table.specs.inner.Line.{IsAnswer, IsRight, book_named, boo
 use crate::answers::LineAnswer;
 use crate::openings::Opening;
 use firm_rules::{Command, Limits, Name, Reply, Rows};
-use firm_saved::{Row, given_count, put_book, put_heading, put_row};
+use firm_saved::{Row, given_count, places_are_given_in_order, put_book, put_heading, put_row};
 use firm_tenant::Tenant;
 use firm_text::{Entry, Line, OperatorLine, OperatorRefusal, OperatorReply, Register};
 use std::alloc::{AllocError, Global};
@@ -37,11 +37,11 @@ impl Model for Tenants {
 
     ghost Value = { TenantsState };
 
-    ghost use Rattle.firm_table.specs.Tenants.{BooksFit, tenants_are};
+    ghost use Rattle.firm_table.specs.Tenants.{AreSoundTenants, tenants_are};
 
     ghost view = { λ t. tenants_are t.register t.places.items };
 
-    ghost invariant = { λ t. BooksFit (tenants_are t.register t.places.items) };
+    ghost invariant = { λ t. AreSoundTenants (tenants_are t.register t.places.items) };
 }
 
 impl Tenants {
@@ -180,6 +180,8 @@ impl Tenants {
     fn admit(&mut self, alloc: Global, name: Name, limits: Limits) -> OperatorReply
         ensures { IsRight self.old self.new (Operator (Admit name limits)) (ToOperator result) }
     {
+        // A law: the places stay given in their order.
+        places_are_given_in_order();
         let place = match self.register.admit(name) {
             Ok(place) => place,
             Err(refusal) => return OperatorReply::Refused(refusal),
@@ -196,6 +198,8 @@ impl Tenants {
     fn retire(&mut self, name: Name) -> OperatorReply
         ensures { IsRight self.old self.new (Operator (Retire name)) (ToOperator result) }
     {
+        // A law: the places stay given in their order.
+        places_are_given_in_order();
         match self.register.retire(name) {
             Ok(place) => {
                 self.places[place] = None;

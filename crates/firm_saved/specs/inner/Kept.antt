@@ -27,17 +27,22 @@ pub record AreSoundPlaces (places : List SavedPlace) : Type 0 where
   pub counted : All IsCounted (register_of places)
   pub books : All IsSoundPlace places
 
--- the present place was given, and its tenant may stay there
+-- the place was given
+abbrev pub WasGiven : SavedPlace → Type 0
+WasGiven place = 0 < place.admissions
+
+-- the tenant of the present place may stay there
 pub record IsSoundTenant (before : List SavedPlace) (present : Option ℕ) (kept : KeptTenant) : Type 0 where
   pub loads : AreLoads kept
   pub named : is_name kept.name ≡ true
   pub new : has_tenant before kept.name ≡ false
-  pub given : (admissions : ℕ) → present ≡ Some admissions → 0 < admissions
   pub placed : present ≡ None → ⊥
 
--- there is room for the present place, and it was given no more often than it may be
+-- each place was given; there is room for the present one, and it was given no more often than it may be
 pub record IsSoundDraft (kept : Kept) : Type 0 where
   pub before : AreSoundPlaces kept.before.items
+  pub given : All WasGiven kept.before.items
+  pub some : (admissions : ℕ) → kept.present ≡ Some admissions → 0 < admissions
   pub room : (admissions : ℕ) → kept.present ≡ Some admissions → length kept.before.items < most_places
   pub counted : (admissions : ℕ) → kept.present ≡ Some admissions → admissions ≤ most_admissions
   pub tenant : (tenant : KeptTenant) → kept.tenant ≡ Some tenant

@@ -1,8 +1,8 @@
-use Rattle.std.proofs.Common.{◌∙◌, ◌<◌, ap, arith, length, subst, List}
+use Rattle.std.proofs.Common.{◌∙◌, ◌<◌, ap, arith, length, subst, sym, List}
 use Rattle.std.proofs.lemmas.List.Elements.{All-set}
 use Rattle.firm_text.specs.Registers.{IsRegister, with_tenant}
 use Rattle.firm_text.specs.declared.registers.Entry.{Entry}
-use Rattle.firm_saved.specs.Saved.{IsSoundPlace}
+use Rattle.firm_saved.specs.Saved.{AreGivenInOrder, IsSoundPlace}
 use Rattle.firm_parts.proofs.Settling.{settled_found, wide}
 use Rattle.firm_parts.proofs.joining.settle.Goals as goal
 
@@ -19,3 +19,9 @@ pub returns-in-Ok-clause-books : goal.returns-in-Ok-clause-books
 returns-in-Ok-clause-books c =
     All-set IsSoundPlace c.args.places.now.items c.in-Ok.at _ (c.as_bytes.ensures.formed, c.given.ensures.sound)
     c.requires.books
+
+pub returns-in-Ok-clause-in_order : goal.returns-in-Ok-clause-in_order
+returns-in-Ok-clause-in_order c =
+    subst AreGivenInOrder (sym c.in-Ok.ensures.admitted)
+    (c.places_are_given_in_order.ensures.admissions c.args.register.now c.args.name c.in-Ok.at c.in-Ok.ensures.sound
+    c.requires.in_order (sym c.in-Ok.ensures.place))

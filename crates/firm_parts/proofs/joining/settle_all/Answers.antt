@@ -16,6 +16,7 @@ loop-at-preserved c =
     let next = next_other others at found items within before.left c.index_mut.ensures.value in
     record {
       register_is = came.register;
+      in_order = came.in_order;
       books = came.books;
       as_many = length-set items at _ ∙ before.as_many;
       left = left_behind items others at _ before.left;

@@ -18,13 +18,13 @@ returns-then-last-gt0-clause-count c places is =
     ∙ sym end.split
 
 pub returns-then-last-gt0-clause-sound : goal.returns-then-last-gt0-clause-sound
-returns-then-last-gt0-clause-sound c places is register front =
-    sound_from places c.args.entries.now _ is register (returns-then-last-gt0-clause-count c places is) front
+returns-then-last-gt0-clause-sound c places is register in_order front =
+    sound_from places c.args.entries.now _ is register in_order (returns-then-last-gt0-clause-count c places is) front
 
 pub returns-clause-sound : goal.returns-clause-sound
-returns-clause-sound c places is register front =
+returns-clause-sound c places is register in_order front =
     let none : length c.loop-rest.rest.now ≡ 0 = omega (arith, c.in_default.len_below) in
-    sound_from places c.args.entries.now 0 is register
+    sound_from places c.args.entries.now 0 is register in_order
     (c.loop-rest.invariant.same places is ∙ ap (λ (n : ℕ). given_places (take n places)) none) front
 
 pub loop-rest-preserved : goal.loop-rest-preserved

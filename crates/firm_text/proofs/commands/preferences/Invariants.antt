@@ -1,12 +1,11 @@
-use Rattle.std.proofs.Common.{◌≡◌, ◌+◌, ◌≤◌, [], length}
+use Rattle.std.proofs.Common.{◌≡◌, ◌≤◌, [], drop, length, map}
 use Rattle.firm_text.specs.Commands.{preferring}
-use Rattle.firm_text.specs.Lines.{words}
 use Rattle.firm_text.proofs.commands.preferences.Given as goal
 
--- `counter` words gave these preferences, which are no more
-abbrev pub invariant-loop : goal.invariant-loop
-invariant-loop l = record {
-  same : preferring [] (words l.line) ≡ preferring l.preferred (words l.rest);
-  passed : length (words l.line) ≡ l.counter + length (words l.rest);
-  few : length l.preferred ≤ l.counter;
+-- the words so far gave these preferences, which are no more
+abbrev pub invariant-loop-word : goal.invariant-loop-word
+invariant-loop-word l = record {
+  same : preferring [] (map (λ word. word.now) l.words)
+      ≡ preferring l.preferred (map (λ word. word.now) (drop l.word-index l.words));
+  few : length l.preferred ≤ l.word-index;
 }

@@ -15,7 +15,7 @@ invariant_of-result g c =
     let id = c.args.setting.now.hall.now.id in
     let opening = places_opened c.args.setting.now.opening in
     let desk_states = c.in_ok-desk_states.ensures.opened id c.requires.passes in
-    rw (c.of.ensures, c.register.ensures, c.in_ok-held.ensures)
+    rw (c.of.ensures, c.register.ensures.places, c.in_ok-held.ensures)
     (record {
       desk_states = desk_states_open id opening c.in_ok-desk_states.desk_states.items []
           c.in_ok-desk_states.ensures.all desk_states refl;
@@ -28,6 +28,6 @@ returns-clause-told g c written =
     let id = c.args.setting.now.hall.now.id in
     let opening = places_opened c.args.setting.now.opening in
     let desk_states = c.in_ok-desk_states.ensures.opened id c.requires.passes in
-    rw (c.register.ensures, c.in_ok-held.ensures)
+    rw (c.register.ensures.places, c.in_ok-held.ensures)
     (tells_open c.answers_add_up.ensures.opening id opening c.in_ok-desk_states.desk_states.items [] [] desk_states refl
     refl written)

@@ -4,4 +4,8 @@ use Rattle.firm_table.proofs.tenants.Tenants.open.Goals as goal
 
 pub invariant_of-result : goal.invariant_of-result
 invariant_of-result c =
-    rw (c.register.ensures, c.in_ok-open_places.ensures) (places_seated (places_opened c.args.opening))
+    record {
+      books = rw (c.register.ensures.places, c.in_ok-open_places.ensures)
+          (places_seated (places_opened c.args.opening));
+      in_order = c.register.ensures.in_order;
+    }

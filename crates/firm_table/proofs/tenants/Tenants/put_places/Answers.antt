@@ -24,7 +24,7 @@ loop-place-preserved c =
     let place : SavedPlace = place_with c.index-entries-place.result c.index.result.now in
     let next : take (at + 1) saved ≡ take at saved ++ place ∷ [] =
     rw (← c.self.view_is)
-    (state_next c.self.inside.register c.entries-entries.result.now books c.self.invariant at
+    (state_next c.self.inside.register c.entries-entries.result.now books c.self.invariant.books at
     c.index-entries-place.result c.index.result.now c.entries-entries.ensures.entries
     (omega (arith, c.requires, c.loop-place-test.true, c.entries-entries.ensures.sound.all))
     c.index-entries-place.is c.index.ensures) in

@@ -4,7 +4,7 @@ use Rattle.std.specs.List.{flat_map}
 use Rattle.firm_text.specs.Registers.{IsRegister}
 use Rattle.firm_saved.specs.declared.rows.Row.TheVariants as row
 use Rattle.firm_saved.specs.declared.saved.SavedPlace.{SavedPlace}
-use Rattle.firm_saved.specs.Saved.{register_of}
+use Rattle.firm_saved.specs.Saved.{AreGivenInOrder, register_of}
 use Rattle.firm_saved.specs.StateText.{place_rows, row_text}
 use Rattle.firm_table.specs.Ends.{tenants_state}
 use Rattle.firm_table.proofs.Stating.{on_ok, state_added, state_register}
@@ -13,7 +13,7 @@ use Rattle.firm_table.proofs.tenants.Tenants.put_state.Goals as goal
 abbrev register_is : (c : goal.After-put_row) → register_of (tenants_state c.args.self.now) ≡ c.entries.result.now
 register_is c =
     rw (← c.self.view_is)
-    (state_register c.self.inside.register c.self.inside.places.items c.self.invariant
+    (state_register c.self.inside.register c.self.inside.places.items c.self.invariant.books
     ∙ sym c.entries.ensures.entries)
 
 pub returns-clause-text : goal.returns-clause-text
@@ -34,4 +34,5 @@ returns-clause-sound c =
     let register = register_is c in
     on_ok c.put_row.result
     (c.given_count-given.ensures.sound saved register
-    (subst IsRegister (sym c.entries.ensures.entries) c.entries.ensures.sound) c.in_ok-count.ensures.sound)
+    (subst IsRegister (sym c.entries.ensures.entries) c.entries.ensures.sound)
+    (subst AreGivenInOrder (sym c.entries.ensures.entries) c.self.invariant.in_order) c.in_ok-count.ensures.sound)

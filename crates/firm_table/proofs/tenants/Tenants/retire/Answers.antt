@@ -21,16 +21,18 @@ found_none (Some place) refusal e = absurd (cc)
 pub index_mut-requires : goal.index_mut-requires
 index_mut-requires c =
     let low =
-    seated_within c.self.inside.register c.self.inside.places.items c.self.invariant c.retire.ensures.sound
+    seated_within c.self.inside.register c.self.inside.places.items c.self.invariant.books c.retire.ensures.sound
     c.in-Ok.place c.in-Ok.ensures.within in
     omega (arith, low, c.self.inside.places.ok.0)
 
 pub invariant_of-self : goal.invariant_of-self
 invariant_of-self c =
     let register = c.self.inside.register in
-    rw (c.in-Ok.ensures.retired)
-    (seated_set register c.self.inside.places.items c.self.invariant c.in-Ok.place
-    (vacant (admissions_at register c.in-Ok.place)) None refl)
+    rw (c.in-Ok.ensures.retired) (record {
+      books = seated_set register c.self.inside.places.items c.self.invariant.books c.in-Ok.place
+          (vacant (admissions_at register c.in-Ok.place)) None refl;
+      in_order = c.places_are_given_in_order.ensures.retirements register c.in-Ok.place c.self.invariant.in_order;
+    })
 
 pub returns-in-Ok : goal.returns-in-Ok
 returns-in-Ok c =

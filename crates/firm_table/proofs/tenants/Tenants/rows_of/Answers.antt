@@ -11,7 +11,7 @@ use Rattle.firm_table.proofs.tenants.Tenants.rows_of.Goals as goal
 pub index-requires : goal.index-requires
 index-requires c =
     let low =
-    seated_within c.self.inside.register c.self.inside.places.items c.self.invariant c.in_ok-place.ensures.sound
+    seated_within c.self.inside.register c.self.inside.places.items c.self.invariant.books c.in_ok-place.ensures.sound
     c.in_ok-place.place c.in_ok-place.ensures.within in
     omega (arith, low, c.self.inside.places.ok.0)
 
@@ -21,11 +21,11 @@ unreachable-requires c =
     let at : ℕ = c.in_ok-place.place in
     let found : place_in c.self.inside.register c.args.name ≡ Some at = sym c.in_ok-place.ensures.place in
     let low =
-    seated_within c.self.inside.register books c.self.invariant c.in_ok-place.ensures.sound at
+    seated_within c.self.inside.register books c.self.invariant.books c.in_ok-place.ensures.sound at
     c.in_ok-place.ensures.within in
     let here : c.index.result.now ≡ get_or books at None = c.index.ensures ∙ get_or_default books at _ None low in
     let some : is_some (get_or books at None) ≡ true =
-    seated_here c.self.inside.register books c.self.invariant c.args.name at found in
+    seated_here c.self.inside.register books c.self.invariant.books c.args.name at found in
     let wrong : false ≡ true = sym (ap is_some (sym here ∙ c.in_default.is)) ∙ some in
     cc
 
@@ -35,7 +35,7 @@ returns c =
     let at : ℕ = c.in_ok-place.place in
     let found : place_in c.self.inside.register c.args.name ≡ Some at = sym c.in_ok-place.ensures.place in
     let low =
-    seated_within c.self.inside.register books c.self.invariant c.in_ok-place.ensures.sound at
+    seated_within c.self.inside.register books c.self.invariant.books c.in_ok-place.ensures.sound at
     c.in_ok-place.ensures.within in
     let here : c.index.result.now ≡ get_or books at None = c.index.ensures ∙ get_or_default books at _ None low in
     let book : book_at books (place_in c.self.inside.register c.args.name) ≡ Some c.in-Some.tenant =

@@ -19,7 +19,7 @@ returns-in_default c =
 pub index_mut-requires : goal.index_mut-requires
 index_mut-requires c =
     let low =
-    seated_within c.self.inside.register c.self.inside.places.items c.self.invariant c.place_of.ensures.sound
+    seated_within c.self.inside.register c.self.inside.places.items c.self.invariant.books c.place_of.ensures.sound
     c.in-Some.place c.in-Some.ensures.within in
     omega (arith, low, c.self.inside.places.ok.0)
 
@@ -30,11 +30,11 @@ unreachable-requires c =
     let found : place_in c.self.inside.register c.args.name ≡ Some at = sym c.place_of.ensures.place
     ∙ c.in-Some.is in
     let low =
-    seated_within c.self.inside.register books c.self.invariant c.place_of.ensures.sound at
+    seated_within c.self.inside.register books c.self.invariant.books c.place_of.ensures.sound at
     c.in-Some.ensures.within in
     let here = seat_is books at c.index_mut.result.now low c.index_mut.ensures.value in
     let some : is_some (slice_index_or books at None) ≡ true =
-    seated_here c.self.inside.register books c.self.invariant c.args.name at found in
+    seated_here c.self.inside.register books c.self.invariant.books c.args.name at found in
     let wrong : false ≡ true = sym (ap is_some (here ∙ c.in_default-index_mut.is)) ∙ some in
     cc
 
@@ -42,9 +42,13 @@ pub invariant_of-self : goal.invariant_of-self
 invariant_of-self c =
     let found : place_in c.self.inside.register c.args.name ≡ Some c.in-Some.place = sym c.place_of.ensures.place
     ∙ c.in-Some.is in
-    seated_still c.self.inside.register c.self.inside.places.items c.self.invariant c.in-Some.place c.step.new.self
-    (seated_here c.self.inside.register c.self.inside.places.items c.self.invariant c.args.name
-    c.in-Some.place found)
+    record {
+      books = seated_still c.self.inside.register c.self.inside.places.items c.self.invariant.books c.in-Some.place
+          c.step.new.self
+          (seated_here c.self.inside.register c.self.inside.places.items c.self.invariant.books c.args.name
+          c.in-Some.place found);
+      in_order = c.self.invariant.in_order;
+    }
 
 pub returns : goal.returns
 returns c =
@@ -53,7 +57,7 @@ returns c =
     let found : place_in c.self.inside.register c.args.name ≡ Some at = sym c.place_of.ensures.place
     ∙ c.in-Some.is in
     let low =
-    seated_within c.self.inside.register books c.self.invariant c.place_of.ensures.sound at
+    seated_within c.self.inside.register books c.self.invariant.books c.place_of.ensures.sound at
     c.in-Some.ensures.within in
     let here = seat_is books at c.index_mut.result.now low c.index_mut.ensures.value in
     rw (← c.self.view_is)
