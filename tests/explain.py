@@ -3,10 +3,11 @@
 usage: tools/run tests/explain.py [--quick] [--program FILE] [--explain FILE] [WORD..]
 Reasons of each kind of stream at 3,000 tasks and 1,000 machines are accepted, also with --all, --why and --machine, and
 those of 3,000 random streams and of 400 with noise; 1,000 outputs with one number changed are not, nor by --claims a
-comment line removed, doubled, moved or with another word. Numbers that docs/EXPLAIN.md calls exact are, by a search
-over all placements of 300 streams. Also --tenant, statuses, pieces, failed writes, refused and constant memory, and
-time. With words only the checks whose names have one of them. Each check has a line; the exit
-status is 1 where one failed. The long run takes some ten minutes. It needs a C compiler for refuse.c.
+comment line removed, doubled, moved or with another word, nor replies changed, cut off or without their reasons, nor
+another placement of the same cost, whatever order is given for it. Numbers that docs/EXPLAIN.md calls exact are, by a
+search over all placements of 300 streams. Also --tenant, statuses, pieces, failed writes, refused and constant memory,
+and time. With words only the checks whose names have one of them. Each check has a line; the exit status is 1 where one
+failed. The long run takes some ten minutes. It needs a C compiler for refuse.c.
 """
 
 from __future__ import annotations
@@ -138,7 +139,7 @@ def require_shown(stream: Stream, output: bytes, *words: str) -> None:
     """Asks that the checker takes each round, and each word of its reasons."""
     count = rounds_in(output)
     said = judge(stream, output, "--claims", *words)
-    require(said == f"shown least: {count} of {count} rounds", said)
+    require(said == f"shown first: {count} of {count} rounds", said)
 
 
 def size_of(options: Options) -> tuple[int, int]:
@@ -276,6 +277,23 @@ WRONG_WORDS = [
     (b"# w1 stays on m1", b"# w1 starts on m1"),
     (b", but m3 5", b""),
 ]
+ORDER = b"# first: m1 < m2 < waiting\n"
+WRONG_ORDERS = [
+    "",
+    "clear",
+    "not shown here",
+    "m2 < m1 < waiting",
+    "waiting < m1 < m2",
+    "m1 < waiting < m2",
+    "m1 m2 < waiting",
+    "m1 < m2 waiting",
+    "m1 < m2",
+    "m1 < m2 < waiting < m3",
+    "m1 < m2 < waiting <",
+    "m1 <  m2 < waiting",
+    "m1 < .. < ..",
+    "..",
+]
 WRONG_CROWDS = [
     (b"# t0 and 24 others wait", b"# t1 and 24 others wait"),
     (b"; each machine at least 2 more", b""),
@@ -320,6 +338,31 @@ def wrong_outputs_are_refused(options: Options) -> None:
         require_refused(stream, other, what, "--claims", *words)
 
 
+def wrong_witnesses_are_refused(options: Options) -> None:
+    """No placement passes that costs something else than its line says, or has another task's changes left out."""
+    stream = worked_stream()
+    output = explained(options, stream, "--why", "w1")
+    lines = list(re.finditer(rb"^# if .*: (\d+) more(: .*)?$", output, re.MULTILINE))
+    require(len(lines) == 7, lines)
+    for line in lines:
+        for number in (int(line[1]) + 1, int(line[1]) + 12):
+            other = output[: line.start(1)] + b"%d" % number + output[line.end(1) :]
+            require_refused(stream, other, f"{line[0]!r} as {number}")
+        if line[2]:
+            require_refused(stream, output[: line.start(2)] + output[line.end(2) :], f"{line[0]!r} without changes")
+        for start in (b"# if w9 on ", b"# if w1 on m9 ", b"# if w1 goes "):
+            other = output[: line.start()] + start + output[line.start() + len("# if w1 on ") :]
+            require(other == output or judge(stream, other, "--claims", "--why", "w1").startswith("NOT SHOWN"), start)
+
+
+def wrong_orders_are_refused(options: Options) -> None:
+    """No order passes that does not show the placement, or is none."""
+    stream = worked_stream()
+    output = explained(options, stream)
+    for order in WRONG_ORDERS:
+        require_refused(stream, replaced(output, ORDER, f"# first: {order}\n".encode()), order)
+
+
 def wrong_crowds_are_refused(options: Options) -> None:
     """The same where many tasks wait for the same reason."""
     stream = crowded_stream()
@@ -340,10 +383,10 @@ def crowded_stream() -> Stream:
 
 
 def proofs_stand_alone(options: Options) -> None:
-    """Without --claims the checker looks at the rents and the sums alone, and takes no other number of theirs."""
+    """Without --claims the checker looks at what shows the round, and takes no other number of the reasons."""
     stream = worked_stream()
     output = explained(options, stream)
-    require(judge(stream, output) == "shown least: 3 of 3 rounds", judge(stream, output))
+    require(judge(stream, output) == "shown first: 3 of 3 rounds", judge(stream, output))
     for line in re.finditer(rb"^# (low rents|high rents|least): .*$", output, re.MULTILINE):
         for found in re.compile(rb"(?<![\w-])\d+").finditer(output, line.start(), line.end()):
             for number in {int(found.group()) + 1, max(0, int(found.group()) - 1)} - {int(found.group())}:
@@ -355,6 +398,99 @@ def proofs_stand_alone(options: Options) -> None:
         (b" start b1 m3", b""),
     ]:
         require_refused(stream, replaced(output, old, new), (old, new))
+
+
+def wrong_replies(output: bytes) -> Iterator[tuple[str, bytes]]:
+    """Each output in which one word of a reply is another, a round has no reasons, or that is cut off behind a line."""
+    lines = output.splitlines(keepends=True)
+    for place, line in enumerate(lines):
+        before, after = b"".join(lines[:place]), b"".join(lines[place + 1 :])
+        if before:
+            yield f"cut before {line!r}", before
+        if not line.startswith(b"#"):
+            words = line.split()
+            for at, word in enumerate(words):
+                if at and words[at - 1] in (b"nodes", b"arcs"):
+                    continue  # how full the arena is stands in no row
+                other = b"%d" % (int(word) + 1) if word.isdigit() else word + b"s"
+                yield f"{other!r} in {line!r}", before + b" ".join(
+                    [*words[:at], other, *words[at + 1 :]]
+                ) + b"\n" + after
+        elif not lines[place - 1].startswith(b"#"):
+            reasons = re.match(rb"(?:#.*\n)*", b"".join(lines[place:]))
+            yield f"without {line!r} and its like", before + output[len(before) + (reasons.end() if reasons else 0) :]
+
+
+def wrong_replies_are_refused(options: Options) -> None:
+    """Without --claims no output passes that lacks a reply's word, a round's reasons or its end."""
+    replies = (
+        b"alpha where w1\nalpha costs\nalpha show\nalpha where nobody\nalpha drain m1\nbeta show\n+ retire alpha\n"
+    )
+    stream = worked_stream()
+    stream = stream._replace(text=stream.text + replies)
+    output = explained(options, stream)
+    for what, other in wrong_replies(output):
+        require_refused(stream, other, what)
+
+
+def least_placements(tenant: Any, cost: int) -> Iterator[dict[str, Choice]]:
+    """All placements of this cost, if none costs less."""
+    names, load, to = list(tenant.tasks), dict.fromkeys(tenant.slots, 0), dict[str, Choice]()
+
+    def place(number: int, left: int) -> Iterator[dict[str, Choice]]:
+        if left < 0 or number == len(names):
+            yield from [dict(to)] if left == 0 else []
+            return
+        for choice in [*tenant.slots, None]:
+            if choice is None or load[choice] < tenant.slots[choice]:
+                more = tenant.cost_of(names[number], choice) + (tenant.spread * load[choice] if choice else 0)
+                to[names[number]] = choice
+                if choice:
+                    load[choice] += 1
+                yield from place(number + 1, left - more)
+                if choice:
+                    load[choice] -= 1
+
+    return place(0, cost)
+
+
+def random_order(draw: random.Random, places: list[str]) -> str:
+    """An order of these places."""
+    cuts = sorted(draw.sample(range(1, len(places)), draw.randrange(len(places))))
+    groups = [" ".join(places[low:high]) for low, high in zip([0, *cuts], [*cuts, len(places)])]
+    return " < ".join(groups) if cuts else "clear"
+
+
+def passes_as_first(found: Any, line: str) -> bool:
+    """Whether the checker takes this line for the round."""
+    try:
+        found._replace(comments=[*found.comments[:-1], line]).check_first()
+    except SystemExit:
+        return False
+    return True
+
+
+def forged_orders_are_refused(options: Options, count: int) -> None:
+    """No placement passes that costs as little as a round's and is another, with the round's order or a random one."""
+    forged = 0
+    for seed in range(1, count + 1):
+        stream, draw = small_stream(seed), random.Random(seed)
+        if not has_roster(stream):
+            continue
+        with Written(stream, explained(options, stream)) as paths:
+            for found in CHECKER.rounds_of(*paths):
+                if len(found.tenant.slots) ** len(found.tenant.tasks) > 5000 or "waiting" in found.tenant.slots:
+                    continue
+                for other in least_placements(found.tenant, int(found.reply[5])):
+                    if other == found.to:
+                        continue
+                    forged += 1
+                    places = [*found.tenant.slots, "waiting"]
+                    orders = [random_order(draw, draw.sample(places, len(places))) for _ in range(5)]
+                    for line in [found.comments[-1], *(f"# first: {order}" for order in orders)]:
+                        require(not passes_as_first(found._replace(to=other), line), f"seed {seed}: {other}: {line}")
+    print(f"{forged} forged placements", flush=True)
+    require(forged > count, forged)
 
 
 def least_cost(tenant: Any, slots: Mapping[str, int], fixed: Mapping[str, Choice]) -> int:
@@ -474,7 +610,7 @@ def one_tenant(options: Options) -> None:
     both, one = explained(options, stream), run_timed([options.explain, "--tenant", "b"], stream).output
     require(without_comments(one) == without_comments(both), "other replies")
     said = judge(stream, one, "--claims", "--tenant", "b")
-    require(said == "shown least: 1 of 2 rounds", said)
+    require(said == "shown first: 1 of 2 rounds", said)
     require_refused(stream, both, "reasons that are not asked for", "--claims", "--tenant", "b")
     require_refused(stream, one, "reasons that are missing", "--claims")
 
@@ -607,7 +743,11 @@ def checks(options: Options) -> dict[str, Check]:
         "a number changed": partial(changes_are_refused, options, 100 if quick else 1000),
         "wrong reasons": partial(wrong_outputs_are_refused, options),
         "wrong reasons of crowds": partial(wrong_crowds_are_refused, options),
+        "wrong orders": partial(wrong_orders_are_refused, options),
+        "wrong witnesses": partial(wrong_witnesses_are_refused, options),
         "proofs alone": partial(proofs_stand_alone, options),
+        "wrong replies": partial(wrong_replies_are_refused, options),
+        "forged orders": partial(forged_orders_are_refused, options, 30 if quick else 1000),
     }
     tasks, machines = size_of(options)
     for kind in kinds.KINDS:

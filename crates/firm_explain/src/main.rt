@@ -31,10 +31,14 @@
 //! - `at least N more`; the choices of `--why`: private `Market::more`; `more_by`, from `excess`
 //! - the best other machine: private `best_machine`, from `Nearest::machine`
 //! - what one more machine saves: `saved_by_machine`
+//! - that no placement of the same cost comes before: `is_ladder`
+//! - what a placement with another choice costs more, `if T on M: N more`: `Case::is_legal`, `Case::cost_of`
 //!
 //! The rents of `--why` are checked as well; if they fail, `# NOT SHOWN to be least by T's rents` replaces that task's
-//! lines. No contract covers the order and the words of the lines, the commonest rent, the least and the greatest
-//! number of a crowd, and that the case and the rows behind it are of one round.
+//! lines. Where `is_ladder` doesn't take the ladder that was found, or none was, the last line is `# first: not shown
+//! here`; a choice for which no witness was found has no line of its own. No contract covers the order and the words of
+//! the lines, the commonest rent, the least and the greatest number of a crowd, the text of a ladder, and that the case
+//! and the rows behind it are of one round.
 //!
 //! # How it works
 //!
@@ -42,18 +46,32 @@
 //! before a round (`Case::of`) and the placement from those after it (`placement_of`), so the round is solved once.
 //! `choices` finds the best other machine of each task that changes or waits, in a pass over the machines for each gap
 //! between a low and a high rent.
+//!
+//! `ladder` parts the machines and waiting, by what `moves` finds to cost nothing more, until each choice that is
+//! better for a task stands lower than what the task has. Of a group in which one is left, `leaving` takes off the
+//! places that no task leaves from the first such task on; where there are none, the group is parted into those places
+//! that reach one another by choices of later tasks (`parts`).
+//!
+//! `witness` follows, for each choice of `--why`, moves that cost nothing by the task's own rents to what the task has.
 #![tactic(auto)]
 
 mod choices;
 mod cost_line;
 mod crowds;
 mod explainer;
+mod ladder;
+mod leaving;
 mod market;
+mod moves;
+mod numbers;
 mod options;
+mod order_line;
+mod parts;
 mod program;
 mod reasons;
 mod text;
 mod why;
+mod witness;
 
 use firm_program::{arguments, refuse_words};
 use firm_text::Bytes;

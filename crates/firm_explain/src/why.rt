@@ -7,6 +7,7 @@ use crate::choices::ranks_before;
 use crate::market::Market;
 use crate::reasons::{put_more, put_rents, put_sum};
 use crate::text::{put_choice, put_labelled, put_other, put_task_name};
+use crate::witness::Witnesses;
 use firm_rents::{Rents, Shown, excess, rents_for, shows_least};
 use firm_rules::{Choice, Name, legality_is_judged};
 use std::alloc::{AllocError, Global};
@@ -55,8 +56,14 @@ fn put_task_why(text: &mut Vec<u8>, market: &Market<'_>, number: usize) -> Resul
     put_task_name(text, market.rows, number)?;
     text.extend_from_slice(b"'s")?;
     put_rents(text, market.rows, &rents)?;
-    put_rivals(text, market, number, &rents)?;
-    put_shown(text, market, number, shown)
+    let rivals = rivals_of(*text.allocator(), market, number, &rents)?;
+    put_rivals(text, market, number, &rents, &rivals)?;
+    put_shown(text, market, number, shown)?;
+    let witnesses = Witnesses::of(*text.allocator(), market, number, &rents)?;
+    for rival in rivals.iter() {
+        witnesses.put(text, market, choice_of(*rival), rival.more)?;
+    }
+    Ok(())
 }
 
 // The line that closes the proof by the task's own rents.
@@ -79,9 +86,9 @@ fn put_rivals(
     market: &Market<'_>,
     number: usize,
     rents: &Rents,
+    rivals: &[Rival],
 ) -> Result<(), AllocError>
-    requires task { number < length market.now.case.now.tasks }
-    requires shown { Show market.now.case.now rents.now market.now.placement.now }
+    requires { number < length market.now.case.now.tasks }
 {
     let (choice, home) = (market.choice_of(number), market.case.home(number));
     text.extend_from_slice(b"# ")?;
@@ -92,7 +99,7 @@ fn put_rivals(
         put_labelled(text, b" + rent ", rents.of_choice(choice))?;
     }
     let mut before = None;
-    for rival in rivals_of(*text.allocator(), market, number, rents)?.iter() {
+    for rival in rivals.iter() {
         put_end_of(text, before, Some(*rival))?;
         put_other(text, market.rows, choice_of(*rival), home)?;
         before = Some(*rival);
