@@ -296,6 +296,7 @@ def comes_back() -> None:
         case.firmd.round("start a m1 start b m1 start c m1")
         for task in "abc":
             case.until_told("running", task)
+        case.until_runs("a", "b", "c")  # a process that has just begun may show no variables yet
         before = case.processes()
         case.kill_agent("a1")
         case.go("b")

@@ -21,7 +21,9 @@ from harness.deployed import SERVICE
 
 NAMES = ("a", "b", "c")
 START_SECONDS = 60
+LED_STATUS, LOST_LEASE = 4, "the lease was lost"  # of firmd where it led, and what it says then
 QUOTA = 2 << 30
+LAST_LINES, LONGEST_LINE = 30, 400  # of a log, where a check has failed
 # Where debian's openssl says nothing else, certificates have a name and the loopback's address.
 PACKAGES = {"etcd": "etcd-server", "haproxy": "haproxy", "openssl": "openssl"}
 
@@ -142,6 +144,7 @@ class Replicas:
     urls: str
     firm: str
     options: list[str] = field(default_factory=list)
+    opening: list[str] | None = None  # what they are to begin with; None: the roster
     firmd: list[str] = field(default_factory=lambda: [sys.executable, str(SERVICE / "firmd")])
     processes: dict[str, subprocess.Popen[bytes]] = field(default_factory=dict)
 
@@ -155,7 +158,8 @@ class Replicas:
             "--socket",
             str(self.socket(name)),
         ]
-        words += ["--operator", str(self.folder / f"{name}.operator"), "--roster", str(self.folder / "roster.csv")]
+        words += ["--operator", str(self.folder / f"{name}.operator")]
+        words += ["--roster", str(self.folder / "roster.csv")] if self.opening is None else self.opening
         with open(self.log(name), "ab") as log:
             process = subprocess.Popen(
                 [*words, "--etcd", self.urls, "--name", name, *self.options, *options],
@@ -200,6 +204,21 @@ class Replicas:
             if self.has_ended(name):
                 self.spawn(name)
 
+    def settle(self, *names: str) -> None:
+        """Waits until they have the same lines. One that has led and ended is started again, as systemd does: its
+        lease is lost where the members of etcd take too long to elect a leader of their own."""
+        chosen = names or NAMES
+
+        def are_equal() -> bool:
+            for name in chosen:
+                if self.has_ended(name):
+                    lost = self.processes[name].returncode == LED_STATUS and LOST_LEASE in self.said(name)
+                    require(lost, f"{name} has ended: {self.said(name)}")
+                    self.spawn(name)
+            return len({self.journal(name) for name in chosen}) == 1
+
+        until(are_equal, f"{', '.join(chosen)} have the same lines")
+
     def leader(self) -> str | None:
         tenant = (self.folder / "roster.csv").read_bytes().split(b"\n")[1].split(b",")[0]
         return next((name for name in self.processes if is_served(self.socket(name), tenant)), None)
@@ -216,7 +235,7 @@ class Replicas:
         return found[0]
 
     def follower(self) -> str:
-        leader = self.leader()
+        leader = self.leads()
         return next(name for name in self.processes if name != leader and not self.has_ended(name))
 
     def kill(self, name: str) -> None:
@@ -252,6 +271,38 @@ def is_served(path: Path, tenant: bytes) -> bool:
             return False
 
 
+def seen(members: Members, replicas: Replicas) -> str:
+    """What may say why a check has failed: who runs, how far each is, the last lines of all logs, and etcd's keys."""
+    found = [f"  load {os.getloadavg()[0]:.1f}"]
+    for name, process in replicas.processes.items():
+        status = process.poll()
+        is_there = "runs" if status is None else f"ended with {status}"
+        found.append(f"  replica {name} {is_there}, {len(replicas.journal(name)):,} bytes of lines")
+        found += last_lines(replicas.log(name))
+    for number, member in members.processes.items():
+        status = member.poll()
+        found.append(f"  member m{number} {'runs' if status is None else f'ended with {status}'}")
+        found += last_lines(members.folder / f"m{number}.log")
+    return "\n".join([*found, *keys_of(members)])
+
+
+def last_lines(log: Path) -> list[str]:
+    lines = log.read_text(errors="replace").splitlines() if log.exists() else ["(no log)"]
+    return [f"    {line[:LONGEST_LINE]}" for line in lines[-LAST_LINES:]]
+
+
+def keys_of(members: Members) -> Iterator[str]:
+    """The leader's key with its lease, and how far the replicas are, as etcd has them."""
+    if program_path("etcdctl") is None or members.scheme != "http":
+        return
+    environment = {**os.environ, "ETCDCTL_API": "3"}
+    command = ["etcdctl", "--endpoints", members.urls, "--command-timeout=5s"]
+    for words in (("endpoint", "status"), ("get", "--prefix", "/firm/leader"), ("get", "--prefix", "/firm/kept/")):
+        done = subprocess.run([*command, *words], capture_output=True, text=True, env=environment)
+        yield f"  etcdctl {' '.join(words)}:"
+        yield from (f"    {line[:LONGEST_LINE]}" for line in (done.stdout + done.stderr).splitlines())
+
+
 def memory() -> str | None:
     """A folder in memory, where there is one: what is killed here are processes, which no disk needs to outlive."""
     return "/dev/shm" if os.access("/dev/shm", os.W_OK) else None
@@ -271,6 +322,11 @@ def cluster(
         try:
             etcd.start_all()
             yield etcd, replicas
+        except Skipped:
+            raise
+        except Exception:
+            print(seen(etcd, replicas), flush=True)
+            raise
         finally:
             replicas.stop()
             etcd.stop()

@@ -247,7 +247,7 @@ def refusals(setup: Options) -> None:
         state = done(found.here, "hold", move)["state"]
         refused(found.here, "tenant-exists", "take", other, state=state)
         refused(found.there, "bad-state", "take", move, "delta", state=state)
-        refused(found.there, "bad-state", "take", move, state="firm state 1\nrows 0\n")
+        refused(found.there, "bad-state", "take", move, state="firm state 1\nplace admissions 1\nrows 1\n")
         refused(found.there, "failed", "take", move, state=state.replace("\nrows ", "\nrow ", 1))
         require(done(found.there, "taken", other) == {"taken": False}, "not taken")
         refused(found.there, "refused", "take", other, state=state)

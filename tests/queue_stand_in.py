@@ -142,7 +142,7 @@ class QueueStandIn:
                 return {"error": "machine-taken", "text": f"the agent {other} has the machine {taken[0]}"}
         for machine, slots in request["machines"].items():
             if machine not in self.firmd.books.tenants["alpha"].machines:
-                self.firmd._reply(f"alpha machine {machine} {slots}", "ok")
+                self.firmd.say(f"machine {machine} {slots}")
         self.agents[name] = Registered(request["id"], request["machines"], clock(), writer)
         ends = []
         for run in request["runs"]:
@@ -173,6 +173,6 @@ class QueueStandIn:
             attempt.events.append(event)
             attempt.is_open = event["event"] == "running"
             if event["event"] == "ended" and (not event["asked"] or event["why"] == "timeout"):
-                self.firmd._reply(f"alpha done {attempt.task}", "ok")
+                self.firmd.say(f"done {attempt.task}")
                 self.work.pop(attempt.task, None)
         return {"told": len(events)}

@@ -98,7 +98,7 @@ def pair(setup: Options, *options: str) -> Iterator[Pair]:
     tenants = {name: Tenant(name, draw.randrange(10**6)) for name in ("alpha", "beta", "gamma")}
     if not program_of("firm_state").exists():
         raise Skipped("firm_state is not built, which writes states")
-    with etcd_kit.cluster(setup.program, b"") as (_, replicas):
+    with etcd_kit.cluster(setup.program, b"") as (members, replicas):
         shards = []
         for name, there in (("one", ("alpha", "beta")), ("two", ("gamma",))):
             words = ["--etcd-prefix", f"/{name}", "--snapshot-lines", str(LINES), *options]
@@ -114,6 +114,10 @@ def pair(setup: Options, *options: str) -> Iterator[Pair]:
                 for name in NAMES:
                     said = shard.replicas.said(name)
                     require("Traceback" not in said and "are others than" not in said, f"{shard.name} {name}: {said}")
+        except Exception:
+            for shard in shards:
+                print(f"  shard {shard.name}\n{etcd_kit.seen(members, shard.replicas)}", flush=True)
+            raise
         finally:
             for shard in shards:
                 shard.replicas.stop()
@@ -278,7 +282,8 @@ def at_the_commit(setup: Options) -> None:
 
 
 def with_a_plain_one(setup: Options) -> None:
-    """A tenant moves from a firmd that is alone to a shard of replicas and back."""
+    """A tenant moves from a firmd that is alone to a shard of replicas and back. What goes on from a tenant that joined
+    it alone can't begin as a replica, and says how else."""
     with pair(setup) as found, setup.daemon(roster=roster_of([Tenant("delta", 0)])) as alone:
         alone.start()
         shard, found.there = cast(Shard, found.there), alone
@@ -292,6 +297,9 @@ def with_a_plain_one(setup: Options) -> None:
         found.there = cast(Shard, found.home)
         found.speak_all()
         found.judge()
+        alone.stop()
+        alone.options += ["--etcd", shard.replicas.urls, "--name", "plain", "--etcd-prefix", "/plain"]
+        alone.refuses(4, "a tenant has joined", "begin them with its state, by `firm-journal state` and --restore")
 
 
 def late(setup: Options) -> None:
@@ -303,9 +311,9 @@ def late(setup: Options) -> None:
         shard = cast(Shard, found.here)
         for name in ("alpha", "gamma"):
             found.speak(name, 400)
-        require(shard.replicas.leader() is not None, "one leads")
         replicas, follower = shard.replicas, shard.replicas.follower()
-        until(lambda: replicas.said(follower).count("follows: ") == 2, "the follower has begun anew")
+        # Again, where it was late once more: etcd keeps no lines here for one that has not told its name yet.
+        until(lambda: replicas.said(follower).count("follows: ") >= 2, "the follower has begun anew")
         replicas.processes[follower].terminate()
         require(replicas.processes[follower].wait(20) == 0, "a follower stops")
         replicas.spawn("c")

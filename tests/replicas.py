@@ -19,7 +19,8 @@ import sys
 import tempfile
 import threading
 import time
-from collections.abc import Callable, Iterator
+from collections import Counter, deque
+from collections.abc import Callable, Iterator, Sequence
 from contextlib import contextmanager, suppress
 from dataclasses import dataclass
 from functools import partial
@@ -27,6 +28,7 @@ from pathlib import Path
 
 import replica_chaos
 import replica_rules
+import replica_states
 from etcd_kit import (
     NAMES,
     Authority,
@@ -40,10 +42,15 @@ from etcd_kit import (
 )
 from front_kit import missing_of, samples_of
 from firmd_kit import Client, Gone, stand_in
+from slurm_kit import slowness
 from harness.checks import Check, Skipped, Suite, print_skipped, require, run_script, run_suites
 from harness.guard import guard
-from harness.program import ROOT, Roster, add_program, run
+from harness.program import ROOT, Roster, add_program, run_words
 from firm_service.programs import program_of
+from firm_service.replicated.entries import Keys
+from firm_service.replicated.etcd import Access, Etcd, Member, after
+from firm_service.replicated.offers import offer_of
+from firm_service.states import Opening, fold
 from replica_chaos import KILLED, KINDS, ROSTER, STOPPED, Chaos, latencies
 
 CHECKS_AT_A_TIME = 3
@@ -102,8 +109,18 @@ def fill(replicas: Replicas, count: int) -> None:
     ask(replicas, *[b"t0 where nobody-%d" % number for number in range(count)])
 
 
-def are_equal(replicas: Replicas, *names: str) -> bool:
-    return len({replicas.journal(name) for name in names or NAMES}) == 1
+def insist(replicas: Replicas, lines: Sequence[bytes]) -> Counter[bytes]:
+    """Has the replica that leads take each line, and again where its answer was lost; how often each was sent."""
+    left, sent = deque(lines), Counter[bytes]()
+    while left:
+        replicas.revive()
+        with suppress(Gone, TimeoutError), Client(replicas.socket(replicas.leads())) as client:
+            while left:
+                sent[left[0]] += 1
+                reply = client.ask(left[0])
+                require(reply.startswith(b"t0 "), reply)
+                left.popleft()
+    return sent
 
 
 # What is lost.
@@ -142,6 +159,7 @@ def silence(setup: Setup) -> None:
             print(f"  {what}: silent for {', '.join(f'{seconds:.2f}' for seconds in found)} s")
             # One of them may have met a host that was busy with something else.
             require(found and found[(len(found) - 1) // 2] <= most, f"{what}: {found}")
+            require(found[-1] <= most * slowness(), f"{what}, on a host {slowness():.1f} times too busy: {found}")
         require(not verdict.lost and not verdict.twice, verdict)
 
 
@@ -241,7 +259,7 @@ def late_replica(setup: Setup) -> None:
     with setup.cluster("--etcd-retain", "0") as (_, replicas):
         replicas.start("a", "b")
         fill(replicas, 600)
-        until(lambda: are_equal(replicas, "a", "b"), "both have the lines")
+        replicas.settle("a", "b")
         time.sleep(2.5)  # until the leader has removed them from etcd
         ask(replicas, b"t0 show")
         replicas.refuses("c", 5, "late: bytes 0 to", "copy the state's folder of another replica")
@@ -254,7 +272,7 @@ def late_replica(setup: Setup) -> None:
         )
         replicas.log("c").unlink()
         replicas.start("c", follower)
-        until(lambda: are_equal(replicas), "all have the lines")
+        replicas.settle()
         replicas.kill("a")
         replicas.kill("b")
         (reply,) = ask(replicas, b"t0 show")
@@ -322,16 +340,13 @@ def snapshots(setup: Setup) -> None:
         for name in ("c", follower):
             until(partial(goes_on_from_snapshot, replicas, name), f"{name} goes on from a snapshot")
         replies += work(replicas, 1_000, 300)
-        until(lambda: are_equal(replicas), "all have the lines")
+        replicas.settle()
         for name in [name for name in NAMES if name != "c"]:
             replicas.kill(name)
         until(lambda: replicas.leader() == "c", "the late one leads alone")
         replies += work(replicas, 2_000, 50)
         with Roster(ROSTER) as path:
-            alone = run([replicas.firm], path, replicas.journal("c")).output.splitlines()
-        others = [reply for reply in alone if b" ok machines " not in reply]  # asked to know who leads
-        wanted = [reply for reply in replies if b" ok machines " not in reply]
-        require(others == wanted, [pair for pair in zip(others, wanted) if pair[0] != pair[1]][:3])
+            require_alone([replicas.firm, "--roster", path], replicas.journal("c"), replies)
         firm, replicas.firm = replicas.firm, stand_in(
             replicas.folder, OTHER_FIRM.format(python=sys.executable, firm=replicas.firm)
         )
@@ -370,11 +385,104 @@ def sleeping_leader(setup: Setup) -> None:
         require(b"machines 0" in before[0] and b"machines 0" in ask(replicas, b"t0 show")[0], before)
 
 
-def from_one_host(setup: Setup) -> None:
-    """A firmd that was alone goes on with replicas, which begin from copies of its state."""
+def state_at(path: Path, count: int) -> Path:
+    """A file with the state of a service of this number of tasks."""
+    lines = [b"t0 machine y 2", b"t0 job y 10", *[b"t0 task y y%d" % number for number in range(count)], b"t0 round"]
+    with Roster(ROSTER) as roster:
+        path.write_bytes(fold(Opening(Path(roster)), [b"".join(line + b"\n" for line in lines)]))
+    return path
+
+
+def restored(setup: Setup) -> None:
+    """Replicas begin with the state of another service, which all but the first take from etcd, late ones too. They
+    reply as firm alone does that goes on from it; another state, and a roster, is refused."""
+    require_state_program()
     with setup.cluster() as (_, replicas):
+        taken, other = [state_at(replicas.folder / name, count) for name, count in (("taken", 5), ("other", 6))]
+        replicas.opening = ["--restore", str(taken)]
+        replicas.start("a")
+        replicas.opening = []
+        replicas.start("b")
+        kept = replicas.folder / "b" / "restored"
+        require(kept.read_bytes() == taken.read_bytes() and kept.stat().st_mode & 0o777 == 0o600, "what b has kept")
+        refuses_others(replicas, other)
+        replies = work(replicas, 0, 100)
+        replicas.kill(replicas.leads())
+        replies += work(replicas, 1_000, 100)
+        replicas.revive()
+        replicas.settle("a", "b")
+        replicas.stop()
+        replicas.options = ["--snapshot-lines", str(SNAPSHOT_LINES), "--etcd-retain", "0"]
+        replicas.start("a", "b")
+        replies += work(replicas, 2_000, 200)
+        until(partial(lacks_lines, replicas), "a late replica needs the snapshot in etcd")
+        replicas.start("c")
+        require("begins anew from the snapshot in etcd" in replicas.said("c"), replicas.said("c"))
+        for name in "ab":
+            replicas.kill(name)
+        until(lambda: replicas.leader() == "c", "the late one leads alone")
+        replies += work(replicas, 3_000, 50)
+        replicas.revive()
+        until(lambda: replicas.journal("a").endswith(replicas.journal("c")), "the others have its lines")
+        require_alone([replicas.firm, "--state", str(taken)], replicas.journal("a"), replies)
+
+
+def refuses_others(replicas: Replicas, other: Path) -> None:
+    """Asks that what replicas began with is known from anything else."""
+    state, roster = ["--restore", str(other)], ["--roster", str(replicas.folder / "roster.csv")]
+    broken = other.with_name("broken")
+    broken.write_bytes(other.read_bytes().replace(b" at ", b" on "))
+    for opening, changed in ((state, "changed-state"), (roster, "changed-roster")):
+        replicas.opening = opening
+        replicas.refuses("c", 3, changed, "is not the state that the other replicas began with")
+    elsewhere = Replicas(replicas.folder, replicas.urls, replicas.firm, ["--etcd-prefix", "/other"])
+    elsewhere.opening = ["--restore", str(broken)]
+    elsewhere.refuses("c", 3, "state fault 4 number in line ")
+    elsewhere.opening = None
+    elsewhere.start("c")
+    elsewhere.stop()
+    elsewhere.opening = state
+    elsewhere.refuses("c", 3, "changed-state", "is not the roster that the other replicas began with")
+    replicas.opening = []
+    replicas.refuses("c", 3, "changed-roster", "is not the state that etcd has")
+    shutil.rmtree(replicas.folder / "c")
+    replicas.log("c").unlink()
+    del replicas.processes["c"]  # it is not revived with the others
+
+
+def lacks_lines(replicas: Replicas) -> bool:
+    """Whether etcd has a snapshot in the place of the first lines."""
+    keys, etcd = Keys("/firm"), Etcd(Access(tuple(map(Member.read, replicas.urls.split(",")))))
+    try:
+        first = etcd.range(keys.lines, after(keys.lines), limit=1).found
+        return offer_of(etcd, keys) is not None and keys.offset(first[0].key) > 0
+    finally:
+        etcd.close()
+
+
+def require_alone(command: list[str], journal: bytes, replies: list[bytes]) -> None:
+    """Asks that replies are those of firm alone to the whole journal."""
+    alone = run_words(command, journal).output.splitlines()
+    others = [reply for reply in alone if b" ok machines " not in reply]  # asked to know who leads
+    wanted = [reply for reply in replies if b" ok machines " not in reply]
+    require(others == wanted, [pair for pair in zip(others, wanted) if pair[0] != pair[1]][:3])
+
+
+def from_one_host(setup: Setup) -> None:
+    """A firmd that was alone goes on with replicas, which begin from copies of its state, whatever it began with."""
+    go_on_from_one(setup, "--roster")
+    require_state_program()
+    go_on_from_one(setup, "--restore")
+
+
+def go_on_from_one(setup: Setup, begins: str) -> None:
+    with setup.cluster() as (_, replicas):
+        before = 8 if begins == "--restore" else 0  # commands
+        if before:
+            replicas.opening = [begins, str(state_at(replicas.folder / "taken", before - 3))]
+        opening = replicas.opening or [begins, str(replicas.folder / "roster.csv")]
         words = [*replicas.firmd, "--firm", setup.program, "--state", str(replicas.folder / "a")]
-        words += ["--socket", str(replicas.socket("a")), "--roster", str(replicas.folder / "roster.csv")]
+        words += ["--socket", str(replicas.socket("a")), *opening]
         with subprocess.Popen(words, stderr=subprocess.DEVNULL) as alone:
             until(replicas.socket("a").exists, "it serves")
             with Client(replicas.socket("a")) as client:
@@ -388,8 +496,9 @@ def from_one_host(setup: Setup) -> None:
         until(lambda: replicas.leader() == "a", "it leads")
         replicas.start("b", "c")
         (reply,) = ask(replicas, b"t0 show")
-        require(replies[-1] == b"t0 20 ok" and b"ok machines 20" in reply, reply)
-        until(lambda: are_equal(replicas), "all have the lines")
+        machines = 21 if before else 20
+        require(replies[-1] == b"t0 %d ok" % (before + 20) and b"ok machines %d " % machines in reply, reply)
+        replicas.settle()
         replicas.kill("a")
         done = subprocess.run(words, stderr=subprocess.PIPE, text=True)
         require(done.returncode == 4 and "is a replica's: name --etcd" in done.stderr, done)
@@ -402,7 +511,7 @@ def histories(setup: Setup) -> None:
     with setup.cluster() as (members, replicas):
         replicas.start("a", "b")
         fill(replicas, 5)
-        until(lambda: are_equal(replicas, "a", "b"), "both have the lines")
+        replicas.settle("a", "b")
         (replicas.folder / "roster.csv").write_bytes(ROSTER.replace(b",500", b",400"))
         replicas.refuses("c", 3, "changed-roster")
         (replicas.folder / "roster.csv").write_bytes(ROSTER)
@@ -419,7 +528,7 @@ def histories(setup: Setup) -> None:
         replicas.spawn("a", "--etcd-begin")
         fill(replicas, 3)
         replicas.start("b")
-        until(lambda: are_equal(replicas, "a", "b"), "both have the lines")
+        replicas.settle("a", "b")
         require(replicas.journal("a").count(b"nobody") == 8, replicas.journal("a"))
 
 
@@ -471,7 +580,7 @@ def certificates(setup: Setup) -> None:
             replicas.kill(replicas.leads())
             fill(replicas, 100)
             replicas.revive()
-            until(lambda: are_equal(replicas, "a", "b"), "both have the lines")
+            replicas.settle("a", "b")
         finally:
             replicas.stop()
             members.stop()
@@ -548,30 +657,37 @@ def wiped_member(setup: Setup) -> None:
     require_programs("etcdctl")
     with setup.cluster() as (members, replicas):
         replicas.start("a", "b")
-        fill(replicas, 100)
+        parts = [[b"t0 where nobody-%d-%d" % (part, number) for number in range(100)] for part in range(3)]
+        sent = insist(replicas, parts[0])
         members.kill(1)
         shutil.rmtree(members.folder / "m1")
         members.start(1)
         require(members.processes[1].wait(60) != 0, "etcd takes a member that has lost its disk")
-        fill(replicas, 100)
-        environment = {**os.environ, "ETCDCTL_API": "3"}
-
-        def etcdctl(*words: str) -> str:
-            """What it prints; nothing where it fails, as while etcd is not sure that its other members are well."""
-            command = ["etcdctl", "--endpoints", members.url(0), "--command-timeout=30s", *words]
-            done = subprocess.run(command, capture_output=True, text=True, env=environment)
-            return done.stdout if done.returncode == 0 else ""
-
-        (lost,) = [line.split(",")[0] for line in etcdctl("member", "list").splitlines() if " m1," in line]
-        until(lambda: "removed" in etcdctl("member", "remove", lost), "the lost member is removed")
-        until(lambda: "added" in etcdctl("member", "add", "m1", f"--peer-urls={members.peers[1]}"), "another is added")
-        members.start(1, "--initial-cluster-state", "existing")
-        until(lambda: etcdctl("member", "list").count("started") == 3, "three members")
+        sent += insist(replicas, parts[1])
+        replace_member(members)
         members.kill(0)
-        replicas.revive()
-        fill(replicas, 100)
-        until(lambda: are_equal(replicas, "a", "b"), "both have the lines")
-        require(replicas.journal("a").count(b"nobody") == 300, "lines are lost")
+        sent += insist(replicas, parts[2])
+        replicas.settle("a", "b")
+        there = Counter(replicas.journal("a").splitlines())
+        require(sum(sent.values()) >= 300, sent)
+        require(all(1 <= there[line] <= count for line, count in sent.items()), "lines are lost, or twice")
+
+
+def replace_member(members: Members) -> None:
+    """Has an empty member take the place of the second one, as an operator does."""
+    environment = {**os.environ, "ETCDCTL_API": "3"}
+
+    def etcdctl(*words: str) -> str:
+        """What it prints; nothing where it fails, as while etcd is not sure that its other members are well."""
+        command = ["etcdctl", "--endpoints", members.url(0), "--command-timeout=30s", *words]
+        done = subprocess.run(command, capture_output=True, text=True, env=environment)
+        return done.stdout if done.returncode == 0 else ""
+
+    (lost,) = [line.split(",")[0] for line in etcdctl("member", "list").splitlines() if " m1," in line]
+    until(lambda: "removed" in etcdctl("member", "remove", lost), "the lost member is removed")
+    until(lambda: "added" in etcdctl("member", "add", "m1", f"--peer-urls={members.peers[1]}"), "another is added")
+    members.start(1, "--initial-cluster-state", "existing")
+    until(lambda: etcdctl("member", "list").count("started") == 3, "three members")
 
 
 def unreachable(setup: Setup) -> None:
@@ -592,8 +708,9 @@ def unreachable(setup: Setup) -> None:
         fill(replicas, 3)
 
 
+RULES = [*replica_rules.RULES, *replica_states.RULES]
 CHECKS: list[Callable[[Setup], None]] = [chaos, control, cut_connections, dropped_packets]
-CHECKS += [late_replica, snapshots, other_firm, sleeping_leader, from_one_host, histories, one_name]
+CHECKS += [late_replica, snapshots, restored, other_firm, sleeping_leader, from_one_host, histories, one_name]
 CHECKS += [certificates, full_etcd, half_full, wiped_member, unreachable]
 
 
@@ -607,7 +724,7 @@ def main() -> int:
     options = parser.parse_args()
     guard()
     setup = Setup(options.program, options.seconds, options.seed)
-    alone: dict[str, Check] = {f"rules, {name_of(rule)}": rule for rule in replica_rules.RULES}
+    alone: dict[str, Check] = {f"rules, {name_of(rule)}": rule for rule in RULES}
     beside: dict[str, Check] = {}
     if not options.quick:
         alone[name_of(silence)] = partial(silence, setup)

@@ -2,9 +2,10 @@
 
 usage: tools/run tests/slurm_bridge.py [--program FILE] [--only WORDS] [--chaos RUNS] [--seed N]
 It needs root, the built program, and Debian's packages slurmctld, slurmd, slurm-client, slurm-wlm-basic-plugins and
-munge; where they are missing its checks are skipped. Each check has a line; the last line is 'N passed, M failed', and
-the exit status is 1 where one failed. --chaos also has so many runs of random events, with seeds from N on.
-KEEP_LOGS names a folder for the logs of all daemons.
+munge; where they are missing its checks are skipped, and the one of accounts also without slurmdbd, mariadb-server and
+slurm-wlm-mysql-plugin. Each check has a line; the last line is 'N passed, M failed', and the exit status is 1 where one
+failed. --chaos adds RUNS runs of random events, with seeds from N on. KEEP_LOGS names a folder for the logs of
+all daemons.
 """
 
 from __future__ import annotations
@@ -27,16 +28,18 @@ from harness import program, sessions
 from harness.checks import Check, Suite, require, run_script, run_suites
 from harness.deployed import SERVICE
 from harness.guard import guard
+from slurmdbd_kit import OTHERS, Slurmdbd
 from slurm_kit import BRIDGE, Cluster, Judge, Site, free_ports, require_packages, site, slowness, wait
 
 EQUAL_SECONDS, START_SECONDS = 2.0, 5.0  # in which squeue has what firm decided, and 160 jobs run, on an idle host
 RETRY_SECONDS = 2.0  # at most, until firmd is found again
 STUCK_SECONDS = 60.0  # until a job that can't start is put off
-AT_A_TIME = 3  # checks
+AT_A_TIME = 4  # checks
 USER = "nobody"
 PAGE = program.ROOT / "docs" / "CLUSTER.md"
 MOVING = "4096,65536,1099511627776,10,5,0"  # a third task on a machine costs more than a move
 DOWN_SECONDS = 120.0  # for Slurm to give a node up
+PAGE_SECONDS = 900.0  # from the first command of the page to the end of a job, once the packages are there
 
 
 def tell(text: str) -> None:
@@ -353,10 +356,55 @@ def several(firm: str) -> None:
         wait(lambda: not place.cluster.squeue(), "the end of all jobs")
 
 
+def accounts(firm: str) -> None:
+    """Over slurmdbd a job weighs what the table says of its QOS, or its account; its user has his own alone."""
+    with site(firm, 1, 2, accounts=Slurmdbd(), partition_options='weigh = "qos"') as place:
+        script = place.folder / "job"
+        script.write_text("#!/bin/sh\n")
+        for words, said in ((["--qos", OTHERS], "Invalid qos"), (["-A", OTHERS], "Invalid account")):
+            done = place.cluster.try_run("sbatch", *words, str(script), user=USER)
+            require(done.returncode != 0 and said in done.stderr, f"{words}: {done}")
+        require("may name any" not in place.tool("check"), "slurmdbd says which accounts are a user's")
+        waiting = preempts(place, {"normal": 10, "heavy": 200_000}, "light", "--qos=heavy")
+        place.cluster.run("scontrol", "update", f"JobId={waiting}", "QOS=heavy", user=USER)
+        wait(lambda: groups_of(place).get(waiting) == "heavy", "a waiting job of another QOS")
+        wait(place.is_empty, "the end of all jobs")
+        place.kill_bridge(number=signal.SIGTERM)
+        place.partition_options = ""
+        place.write_table()
+        preempts(place, {"light": 10, "heavy": 200_000}, "heavy")
+        wait(place.is_empty, "the end of all jobs")
+        judge(place, 8, 2)
+        wanted = Counter({"COMPLETED|light|normal": 5, "COMPLETED|light|heavy": 2, "COMPLETED|heavy|normal": 1})
+        ask = partial(place.cluster.run, "sacct", "-n", "-X", "-P", "-a", "-S", "now-1hours", "-o", "State,Account,QOS")
+        wait(lambda: Counter(ask().split()) == wanted, "all jobs in slurmdbd")
+
+
+def preempts(place: Site, weights: dict[str, int], account: str, *words: str) -> str:
+    """Has a heavy job preempt one of two light ones; the number of a further light one, that waits."""
+    before = place.count_said("preempt")
+    place.start_bridge()
+    wait(lambda: place.rows()["machines"], "a machine")
+    place.submit(2, 8, "light", user=USER)
+    wait(lambda: count_running(place) == 2, "two light jobs")
+    waiting = place.submit(1, 2, "light", user=USER)
+    wait(lambda: is_in_firm(place, waiting), "one that waits")
+    place.submit(1, 8, account, *words, user=USER)
+    wait(lambda: place.count_said("preempt") > before, "a preemption")
+    settle(place, f"a heavy job by {' '.join(words) or account} preempts a light one")
+    wait(lambda: {row["job"]: row["weight"] for row in place.rows()["jobs"]} == weights, f"the weights {weights}")
+    return waiting
+
+
+def groups_of(place: Site) -> dict[str, str]:
+    return {row["task"]: row["job"] for row in place.rows()["tasks"]}
+
+
 def shown(firm: str) -> None:
     """`status` tells what differs and since when, `check` what to write, /metrics the same as numbers."""
     with site(firm, 1, 2) as place:
-        require("nothing is to be changed" in place.tool("check"), "an advice for a good slurm.conf")
+        looked = place.tool("check")
+        require("nothing is to be changed" in looked and "a user may name any account" in looked, f"check: {looked}")
         place.start_bridge()
         job = place.submit(1, 60, "light")
         wait(lambda: count_running(place) == 1, "a job that runs")
@@ -367,11 +415,16 @@ def shown(firm: str) -> None:
         told = place.tool("status").split()
         require(told[-5:-1] == ["firm", job, "node1", "ended"], f"status: {told}")
         metrics(place)
+        place.partition_options = 'weigh = "qos"'
+        place.write_table()
         conf = place.cluster.conf
-        text = conf.read_text().replace("default_queue_depth=10000,", "").replace("=lua", "=")
+        text = conf.read_text().replace("=lua", "=")
+        for good, bad in (("default_queue_depth=10000,", ""), ("batch_sched_delay=0,", ""), ("50000", "2000000")):
+            text = text.replace(good, bad)
         (place.folder / "slurm.conf").write_text(text.replace("NodeName=node[1-1]", "NodeName=Node_[1-1]"))
         done = place.try_tool("check", "--conf", str(place.folder / "slurm.conf"))
-        for advice in ("default_queue_depth=10000", "JobSubmitPlugins=lua", "firm-slurm hook", "node Node_1"):
+        names = ["default_queue_depth=10000", "batch_sched_delay=0", "sched_min_interval=50000"]
+        for advice in [*names, "no job has a QOS", "JobSubmitPlugins=lua", "firm-slurm hook", "node Node_1"]:
             require(done.returncode == 1 and advice in done.stdout, f"{advice}: {done}")
 
 
@@ -501,10 +554,14 @@ def page(firm: str) -> None:
         (folder / "slurm.toml").write_text(table)
         (folder / "job.sh").write_text(f"#!/bin/sh\n#SBATCH -o /dev/null\necho done >> {folder}/ledger\n")
         served: list[subprocess.Popen[bytes]] = []
+        began = time.monotonic()
         try:
             for line in typed.splitlines():
                 follow(line, folder, cluster, served, firm)
             wait(lambda: (folder / "ledger").exists(), "the first job")
+            seconds = time.monotonic() - began
+            tell(f"the page's first job has run {seconds:.0f} s after the first command")
+            require(seconds <= PAGE_SECONDS, f"the first job has run only after {seconds:.0f} s")
             wait(lambda: (folder / "ledger").read_text().count("done") == 100, "all 100 jobs", 180)
         finally:
             for process in served:
@@ -535,9 +592,10 @@ CHECKS: dict[str, Callable[[str], None]] = {
     "decided": decided,
     "moved": moved,
     "put off": put_off,
+    "accounts": accounts,
+    "orders": orders,
     "taken over": taken_over,
     "holds": holds,
-    "orders": orders,
     "rivals": rivals,
     "several": several,
     "shown": shown,

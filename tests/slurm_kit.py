@@ -19,7 +19,7 @@ from contextlib import ExitStack, contextmanager, suppress
 from dataclasses import dataclass, field
 from datetime import datetime
 from pathlib import Path
-from typing import Any, NamedTuple
+from typing import Any, NamedTuple, Protocol
 
 from firmd_kit import JOURNAL_TOOL, Daemon
 from harness.checks import Missed, Skipped, require
@@ -63,7 +63,7 @@ SlurmdParameters=config_overrides
 JobSubmitPlugins=lua
 JobCompType=jobcomp/filetxt
 JobCompLoc={folder}/log/jobcomp
-AccountingStorageType=accounting_storage/none
+{accounting}
 JobAcctGatherType=jobacct_gather/none
 MinJobAge=300
 MaxJobCount=100000
@@ -74,6 +74,7 @@ SlurmdTimeout=15
 NodeName=node[1-{nodes}] NodeAddr=127.0.0.1 Port=[{first}-{last}] CPUs={cpus} RealMemory=1000
 {partitions}
 """
+NO_ACCOUNTS = "AccountingStorageType=accounting_storage/none"
 SCRIPT = """\
 #!/bin/bash
 say() {{ echo "$1 ${{SLURM_ARRAY_JOB_ID:-$SLURM_JOB_ID}} ${{SLURM_ARRAY_TASK_ID}} $SLURMD_NODENAME" >> {ledger}; }}
@@ -118,6 +119,19 @@ def free_ports(count: int) -> int:
     raise Missed("no ports are free")
 
 
+class Accounts(Protocol):
+    """Where Slurm has accounts, users and QOS."""
+
+    def conf(self, folder: Path) -> str:
+        ...
+
+    def start(self, cluster: Cluster) -> None:
+        ...
+
+    def stop(self, cluster: Cluster) -> None:
+        ...
+
+
 @dataclass
 class Cluster:
     """munged, slurmctld and a slurmd for each node, on ports of loopback, below a folder."""
@@ -126,6 +140,7 @@ class Cluster:
     nodes: int
     cpus: int
     partitions: str = "PartitionName=firm Nodes=ALL Default=YES MaxTime=INFINITE State=UP"
+    accounts: Accounts | None = None
 
     def __post_init__(self) -> None:
         names = [f"node{node}" for node in range(1, self.nodes + 1)]
@@ -144,6 +159,7 @@ class Cluster:
                 folder=self.folder,
                 nodes=self.nodes,
                 cpus=self.cpus,
+                accounting=self.accounts.conf(self.folder) if self.accounts else NO_ACCOUNTS,
                 first=port + 1,
                 last=port + self.nodes,
                 partitions=self.partitions,
@@ -180,6 +196,8 @@ class Cluster:
         files = [f"--{name}={there}/{file}" for name, file in (("key-file", "key"), ("socket", "socket"))]
         files += [f"--{name}-file={there}/{name}" for name in ("pid", "log", "seed")]
         self.run("munged", "--force", *files)
+        if self.accounts is not None:
+            self.accounts.start(self)
         self.start_controller("-c")
         for node in range(1, self.nodes + 1):
             self.start_node(f"node{node}")
@@ -233,6 +251,8 @@ class Cluster:
             for victim in self.processes_of(f"node{node}"):
                 with suppress(ProcessLookupError):
                     os.kill(victim, signal.SIGKILL)
+        if self.accounts is not None:
+            self.accounts.stop(self)
         with suppress(FileNotFoundError, ProcessLookupError):
             munged, number = int((self.folder / "munge/pid").read_text()), int(signal.SIGTERM)
             for _ in range(500):  # until it has removed what its folder has of it
@@ -388,11 +408,11 @@ class Site:
 def site(firm: str, nodes: int, cpus: int, **words: Any) -> Iterator[Site]:
     """A site that runs, without a bridge."""
     require_packages()
-    partitions = words.pop("partitions", None)
+    of_cluster = {name: words.pop(name) for name in ("partitions", "accounts") if name in words}
     with tempfile.TemporaryDirectory(prefix="firm-slurm-") as name:
         folder = Path(name)
         folder.chmod(0o755)
-        cluster = Cluster(folder / "slurm", nodes, cpus, **({} if partitions is None else {"partitions": partitions}))
+        cluster = Cluster(folder / "slurm", nodes, cpus, **of_cluster)
         found = Site(folder, firm, cluster, **words)
         found.ledger.touch()
         found.ledger.chmod(0o666)
@@ -411,7 +431,7 @@ def keep(folder: Path) -> None:
     """Copies the logs to where they are wanted."""
     kept = os.environ.get("KEEP_LOGS")
     if kept is not None:
-        ignored = shutil.ignore_patterns("socket*", "any", "view", "moves", "operator", "spool")
+        ignored = shutil.ignore_patterns("socket*", "any", "view", "moves", "operator", "spool", "database")
         shutil.copytree(folder, Path(kept) / folder.name, ignore=ignored)
 
 

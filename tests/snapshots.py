@@ -112,14 +112,14 @@ def files_of_killed(setup: Options) -> None:
     with tempfile.TemporaryDirectory(prefix="firm-") as name:
         words = [sys.executable, "-c", KILLED]
         done = subprocess.run(words, capture_output=True, text=True, env={**os.environ, "TMPDIR": name})
-        require((done.returncode, done.stdout) == (-9, "firm state 1\nrows 0\n\n"), done)
+        require((done.returncode, done.stdout) == (-9, "firm state 1\nplace admissions 1\nrows 1\n\n"), done)
         require(not os.listdir(name), os.listdir(name))
 
 
 KILLED = """\
 import os, subprocess, sys
 from firm_service import states
-with states.state_file(b"firm state 1\\nrows 0\\n") as opening:
+with states.state_file(b"firm state 1\\nplace admissions 1\\nrows 1\\n") as opening:
     print(subprocess.run(["cat", opening.path], capture_output=True, text=True).stdout, flush=True)
     os.kill(os.getpid(), 9)
 """

@@ -12,7 +12,8 @@ import fcntl
 import os
 import re
 import subprocess
-from collections.abc import Sequence
+from collections.abc import Callable, Sequence
+from dataclasses import dataclass
 from pathlib import Path
 from typing import IO
 from zlib import crc32
@@ -22,7 +23,7 @@ from .files import PRIVATE, make_folder, replace_synced, sync_folder, write_sync
 from .joined import Joined, require_same
 from .joined import read as read_joined
 from .records import BEGINNING, Base
-from .states import MOST_BYTES, Opening
+from .states import MOST_BYTES, Opening, digest
 
 ROSTER, LOCK, JOURNAL, VIEW, ID = "roster.csv", "lock", "journal", "view", "id"
 RESTORED, SNAPSHOTS = "restored", "snapshots"
@@ -30,6 +31,19 @@ REPLICA = "replica"  # is there where the lines stand in etcd too
 OLD_JOURNAL, NEW_JOURNAL = "journal.old", "journal.new"  # the one that was rewritten, and the one that is written
 ROSTER_SECONDS = 60  # in which firm must have judged a roster
 OLD_ID_BYTES, ID_BYTES = 8, 10  # an older firmd kept the id before its journal, this one once the journal is there
+
+
+@dataclass(frozen=True, slots=True)
+class Beginning:
+    """What other replicas began with, which a new state takes."""
+
+    is_state: bool
+    digest: str  # of its text
+    text: Callable[[], bytes]
+
+    def is_text(self, opening: Opening) -> bool:
+        """Whether a file has the same."""
+        return opening.is_state == self.is_state and digest(read(opening)) == self.digest
 
 
 class StateFolder:
@@ -102,12 +116,12 @@ class State(StateFolder):
         self.id_to_take: str | None = None  # by a new state, where other replicas have it already
         super().__init__(folder)
 
-    def begin(self, given: Opening | None, firm: Sequence[str], agreed: bytes | None = None) -> bytes:
+    def begin(self, given: Opening | None, firm: Sequence[str], common: Beginning | None = None) -> bytes:
         """What the state goes on from. The first that firm accepts is kept; another is refused from then on.
 
-        Other replicas may have agreed on a roster, which a new state takes.
+        Other replicas may have begun before, with what a new state takes then.
         """
-        text = self._choose(given, firm) if agreed is None else self._take(agreed, given, firm)
+        text = self._choose(given, firm) if common is None else self._take(common, given, firm)
         if self.joined is not None:
             return self.read_opening()
         self.roster_sum = crc32(text)
@@ -134,7 +148,7 @@ class State(StateFolder):
         if kept is None:
             self._keep(text, given, firm)
         elif kept != text:
-            what = "state" if given.is_state else "roster"
+            what = kind_of(given.is_state)
             raise Fault(
                 Exit.ROSTER,
                 f"changed-{what}: {given.path} is not the {what} that the state began with, {self.first.path};"
@@ -142,13 +156,14 @@ class State(StateFolder):
             )
         return text
 
-    def _take(self, agreed: bytes, given: Opening | None, firm: Sequence[str]) -> bytes:
+    def _take(self, common: Beginning, given: Opening | None, firm: Sequence[str]) -> bytes:
+        if given is not None and not common.is_text(given):
+            what = f"is not the {kind_of(common.is_state)} that the other replicas began with"
+            raise Fault(Exit.ROSTER, f"changed-{kind_of(given.is_state)}: {given.path} {what}")
         if not self.first.path.exists():
             self._require_new()
-            self._keep(agreed, given or Opening(self.roster_path), firm)
-        if given is not None and read(given) != agreed:
-            what = f"changed-roster: {given.path} is not the roster that the other replicas began with"
-            raise Fault(Exit.ROSTER, what)
+            own = Opening(self.restored_path if common.is_state else self.roster_path, common.is_state)
+            self._keep(common.text(), given or own, firm)
         return read(self.first)
 
     def _require_new(self) -> None:
@@ -221,8 +236,12 @@ def id_of(folder: Path) -> str:
     return (folder / ID).read_text("ascii", "replace").strip()
 
 
+def kind_of(is_state: bool) -> str:
+    return "state" if is_state else "roster"
+
+
 def read(opening: Opening) -> bytes:
-    what = "state" if opening.is_state else "roster"
+    what = kind_of(opening.is_state)
     try:
         with open(opening.path, "rb") as file:
             text = file.read(MOST_BYTES + 1)

@@ -100,8 +100,8 @@ def reasons(state: str, book: Book, name: str) -> Reasons:
 
 def about(comments: Sequence[str], name: str) -> Iterator[str]:
     """The comment lines on the round or the task."""
-    first_words = ("cost", name, f"{name}'s", "least", "least:", "NOT")
-    return (line for line in comments if line.split(" ", 1)[0] in first_words)
+    first_words = ("cost", name, f"{name}'s", "least", "least:", "first:", "NOT")
+    return (line for line in comments if line.split(" ", 1)[0] in first_words or line.startswith(f"if {name} "))
 
 
 def choices(claim: str, home: str | None) -> Iterator[Choice]:

@@ -1,7 +1,9 @@
 """What stands in etcd: the keys below a prefix, and the texts of their values.
 
-    state           ID LINES BYTES CHAIN: the state, and where the entries began
-    roster          the state's
+    state           ID LINES BYTES CHAIN: the state, and where the entries began; behind these DIGEST CHUNKS, of the
+                    state of a service that all replicas began with, where that was no roster, see beginning.py
+    roster          that they began with; empty where that was a state
+    restored/CHUNKS/N its text
     leader          the leader's name, bound to a lease; the revision that made this key is the epoch
     lines/OFFSET    an entry: EPOCH CHAIN, and below it records of lines as the journal has them, with one time
     replies         LINES DIGEST: of the leader's replies to the first LINES lines, see digests.py
@@ -47,15 +49,20 @@ class Keys:
             self.all + name for name in (b"state", b"roster", b"leader", b"replies", b"moving", b"snapshot")
         ]
         self.lines, self.kept, self.chunks = self.all + b"lines/", self.all + b"kept/", self.all + b"chunks/"
+        self.restored = self.all + b"restored/"
 
     def entry(self, offset: int) -> bytes:
         return self.lines + b"%016x" % offset
 
-    def chunk(self, digest: str, number: int) -> bytes:
-        return self.chunks + b"%b/%06x" % (digest.encode(), number)
-
     def offset(self, key: bytes) -> int:
         return int(key[len(self.lines) :], 16)
+
+
+class Restored(NamedTuple):
+    """The state of a service that all replicas began with."""
+
+    digest: str  # of its text
+    chunks: str  # the name of those that have it
 
 
 @dataclass(frozen=True)
@@ -63,18 +70,21 @@ class Agreed:
     """What all replicas have in common."""
 
     id: str
-    roster: bytes
+    roster: bytes  # that they began with; empty where that was a state
     begin: Position
+    restored: Restored | None = None
 
     def text(self) -> bytes:
-        return f"{self.id} {self.begin.lines} {self.begin.size} {self.begin.chain:08x}".encode()
+        fields = [self.id, str(self.begin.lines), str(self.begin.size), f"{self.begin.chain:08x}"]
+        return " ".join([*fields, *(self.restored or ())]).encode()
 
     @classmethod
     def read(cls, text: bytes, roster: bytes) -> Agreed:
         try:
-            name, lines, size, chain = text.decode().split()
-            return cls(name, roster, Position(int(lines), int(size), int(chain, 16)))
-        except ValueError as error:
+            name, lines, size, chain, *restored = text.decode().split()
+            begin = Position(int(lines), int(size), int(chain, 16))
+            return cls(name, roster, begin, Restored(*restored) if restored else None)
+        except (ValueError, TypeError) as error:
             raise Fault(Exit.JOURNAL, f"etcd has no state of firmd at this prefix, but {text[:60]!r}") from error
 
 

@@ -24,7 +24,7 @@ from .etcd import Condition, Denied, EtcdError, Full, Put, Row, Unsure, after
 from .housekeeper import Housekeeper
 from .housekeeper import Journal as KeptJournal
 from .lease import Lease
-from .offers import Offer
+from .offers import offer_of
 from .point import Point
 from .renewal import is_late
 from .shared import Shared
@@ -123,7 +123,7 @@ class ReplicatedJournal:
         keys, size = self._keys, self._position.size
         known = self._store.range(keys.digest)
         before = self._store.range(keys.lines, keys.entry(size) + b"\0", limit=1, is_last_first=True)
-        self._require_all_tenants()
+        self._require_tenants()
         if before.found:
             yield from self._take(before.found[0])
         elif is_late(self._store, keys, self._agreed, size):
@@ -132,7 +132,7 @@ class ReplicatedJournal:
             self._require_begin()
         while True:
             rows = self._store.range(keys.entry(self._position.size), after(keys.lines), limit=ENTRIES)
-            self._require_all_tenants()
+            self._require_tenants()
             for row in rows.found:
                 yield from self._take(row)
             if not rows.found:
@@ -151,14 +151,10 @@ class ReplicatedJournal:
         if own.size < begin.size:
             Entry(0, begin.size, begin.chain, 0, []).left(own)
 
-    def _require_all_tenants(self) -> None:
-        """Asks that firm has all tenants of entries that were read before."""
-        for row in self._store.range(self._keys.snapshot).found:
-            self._require_tenants(row.value)
-
-    def _require_tenants(self, offer: bytes) -> None:
-        """Asks that no tenant has come that firm lacks here."""
-        if Offer.read(offer).is_another_than(self._own.state.joined):
+    def _require_tenants(self) -> None:
+        """Asks that no tenant has come, by the snapshot that stands in etcd, that firm lacks here."""
+        offer = offer_of(self._store, self._keys)
+        if offer is not None and offer.is_another_than(self._own.state.joined):
             raise Anew("a tenant has come from another service")
 
     def _take(self, row: Row) -> Iterator[Piece]:
@@ -179,11 +175,13 @@ class ReplicatedJournal:
                 if key == keys.leader and value is None:
                     return
                 if value is not None and key.startswith(keys.lines):
-                    yield from self._take(Row(key, value, 0))
+                    # A member that was behind, and got a snapshot of another's store, tells of old entries too.
+                    if keys.offset(key) >= self._position.size:
+                        yield from self._take(Row(key, value, 0))
                 elif value is not None and key == keys.digest:
                     self.digests.compare(Digest.read(value))
                 elif value is not None and key == keys.snapshot:
-                    self._require_tenants(value)
+                    self._require_tenants()  # the change may be an old one, as above
             if self._is_stopping.is_set():
                 return
 

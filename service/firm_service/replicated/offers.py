@@ -14,17 +14,15 @@ length in bytes as the first line, and the state. Its books have the point of a 
 from __future__ import annotations
 
 import zlib
-from collections.abc import Sequence
 from typing import NamedTuple
 
 from ..faults import Exit, Fault
 from ..joined import Joined, parsed
 from ..states import digest
+from .chunks import read_chunks
 from .entries import Keys
-from .etcd import Condition, Put, Span, after
 from .store import Store
 
-CHUNK_BYTES = 512 * 1024  # etcd takes requests of 1.5 MiB
 LEVEL = 1  # of compression: a state's text is a tenth then
 NO_MOVE = "-"
 TRIES = 5  # to read an offer, while others take its place
@@ -75,21 +73,6 @@ def unpacked(text: bytes) -> tuple[Joined, bytes]:
     return joined, state
 
 
-def put_chunks(store: Store, keys: Keys, leads: Condition, text: bytes) -> bool:
-    """Puts a text there, of which nothing tells yet; whether this one leads still."""
-    name = digest(text)
-    chunks = [text[start : start + CHUNK_BYTES] for start in range(0, len(text), CHUNK_BYTES)]
-    return all(
-        store.transact([leads], [Put(keys.chunk(name, number), chunk)]).is_done for number, chunk in enumerate(chunks)
-    )
-
-
-def others_of(keys: Keys, offer: Offer) -> Sequence[Span]:
-    """The chunks of all other offers."""
-    own = keys.chunks + offer.digest.encode() + b"/"
-    return Span(keys.chunks, own), Span(after(own), after(keys.chunks))
-
-
 def fetch(store: Store, keys: Keys) -> tuple[Joined, bytes]:
     """What is offered: what the state stands for, with its text."""
     why: object = "there is none"
@@ -97,15 +80,8 @@ def fetch(store: Store, keys: Keys) -> tuple[Joined, bytes]:
         offer = offer_of(store, keys)
         if offer is None:
             break
-        text = b""
-        while found := store.range(keys.chunk(offer.digest, len(text) // CHUNK_BYTES)).found:
-            text += found[0].value
-            if len(found[0].value) < CHUNK_BYTES:
-                break
         try:
-            if digest(text) == offer.digest:
-                return unpacked(text)
-            why = "its text is not whole"
+            return unpacked(read_chunks(store, keys.chunks, offer.digest))
         except (ValueError, zlib.error) as error:
             why = error
     raise Fault(Exit.JOURNAL, f"the snapshot in etcd can't be used: {why}")

@@ -1,4 +1,4 @@
-"""The options of a replica, and its first words with etcd: whose state it is, and with which roster that began."""
+"""The options of a replica, and its first words with etcd: whose state it is, and what that began with."""
 
 from __future__ import annotations
 
@@ -14,15 +14,15 @@ from ..faults import Exit, Fault, reason, say
 from ..files import is_open
 from ..journal import Journal
 from ..lines import is_name
-from ..state import ID_BYTES, REPLICA, State
+from ..state import ID_BYTES, REPLICA, State, kind_of, read
 from ..states import Opening
+from .beginning import agree, agreed_of, beginning_of
 from .entries import Agreed, Keys, Position, another_history
-from .etcd import Access, Condition, Denied, Etcd, EtcdError, Full, Member, Put, Unfit
+from .etcd import Access, Denied, Etcd, EtcdError, Full, Member, Unfit
 from .housekeeper import RETAINED
 from .journal import FULL, Link, ReplicatedJournal, position_of
 from .point import Point, opening_point
 from .renewal import renew
-from .store import Store
 
 LEASE_SECONDS, LONGEST_LEASE = 3, 60
 START_SECONDS = 10.0  # for an answer of etcd at a start
@@ -77,8 +77,6 @@ def access_of(options: argparse.Namespace) -> Access:
     """How etcd is asked; its options are checked before anything is."""
     if options.name is None:
         raise Fault(Exit.WORDS, "--etcd needs --name: each replica has one of its own")
-    if options.opening is not None and options.opening.is_state:
-        raise Fault(Exit.WORDS, "--etcd begins with a roster: replicas don't go on from a state yet")
     if options.etcd_key is not None and options.etcd_cert is None:
         raise Fault(Exit.WORDS, "--etcd-key needs --etcd-cert")
     has_files = options.etcd_ca is not None or options.etcd_cert is not None
@@ -106,22 +104,6 @@ def warnings_of(options: argparse.Namespace) -> Iterator[str]:
         yield "the password of --etcd-password goes over the network as it is: name members with https://"
 
 
-def agreed_of(store: Store, keys: Keys) -> Agreed | None:
-    """What stands in etcd, if anything does."""
-    state, roster = store.range(keys.state).found, store.range(keys.roster).found
-    return Agreed.read(state[0].value, roster[0].value if roster else b"") if state else None
-
-
-def agree(store: Store, keys: Keys, mine: Agreed) -> Agreed:
-    """What the first one set: this one, where there is none."""
-    puts = [Put(keys.state, mine.text()), Put(keys.roster, mine.roster)]
-    store.transact([Condition(keys.state, made=0)], puts)
-    found = agreed_of(store, keys)
-    if found is None:
-        raise Fault(Exit.STATE, "the state in etcd was removed meanwhile")
-    return found
-
-
 def require_lone(state: State) -> None:
     """Asks that a state is no replica's: what a lone firmd answers there would be of another history."""
     path = state.folder / REPLICA
@@ -140,9 +122,10 @@ class Replica:
         self._link = Link(partial(Etcd, access), self._keys, options.name, options.etcd_lease)
 
     def begin(self, state: State, firm: Sequence[str]) -> bytes:
-        """The roster of the state, which is etcd's where that has one."""
-        if state.first.is_state or opening_point(state.joined) is None:
-            raise Fault(Exit.STATE, f"{state.folder} began with a state: replicas begin with a roster")
+        """What the state goes on from, which is etcd's where that has one."""
+        if opening_point(state.joined) is None:
+            told = f"a tenant has joined {state.folder} from another service, while it had no replicas"
+            raise Fault(Exit.STATE, f"{told}: begin them with its state, by `firm-journal state` and --restore")
         try:
             self._reach()
             self._agreed = agreed_of(self._etcd, self._keys)
@@ -150,10 +133,9 @@ class Replica:
             if self._agreed is None:
                 text = state.begin(given, firm)
                 if state.id is None:
-                    mine = Agreed(secrets.token_hex(ID_BYTES), state.roster_path.read_bytes(), Position())
-                    self._agreed = agree(self._etcd, self._keys, mine)
+                    self._agreed = self._agree(state, secrets.token_hex(ID_BYTES), Position())
             else:
-                text = state.begin(given, firm, self._agreed.roster)
+                text = state.begin(given, firm, beginning_of(self._etcd, self._keys, self._agreed))
             if self._agreed is not None:
                 self._require_same(state, self._agreed)
                 renew(self._etcd, self._keys, state, self._agreed)
@@ -168,9 +150,8 @@ class Replica:
             if own.found.lines and not self._options.etcd_begin:
                 lines = f"{own.found.lines:,} lines, and etcd none of them"
                 raise Fault(Exit.JOURNAL, f"{own.state.folder} has {lines}: --etcd-begin has etcd go on from them")
-            mine = Agreed(own.state.id or "", own.state.roster_path.read_bytes(), position_of(own, begin.position))
             try:
-                self._agreed = agree(self._etcd, self._keys, mine)
+                self._agreed = self._agree(own.state, own.state.id or "", position_of(own, begin.position))
             except EtcdError as error:
                 raise fault_of(error) from error
             self._require_same(own.state, self._agreed)
@@ -183,9 +164,17 @@ class Replica:
         journal.housekeeper.retained = self._options.etcd_retain
         return journal
 
+    def _agree(self, state: State, name: str, begin: Position) -> Agreed:
+        text = read(state.first)
+        if state.first.is_state:
+            return agree(self._etcd, self._keys, Agreed(name, b"", begin), text)
+        return agree(self._etcd, self._keys, Agreed(name, text, begin))
+
     def _require_same(self, state: State, agreed: Agreed) -> None:
-        if state.roster_path.read_bytes() != agreed.roster:
-            raise Fault(Exit.ROSTER, f"changed-roster: etcd has another roster than {state.roster_path}")
+        common, first = beginning_of(self._etcd, self._keys, agreed), state.first
+        if not common.is_text(first):
+            told = f"{first.path} is not the {kind_of(common.is_state)} that etcd has"
+            raise Fault(Exit.ROSTER, f"changed-{kind_of(first.is_state)}: {told}")
         if state.id is None:
             state.id_to_take = agreed.id
         elif state.id != agreed.id:

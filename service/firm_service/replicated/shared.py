@@ -10,10 +10,11 @@ from typing import TypeVar
 
 from ..faults import Exit, Fault
 from ..joined import Joined
+from .chunks import others_of, put_chunks
 from .entries import Keys
 from .etcd import Condition, EtcdError, Put, Span, after
 from .housekeeper import Housekeeper
-from .offers import Offer, offer_of, others_of, packed, put_chunks
+from .offers import Offer, offer_of, packed
 from .store import Store
 
 Result = TypeVar("Result")
@@ -72,7 +73,7 @@ class Shared:
             raise Fault(Exit.STATE, f"the lines behind byte {joined.base.size:,} are gone from etcd")
         text = packed(joined, state)
         with self._lock:
-            if not self._patiently(lambda: put_chunks(self._store, self._keys, self._condition(), text)):
+            if not self._patiently(lambda: put_chunks(self._store, self._keys.chunks, self._condition(), text)):
                 raise NotLeading
         self._offered = Offer.of(joined, text)
 
@@ -81,7 +82,7 @@ class Shared:
         if self._offered is None:
             raise ValueError("nothing was offered")
         offer, self._offered = self._offered, None
-        self._transact([Put(self._keys.snapshot, offer.text())], others_of(self._keys, offer))
+        self._transact([Put(self._keys.snapshot, offer.text())], others_of(self._keys.chunks, offer.digest))
 
     def is_due(self, size: int) -> bool:
         """Whether a snapshot of these bytes of lines is to take the place of the one in etcd, behind which all lines

@@ -12,7 +12,7 @@ from typing import NamedTuple
 from ..lines import is_name
 from ..sizes import MOST_NODES
 from .hook import hook
-from .table import Partition, Table
+from .table import Partition, Table, Weigh
 
 DEPTH = 10_000  # jobs that a cycle of Slurm's scheduler looks at: with its own 100, pinned jobs start late
 SCHEDULER = {"batch_sched_delay": (0, 0), "sched_min_interval": (1, 50_000), "sched_interval": (1, 5)}
@@ -20,6 +20,10 @@ SCHEDULER |= {"default_queue_depth": (DEPTH, 10**9)}
 LINE = re.compile(r"\s*([A-Za-z]+)\s*=\s*(.*)", re.DOTALL)
 WORD = re.compile(r'([A-Za-z]+)=("[^"]*"|\S+)')
 MOST_INCLUDED = 100  # files
+SLURMDBD = "accounting_storage/slurmdbd"
+# What AccountingStorageEnforce has where slurmdbd says which accounts, or which QOS, are a user's.
+ENFORCED = {Weigh.QOS: {"qos", "all"}}
+ENFORCED[Weigh.ACCOUNT] = ENFORCED[Weigh.QOS] | {"associations", "limits", "safe", "wckeys"}
 
 
 class Advice(NamedTuple):
@@ -110,6 +114,16 @@ def advice(table: Table, conf: Conf) -> Iterator[Advice]:
     yield from of_shared(table, conf, owners)
 
 
+def remarks(table: Table, conf: Conf) -> Iterator[str]:
+    """What is to be known, and may stay."""
+    enforced = conf.options("accountingstorageenforce").keys()
+    for partition in table.partitions:
+        if partition.weights and not ENFORCED[partition.weigh] & enforced:
+            wanted = "associations" if partition.weigh is Weigh.ACCOUNT else "qos"
+            told = f"a user may name any {partition.weigh}, of any weight, without slurmdbd"
+            yield f"{partition.name}: {told} and AccountingStorageEnforce={wanted}"
+
+
 def of_scheduler(conf: Conf) -> Iterator[Advice]:
     options = conf.options("schedulerparameters")
     wrong = {name: bounds for name, bounds in SCHEDULER.items() if not is_within(options.get(name), *bounds)}
@@ -151,6 +165,8 @@ def of_partition(partition: Partition, conf: Conf, owners: dict[str, str]) -> It
         owners.setdefault(node, name)
     if len(names) > MOST_NODES - 2:
         yield Advice(f"{name} has {len(names):,} nodes; a tenant has {MOST_NODES - 2:,} at most", "several partitions")
+    if partition.weigh is Weigh.QOS and conf.values.get("accountingstoragetype", "").lower() != SLURMDBD:
+        yield Advice(f"{name}: no job has a QOS without slurmdbd", f"AccountingStorageType={SLURMDBD}")
     row = conf.partitions[name]
     for key, bad, wanted in (("oversubscribe", "EXCLUSIVE", "NO"), ("exclusiveuser", "YES", "NO")):
         if row.get(key, "").upper() == bad:

@@ -18,7 +18,7 @@ from ..command_line import NOT_THERE, USAGE, Failure, Verbs
 from ..daemon import notify
 from . import status
 from .bridge import Bridge, lock_alone
-from .check import Conf, advice
+from .check import Conf, advice, remarks
 from .hook import hook
 from .table import Table
 
@@ -82,14 +82,16 @@ def check(options: argparse.Namespace) -> None:
     table = table_of(options)
     path = Path(options.conf or os.environ.get("SLURM_CONF", CONF))
     try:
-        found = list(advice(table, Conf.read(path)))
+        conf = Conf.read(path)
+        found, remarked = list(advice(table, conf)), list(remarks(table, conf))
     except OSError as error:
         raise Failure(USAGE, f"{error.filename or path}: {error.strerror or error}") from error
     except KeyError:
         raise Failure(USAGE, f"{options.table}: there is no user {table.user}") from None
-    told = "".join(f"{one.what}\n    {one.write}\n" for one in found)
-    answer = {"conf": str(path), "advice": [one._asdict() for one in found]}
-    command_line.show(options, answer, lambda _: told or f"{path}: nothing is to be changed\n")
+    told = "".join(f"{one.what}\n    {one.write}\n" for one in found) or f"{path}: nothing is to be changed\n"
+    told += "".join(f"{one}\n" for one in remarked)
+    answer = {"conf": str(path), "advice": [one._asdict() for one in found], "remarks": remarked}
+    command_line.show(options, answer, lambda _: told)
     if found:
         raise Failure(NOT_THERE, f"{path}: {len(found)} to be changed")
 

@@ -41,6 +41,7 @@ def news(seen: Seen, partition: Partition, has_room: bool = True) -> News:
     """The lines, without the round that follows them; no tasks where firm had no room for some a moment ago."""
     ended = {task for task in seen.tasks if not is_kept(seen, task)}
     ended |= set(finishing(seen)) if partition.drain is Drain.FINISH else set()
+    ended |= set(regrouped(seen, partition))  # they come again with the next look
     found = News([f"done {task}" for task in seen.book.tasks if task in ended])
     found.lines += [f"drain {machine}" for machine in seen.book.machines if is_over(seen.nodes.get(machine))]
     told = Telling(seen, partition, ended)
@@ -71,6 +72,14 @@ def finishing(seen: Seen) -> Iterator[str]:
         if job is not None and node is not None and node.use is Use.CLOSED:
             if job.state is State.RUNNING and job.node == row.machine:
                 yield task
+
+
+def regrouped(seen: Seen, partition: Partition) -> Iterator[str]:
+    """Waiting tasks whose jobs have another account, or QOS, than firm was told."""
+    for task, row in seen.book.tasks.items():
+        job = seen.jobs.get(task)
+        if row.machine is None and job is not None and job.is_pending and partition.group(job).name != row.job:
+            yield task
 
 
 def new_nodes(seen: Seen) -> Iterator[Node]:

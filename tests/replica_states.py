@@ -1,0 +1,225 @@
+"""Checks of states in etcd, without engines: the one that all replicas began with, and that of a late one."""
+
+from __future__ import annotations
+
+import random
+from collections.abc import Callable
+from contextlib import suppress
+from functools import partial
+from typing import Any
+
+from harness.checks import require
+from replica_rules import ID, KEYS, ROSTER, Case, batch, case, refused
+from stand_in_etcd import Connection, Memory
+
+from firm_service.faults import Fault
+from firm_service.joined import Joined
+from firm_service.journal import Journal, Room
+from firm_service.records import Base
+from firm_service.replicated import renewal
+from firm_service.replicated.beginning import agree, beginning_of
+from firm_service.replicated.chunks import CHUNK_BYTES, chunk_key, put_chunks
+from firm_service.replicated.entries import Agreed, Position
+from firm_service.replicated.etcd import Condition, Put, Unsure
+from firm_service.replicated.journal import Anew, ReplicatedJournal
+from firm_service.replicated.offers import Offer, fetch, offer_of, packed
+from firm_service.replicated.point import Point
+from firm_service.replicated.shared import NotLeading, Shared
+from firm_service.state import State
+from firm_service.states import digest
+
+
+def long_state(seed: int) -> bytes:
+    """A text that takes several chunks."""
+    return random.Random(seed).randbytes(2 * CHUNK_BYTES + 77).hex().encode()
+
+
+# What all begin with.
+
+
+def restored() -> None:
+    """All replicas begin with the state of the first one, wherever its try is cut off, or with another's roster; a
+    state that isn't whole is reported."""
+    texts, ids = [long_state(1), long_state(2)], [ID[::-1], ID]
+    begun: list[str] = []
+    for cut in range(6):
+        for text in (texts[1], None):
+            memory = Memory()
+            with suppress(Unsure):
+                agree(only(memory, cut), KEYS, Agreed(ids[0], b"", Position()), texts[0])
+            mine = Agreed(ids[1], b"" if text else ROSTER, Position())
+            found = agree(Connection(memory), KEYS, mine, text)
+            beginning = beginning_of(Connection(memory), KEYS, found)
+            wanted = texts[0] if found.id == ids[0] else text or ROSTER
+            require(beginning.text() == wanted and beginning.digest == digest(wanted), f"cut {cut}: {found}")
+            require(beginning.is_state == (wanted != ROSTER), found)
+            names = {key[len(KEYS.restored) :].split(b"/")[0] for key in memory.rows if key.startswith(KEYS.restored)}
+            require(names == {name.encode() for name in (found.restored or ())[1:]}, names)
+            begun.append(found.id)
+    require(set(begun) == set(ids) and begun == sorted(begun, key=ids[::-1].index), begun)
+    memory.remove(chunk_key(KEYS.restored, names.pop().decode(), 1))
+    refused(beginning.text, Fault, "the state in etcd that all began with can't be used", "not whole")
+
+
+def only(memory: Memory, count: int) -> Connection:
+    """A connection that does no more than this number of transactions."""
+    found, left = Connection(memory), iter(range(count))
+
+    def step() -> None:
+        if next(left, None) is None:
+            raise Unsure("cut off")
+
+    found.on_transaction = step
+    return found
+
+
+# Snapshots in etcd.
+
+
+def joined_at(base: Base, move: str, state: bytes) -> Joined:
+    """What a replica goes on from behind these lines, which are `alpha show` alone."""
+    point = Point()
+    point.add(b"alpha show\n" * base.lines, [b"alpha %d ok" % number for number in range(base.lines)])
+    books: dict[str, Any] = {"refusals": {}, "tenants": {}, **point.kept()}
+    return Joined((7,), base, len(state), digest(state), (move,), books)
+
+
+def shared_of(journal: ReplicatedJournal) -> Shared:
+    journal.housekeeper.retained = 0
+    return journal.shared
+
+
+def offers() -> None:
+    """What is offered is read as it was written, in place of what was offered before; by a leader alone."""
+    with case() as here:
+        first, _ = here.open("a")
+        here.leads(first)
+        for seed, move in enumerate(("0123456789abcdef", "f" * 16)):
+            first.append([batch(*[b"alpha show"] * 3)])
+            joined, state = joined_at(Base(4, 3, 33, 99), move, long_state(seed)), long_state(seed)
+            shared_of(first).offer(joined, state)
+            shared_of(first).commit()
+            require(fetch(Connection(here.memory), KEYS) == (joined, state), "another offer")
+            (offer,) = filter(None, [offer_of(Connection(here.memory), KEYS)])
+            require((offer.move, offer.size) == (move, 33), offer)
+            chunks = [key for key in here.memory.rows if key.startswith(KEYS.chunks)]
+            require(len(chunks) > 2 and all(offer.digest.encode() in key for key in chunks), chunks)
+            require(shared_of(first).is_due(34) and not shared_of(first).is_due(33), "when one is due")
+        shared_of(first).offer(joined_at(Base(4, 3, 33, 99), "a" * 16, state), state)
+        second, _ = here.open("b")
+        refused(lambda: here.leads(second), Anew)  # it lacks the tenant
+        third, _ = here.open("c")
+        here.states[-1].joined = joined
+        here.leads(third)
+        before = dict(here.memory.rows)
+        refused(lambda: shared_of(first).commit(), NotLeading)
+        refused(lambda: shared_of(first).offer(joined, state), NotLeading)
+        refused(lambda: shared_of(first).write(b"held"), NotLeading)
+        refused(lambda: shared_of(first).require_current(), NotLeading)
+        require(here.memory.rows == before, "one that leads no more has changed something")
+        here.memory.remove(chunk_key(KEYS.chunks, offer.digest, 1))
+        refused(lambda: fetch(Connection(here.memory), KEYS), Fault, "the snapshot in etcd can't be used")
+
+
+def kept_beginnings() -> None:
+    """etcd keeps all lines from the last offer on, and while one is prepared, but where it is half full."""
+    with case() as here:
+        journal, _ = here.open("a")
+        here.leads(journal)
+        shared, state = shared_of(journal), b"state"
+
+        def first_entry() -> int:
+            for _ in range(2):  # the first has the own key say how far the lines are
+                journal.housekeeper._has_name = True
+                journal.housekeeper.keep()
+            return min(KEYS.offset(key) for key in here.memory.rows if key.startswith(KEYS.lines))
+
+        for _ in range(3):
+            journal.append([batch(b"alpha show")])
+        require(first_entry() == 22, "lines that all have are gone")
+        refused(lambda: shared.offer(joined_at(Base(1, 1, 11, 0), "-", state), state), Fault, "are gone from etcd")
+        with shared.keeping(33):
+            journal.append([batch(b"alpha show")])
+            journal.append([batch(b"alpha show")])
+            require(first_entry() == 33, "lines that one needs who is to begin")
+            shared.offer(joined_at(Base(3, 3, 33, 0), "-", state), state)
+            shared.commit()
+        journal.append([batch(b"alpha show")])
+        require(first_entry() == 33, "lines behind the offer")
+        journal.housekeeper.told.etcd_bytes, journal.housekeeper.told.quota_bytes = 6, 10
+        require(first_entry() == 55, "where there is no room")
+
+
+def begun_anew() -> None:
+    """A replica that is late, or lacks a tenant, begins anew whatever step is cut off, and keeps what it had."""
+    state, base = b"firm state 1\nplace admissions 1\nrows 1\n", Base(4, 3, 33, 99)
+    for move, size in (("0123456789abcdef", 3), ("-", 1)):
+        cut = 0
+        while True:
+            with case() as here:
+                journal, _ = here.open("a")
+                here.leads(journal)
+                journal.append([batch(*[b"alpha show"] * size)])
+                journal.close()
+                if move == "-":
+                    here.memory.remove(KEYS.entry(0))
+                    here.memory.set(Put(KEYS.entry(33), b"1 0\n"))
+                joined, store = joined_at(base, move, state), Connection(here.memory)
+                text = packed(joined, state)
+                leads = Condition(b"nobody", made=0)
+                require(put_chunks(store, KEYS.chunks, leads, text), "chunks")
+                here.memory.set(Put(KEYS.snapshot, Offer.of(joined, text).text()))
+                is_cut = renewed_but_for(here, store, cut)
+                again = restarted(here)
+                found = Journal(again, Room(4096), again.base).found
+                require((again.joined, found.base, found.lines, again.id) == (joined, base, 3, ID), f"{cut}: {found}")
+                former = (here.folder / "a" / "journal.former").glob("*.lines")
+                kept = b"".join(path.read_bytes() for path in former)
+                require(kept.count(b"alpha show\n") == size, f"{cut}: {kept!r}")
+                names = {path.name for path in (here.folder / "a").iterdir()}
+                require("anew" not in names and f"joined-{joined.digest}" in names, names)
+            if not is_cut:
+                break
+            cut += 1
+        require(cut > 8, f"it has {cut} steps")
+
+
+def restarted(here: Case) -> State:
+    """The state of the first replica, as a start finds it."""
+    here.states[-1]._lock.close()
+    here.states.append(State(here.folder / "a"))
+    here.states[-1].read_opening()
+    return here.states[-1]
+
+
+def renewed_but_for(here: Case, store: Connection, cut: int) -> bool:
+    """Renews the state of a replica; before that, a try ends at a step, if there are as many."""
+    steps = 0
+
+    def step(work: Callable[..., None], *words: object, **more: object) -> None:
+        """What is cut off comes before it, or behind it."""
+        nonlocal steps
+        for is_before in (True, False):
+            steps += 1
+            if steps == cut + 1:
+                raise OSError("cut off")
+            if is_before:
+                work(*words, **more)
+
+    names = ["write_state", "replace_synced", "remove_all", "make_folder", "write_synced", "tell", "clear_texts"]
+    names += ["sync_folder"]
+    own = {name: getattr(renewal, name) for name in names}
+    for name in names:
+        setattr(renewal, name, partial(step, own[name]))
+    try:
+        renewal.renew(store, KEYS, restarted(here), here.agreed)
+    except Fault as fault:
+        require("cut off" in str(fault), fault)
+    finally:
+        for name in names:
+            setattr(renewal, name, own[name])
+    renewal.renew(store, KEYS, restarted(here), here.agreed)
+    return steps > cut
+
+
+RULES: list[Callable[[], None]] = [restored, offers, kept_beginnings, begun_anew]
