@@ -5,10 +5,10 @@ usage: build.py [CRATE..]            proves and builds these programs and librar
        build.py --run ARGUMENT..     does so with firm, and then becomes it, as ./firm does
 
 Crates are proved lowest first. The one with the most behind it gets all processors; others go on beside it where it
-leaves some idle, as memory allows. What an interrupted run has proved stands, and the next goes on from there: a crate
-is proved again where its sources, or those of a crate below, have changed. crates/NAME/out/statements has what was made
-of a crate, and the log of its check. Exit status: 0, 1 where a crate could not be proved or built, 2 for a wrong word,
-127 without the kit, 128 plus the number of a signal.
+leaves some idle, with fewer jobs, as memory allows. What an interrupted run has proved stands, and the next goes on
+from there: a crate is proved again where its sources, or those of a crate below, have changed.
+crates/NAME/out/statements has what was made of a crate, and the log of its check. Exit status: 0, 1 where a crate
+could not be proved or built, 2 for a wrong word, 127 without the kit, 128 plus the number of a signal.
 """
 
 from __future__ import annotations
@@ -34,7 +34,7 @@ PROGRAM = "firm"
 CHECK_BYTES = 4_000_000_000
 JOB_BYTES = 1_500_000_000
 MOST_JOBS = 8  # more seldom help, by the kit's own word
-NICENESS = 5  # of a check beside one that more waits for
+NICENESS = 5  # of a check, for each beside it that more waits for
 # A check also reads the crates below, in about the time of so many of its own bytes of source.
 BELOW_PER_OWN = 20
 GLANCE_SECONDS = 0.1
@@ -164,8 +164,8 @@ class Group:
 class Check:
     """A running check of a crate, which makes its rlib or its program in a folder of its own."""
 
-    def __init__(self, crate: Crate, jobs: int, gives_way: bool, group: Group) -> None:
-        self.crate, self.jobs, self.gives_way, self.group = crate, jobs, gives_way, group
+    def __init__(self, crate: Crate, jobs: int, ahead: int, group: Group) -> None:
+        self.crate, self.jobs, self.ahead, self.group = crate, jobs, ahead, group
         self.began, self.sources = time.monotonic(), Sources.of(crate)
         self.made = prover.made(crate)
         self.work, self.log = self.made.with_name("work"), self.made.with_name("log")
@@ -175,8 +175,8 @@ class Check:
         self.new = self.work / self.made.name
         words = prover.words(crate, prover.made)
         self.process = self.start("rattle", ["build", *words, "--jobs", str(jobs), *self.aim()])
-        if gives_way:
-            niceness = os.getpriority(os.PRIO_PROCESS, 0) + NICENESS
+        if ahead:
+            niceness = os.getpriority(os.PRIO_PROCESS, 0) + NICENESS * ahead
             os.setpriority(os.PRIO_PROCESS, self.process.pid, niceness)
 
     def clear(self) -> None:
@@ -287,7 +287,8 @@ class Build:
         return bool(made) and all(below) and made == prover.stamp(Sources.of(crate).content, below)
 
     def start_checks(self, group: Group) -> None:
-        """Starts what can be, the first in the order of chains with all processors, as far as the memory allows."""
+        """Starts what can be, as far as the memory allows: the first in the order of chains with a job a processor, and
+        each behind it with half as many. A check of several jobs takes a third more processor time than one of one."""
         startable = self.startable()
         for place, crate in enumerate(startable):
             spare = self.memory - sum(check.most_bytes for check in self.running) - CHECK_BYTES
@@ -295,10 +296,11 @@ class Build:
             if self.running and (spare < 0 or more < 0):
                 return
             kept = CHECK_BYTES * min(more, len(startable) - place - 1)
-            jobs = min(1 + max(spare - kept, 0) // JOB_BYTES, self.processors, MOST_JOBS)
-            gives_way = any(self.order.index(check.crate) < self.order.index(crate) for check in self.running)
+            ahead = sum(self.order.index(check.crate) < self.order.index(crate) for check in self.running)
+            most_jobs = max(min(self.processors, MOST_JOBS) >> ahead, 1)
+            jobs = min(1 + max(spare - kept, 0) // JOB_BYTES, most_jobs)
             self.left.remove(crate)
-            self.running.append(Check(crate, jobs, gives_way, group))
+            self.running.append(Check(crate, jobs, ahead, group))
 
     def take_ended(self, group: Group) -> None:
         for check in [check for check in self.running if check.process.poll() is not None]:
@@ -307,7 +309,7 @@ class Build:
                 self.stamps[check.crate] = check.keep(self.stamps_below(check.crate))
                 self.tell(f"{check.crate.name} is proved, in {elapsed(check.began)}")
             elif check.process.returncode == -signal.SIGKILL and check.jobs > 1:
-                self.running.append(Check(check.crate, 1, check.gives_way, group))
+                self.running.append(Check(check.crate, 1, check.ahead, group))
                 self.tell(f"{check.crate.name} was killed, most likely for memory: once more, with one job")
             else:
                 check.clear()

@@ -614,7 +614,7 @@ from firm_service import trials
 setattr(trials, sys.argv[1], 1)
 trials.stand_behind()
 try:
-    with trials.firm("firm state 1\\nrows 0\\n", []) as trial:
+    with trials.firm("firm state 1\\nplace admissions 1\\nrows 1\\n", []) as trial:
         trial.output()
 except trials.Refused as refusal:
     print(refusal.name, refusal)

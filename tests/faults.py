@@ -90,8 +90,8 @@ MANY = "; ".join(
 )
 
 # A table's first row takes 4 requests, the case's list of machines or tasks 1; the graph's lists take 2 for a machine
-# (its slots are one), 1 for a job, 4 for a task.
-OF_FIRST_ROWS = {b"alpha machine m1 2": 7, b"alpha job j 5": 5, b"alpha task j a": 9}
+# (its slots are one), 1 for a job, 2 for a task.
+OF_FIRST_ROWS = {b"alpha machine m1 2": 7, b"alpha job j 5": 5, b"alpha task j a": 7}
 # Both blocks of the tenant's net among them, and the tables in which its rounds are proposed.
 OF_AN_ADMISSION = {b"+ admit b,6,20,5,0,0": 67}
 

@@ -2,7 +2,7 @@
 done ten thousand times or a million.
 
 usage: tools/run tests/hammer.py [--seconds N] [--control]
-It needs the kit, and runs the tests of firm_worker_tests by `rt try --test`, which proves nothing, on a copy of the
+It needs the kit, and runs the tests of test_worker by `rt try --test`, which proves nothing, on a copy of the
 crates: there a thread looks for nothing more before it sleeps, and the counts of the tests are raised. The tests
 themselves ask that their counts are reached; one that hangs fails at the limit of seconds. Each has a line; the exit
 status is 1 where one failed.
@@ -32,7 +32,7 @@ from typing import NamedTuple
 
 from harness.program import ROOT
 
-CRATE = "firm_worker_tests"
+CRATE = "test_worker"
 # What `rt try` says of a test that it ended at the limit of seconds.
 HANGS = "did not end within the time limit"
 CONTROL_SECONDS = 60

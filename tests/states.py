@@ -14,6 +14,7 @@ import subprocess
 import tempfile
 from collections import Counter
 from functools import partial
+from itertools import product
 from pathlib import Path
 from random import Random
 from typing import Iterator, NamedTuple, Sequence
@@ -298,8 +299,9 @@ FAULTY = [
     (LONG_WAIT.replace(b"waits 9", b"waits 10"), StateFault(11, 8)),
     (changed(b"costs 0 13", b"costs"), StateFault(15, 7)),
     (changed(b"waits 1", b"waits 3"), StateFault(15, 8)),
-    (with_rows([*ROWS[:7], b"place admissions 0"]), StateFault(12, 10)),
-    (changed(b"admissions 1", b"admissions 0"), StateFault(12, 3)),
+    (with_rows([*ROWS[:7], b"place admissions 0"]), StateFault(4, 9)),
+    (changed(b"admissions 1", b"admissions 0"), StateFault(4, 2)),
+    (with_rows([]), StateFault(12, 2)),
     (with_rows([b"place admissions 1"] * (MOST_PLACES + 1)), StateFault(12, MOST_PLACES + 2)),
 ]
 
@@ -332,6 +334,45 @@ def hostile_states(options: Options) -> None:
         found = fault_of(options, text)
         require(found == fault, f"{text!r}: {found}, and not {fault}")
     require({fault.number for _, fault in FAULTY} == set(NAMES), "a fault that no text has")
+
+
+class Given(NamedTuple):
+    """How often a place was given, and whether a tenant stays there."""
+
+    times: int
+    stays: bool
+
+
+def rows_of_place(number: int, place: Given) -> list[bytes]:
+    tenant = small_tenant(b"t%d" % number)[1:] if place.stays else []
+    return [b"place admissions %d" % place.times, *tenant]
+
+
+def state_of_places(options: Options, places: Sequence[Given]) -> bytes:
+    """The state of a service that has given its places so often: a tenant is the first to get the place it left."""
+    rows = [b"t%d,2,0,1,0,0" % number for number in range(len(places))]
+    lines = [
+        line
+        for row, place in zip(rows, places)
+        for line in [b"+ retire " + row.partition(b",")[0], b"+ admit " + row] * (place.times - 1)
+    ] + [b"+ retire t%d" % number for number, place in enumerate(places) if not place.stays]
+    with Folder() as folder:
+        roster = folder.file("roster.csv", b"\n".join([b"tenant,nodes,arcs,life,spread,churn", *rows, b""]))
+        return state_after(options, ["--roster", roster], b"".join(line + b"\n" for line in lines))
+
+
+def reached_places(options: Options, most: int) -> None:
+    """Places that were each given once or more are those of some service; one that was never given is a fault."""
+    kinds_of_place = [Given(count, stays) for count in range(3) for stays in (False, True)]
+    for places in (places for count in range(1, most + 1) for places in product(kinds_of_place, repeat=count)):
+        rows = [rows_of_place(number, place) for number, place in enumerate(places)]
+        text, never = with_rows(sum(rows, [])), [at for at, place in enumerate(places) if not place.times]
+        if never:
+            wanted = StateFault(4, 2 + len(sum(rows[: never[0]], [])))
+            require(fault_of(options, text) == wanted, f"{places}: not {wanted}")
+        else:
+            require(state_of_places(options, places) == text, f"{places} are no service's")
+            require(fault_of(options, text) is None, f"{places} are no state")
 
 
 def cut_states(options: Options, count: int) -> None:
@@ -460,6 +501,7 @@ def checks(options: Options) -> dict[str, Check]:
     return {
         "statuses": partial(statuses, options),
         "hostile states": partial(hostile_states, options),
+        "reached places": partial(reached_places, options, 2 if quick else 3),
         "cut states": partial(cut_states, options, 20),
         "changed states": partial(changed_states, options, 40 if quick else 2000),
         "refused memory": partial(refused_memory, options, 5 if quick else 1),

@@ -126,6 +126,8 @@ def reasons(found: Round, asked: Asked) -> Iterator[str]:
     if asked.why is not None and asked.why in found.to:
         yield from why_lines(found, asked.why)
     yield f"# least: cost {found.reply[5]} = {market.sum_text(low)} = {market.sum_text(high)}"
+    # Which order shows the placement to be first is firm_explain's to choose, and tests/certificates' to judge.
+    yield next((line for line in found.comments[-1:] if line.startswith("# first: ")), "# first: ..")
 
 
 def why_lines(found: Round, name: str) -> Iterator[str]:
@@ -136,6 +138,10 @@ def why_lines(found: Round, name: str) -> Iterator[str]:
     yield start + market.rents_text(rents)
     yield market.task_line(name, market.all_claims(name))
     yield f"# least by {name}'s rents: cost {found.reply[5]} = {market.sum_text(rents)}"
+    for other in market.rivals(name):
+        # Of several placements with this choice that cost as much, tests/certificates takes any.
+        start = f"# if {name} {f'on {other}' if other else 'waits'}: {market.more(name, other)} more"
+        yield next((line for line in found.comments if line == start or line.startswith(f"{start}: ")), start)
 
 
 class Market:
@@ -229,11 +235,14 @@ class Market:
         return (f"{self.word(name, other)} {self.claim(name, other)}" for other in others)
 
     def all_claims(self, name: str) -> Iterator[str]:
-        """The same on all: those that cost least more first, and of these those that rank after the task's choice."""
-        others = [choice for choice in [*self.places, None] if choice != self.to[name]]
-        others.sort(key=lambda other: (self.more(name, other), self.claim(name, other) == "as much"))
-        for claim, alike in groupby(others, key=lambda other: self.claim(name, other)):
+        """The same on all."""
+        for claim, alike in groupby(self.rivals(name), key=lambda other: self.claim(name, other)):
             yield f"{', '.join(self.word(name, other) for other in alike)} {claim}"
+
+    def rivals(self, name: str) -> list[Choice]:
+        """All other choices: those that cost least more first, of these those that rank after the task's choice."""
+        others = [choice for choice in [*self.places, None] if choice != self.to[name]]
+        return sorted(others, key=lambda other: (self.more(name, other), self.claim(name, other) == "as much"))
 
     def task_line(self, name: str, claims: Iterator[str]) -> str:
         """What a task does and pays, and what other choices would cost more."""
