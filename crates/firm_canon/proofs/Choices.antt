@@ -1,5 +1,5 @@
 -- What attempts rule out, and what a choice rests on.
-use Rattle.std.proofs.Common.{◌≡◌, ℕ, suc, ◌+◌, ◌<◌, ◌≤◌, Bool, true, false, cond, eqb, List, ◌∷◌, ◌++◌, ◌⊎◌, []}
+use Rattle.std.proofs.Common.{◌≡◌, ℕ, suc, ◌+◌, ◌<◌, ◌≤◌, true, false, cond, eqb, List, ◌∷◌, ◌++◌, ◌⊎◌, []}
 use Rattle.std.proofs.Common.{append_assoc, length, Some, None, Option, refl, sym, ap, subst, arith, ⊎_elim}
 use Rattle.std.proofs.lemmas.Bool.{cases_Bool, cases_eq, cond-true, cond-false, eqb-true, eq-eqb, ne_eqb}
 use Rattle.firm_paths.specs.Network.{Arc}
@@ -16,7 +16,7 @@ use Rattle.firm_canon.specs.inner.Choosing.{low_of, Keeps, Shut, Barred, best, I
 use Rattle.firm_canon.specs.inner.Choosing.{next_number}
 use Rattle.firm_canon.proofs.Parts.{parts}
 use Rattle.firm_canon.proofs.Read.{task_sends}
-use Rattle.firm_canon.proofs.Totals.{total_zero}
+use Rattle.firm_canon.proofs.Totals.{cond_zero, total_zero}
 use Rattle.firm_canon.proofs.Choose.{no_guest, ranks_before_on}
 use Rattle.firm_canon.proofs.Take.{added, adds_far, adds_near, adds_own, lows_one}
 use Rattle.firm_canon.proofs.Nears.{own_wide, own_near, own_stay, other_stay, wait_stay, wide_is, far_near, near_wide}
@@ -45,7 +45,6 @@ module _ (v : View) (price : ℕ → ℕ) (p : List Choice) (keeps : Keeps v pri
       low-le v.case (p ++ On j ∷ []) r key,
       ap (λ (q : List Choice). placed v.case q key) (append_assoc p (On j ∷ []) r),
       lows_one v.case p (On j) key next,
-      adds,
     );
   }
 
@@ -100,10 +99,7 @@ home_runs home h e = subst (λ (o : Option ℕ). runs_at o h ≡ true) (sym e) (
 
 -- what puts nothing on the arcs of preferences puts nothing on one of them
 none_to : (t : Demand) (k : ℕ) (o : Choice) → near t (Some o) ≡ 0 → prefer t k (Some o) ≡ 0
-none_to t k o e =
-    let sides : (b : Bool) → cond b (near t (Some o)) 0 ≡ 0 =
-    λ b. elim b as (λ b. cond b (near t (Some o)) 0 ≡ 0) [ true ↦ e | false ↦ refl ] in
-    sides (eqb (number t (Some o)) k)
+none_to t k o e = cond_zero (eqb (number t (Some o)) k) (near t (Some o)) e
 
 pub chose_own : (v : View) (price : ℕ → ℕ) (p : List Choice) (h : ℕ) → Keeps v price p → length p < length v.case.tasks
     → (demand v.case (length p)).home ≡ Some h → 1 ≤ flows v (Stay (length p)) → IsChosen v p (On h)
@@ -119,23 +115,14 @@ chose_own v price p h keeps l home one =
         at_stay = omega (arith, one, own_stay t.home h own);
         at_delay = omega arith;
         at_prefer = λ k m. omega (arith, none_to t k (On h) (own_near t h own));
-        at_through = λ j k. ⊎_elim
-            (λ (here : eqb h j ≡ true). omega (
-              arith,
-              through_held v price p j keeps k,
-              no_wide,
-              cond-true {A = ℕ} (eqb h j) (wide t (Some (On h))) 0 here,
-            ))
-            (λ (f : eqb h j ≡ false). omega (
-              arith,
-              through_held v price p j keeps k,
-              cond-false {A = ℕ} (eqb h j) (wide t (Some (On h))) 0 f,
-            ))
-            (cases_Bool (eqb h j));
+        at_through = λ j k. omega (
+          arith,
+          through_held v price p j keeps k,
+          cond_zero (eqb h j) (wide t (Some (On h))) no_wide,
+        );
       };
       first = λ b place less. absurd (omega (
         arith,
-        less,
         cond-true {A = ℕ} (runs_at (demand v.case n).home h) 0 (suc h) own,
       ));
     }
@@ -159,14 +146,10 @@ chose_wait v price p keeps l no_wide no_stay no_near all =
         at_stay = omega (arith, wait_stay t.home);
         at_delay = omega (arith, sends_one v price p n keeps l, no_wide, no_stay, no_near);
         at_prefer = λ k h. omega (arith, none_to t k Wait refl);
-        at_through = λ j k. omega (arith, through_held v price p j keeps k, nothing (eqb 0 j));
+        at_through = λ j k. omega (arith, through_held v price p j keeps k, cond_zero (eqb 0 j) 0 refl);
       };
       first = each;
     }
-  where
-    nothing : (b : Bool) → cond {A = ℕ} b 0 0 ≡ 0
-    nothing true = refl
-    nothing false = refl
 
 -- the flow has room for a task that comes by the hub
 pub room_far : (v : View) (price : ℕ → ℕ) (p : List Choice) (o : ℕ) → Keeps v price p
@@ -186,7 +169,6 @@ room_far v price p o keeps other far one more =
           omega (
             arith,
             subst (λ (z : ℕ). guests v.case p z < flows v (Through z)) (eqb-true o j here) more,
-            is_wide,
             cond-true {A = ℕ} (eqb o j) (wide t (Some (On o))) 0 here,
           ))
           (λ (f : eqb o j ≡ false). omega (
@@ -218,12 +200,9 @@ room_near v price p o keeps other close one =
           ))
           (λ (ne : e ≡ k → ⊥). omega (arith, cond-false {A = ℕ} (eqb e k) (near t (Some (On o))) 0 (ne_eqb e k ne)))
           (cases_eq e k);
-      at_through = λ j k. omega (arith, through_held v price p j keeps k, nothing (eqb o j) no_wide);
+      at_through = λ j k.
+          omega (arith, through_held v price p j keeps k, cond_zero (eqb o j) (wide t (Some (On o))) no_wide);
     }
-  where
-    nothing : {x : ℕ} (b : Bool) → x ≡ 0 → cond b x 0 ≡ 0
-    nothing {x} true e = e
-    nothing {x} false e = refl
 
 -- a machine that is not the task's own is chosen where it has room and all before it are shut
 pub chosen_on : (v : View) (p : List Choice) (o : ℕ) → o < length v.case.slots

@@ -1,7 +1,6 @@
 -- Which choices are left for the next task: what each refusal of the search rules out.
-use Rattle.std.proofs.Common.{◌≡◌, ℕ, zero, suc, ◌<◌, ◌≤◌, Bool, true, false, cond, List, [], ◌∷◌, length, arith, refl}
-use Rattle.std.proofs.Common.{sym, ap, ◌∙◌, inl, inr, ◌⊎◌, ⊎_elim, Option, None}
-use Rattle.std.proofs.lemmas.Bool.{cases_lt}
+use Rattle.std.proofs.Common.{◌≡◌, ℕ, suc, ◌<◌, ◌≤◌, Bool, true, false, cond, List, length, arith, refl}
+use Rattle.std.proofs.Common.{sym, ap, ◌∙◌, ◌⊎◌, Option}
 use Rattle.firm_rules.specs.declared.rounds.Choice.{Choice}
 use Rattle.firm_rules.specs.declared.rounds.Choice.TheVariants.{On, Wait}
 use Rattle.firm_paths.specs.Network.{Arc}
@@ -11,27 +10,19 @@ use Rattle.firm_graph.specs.declared.network.Key.{Key}
 use Rattle.firm_graph.specs.declared.network.Key.TheVariants.{Through, Wide}
 use Rattle.firm_graph.specs.Network.{demand}
 use Rattle.firm_canon.proofs.Totals.{total-le, total_tight}
-use Rattle.firm_canon.specs.inner.Placed.{pick, wide, spot, wide_at, guests}
-use Rattle.firm_canon.proofs.Placed.{plain_regroup, at_place, wide_spot}
+use Rattle.firm_canon.specs.inner.Placed.{wide, wide_at, guests}
+use Rattle.firm_canon.proofs.Placed.{guests_in_all}
 use Rattle.firm_canon.proofs.Parts.{parts}
 use Rattle.firm_canon.proofs.Read.{hub_passes}
 use Rattle.firm_canon.specs.inner.Choosing.{low_of, Stands}
 use Rattle.firm_canon.proofs.First.{pick_past, wide_none}
 
-pub pick_beyond : (p : List Choice) (i : ℕ) → length p ≤ i → pick p i ≡ None
-pick_beyond [] i h = refl
-pick_beyond (o ∷ p) zero h = absurd (omega arith)
-pick_beyond (o ∷ p) (suc i) h = pick_beyond p i (omega arith)
-
 waits-last : (own : Bool) (m o : ℕ) → o < m → suc m < cond own 0 (suc o) → ⊥
-waits-last true m o l h = omega (arith, h)
-waits-last false m o l h = omega (arith, l, h)
+waits-last own m o l h = grind arith
 
 own-or-before : (own other : Bool) (j o : ℕ) → cond other 0 (suc j) < cond own 0 (suc o)
     → (other ≡ true) ⊎ ((other ≡ false) × (j < o))
-own-or-before own true j o h = inl refl
-own-or-before true false j o h = absurd (omega (arith, h))
-own-or-before false false j o h = inr (refl, omega (arith, h))
+own-or-before own other j o h = grind arith
 
 -- before `On o` rank the task's own machine and the machines that stand before; before `Wait` every machine
 pub ranks_before_on : (m : ℕ) (home : Option ℕ) (o : ℕ) (b : Choice) → IsPlace m b → o < m
@@ -49,15 +40,9 @@ no_guest c p x price stands l none =
     let t : ℕ = length c.tasks in
     let n : ℕ = length p in
     let bounds = parts (λ (a : Arc Node Key). (a.low ≤ a.flow) × (a.flow ≤ a.cap)) c (low_of c p) x stands.within in
-    let known : total (wide_at c p) t ≡ total (guests c p) m =
-    plain_regroup (λ (i : ℕ). spot (pick p i)) (wide_at c p) m t
-    (λ i h. ⊎_elim (λ (q : i < length p). at_place (IsPlace m) p i (λ o. (spot o < m) ⊎ (wide (demand c i) o ≡ 0))
-    stands.places q (wide_spot m (demand c i)))
-    (λ (q : length p ≤ i). inr (ap (wide (demand c i)) (pick_beyond p i q) ∙ wide_none (demand c i)))
-    (cases_lt i (length p))) in
     let fewer : total (λ j. x (Through j)) m ≤ total (guests c p) m =
     total-le (λ (j : ℕ). x (Through j)) (guests c p) m none in
     let tight : wide_at c p n ≡ x (Wide n) =
     total_tight (wide_at c p) (λ (i : ℕ). x (Wide i)) t (λ i h. (bounds.wides i h).0)
-    (omega (arith, known, fewer, hub_passes c (low_of c p) x stands.within stands.balanced)) n l in
+    (omega (arith, guests_in_all c p stands.places, hub_passes c (low_of c p) x stands.within stands.balanced)) n l in
     sym tight ∙ (ap (wide (demand c n)) (pick_past p) ∙ wide_none (demand c n))

@@ -95,7 +95,6 @@ pub looked_in_all : (old new : Workspace) (most arcs : ℕ) → HasMadeUpTo old 
 looked_in_all old new most arcs up_to = record {
   few = λ digits fits. omega (
     arith,
-    up_to.searched.looks,
     mul-le up_to.made (2 * arcs) (most + digits + 2) (2 * arcs) (omega (arith, up_to.few)) (omega arith),
   );
 }

@@ -24,29 +24,18 @@ terms_tight {A} f g (x ∷ xs) h e =
     let rest : All (λ (a : A). f a ≤ g a) xs = All-tail (λ (a : A). f a ≤ g a) x xs h in
     let first : f x ≤ g x = All-head (λ (a : A). f a ≤ g a) x xs h in
     let sums : sum_by f xs ≤ sum_by g xs = terms-le f g xs rest in
-    let both : g x + sum_by g xs ≤ f x + sum_by f xs = omega (arith, e, sum_by-cons f x xs, sum_by-cons g x xs) in
-    All-cons (λ (a : A). f a ≡ g a) x xs (omega (arith, first, sums, both))
-    (terms_tight f g xs rest (omega (arith, first, both)))
+    All-cons (λ (a : A). f a ≡ g a) x xs (omega (arith, sum_by-cons {X = A}))
+    (terms_tight f g xs rest (omega (arith, sum_by-cons {X = A})))
   where
     terms-le : {A : Type 0} (f g : A → ℕ) (xs : List A) → All (λ a. f a ≤ g a) xs → sum_by f xs ≤ sum_by g xs
     terms-le {A} f g [] h = omega arith
-    terms-le {A} f g (x ∷ xs) h = omega (
-      arith,
-      sum_by-cons f x xs,
-      sum_by-cons g x xs,
-      All-head (λ (a : A). f a ≤ g a) x xs h,
-      terms-le f g xs (All-tail (λ (a : A). f a ≤ g a) x xs h),
-    )
+    terms-le {A} f g (x ∷ xs) h =
+        let P : A → Type 0 = λ (a : A). f a ≤ g a in
+        omega (arith, sum_by-cons {X = A}, All-head P x xs h, terms-le f g xs (All-tail P x xs h))
 
 sum_of_two : {A : Type 0} (f g : A → ℕ) (xs : List A) → sum_by (λ a. f a + g a) xs ≡ sum_by f xs + sum_by g xs
 sum_of_two {A} f g [] = refl
-sum_of_two {A} f g (x ∷ xs) = omega (
-  arith,
-  sum_by-cons (λ (a : A). f a + g a) x xs,
-  sum_by-cons f x xs,
-  sum_by-cons g x xs,
-  sum_of_two f g xs,
-)
+sum_of_two {A} f g (x ∷ xs) = omega (arith, sum_by-cons {X = A}, sum_of_two f g xs)
 
 -- on an arc that leads into the set or out of it, the other flow is what the arc carries
 abbrev pub Agrees : (Node → Bool) → (Key → ℕ) → Arc Node Key → Type 0
@@ -56,18 +45,12 @@ Agrees inside y a =
 
 weighed : (tail head : Bool) (x y : ℕ) → (tail ≡ true → head ≡ false → y ≤ x) → (head ≡ true → tail ≡ false → x ≤ y)
     → cond head 1 0 * x + cond tail 1 0 * y ≤ cond tail 1 0 * x + cond head 1 0 * y
-weighed true true x y out into = omega arith
-weighed true false x y out into = omega (arith, out refl refl)
-weighed false true x y out into = omega (arith, into refl refl)
-weighed false false x y out into = omega arith
+weighed tail head x y out into = grind arith
 
 unweighed : (tail head : Bool) (x y : ℕ)
     → cond head 1 0 * x + cond tail 1 0 * y ≡ cond tail 1 0 * x + cond head 1 0 * y
     → (tail ≡ true → head ≡ false → y ≡ x) × (head ≡ true → tail ≡ false → y ≡ x)
-unweighed true true x y e = (λ t h. cc, λ h t. cc)
-unweighed true false x y e = (λ t h. omega (arith, e), λ h t. cc)
-unweighed false true x y e = (λ t h. cc, λ h t. omega (arith, e))
-unweighed false false x y e = (λ t h. cc, λ h t. cc)
+unweighed tail head x y e = grind arith
 
 -- WHAT CROSSES a closed set is the same in each flow as cheap
 pub crossing : (v : View) (price : ℕ → ℕ) (p : List Choice) (y : Key → ℕ) (inside : Node → Bool)

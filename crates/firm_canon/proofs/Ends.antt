@@ -1,8 +1,9 @@
 -- How the choice of a task ends: with the first machine that it can reach, or with waiting.
-use Rattle.std.proofs.Common.{◌≡◌, ℕ, zero, suc, ◌<◌, ◌==◌, Bool, true, false, eqb, List, [], ◌∷◌, length, get_or}
-use Rattle.std.proofs.Common.{Option, Some, None, arith, sym, ap, subst, ◌∙◌, inl, inr, ⊎_elim}
+use Rattle.std.proofs.Common.{◌≡◌, ℕ, ◌<◌, ◌==◌, Bool, true, false, List, length, get_or}
+use Rattle.std.proofs.Common.{Option, Some, None, sym, ap, subst, ◌∙◌, inl, inr, ⊎_elim}
 use Rattle.std.specs.List.{list_any}
-use Rattle.std.proofs.lemmas.Bool.{cases_Bool, both_ways, eq-eqb, eqb-true, or_parts}
+use Rattle.std.proofs.lemmas.Bool.{cases_Bool, both_ways, eq-eqb, eqb-true}
+use Rattle.std.proofs.lemmas.List.Folds.{list_any_at}
 use Rattle.firm_rules.specs.declared.rounds.Choice.{Choice}
 use Rattle.firm_rules.specs.declared.rounds.Choice.TheVariants.{On, Wait}
 use Rattle.firm_rules.specs.Placement.{Case, Demand, runs_at, prefers}
@@ -19,11 +20,9 @@ home_only None j e = absurd cc
 home_only (Some h) j e = ap Some (eqb-true h j e)
 
 not_preferred : (xs : List ℕ) (j k : ℕ) → list_any (λ z. z == j) xs ≡ false → k < length xs → get_or xs k 0 ≡ j → ⊥
-not_preferred [] j k none l e = omega arith
-not_preferred (x ∷ xs) j zero none l e =
-    both_ways (eqb x j) (or_parts (eqb x j) (list_any (λ z. z == j) xs) none).0 (eq-eqb x j e)
-not_preferred (x ∷ xs) j (suc k) none l e =
-    not_preferred xs j k (or_parts (eqb x j) (list_any (λ z. z == j) xs) none).1 (omega arith) e
+not_preferred xs j k none l e =
+    let is_j : ℕ → Bool = λ z. z == j in
+    both_ways (list_any is_j xs) none (list_any_at is_j xs k 0 l (eq-eqb (get_or xs k 0) j e))
 
 module _ (v : View) (price : ℕ → ℕ) (p : List Choice) (keeps : Keeps v price p)
     (next : length p < length v.case.tasks) where

@@ -20,7 +20,7 @@ use Rattle.firm_graph.specs.declared.network.Key.TheVariants.{Through, Slot, Exi
 use Rattle.firm_graph.specs.Network.{demand, network, task_nodes, IsSound}
 use Rattle.firm_canon.proofs.Totals.{total-le}
 use Rattle.firm_canon.specs.inner.Placed.{pick, wide, stay, waits, prefer, spot, guests, placed}
-use Rattle.firm_canon.proofs.Nears.{prefer_none}
+use Rattle.firm_canon.proofs.Nears.{prefer_none, stay_none}
 use Rattle.firm_canon.proofs.Placed.{sum_network, cost_placed, balanced_placed}
 use Rattle.firm_canon.proofs.Parts.{parts, whole, within_placed}
 use Rattle.firm_canon.proofs.Read.{read}
@@ -57,10 +57,6 @@ guests-le c p r j =
 pub wide_none : (t : Demand) → wide t None ≡ 0
 wide_none t = refl
 
-pub stay_none : (home : Option ℕ) → stay home None ≡ 0
-stay_none None = refl
-stay_none (Some h) = refl
-
 -- the holds shut out no placement that goes on from the prefix
 pub low-le : (c : Case) (p r : List Choice) (k : Key) → low_of c p k ≤ placed c (p ++ r) k
 low-le c p r (Through j) = guests-le c p r j
@@ -77,15 +73,11 @@ before_none m (t ∷ ts) [] = refl
 before_none m (t ∷ ts) (b ∷ q) = refl
 
 ranks_last : (own : Bool) (k m : ℕ) → k < m → suc m ≡ cond own 0 (suc k) → ⊥
-ranks_last true k m below e = omega (arith, e)
-ranks_last false k m below e = omega (arith, below, e)
+ranks_last own k m below e = grind arith
 
 same_place : (own other : Bool) (j k : ℕ) → (own ≡ true → other ≡ true → j ≡ k)
     → cond own 0 (suc j) ≡ cond other 0 (suc k) → j ≡ k
-same_place true true j k same e = same refl refl
-same_place true false j k same e = absurd (omega (arith, e))
-same_place false true j k same e = absurd (omega (arith, e))
-same_place false false j k same e = omega (arith, e)
+same_place own other j k same e = grind arith
 
 -- two choices of one rank are one
 rank_is : (m : ℕ) (home : Option ℕ) (a b : Choice) → IsPlace m a → IsPlace m b → rank m home a ≡ rank m home b → a ≡ b

@@ -1,6 +1,7 @@
 -- Where the arcs of a task lead.
 use Rattle.std.proofs.Common.{◌≡◌, ℕ, ◌<◌, Option, Some, None, length, refl, sym, ap, subst, ◌∙◌}
 use Rattle.std.specs.Prelude.{◌≢◌, IfSome, IfNone, IsSome}
+use Rattle.std.proofs.lemmas.Option.{same_Some}
 use Rattle.firm_net.specs.Row.{Row}
 use Rattle.firm_net.specs.Net.{IsArc, IsNode, row_at}
 use Rattle.firm_net.specs.declared.row.NodeId.{NodeId}
@@ -28,9 +29,6 @@ staying : (home : Option ℕ) (j : ℕ) → Machine j ≡ stay_head home → Som
 unfolding number_of
 staying None j e = ap number_of e
 staying (Some h) j e = ap number_of e
-
-pub some-one : {X : Type 0} (x y : X) → Some x ≡ Some y → x ≡ y
-some-one {X} x y e = let out : Option X → X = λ o. elim o [ None ↦ x | Some z ↦ z ] in ap out e
 
 module _ (v : View) (shows : Shows v) where
   -- different nodes of the network have different places
@@ -67,7 +65,7 @@ module _ (v : View) (shows : Shows v) where
         let a : Arc Node Key = arc_at v.case (lows v) (flows v) key in
         let shown = row_shown v shows rows a (listed_at v.case (lows v) (flows v) key k) in
         let same : shown.row ≡ row =
-        some-one shown.row row
+        same_Some shown.row row
         (sym shown.there ∙ ap (λ (z : Key). row_at v.net (v.arc z)) (key_at v.case (lows v) (flows v) key) ∙ there) in
         ap (λ (b : Arc ℕ ArcId). b.head) shown.is ∙ ap (λ (r : Row). r.head.id.place) same
 
@@ -131,7 +129,7 @@ module _ (v : View) (shows : Shows v) where
             → j ≡ preferred_at v.case i k
         unfolding number_of
         preferred_found row j there is l same =
-            some-one j (preferred_at v.case i k)
+            same_Some j (preferred_at v.case i k)
             (ap number_of
             (one_id (Machine j) (Machine (preferred_at v.case i k)) l (shows.preferred i k inside below)
             (same ∙ sym (prefers row there is))))

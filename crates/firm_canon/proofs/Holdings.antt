@@ -15,9 +15,10 @@ use Rattle.firm_canon.specs.inner.Placed.{wide, stay, waits, near, number, prefe
 use Rattle.firm_net.specs.Row.{Row}
 use Rattle.firm_graph.specs.View.{View, Shows, IsSameCase, CanHold, lows, low_of_row, flow_of_row}
 use Rattle.firm_canon.specs.inner.Choosing.{low_of, Keeps, IsChosen}
-use Rattle.firm_canon.proofs.First.{pick_past, wide_none, stay_none}
+use Rattle.firm_canon.proofs.First.{pick_past, wide_none}
+use Rattle.firm_canon.proofs.Totals.{cond_zero}
 use Rattle.firm_canon.proofs.Nears.{wide_is, near_is, own_wide, own_near, near_wide, far_near, other_stay, wait_stay}
-use Rattle.firm_canon.proofs.Nears.{cond_zero, number_in, prefer_none}
+use Rattle.firm_canon.proofs.Nears.{number_in, prefer_none, stay_none}
 use Rattle.firm_canon.proofs.Take.{added, adds_far, adds_near, adds_own, cond_here}
 use Rattle.firm_canon.proofs.Prefixes.{kept_one}
 
@@ -46,14 +47,7 @@ kept_hold v new price p o key id keeps l chosen shows same own is held none one 
     (λ (e : v.arc k ≡ id).
     let is_key : k ≡ key = keeps.shows.arcs_apart k key own_k own (e ∙ is) in
     subst (λ (z : Key). lows new z ≡ lows v z + added v.case p o z) (sym is_key)
-    (omega (
-      arith,
-      ap (λ (i : ArcId). low_of_row (row_at new.net i)) (id_of key ∙ sym is),
-      held.here,
-      keeps.lows key own,
-      none,
-      one,
-    )))
+    (omega (arith, ap (λ (i : ArcId). low_of_row (row_at new.net i)) (id_of key ∙ sym is), keeps.lows key own)))
     (λ (ne : v.arc k ≡ id → ⊥).
     omega (
       arith,
@@ -82,13 +76,7 @@ kept_holds v mid new price p o one two id_one id_two low keeps l chosen shows sa
     (λ (e : v.arc k ≡ id_two).
     let is_key : k ≡ two = keeps.shows.arcs_apart k two own_k own_two (e ∙ is_two) in
     subst (λ (z : Key). lows new z ≡ lows v z + added v.case p o z) (sym is_key)
-    (omega (
-      arith,
-      ap (λ (i : ArcId). low_of_row (row_at new.net i)) (id_of two ∙ sym is_two),
-      second.here,
-      low_is,
-      adds_two,
-    )))
+    (omega (arith, ap (λ (i : ArcId). low_of_row (row_at new.net i)) (id_of two ∙ sym is_two))))
     (λ (ne : v.arc k ≡ id_two → ⊥).
     let past : row_at new.net (v.arc k) ≡ row_at mid.net (v.arc k) = second.others (v.arc k) ne in
     ⊎_elim
@@ -99,12 +87,9 @@ kept_holds v mid new price p o one two id_one id_two low keeps l chosen shows sa
       ap (λ (i : ArcId). low_of_row (row_at new.net i)) (id_of k),
       ap low_of_row past,
       ap (λ (i : ArcId). low_of_row (row_at mid.net i)) e,
-      first.here,
       ap (lows v) is_key,
       ap (added v.case p o) is_key,
       keeps.lows one own_one,
-      none,
-      adds_one,
     ))
     (λ (other : v.arc k ≡ id_one → ⊥).
     omega (
@@ -230,7 +215,6 @@ can_come v mid price p o low id keeps chosen other far is low_is flows_are =
       cond_here o (wide t (Some (On o))),
       wide_is t o other far,
       keeps.lows (Through o) chosen.place,
-      low_is,
       flows_are id,
       ap (λ (i : ArcId). flow_of_row (row_at v.net i)) is,
     ))

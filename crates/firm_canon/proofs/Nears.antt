@@ -2,7 +2,8 @@
 use Rattle.std.proofs.Common.{◌≡◌, ℕ, ◌+◌, ◌*◌, ◌<◌, ◌≤◌, ◌==◌, Bool, true, false, cond, eqb, ltb, List, ◌⊎◌, inl, inr}
 use Rattle.std.proofs.Common.{length, get_or, arith, refl, sym, ap, subst, ◌∙◌, ⊎_elim, Option, Some, None}
 use Rattle.std.specs.List.{list_any, position, position_or_len}
-use Rattle.std.proofs.lemmas.Bool.{both_ways, cases_Bool, cases_lt, cond-true, cond-false, eqb-true, lt-ltb}
+use Rattle.std.proofs.lemmas.Bool.{both_ways, cases_Bool, cases_lt, cond-true, cond-false, cond_both, eqb-true}
+use Rattle.std.proofs.lemmas.Bool.{ltb-false}
 use Rattle.std.proofs.lemmas.List.Folds.{list_any_at, list_any_none}
 use Rattle.std.proofs.lemmas.List.Quantifiers.{position-Some}
 use Rattle.std.proofs.lemmas.List.Sums.{fails_before_first, passes_at_first, position_or_len_is}
@@ -11,7 +12,7 @@ use Rattle.firm_rules.specs.declared.rounds.Choice.{Choice}
 use Rattle.firm_rules.specs.declared.rounds.Choice.TheVariants.{On, Wait}
 use Rattle.firm_rules.specs.Placement.{Demand, total, runs_at, prefers}
 use Rattle.firm_canon.specs.inner.Placed.{wide, stay, waits, near, number, prefer, spot}
-use Rattle.firm_canon.proofs.Totals.{total_zero, total_same, total_at}
+use Rattle.firm_canon.proofs.Totals.{cond_zero, times_cond, total_zero, total_same, total_at}
 
 -- the first of the preferences for a machine is one of them
 pub number_in : (xs : List ℕ) (j : ℕ) → list_any (λ k. k == j) xs ≡ true
@@ -37,17 +38,11 @@ position_some xs j k e =
 
 position_none : (xs : List ℕ) (j : ℕ) → position (λ z. z == j) xs ≡ None → list_any (λ z. z == j) xs ≡ false
 position_none xs j e =
-    let n : ℕ = position_or_len (λ z. z == j) xs in
-    let nothing : Option ℕ = None in
-    ⊎_elim
-    (λ (t : list_any (λ z. z == j) xs ≡ true).
-    absurd (none_is n (sym e ∙ cond-true {A = Option ℕ} (ltb n (length xs)) (Some n) nothing
-    (lt-ltb n (length xs) (number_in xs j t).0))))
-    (λ (f : list_any (λ z. z == j) xs ≡ false). f)
-    (cases_Bool (list_any (λ z. z == j) xs))
-  where
-    none_is : (k : ℕ) → None ≡ Some k → ⊥
-    none_is k e = cc
+    let is_j : ℕ → Bool = λ z. z == j in
+    let n : ℕ = position_or_len is_j xs in
+    let past : length xs ≤ n = cond_both (ltb n (length xs)) (Some n) None (λ (o : Option ℕ). o ≡ None → length xs ≤ n)
+    (λ _ clash. absurd cc) (λ f _. ltb-false n (length xs) f) e in
+    list_any_none is_j xs (λ k d l. fails_before_first is_j xs k d (omega (arith, l, past)))
 
 -- whether it goes to its own machine, to a preferred one or to another
 pub wide_is : (t : Demand) (j : ℕ) → runs_at t.home j ≡ false → prefers t j ≡ false → wide t (Some (On j)) ≡ 1
@@ -62,9 +57,8 @@ own_wide t j own = cond-true {A = ℕ} (runs_at t.home j) 0 _ own
 pub own_near : (t : Demand) (j : ℕ) → runs_at t.home j ≡ true → near t (Some (On j)) ≡ 0
 own_near t j own = cond-true {A = ℕ} (runs_at t.home j) 0 _ own
 
-pub cond_zero : (b : Bool) (x : ℕ) → x ≡ 0 → cond b x 0 ≡ 0
-cond_zero true x e = e
-cond_zero false x e = refl
+pub cond_le : (b : Bool) (x m : ℕ) → x ≤ m → cond b x 0 ≤ m
+cond_le b x m h = grind arith
 
 pub near_wide : (t : Demand) (j : ℕ) → prefers t j ≡ true → wide t (Some (On j)) ≡ 0
 near_wide t j close =
@@ -84,6 +78,10 @@ pub other_stay : (home : Option ℕ) (j : ℕ) → runs_at home j ≡ false → 
 other_stay None j e = refl
 other_stay (Some h) j e = cond-false {A = ℕ} (eqb h j) 1 0 e
 
+pub stay_none : (home : Option ℕ) → stay home None ≡ 0
+stay_none None = refl
+stay_none (Some h) = refl
+
 pub wait_stay : (home : Option ℕ) → stay home (Some Wait) ≡ 0
 wait_stay None = refl
 wait_stay (Some h) = refl
@@ -92,15 +90,14 @@ pub stay_is : (home : Option ℕ) (j : ℕ) → stay home (Some (On j)) ≡ cond
 stay_is None j = refl
 stay_is (Some h) j = refl
 
+all_ways : (b c : Bool) → cond b 0 (cond c 0 1) + cond b 1 0 + 0 + cond b 0 (cond c 1 0) ≡ 1
+all_ways b c = grind arith
+
 -- ONE UNIT
 pub one_way : (t : Demand) (o : Choice)
     → wide t (Some o) + stay t.home (Some o) + waits (Some o) + near t (Some o) ≡ 1
 one_way t Wait = omega (arith, wait_stay t.home)
-one_way t (On j) =
-    let sides : (b c : Bool) → cond b 0 (cond c 0 1) + cond b 1 0 + 0 + cond b 0 (cond c 1 0) ≡ 1 =
-    λ b c. elim b as (λ b. cond b 0 (cond c 0 1) + cond b 1 0 + 0 + cond b 0 (cond c 1 0) ≡ 1)
-    [ true ↦ refl | false ↦ elim c as (λ c. cond c 0 1 + 0 + 0 + cond c 1 0 ≡ 1) [ true ↦ refl | false ↦ refl ] ] in
-    omega (arith, sides (runs_at t.home j) (prefers t j), stay_is t.home j)
+one_way t (On j) = omega (arith, all_ways (runs_at t.home j) (prefers t j), stay_is t.home j)
 
 -- a task that comes as it prefers uses a preference that is there, for that machine
 pub prefers_there : (t : Demand) (o : Choice) → (near t (Some o) ≡ 0)
@@ -136,10 +133,7 @@ prefer_weighed w t o =
     (λ (there : (one ≡ 1) × (e < n) × (get_or t.preferred e 0 ≡ spot (Some o))).
     total_same (λ (k : ℕ). w (get_or t.preferred k 0) * prefer t k (Some o))
     (λ (k : ℕ). cond (eqb e k) (w (get_or t.preferred k 0) * one) 0) n
-    (λ k l. let sides : (b : Bool) → w (get_or t.preferred k 0) * cond b one 0
-    ≡ cond b (w (get_or t.preferred k 0) * one) 0 =
-    λ b. elim b as (λ b. w (get_or t.preferred k 0) * cond b one 0 ≡ cond b (w (get_or t.preferred k 0) * one) 0)
-    [ true ↦ refl | false ↦ mul-zero (w (get_or t.preferred k 0)) ] in sides (eqb e k))
+    (λ k l. times_cond (eqb e k) (w (get_or t.preferred k 0)) one)
     ∙ (total_at (λ (k : ℕ). w (get_or t.preferred k 0) * one) n e there.1
     ∙ ap (λ z. w z * one) there.2))
     (prefers_there t o)
@@ -163,9 +157,7 @@ wide_le_one t (Some o) = omega (arith, one_way t o)
 
 pub prefer_le_one : (t : Demand) (k : ℕ) (o : Option Choice) → prefer t k o ≤ 1
 prefer_le_one t k o =
-    let sides : (b : Bool) → cond b (near t o) 0 ≤ 1 =
-    λ b. elim b as (λ b. cond b (near t o) 0 ≤ 1) [ true ↦ near_le_one t o | false ↦ omega arith ] in
-    sides (eqb (number t o) k)
+    cond_le (eqb (number t o) k) (near t o) 1 (near_le_one t o)
 
 pub prefer_none : (t : Demand) (k : ℕ) → prefer t k None ≡ 0
 prefer_none t k = cond_zero (eqb 0 k) 0 refl

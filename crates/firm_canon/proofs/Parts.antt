@@ -1,5 +1,5 @@
 -- What holds of every arc of the network, arc by arc.
-use Rattle.std.proofs.Common.{◌≡◌, ℕ, zero, suc, ◌*◌, ◌<◌, ◌≤◌, Bool, true, false, cond, eqb, ltb, List, [], ◌∷◌, ◌++◌}
+use Rattle.std.proofs.Common.{◌≡◌, ℕ, zero, suc, ◌*◌, ◌<◌, ◌≤◌, true, false, cond, eqb, ltb, List, [], ◌∷◌, ◌++◌}
 use Rattle.std.proofs.Common.{length, arith, sym, subst, ⊎_elim, Option, Some, None}
 use Rattle.std.specs.List.{All}
 use Rattle.std.proofs.lemmas.List.Elements.{All-head, All-tail, All-nil, All-cons, All-append}
@@ -16,7 +16,7 @@ use Rattle.firm_graph.specs.declared.network.Node.TheVariants.{Sink, Hub, Machin
 use Rattle.firm_graph.specs.declared.network.Key.{Key}
 use Rattle.firm_graph.specs.declared.network.Key.TheVariants.{Through, Slot, Exit, Wide, Stay, Wait as WaitArc, Prefer}
 use Rattle.firm_canon.specs.inner.Placed.{pick, stay, waits, placed}
-use Rattle.firm_canon.proofs.Nears.{wide_le_one, prefer_le_one}
+use Rattle.firm_canon.proofs.Nears.{cond_le, wide_le_one, prefer_le_one}
 use Rattle.firm_canon.proofs.Placed.{load_is, wide_arc, stay_arc, delay_arc, prefer_arc, count_at}
 
 pub All-halves : {A : Type 0} (P : A → Type 0) (xs ys : List A) → All P (xs ++ ys) → All P xs × All P ys
@@ -122,10 +122,6 @@ waits_le_one None = omega arith
 waits_le_one (Some Wait) = omega arith
 waits_le_one (Some (On j)) = omega arith
 
-pub cond_le : (b : Bool) (x m : ℕ) → x ≤ m → cond b x 0 ≤ m
-cond_le true x m h = h
-cond_le false x m h = omega arith
-
 pub total_le_count : (f : ℕ → ℕ) (n : ℕ) → ((i : ℕ) → i < n → f i ≤ 1) → total f n ≤ n
 total_le_count f zero h = omega arith
 total_le_count f (suc n) h = omega (arith, total_le_count f n (λ i l. h i (omega arith)), h n (omega arith))
@@ -142,7 +138,6 @@ within_placed c q low x sound legal above =
         above (Exit k),
         omega (
           arith,
-          sound.limit_fits,
           total_le_count (λ (i : ℕ). cond (eqb (demand c i).job k) (waits (pick q i)) 0) (length c.tasks)
               (λ i l. cond_le (eqb (demand c i).job k) (waits (pick q i)) 1 (waits_le_one (pick q i))),
         ),

@@ -25,7 +25,7 @@ use Rattle.firm_canon.proofs.Totals.{total_regroup, sum_gather}
 use Rattle.firm_flow.specs.Balance.{Balanced}
 use Rattle.firm_canon.specs.inner.Placed.{pick, wide, stay, waits, near, prefer, spot, wide_at, stay_at, near_at}
 use Rattle.firm_canon.specs.inner.Placed.{prefer_at, guests, stayers, comers, placed}
-use Rattle.firm_canon.proofs.Nears.{one_way, prefer_weighed, prefer_all}
+use Rattle.firm_canon.proofs.Nears.{one_way, prefer_weighed, prefer_all, stay_none, wait_stay}
 
 pub pick_some : (q : List Choice) (i : ℕ) → i < length q → (o : Choice) × (pick q i ≡ Some o)
 pick_some [] i l = absurd (omega arith)
@@ -36,13 +36,6 @@ pick_some (o ∷ q) (suc i) l = pick_some q i (omega arith)
 pub at_pick : (q : List Choice) (i : ℕ) (P : Option Choice → Type 0) → i < length q → ((o : Choice) → P (Some o))
     → P (pick q i)
 at_pick q i P l h = let s = pick_some q i l in subst P (sym s.1) (h s.0)
-
--- and where the placement says more of its choices
-pub at_place : (Q : Choice → Type 0) (q : List Choice) (i : ℕ) (P : Option Choice → Type 0) → All Q q → i < length q
-    → ((o : Choice) → Q o → P (Some o)) → P (pick q i)
-at_place Q [] i P a l h = absurd (omega arith)
-at_place Q (o ∷ q) zero P a l h = h o (All-head Q o q a)
-at_place Q (o ∷ q) (suc i) P a l h = at_place Q q i P (All-tail Q o q a) (omega arith) h
 
 -- a sum over a placement, by place
 sum_pick : (F : Choice → ℕ) (G : Option Choice → ℕ) (q : List Choice) → ((o : Choice) → G (Some o) ≡ F o)
@@ -142,6 +135,13 @@ waits_there : (c : Case) (home : Option ℕ) → cond (leaves home Wait) c.churn
 waits_there c None = refl
 waits_there c (Some h) = refl
 
+-- what the way to a machine costs: the task's own, one that it prefers or another
+way_cost : (own close has : Bool) (remote away hub delay churn : ℕ) → (own ≡ true → away ≡ 0)
+    → (own ≡ false → away ≡ churn) → hub ≡ churn + cond has remote 0
+    → hub * cond own 0 (cond close 0 1) + (delay + churn) * 0 + churn * cond own 0 (cond close 1 0)
+    ≡ away + cond (has && not close && not own) remote 0
+way_cost own close has remote away hub delay churn here there e = grind arith
+
 pub task_cost_is : (c : Case) (t : Demand) (o : Choice) → task_arcs_cost c t (Some o) ≡ task_cost c t o
 task_cost_is c t Wait = omega (
   arith,
@@ -150,40 +150,9 @@ task_cost_is c t Wait = omega (
   mul-zero (leaving c t),
 )
 task_cost_is c t (On j) =
-    let some : Bool = ltb 0 (length t.preferred) in
-    let sides : (own close has : Bool) (away hub delay churn : ℕ)
-    → (own ≡ true → away ≡ 0) → (own ≡ false → away ≡ churn) → hub ≡ churn + cond has c.remote 0
-    → hub * cond own 0 (cond close 0 1) + (delay + churn) * 0 + churn * cond own 0 (cond close 1 0)
-    ≡ away + cond (has && not close && not own) c.remote 0 =
-    λ own close has away hub delay churn here there e. elim own as (λ own. (own ≡ true → away ≡ 0)
-    → (own ≡ false → away ≡ churn)
-    → hub * cond own 0 (cond close 0 1) + (delay + churn) * 0 + churn * cond own 0 (cond close 1 0)
-    ≡ away + cond (has && not close && not own) c.remote 0) [
-      | true ↦ λ here there. elim has as (λ has. hub * 0 + (delay + churn) * 0 + churn * 0
-          ≡ away + cond (has && not close && false) c.remote 0) [
-            | true ↦ elim close as (λ close. hub * 0 + (delay + churn) * 0 + churn * 0
-                ≡ away + cond (not close && false) c.remote 0)
-                [ true ↦ omega (arith, here refl) | false ↦ omega (arith, here refl) ]
-            | false ↦ omega (arith, here refl)
-          ]
-      | false ↦ λ here there. elim close as
-          (λ close. hub * cond close 0 1 + (delay + churn) * 0 + churn * cond close 1 0
-          ≡ away + cond (has && not close && true) c.remote 0) [
-            | true ↦ elim has as (λ has. hub * 0 + (delay + churn) * 0 + churn * 1
-                ≡ away + cond (has && false && true) c.remote 0)
-                [ true ↦ omega (arith, there refl) | false ↦ omega (arith, there refl) ]
-            | false ↦ omega (
-              arith,
-              there refl,
-              e,
-              (elim has as (λ has. cond (has && true && true) c.remote 0 ≡ cond has c.remote 0)
-                  [ true ↦ refl | false ↦ refl ]),
-            )
-          ]
-    ] here there in
-    sides (runs_at t.home j) (prefers t j) some (cond (leaves t.home (On j)) c.churn 0) (by_hub c t) t.delay
-    (leaving c t)
-    (stays_there c t.home j) (runs_away c t.home j) refl
+    way_cost (runs_at t.home j) (prefers t j) (ltb 0 (length t.preferred)) c.remote
+    (cond (leaves t.home (On j)) c.churn 0) (by_hub c t) t.delay (leaving c t) (stays_there c t.home j)
+    (runs_away c t.home j) refl
 
 -- the arcs of a task, as the network has them
 abbrev pub wide_arc : Case → (Key → ℕ) → (Key → ℕ) → ℕ → Arc Node Key
@@ -220,23 +189,11 @@ sum_network F c low x =
     let slot : ℕ → ℕ → Arc Node Key = λ (j k : ℕ). arc low x (Slot j k) (Machine j) Sink 1 (k * c.spread) in
     let one : (j : ℕ) → j < length c.slots → sum_by F (machine_arcs c low x j)
     ≡ F (arc low x (Through j) Hub (Machine j) (slots_of c j) 0) + total (λ k. F (slot j k)) (slots_of c j) =
-    λ j l. omega (
-      arith,
-      sum_by-cons F (arc low x (Through j) Hub (Machine j) (slots_of c j) 0)
-          (gather (λ k. slot j k ∷ []) (slots_of c j)),
-      sum_ones F (slot j) (slots_of c j),
-    ) in
+    λ j l. omega (arith, sum_by-cons {X = Arc Node Key}, sum_ones F (slot j) (slots_of c j)) in
     let each : (i : ℕ) → i < length c.tasks → sum_by F (task_arcs c low x i)
     ≡ F (wide_arc c low x i) + F (stay_arc c low x i) + F (delay_arc c low x i)
     + total (λ k. F (prefer_arc c low x i k)) (count_at c i) =
-    λ i l. let rest : List (Arc Node Key) = gather (λ k. prefer_arc c low x i k ∷ []) (count_at c i) in
-    omega (
-      arith,
-      sum_by-cons F (wide_arc c low x i) (stay_arc c low x i ∷ delay_arc c low x i ∷ rest),
-      sum_by-cons F (stay_arc c low x i) (delay_arc c low x i ∷ rest),
-      sum_by-cons F (delay_arc c low x i) rest,
-      sum_ones F (prefer_arc c low x i) (count_at c i),
-    ) in
+    λ i l. omega (arith, sum_by-cons {X = Arc Node Key}, sum_ones F (prefer_arc c low x i) (count_at c i)) in
     omega (
       arith,
       sum_by-append F machines (jobs ++ tasks),
@@ -294,17 +251,13 @@ cost_placed c q low x legal =
     c.tasks q legal.one_each (task_cost_is c)) in
     omega (arith, sum_network (λ (a : Arc Node Key). a.cost * placed c q a.key) c low x, machines, exits, tasks)
 
-pub wide_spot : (m : ℕ) (t : Demand) (o : Choice) → IsPlace m o → (spot (Some o) < m) ⊎ (wide t (Some o) ≡ 0)
-wide_spot m t Wait h = inr refl
-wide_spot m t (On j) h = inl h
-
-pub near_spot : (m : ℕ) (t : Demand) (o : Choice) → IsPlace m o → (spot (Some o) < m) ⊎ (near t (Some o) ≡ 0)
-near_spot m t Wait h = inr refl
-near_spot m t (On j) h = inl h
-
-pub stay_spot : (m : ℕ) (home : Option ℕ) (o : Choice) → IsPlace m o → (spot (Some o) < m) ⊎ (stay home (Some o) ≡ 0)
-stay_spot m home Wait h = inr refl
-stay_spot m home (On j) h = inl h
+-- what a choice puts somewhere is 0 at no choice and at waiting: so it is at a machine that is there
+spot_in : (F : Option Choice → ℕ) (m : ℕ) (q : List Choice) (i : ℕ) → All (IsPlace m) q → F None ≡ 0 → F (Some Wait) ≡ 0
+    → (spot (pick q i) < m) ⊎ (F (pick q i) ≡ 0)
+spot_in F m [] i places none waits = inr none
+spot_in F m (Wait ∷ q) zero places none waits = inr waits
+spot_in F m (On j ∷ q) zero places none waits = inl (All-head (IsPlace m) (On j) q places)
+spot_in F m (o ∷ q) (suc i) places none waits = spot_in F m q i (All-tail (IsPlace m) o q places) none waits
 
 -- a task that stays is at its own machine
 pub stay_there : (w : Node → ℕ) (home : Option ℕ) (o : Choice)
@@ -327,7 +280,7 @@ total_ones : (f : ℕ → ℕ) (n : ℕ) → ((i : ℕ) → i < n → f i ≡ 1)
 total_ones f zero h = refl
 total_ones f (suc n) h = omega (arith, total_ones f n (λ i l. h i (omega arith)), h n (omega arith))
 
-pub plain_regroup : (e g : ℕ → ℕ) (m n : ℕ) → ((i : ℕ) → i < n → (e i < m) ⊎ (g i ≡ 0))
+plain_regroup : (e g : ℕ → ℕ) (m n : ℕ) → ((i : ℕ) → i < n → (e i < m) ⊎ (g i ≡ 0))
     → total g n ≡ total (λ j. total (λ i. cond (eqb (e i) j) (g i) 0) n) m
 plain_regroup e g m n h =
     omega (
@@ -336,6 +289,13 @@ plain_regroup e g m n h =
       total-mul 1 g n,
       total-mul 1 (λ (j : ℕ). total (λ i. cond (eqb (e i) j) (g i) 0) n) m,
     )
+
+-- the tasks that come by the hub are the guests of the machines
+pub guests_in_all : (c : Case) (q : List Choice) → All (IsPlace (length c.slots)) q
+    → total (wide_at c q) (length c.tasks) ≡ total (guests c q) (length c.slots)
+guests_in_all c q places =
+    plain_regroup (λ (i : ℕ). spot (pick q i)) (wide_at c q) (length c.slots) (length c.tasks)
+    (λ i l. spot_in (wide (demand c i)) (length c.slots) q i places refl refl)
 
 -- THE FLOW of a placement is balanced
 pub balanced_placed : (c : Case) (q : List Choice) (low x : Key → ℕ) → IsSound c → IsLegal c q
@@ -418,33 +378,28 @@ balanced_placed c q low x sound legal w =
       mul-add (w (Task i)) (wide_at c q i + stay_at c q i) (waits (pick q i)),
       mul-add (w (Task i)) (wide_at c q i) (stay_at c q i),
     )) in
+    let stays_in : (i : ℕ) → i < t → (spot (pick q i) < m) ⊎ (stay_at c q i ≡ 0) =
+    λ i l. spot_in (stay (demand c i).home) m q i legal.places (stay_none (demand c i).home)
+    (wait_stay (demand c i).home) in
+    let comes_in : (i : ℕ) → i < t → (spot (pick q i) < m) ⊎ (near_at c q i ≡ 0) =
+    λ i l. spot_in (near (demand c i)) m q i legal.places refl refl in
     let stays : total to_own t ≡ total keeps m =
     total_same to_own (λ (i : ℕ). w (Machine (spot (pick q i))) * stay_at c q i) t
     (λ i l. at_pick q i (λ o. w (stay_head (demand c i).home) * stay (demand c i).home o
     ≡ w (Machine (spot o)) * stay (demand c i).home o)
     (omega (arith, l, legal.one_each)) (stay_there w (demand c i).home))
     ∙ total_regroup (λ (j : ℕ). w (Machine j)) (λ (i : ℕ). spot (pick q i)) (stay_at c q) m t
-    (λ i l. at_place (IsPlace m) q i (λ o. (spot o < m) ⊎ (stay (demand c i).home o ≡ 0)) legal.places
-    (omega (arith, l, legal.one_each)) (stay_spot m (demand c i).home)) in
+    stays_in in
     let closes : total to_near t ≡ total comes m =
-    total_regroup (λ (j : ℕ). w (Machine j)) (λ (i : ℕ). spot (pick q i)) (near_at c q) m t
-    (λ i l. at_place (IsPlace m) q i (λ o. (spot o < m) ⊎ (near (demand c i) o ≡ 0)) legal.places
-    (omega (arith, l, legal.one_each)) (near_spot m (demand c i))) in
+    total_regroup (λ (j : ℕ). w (Machine j)) (λ (i : ℕ). spot (pick q i)) (near_at c q) m t comes_in in
     let delays : total to_job t ≡ total (λ k. w (Owner k) * exits k) c.jobs =
     total_regroup (λ (k : ℕ). w (Owner k)) (λ (i : ℕ). (demand c i).job) (λ (i : ℕ). waits (pick q i)) c.jobs t
     (λ i l. inl (sound.jobs_in i l)) in
-    let wides : total (wide_at c q) t ≡ total (guests c q) m =
-    plain_regroup (λ (i : ℕ). spot (pick q i)) (wide_at c q) m t
-    (λ i l. at_place (IsPlace m) q i (λ o. (spot o < m) ⊎ (wide (demand c i) o ≡ 0)) legal.places
-    (omega (arith, l, legal.one_each)) (wide_spot m (demand c i))) in
+    let wides : total (wide_at c q) t ≡ total (guests c q) m = guests_in_all c q legal.places in
     let staying : total (stay_at c q) t ≡ total (stayers c q) m =
-    plain_regroup (λ (i : ℕ). spot (pick q i)) (stay_at c q) m t
-    (λ i l. at_place (IsPlace m) q i (λ o. (spot o < m) ⊎ (stay (demand c i).home o ≡ 0)) legal.places
-    (omega (arith, l, legal.one_each)) (stay_spot m (demand c i).home)) in
+    plain_regroup (λ (i : ℕ). spot (pick q i)) (stay_at c q) m t stays_in in
     let coming : total (near_at c q) t ≡ total (comers c q) m =
-    plain_regroup (λ (i : ℕ). spot (pick q i)) (near_at c q) m t
-    (λ i l. at_place (IsPlace m) q i (λ o. (spot o < m) ⊎ (near (demand c i) o ≡ 0)) legal.places
-    (omega (arith, l, legal.one_each)) (near_spot m (demand c i))) in
+    plain_regroup (λ (i : ℕ). spot (pick q i)) (near_at c q) m t comes_in in
     let holding : total (λ i. waits (pick q i)) t ≡ total exits c.jobs =
     plain_regroup (λ (i : ℕ). (demand c i).job) (λ (i : ℕ). waits (pick q i)) c.jobs t (λ i l. inl (sound.jobs_in i l))
     in
@@ -474,16 +429,6 @@ balanced_placed c q low x sound legal w =
       arith,
       sum_network (λ (a : Arc Node Key). w a.head * placed c q a.key) c low x,
       sum_network (λ (a : Arc Node Key). w a.tail * placed c q a.key) c low x,
-      heads_m,
-      tails_m,
-      heads_t,
-      tails_t,
-      stays,
-      closes,
-      delays,
-      ends,
-      hub,
-      sources,
       total-mul (w Sink) exits c.jobs,
       ap (λ z. w Sink * z) (length_nodes t),
     )

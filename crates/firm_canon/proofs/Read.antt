@@ -1,8 +1,7 @@
 -- A flow whose lower bounds hold every task to its choice gives a placement that costs no more.
 use Rattle.std.proofs.Common.{◌≡◌, ℕ, ◌+◌, ◌*◌, ◌<◌, ◌≤◌, Bool, true, false, cond, eqb, List, [], ◌∷◌, length, arith}
-use Rattle.std.proofs.Common.{sym, ap, ◌∙◌, ◌⊎◌, ⊎_elim, Option, Some, None}
+use Rattle.std.proofs.Common.{sym, ap, ◌∙◌, Option, Some, None}
 use Rattle.std.specs.List.{All, sum_by}
-use Rattle.std.proofs.lemmas.Bool.{cases_eq, eq-eqb, ne_eqb}
 use Rattle.firm_rules.specs.declared.rounds.Choice.{Choice}
 use Rattle.firm_paths.specs.Network.{Arc}
 use Rattle.firm_flow.specs.Flow.{IsWithinBounds, cost_of, carried}
@@ -18,8 +17,8 @@ use Rattle.firm_canon.proofs.Totals.{staircase_least, tri_least, sum_gather}
 use Rattle.firm_canon.specs.inner.Placed.{pick, wide, stay, waits, near, prefer, spot, wide_at, stay_at, near_at}
 use Rattle.firm_canon.specs.inner.Placed.{prefer_at, guests, aside}
 use Rattle.firm_canon.proofs.Nears.{one_way, prefer_weighed}
-use Rattle.firm_canon.proofs.Placed.{load_is, sum_network, at_pick, at_place, wide_spot, stay_there, prefer_sum}
-use Rattle.firm_canon.proofs.Placed.{plain_regroup, leaving, by_hub, count_at, task_arcs_cost, tasks_cost_is}
+use Rattle.firm_canon.proofs.Placed.{load_is, sum_network, at_pick, guests_in_all, stay_there, prefer_sum}
+use Rattle.firm_canon.proofs.Placed.{leaving, by_hub, count_at, task_arcs_cost, tasks_cost_is}
 use Rattle.firm_canon.proofs.Placed.{task_cost_is}
 use Rattle.firm_canon.proofs.Parts.{parts}
 use Rattle.firm_flow.specs.Balance.{Balanced}
@@ -47,8 +46,7 @@ machine_mark e (Owner k) = 0
 machine_mark e (Task i) = 0
 
 cond_times : (b : Bool) (x : ℕ) → cond b 1 0 * x ≡ cond b x 0
-cond_times true x = omega arith
-cond_times false x = omega arith
+cond_times b x = grind arith
 
 no_task_stays : (e : ℕ) (home : Option ℕ) (x : ℕ) → task_mark e (stay_head home) * x ≡ 0
 no_task_stays e None x = omega arith
@@ -185,10 +183,7 @@ machine_passes c low x e l balanced =
     )
 
 eqb_sym : (a b : ℕ) → eqb a b ≡ eqb b a
-eqb_sym a b =
-    ⊎_elim (λ (e : a ≡ b). eq-eqb a b e ∙ sym (eq-eqb b a (sym e)))
-    (λ (ne : a ≡ b → ⊥). ne_eqb a b ne ∙ sym (ne_eqb b a (λ (e : b ≡ a). ne (sym e))))
-    (cases_eq a b)
+eqb_sym a b = grind arith
 
 -- the flow is held to the placement
 pub record IsHeld (c : Case) (p : List Choice) (x : Key → ℕ) : Type 0 where
@@ -220,12 +215,11 @@ held_one c p low x e held balanced i l =
     let above_stay : stay_at c p i ≤ x (Stay i) = held.at_stay i l in
     let above_delay : waits (pick p i) ≤ x (Wait i) = held.at_delay i l in
     record {
-      wide = omega (arith, one, sends, prefers_sum, more, above_wide, above_stay, above_delay);
-      stay = omega (arith, one, sends, prefers_sum, more, above_wide, above_stay, above_delay);
-      delay = omega (arith, one, sends, prefers_sum, more, above_wide, above_stay, above_delay);
+      wide = omega arith;
+      stay = omega arith;
+      delay = omega arith;
       prefers = λ k m. sym (total_tight (prefer_at c p i) (λ (k : ℕ). x (Prefer i k)) n
-          (λ k m. held.at_prefer i k l m)
-          (omega (arith, one, sends, prefers_sum, more, above_wide, above_stay, above_delay)) k m);
+          (λ k m. held.at_prefer i k l m) (omega arith) k m);
     }
 
 -- READING: the placement is legal, and costs no more than the flow
@@ -238,27 +232,18 @@ read c p low x e places held within balanced =
     let t : ℕ = length c.tasks in
     let bounds = parts (λ (a : Arc Node Key). (a.low ≤ a.flow) × (a.flow ≤ a.cap)) c low x within in
     let is_one : (i : ℕ) → i < t → IsOne c p x i = λ i l. held_one c p low x e held balanced i l in
-    let is_wide : (i : ℕ) → i < t → x (Wide i) ≡ wide_at c p i = λ i l. (is_one i l).wide in
-    let is_stay : (i : ℕ) → i < t → x (Stay i) ≡ stay_at c p i = λ i l. (is_one i l).stay in
-    let waits_is : (i : ℕ) → i < t → x (Wait i) ≡ waits (pick p i) = λ i l. (is_one i l).delay in
-    let is_prefer : (i k : ℕ) → i < t → k < count_at c i → x (Prefer i k) ≡ prefer_at c p i k =
-    λ i k l m. (is_one i l).prefers k m in
-    let wides : total (wide_at c p) t ≡ total (guests c p) m =
-    plain_regroup (λ (i : ℕ). spot (pick p i)) (wide_at c p) m t
-    (λ i l. at_place (IsPlace m) p i (λ o. (spot o < m) ⊎ (wide (demand c i) o ≡ 0)) places (omega (arith, l, e))
-    (wide_spot m (demand c i))) in
     let is_through : (j : ℕ) → j < m → guests c p j ≡ x (Through j) =
     total_tight (guests c p) (λ (j : ℕ). x (Through j)) m held.at_through
     (omega (
       arith,
-      wides,
+      guests_in_all c p places,
       hub_passes c low x within balanced,
-      total_same (λ (i : ℕ). x (Wide i)) (wide_at c p) t is_wide,
+      total_same (λ (i : ℕ). x (Wide i)) (wide_at c p) t (λ i l. (is_one i l).wide),
     )) in
     let stayer : ℕ → ℕ → ℕ = λ (j i : ℕ). cond (eqb (spot (pick p i)) j) (stay_at c p i) 0 in
     let comer : ℕ → ℕ → ℕ = λ (j i : ℕ). cond (eqb (spot (pick p i)) j) (near_at c p i) 0 in
     let keeps : (j i : ℕ) → i < t → machine_mark j (stay_head (demand c i).home) * x (Stay i) ≡ stayer j i =
-    λ j i r. ap (λ z. machine_mark j (stay_head (demand c i).home) * z) (is_stay i r)
+    λ j i r. ap (λ z. machine_mark j (stay_head (demand c i).home) * z) (is_one i r).stay
     ∙ (at_pick p i (λ o. machine_mark j (stay_head (demand c i).home) * stay (demand c i).home o
     ≡ machine_mark j (Machine (spot o)) * stay (demand c i).home o)
     (omega (arith, r, e)) (stay_there (machine_mark j) (demand c i).home)
@@ -268,7 +253,7 @@ read c p low x e places held within balanced =
     → total (λ k. machine_mark j (Machine (preferred_at c i k)) * x (Prefer i k)) (count_at c i) ≡ comer j i =
     λ j i r. total_same (λ (k : ℕ). machine_mark j (Machine (preferred_at c i k)) * x (Prefer i k))
     (λ (k : ℕ). machine_mark j (Machine (preferred_at c i k)) * prefer_at c p i k) (count_at c i)
-    (λ k s. ap (λ z. machine_mark j (Machine (preferred_at c i k)) * z) (is_prefer i k r s))
+    (λ k s. ap (λ z. machine_mark j (Machine (preferred_at c i k)) * z) ((is_one i r).prefers k s))
     ∙ (at_pick p i
     (λ o. total (λ k. machine_mark j (Machine (preferred_at c i k)) * prefer (demand c i) k o) (count_at c i)
     ≡ machine_mark j (Machine (spot o)) * near (demand c i) o)
@@ -284,7 +269,6 @@ read c p low x e places held within balanced =
       total_same (comes c x j) (λ (i : ℕ). stayer j i + comer j i) t (λ i r. omega (arith, keeps j i r, closes j i r)),
       total-add (stayer j) (comer j) t,
     ) in
-    let units : (j k : ℕ) → j < m → k < slots_of c j → x (Slot j k) ≤ 1 = λ j k l r. (bounds.slot j k l r).1 in
     let machines : total (λ j. load_cost c.spread (load p j)) m
     ≤ total (λ j. 0 * x (Through j) + total (λ k. (k * c.spread) * x (Slot j k)) (slots_of c j)) m =
     total-le (λ (j : ℕ). load_cost c.spread (load p j))
@@ -292,7 +276,7 @@ read c p low x e places held within balanced =
     (λ j l. omega (
       arith,
       staircase_least c.spread (λ (k : ℕ). x (Slot j k)) (slots_of c j) (load p j)
-          (λ k r. units j k l r) (is_load j l),
+          (λ k r. (bounds.slot j k l r).1) (is_load j l),
     )) in
     let task : ℕ → ℕ = λ (i : ℕ). by_hub c (demand c i) * x (Wide i) + 0 * x (Stay i)
     + ((demand c i).delay + leaving c (demand c i)) * x (Wait i)
@@ -301,19 +285,18 @@ read c p low x e places held within balanced =
     total_same task (λ (i : ℕ). task_arcs_cost c (demand c i) (pick p i)) t
     (λ i l. omega (
       arith,
-      ap (λ z. by_hub c (demand c i) * z) (is_wide i l),
-      ap (λ z. ((demand c i).delay + leaving c (demand c i)) * z) (waits_is i l),
+      ap (λ z. by_hub c (demand c i) * z) (is_one i l).wide,
+      ap (λ z. ((demand c i).delay + leaving c (demand c i)) * z) (is_one i l).delay,
       total-mul (leaving c (demand c i)) (λ (k : ℕ). x (Prefer i k)) (count_at c i),
-      total_same (λ (k : ℕ). x (Prefer i k)) (prefer_at c p i) (count_at c i) (λ k r. is_prefer i k l r),
       ap (λ z. leaving c (demand c i) * z) (total_same (λ (k : ℕ). x (Prefer i k)) (prefer_at c p i) (count_at c i)
-          (λ k r. is_prefer i k l r) ∙ prefer_sum c p i (omega (arith, l, e))),
+          (is_one i l).prefers ∙ prefer_sum c p i (omega (arith, l, e))),
     ))
     ∙ sym (tasks_cost_is c (task_arcs_cost c) (record { home = None; preferred = []; delay = 0; job = 0 }) c.tasks p e
     (task_cost_is c)) in (
       record {
         one_each = e;
         places = places;
-        room = λ j l. (tri_least (λ (k : ℕ). x (Slot j k)) (slots_of c j) (load p j) (λ k r. units j k l r)
+        room = λ j l. (tri_least (λ (k : ℕ). x (Slot j k)) (slots_of c j) (load p j) (λ k r. (bounds.slot j k l r).1)
             (is_load j l)).0;
       },
       omega (arith, sum_network (λ (a : Arc Node Key). a.cost * a.flow) c low x, machines, tasks),

@@ -4,6 +4,7 @@ use Rattle.std.proofs.Common.{arith, refl, sym, ap, subst, ◌∙◌}
 use Rattle.std.specs.List.{All}
 use Rattle.std.proofs.lemmas.List.{append-nil}
 use Rattle.std.proofs.lemmas.List.Elements.{All-contains}
+use Rattle.std.proofs.lemmas.Option.{same_Some}
 use Rattle.firm_net.specs.Row.{Row}
 use Rattle.firm_net.specs.Net.{row_at}
 use Rattle.firm_net.specs.declared.row.ArcId.{ArcId}
@@ -25,7 +26,7 @@ use Rattle.firm_canon.specs.inner.Turns.{IsTightAt}
 use Rattle.firm_canon.specs.inner.Choosing.{low_of, Keeps}
 use Rattle.firm_canon.specs.declared.reads.TaskArc.{TaskArc}
 use Rattle.firm_canon.proofs.Totals.{term-le-total}
-use Rattle.firm_canon.proofs.Heads.{one_node, some-one}
+use Rattle.firm_canon.proofs.Heads.{one_node}
 use Rattle.firm_canon.proofs.Placed.{count_at}
 use Rattle.firm_canon.proofs.Parts.{whole}
 use Rattle.firm_canon.proofs.Shown.{to_net, arc_at}
@@ -70,7 +71,7 @@ module _ (v : View) (price : ℕ → ℕ) (p : List Choice) (keeps : Keeps v pri
   all_apart one =
       let sends = sends_one v price p n keeps next in
       let task : (i : ℕ) → i < length v.case.tasks → spot_of v (Task i) ≡ spot_of v (Task n) → i ≡ n =
-      λ i l e. some-one i n (ap task_of (one_node v keeps.shows (Task i) (Task n) l next e)) in
+      λ i l e. same_Some i n (ap task_of (one_node v keeps.shows (Task i) (Task n) l next e)) in
       to_net v keeps.shows IsApart
       (subst (All (λ (a : Arc Node Key). IsApart (named v a))) (sym (shown_is v price p keeps))
       (whole (λ (a : Arc Node Key). IsApart (named v a)) v.case low (flows v) (record {
@@ -90,9 +91,6 @@ module _ (v : View) (price : ℕ → ℕ) (p : List Choice) (keeps : Keeps v pri
           apart (Machine (preferred_at v.case i k)) (keeps.shows.preferred i k l m) refl,
           λ e more. absurd (omega (
             arith,
-            more,
-            sends,
-            one,
             ap (λ (z : ℕ). flows v (Prefer z k)) (task i l e),
             term-le-total (λ (z : ℕ). flows v (Prefer n z)) (count_at v.case n) k
                 (subst (λ (z : ℕ). k < count_at v.case z) (task i l e) m),
@@ -153,7 +151,6 @@ module _ (v : View) (price : ℕ → ℕ) (p : List Choice) (keeps : Keeps v pri
           has_room = λ e. absurd cc;
           may_fall = λ e. omega (
             arith,
-            one,
             ap (λ (b : Arc ℕ ArcId). b.flow) by.is,
             ap (λ (b : Arc ℕ ArcId). b.low) by.is,
             free_wide,

@@ -37,13 +37,9 @@ All-unmap f P xs h k d l = subst P (get_or-map f xs k d (f d) l) (h k (f d) (ome
 
 sums_at : {A : Type 0} (f g : A → ℕ) (xs : List A) → All (λ x. f x ≡ g x) xs → sum_by f xs ≡ sum_by g xs
 sums_at {A} f g [] h = refl
-sums_at {A} f g (x ∷ xs) h = omega (
-  arith,
-  sum_by-cons f x xs,
-  sum_by-cons g x xs,
-  All-head (λ (y : A). f y ≡ g y) x xs h,
-  sums_at f g xs (All-tail (λ (y : A). f y ≡ g y) x xs h),
-)
+sums_at {A} f g (x ∷ xs) h =
+    let P : A → Type 0 = λ (y : A). f y ≡ g y in
+    omega (arith, sum_by-cons {X = A}, All-head P x xs h, sums_at f g xs (All-tail P x xs h))
 
 -- the network reads lower bounds and flows at its own keys alone
 gather_same : {A : Type 0} (f g : ℕ → List A) (n : ℕ) → ((i : ℕ) → i < n → f i ≡ g i) → gather f n ≡ gather g n
@@ -152,9 +148,6 @@ module _ (v : View) (shows : Shows v) where
         omega (
           arith,
           net.balanced g,
-          heads,
-          tails,
-          from,
           ap (λ n. w n * length (map (spot_of v) (task_nodes v.case))) (shows.role_is Sink tt),
           ap (λ z. w Sink * z) (length-map (task_nodes v.case) (spot_of v)),
         ),

@@ -24,8 +24,8 @@ use Rattle.firm_graph.specs.View.{View, Shows, IsSameCase, lows, flows, spot_of}
 use Rattle.firm_canon.specs.inner.Turns.{IsWhole}
 use Rattle.firm_canon.specs.inner.Choosing.{low_of, Keeps}
 use Rattle.firm_canon.proofs.Totals.{total_zero}
-use Rattle.firm_canon.proofs.Nears.{prefer_none}
-use Rattle.firm_canon.proofs.First.{start, finish, guest_none, wide_none, stay_none}
+use Rattle.firm_canon.proofs.Nears.{prefer_none, stay_none}
+use Rattle.firm_canon.proofs.First.{start, finish, guest_none, wide_none}
 use Rattle.firm_canon.proofs.Shown.{network_same, whole_keyed, to_keyed, arc_at, listed_at, low_at}
 
 -- nothing is held at the start

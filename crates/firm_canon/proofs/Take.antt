@@ -13,10 +13,10 @@ use Rattle.firm_graph.specs.declared.network.Key.TheVariants.{Through, Slot, Exi
 use Rattle.firm_graph.specs.Network.{demand, network}
 use Rattle.firm_canon.proofs.Totals.{total_same, total-add, total_at}
 use Rattle.firm_canon.specs.inner.Placed.{pick, wide, stay, waits, near, number, prefer, prefer_at, spot, guests}
-use Rattle.firm_canon.proofs.Nears.{near_is, own_stay, prefer_none, wide_is}
+use Rattle.firm_canon.proofs.Nears.{near_is, own_stay, prefer_none, stay_none, wide_is}
 use Rattle.firm_canon.proofs.Parts.{parts, whole}
 use Rattle.firm_canon.specs.inner.Choosing.{low_of, Stands, Barred, HasRoom}
-use Rattle.firm_canon.proofs.First.{extend, pick_past, guest_term, guest_none, wide_none, stay_none}
+use Rattle.firm_canon.proofs.First.{extend, pick_past, guest_term, guest_none, wide_none}
 
 -- what the choice adds to the lower bound of a key
 abbrev pub added : Case → List Choice → Choice → Key → ℕ
@@ -29,9 +29,7 @@ added c p o (Wait i) = cond (eqb (length p) i) (waits (Some o)) 0
 added c p o (Prefer i k) = cond (eqb (length p) i) (prefer (demand c (length p)) k (Some o)) 0
 
 same_next : (n i : ℕ) → eqb n i ≡ eqb (suc n) (suc i)
-same_next n i =
-    ⊎_elim (λ (e : n ≡ i). eq-eqb n i e ∙ sym (eq-eqb (suc n) (suc i) (ap suc e)))
-    (λ (ne : n ≡ i → ⊥). ne_eqb n i ne ∙ sym (ne_eqb (suc n) (suc i) (λ e. ne (omega (arith, e))))) (cases_eq n i)
+same_next n i = grind arith
 
 -- a number that is 0 at no choice, after one more choice
 at_one : (F : ℕ → Option Choice → ℕ) (p : List Choice) (o : Choice) (i : ℕ) → F i None ≡ 0
@@ -109,7 +107,6 @@ carries_one F x p o i none old new =
     ⊎_elim
     (λ (e : n ≡ i). omega (
       arith,
-      none,
       subst (λ (k : ℕ). F k (pick p k) ≡ F k None) e (ap (F n) (pick_past p)),
       subst (λ (k : ℕ). more ≤ x k) e new,
       cond-true {A = ℕ} (eqb n i) more 0 (eq-eqb n i e),
@@ -175,7 +172,6 @@ take_choice c p o x price stands l place room none =
         (room.at_prefer k (subst (λ (z : ℕ). k < length (demand c z).preferred) (sym e) m)))
         (λ (ne : length p ≡ i → ⊥). omega (
           arith,
-          old,
           cond-false {A = ℕ} (eqb (length p) i) (prefer (demand c (length p)) k (Some o)) 0 (ne_eqb (length p) i ne),
         ))
         (cases_eq (length p) i)

@@ -1,5 +1,5 @@
 -- Sums over the numbers below n.
-use Rattle.std.proofs.Common.{◌≡◌, ℕ, zero, suc, ◌+◌, ◌*◌, ◌-◌, ◌/◌, ◌<◌, ◌≤◌, Bool, true, false, cond, eqb, ltb, List}
+use Rattle.std.proofs.Common.{◌≡◌, ℕ, zero, suc, ◌+◌, ◌*◌, ◌-◌, ◌/◌, ◌<◌, ◌≤◌, Bool, cond, eqb, ltb, List}
 use Rattle.std.proofs.Common.{arith, refl, sym, ap, subst, ◌∙◌, inl, inr, ◌⊎◌, ⊎_elim}
 use Rattle.std.specs.List.{sum_by}
 use Rattle.std.proofs.lemmas.List.Sums.{sum_by-append}
@@ -66,23 +66,25 @@ total_at f (suc n) e l =
     (λ (ne : e ≡ n → ⊥). omega (arith, total_at f n e (omega arith), cond-false (eqb e n) (f n) 0 (ne_eqb e n ne)))
     (cases_eq e n)
 
+-- an amount where a test passes
+pub cond_zero : (b : Bool) (x : ℕ) → x ≡ 0 → cond b x 0 ≡ 0
+cond_zero b x e = grind arith
+
+pub times_cond : (b : Bool) (a x : ℕ) → a * cond b x 0 ≡ cond b (a * x) 0
+times_cond b a x = grind arith
+
 -- amounts at places below m, summed by place
 pub total_regroup : (w : ℕ → ℕ) (e g : ℕ → ℕ) (m n : ℕ) → ((i : ℕ) → i < n → (e i < m) ⊎ (g i ≡ 0))
     → total (λ i. w (e i) * g i) n ≡ total (λ j. w j * total (λ i. cond (eqb (e i) j) (g i) 0) n) m
 total_regroup w e g m zero h = sym (total_zero (λ (j : ℕ). w j * 0) m (λ j l. mul-zero (w j)))
 total_regroup w e g m (suc n) h =
     let one : total (λ j. w j * cond (eqb (e n) j) (g n) 0) m ≡ w (e n) * g n =
-    ⊎_elim (λ (l : e n < m).
     total_same (λ (j : ℕ). w j * cond (eqb (e n) j) (g n) 0) (λ (j : ℕ). cond (eqb (e n) j) (w j * g n) 0) m
-    (λ j k. let sides : (b : Bool) → w j * cond b (g n) 0 ≡ cond b (w j * g n) 0 =
-    λ b. elim b as (λ b. w j * cond b (g n) 0 ≡ cond b (w j * g n) 0) [ true ↦ refl | false ↦ mul-zero (w j) ] in sides
-    (eqb (e n) j))
-    ∙ total_at (λ (j : ℕ). w j * g n) m (e n) l)
+    (λ j k. times_cond (eqb (e n) j) (w j) (g n))
+    ∙ ⊎_elim (λ (l : e n < m). total_at (λ (j : ℕ). w j * g n) m (e n) l)
     (λ (z : g n ≡ 0).
-    total_zero (λ (j : ℕ). w j * cond (eqb (e n) j) (g n) 0) m
-    (λ j k. let sides : (b : Bool) → w j * cond b (g n) 0 ≡ 0 =
-    λ b. elim b as (λ b. w j * cond b (g n) 0 ≡ 0)
-    [ true ↦ ap (λ x. w j * x) z ∙ mul-zero (w j) | false ↦ mul-zero (w j) ] in sides (eqb (e n) j))
+    total_zero (λ (j : ℕ). cond (eqb (e n) j) (w j * g n) 0) m
+    (λ j k. cond_zero (eqb (e n) j) (w j * g n) (ap (λ x. w j * x) z ∙ mul-zero (w j)))
     ∙ sym (ap (λ x. w (e n) * x) z ∙ mul-zero (w (e n))))
     (h n (omega arith)) in
     let split : total (λ j. w j * (total (λ i. cond (eqb (e i) j) (g i) 0) n + cond (eqb (e n) j) (g n) 0)) m
@@ -93,8 +95,6 @@ total_regroup w e g m (suc n) h =
     omega (
       arith,
       total_regroup w e g m n (λ i l. h i (omega arith)),
-      one,
-      split,
       total-add (λ (j : ℕ). w j * total (λ i. cond (eqb (e i) j) (g i) 0) n)
           (λ (j : ℕ). w j * cond (eqb (e n) j) (g n) 0) m,
     )

@@ -1,7 +1,6 @@
 -- What a turn keeps.
-use Rattle.std.proofs.Common.{◌≡◌, ℕ, ◌*◌, List, [], ◌∷◌, ◌++◌, Some, Option, refl, sym, ap, subst, ◌∙◌, arith}
-use Rattle.std.specs.Prelude.{map, IsSome}
-use Rattle.firm_net.specs.Row.{Row}
+use Rattle.std.proofs.Common.{◌≡◌, ℕ, ◌*◌, List, [], ◌∷◌, ◌++◌, refl, sym, ap, subst, ◌∙◌, arith}
+use Rattle.std.specs.Prelude.{map}
 use Rattle.firm_net.specs.Net.{Net, IsArc, row_at}
 use Rattle.firm_net.specs.declared.row.NodeId.{NodeId}
 use Rattle.firm_net.specs.declared.row.ArcId.{ArcId}
@@ -20,8 +19,8 @@ use Rattle.firm_canon.specs.inner.Turns.{IsWhole, Turned}
 use Rattle.firm_canon.specs.inner.Choosing.{low_of, Keeps, best}
 use Rattle.firm_canon.proofs.AsCheap.{shown_is}
 use Rattle.firm_canon.proofs.First.{carried_sum}
-use Rattle.firm_canon.proofs.Shown.{network_same, cost_shown, whole_keyed, whole_net, row_shown, arc_at}
-use Rattle.firm_canon.proofs.Shown.{key_at, listed_at}
+use Rattle.firm_canon.proofs.Heads.{there_key}
+use Rattle.firm_canon.proofs.Shown.{network_same, cost_shown, whole_keyed, whole_net}
 
 pub view_is : (old new : View) → IsSameCase old new → new ≡ record old { net = new.net }
 view_is old new same =
@@ -87,12 +86,7 @@ turned_keeps old new price p arc keeps shows same turn =
 -- the arc of a key of the case is there
 pub there_at : (v : View) (price : ℕ → ℕ) (p : List Choice) (key : Key) (id : ArcId) → Keeps v price p
     → IsKeyOf v.case key → id ≡ v.arc key → IsArc v.net id
-there_at v price p key id keeps own is =
-    let a : Arc Node Key = arc_at v.case (lows v) (flows v) key in
-    let row = row_shown v keeps.shows keeps.laws.rows a (listed_at v.case (lows v) (flows v) key own) in
-    let at : row_at v.net id ≡ Some row.row =
-    ap (row_at v.net) (is ∙ sym (ap v.arc (key_at v.case (lows v) (flows v) key))) ∙ row.there in
-    subst (λ (o : Option Row). IsSome o) (sym at) refl
+there_at v price p key id keeps own is = there_key v keeps.shows keeps.laws.rows key id own is
 
 -- what was read of the net is the flow, or the lower bound, of the key
 pub flow_is : (v : View) (net : Net) (id : ArcId) (key : Key) (n : ℕ) → net ≡ v.net → id ≡ v.arc key

@@ -6,6 +6,7 @@ use Rattle.std.specs.Prelude.{Contains}
 use Rattle.std.specs.List.{All}
 use Rattle.std.proofs.lemmas.Bool.{cases_Bool, cases_lt, both_ways}
 use Rattle.std.proofs.lemmas.List.Elements.{All-contains, All-weaker}
+use Rattle.std.proofs.lemmas.Option.{same_Some}
 use Rattle.firm_net.specs.Row.{Row}
 use Rattle.firm_net.specs.Net.{row_at}
 use Rattle.firm_net.specs.declared.row.ArcId.{ArcId}
@@ -29,7 +30,6 @@ use Rattle.firm_canon.specs.declared.reads.TaskArc.{TaskArc}
 use Rattle.firm_canon.specs.declared.reads.TaskArc.TheVariants.{Stay as StayArc, Prefer as PreferArc, Wide as WideArc}
 use Rattle.firm_canon.specs.declared.reads.TaskArc.TheVariants.{Wait as WaitArc}
 use Rattle.firm_canon.proofs.Totals.{term-le-total}
-use Rattle.firm_canon.proofs.Heads.{some-one}
 use Rattle.firm_canon.proofs.Nears.{prefer_none}
 use Rattle.firm_canon.proofs.Placed.{by_hub, leaving, count_at}
 use Rattle.firm_canon.proofs.Parts.{parts}
@@ -78,7 +78,7 @@ module _ (v : View) (price : ℕ → ℕ) (p : List Choice) (keeps : Keeps v pri
   named_is key arc row own is there =
       let found : IsRowOfKey v p key = row_of_key v price p key keeps own in
       found.is
-      ∙ ap (arc_of (v.arc key)) (some-one found.row row (sym found.there ∙ (ap (row_at v.net) (sym is) ∙ there)))
+      ∙ ap (arc_of (v.arc key)) (same_Some found.row row (sym found.there ∙ (ap (row_at v.net) (sym is) ∙ there)))
 
   -- A SET that no tight residual arc leaves, of the nodes of the network
   pub cut_closed : (from to : ℕ) (inside : ℕ → Bool) → IsTightCut v.net price [] from to inside
@@ -162,7 +162,6 @@ module _ (v : View) (price : ℕ → ℕ) (p : List Choice) (keeps : Keeps v pri
   through_spent j l few closed y flow =
       omega (
         arith,
-        few,
         closed_no_more y flow (spot_of v Hub) (Through j) l
             (λ inside cut t. absurd (both_ways (inside (spot_of v Hub)) cut.end t)) closed,
       )
@@ -295,7 +294,6 @@ module _ (v : View) (price : ℕ → ℕ) (p : List Choice) (keeps : Keeps v pri
       omega (
         arith,
         valid.0 (omega (arith, flow_at v.case low (flows v) key, way.none, way.cap)),
-        way.cost_is,
         ap cost_at way.tail,
         ap cost_at way.head,
       )
@@ -311,14 +309,7 @@ module _ (v : View) (price : ℕ → ℕ) (p : List Choice) (keeps : Keeps v pri
       absurd (omega (arith, full, flow_at v.case low (flows v) key, way.none, way.cap)))
       (λ rest. ⊎_elim
       (λ (loose : Tight cost_at (at key) → ⊥).
-      loose (omega (
-        arith,
-        dear,
-        reaches h cost key way,
-        way.cost_is,
-        ap cost_at way.tail,
-        ap cost_at way.head,
-      )))
+      loose (omega (arith, reaches h cost key way, ap cost_at way.tail, ap cost_at way.head)))
       (λ (cut : (inside : ℕ → Bool) × IsTightCut v.net price [] (spot_of v (at key).head) to inside).
       leads cut.0 (ap (λ (m : Node). cut.0 (spot_of v m)) (sym way.head) ∙ cut.1.start) cut.1.end
       (cut_closed (spot_of v (at key).head) to cut.0 cut.1)) rest)
@@ -344,7 +335,6 @@ module _ (v : View) (price : ℕ → ℕ) (p : List Choice) (keeps : Keeps v pri
       omega (
         arith,
         (at_parts.through h in_range (omega (arith, by_wide, by_through, by_way, cheap))).1 holds lacks,
-        more,
       )) closed)
       (λ (loose : IsLooseAt v.net price (v.arc (Wide n))).
       let row : IsRowOfKey v p (Wide n) = row_of_key v price p (Wide n) keeps next in
@@ -370,8 +360,6 @@ module _ (v : View) (price : ℕ → ℕ) (p : List Choice) (keeps : Keeps v pri
         arith,
         (at_parts.prefers n k next there (omega (arith, by_prefer, same, by_way, cheap))).1
             (ap (λ (j : ℕ). inside (spot_of v (Machine j))) is ∙ holds) lacks,
-        held,
-        one,
       )) closed
 
   -- so the head of an arc that is out has no unit that the task could follow
@@ -414,7 +402,7 @@ module _ (v : View) (price : ℕ → ℕ) (p : List Choice) (keeps : Keeps v pri
       in_case : Option ℕ → Type 0
       in_case o = IsNodeOf v.case (stay_head o)
   own_bare at_hub (PreferArc number) j is leads none hub out =
-      let is_j : preferred_at v.case n number ≡ j = some-one _ _ leads in
+      let is_j : preferred_at v.case n number ≡ j = same_Some _ _ leads in
       way_bare at_hub j (leaving v.case task) (PreferArc number)
       (subst (λ (z : ℕ). z < length v.case.slots) is_j (keeps.shows.preferred n number next is))
       (prefer_way j number is is_j none) (omega arith) hub out
@@ -429,12 +417,7 @@ module _ (v : View) (price : ℕ → ℕ) (p : List Choice) (keeps : Keeps v pri
       let wide : IsRowOfKey v p (Wide n) = row_of_key v price p (Wide n) keeps next in (
         wide.row,
         wide.there,
-        omega (
-          arith,
-          one,
-          ap (λ (b : Arc ℕ ArcId). b.cap) wide.is,
-          ap (λ (b : Arc ℕ ArcId). b.flow) wide.is,
-        ),
+        omega (arith, ap (λ (b : Arc ℕ ArcId). b.cap) wide.is, ap (λ (b : Arc ℕ ArcId). b.flow) wide.is),
         sym (ap (λ (b : Arc ℕ ArcId). b.head) wide.is)
             ∙ ap (λ (b : Arc ℕ ArcId). b.tail) (named_is (Through j) arc row l is there),
       )

@@ -34,7 +34,7 @@ use Rattle.firm_graph.specs.Graph.{Graph, Mirrors, machine_spans, slot_spans, jo
 use Rattle.firm_graph.specs.Graph.{preferred_spans, home_node, node_under, weight_under, machine_nodes, job_nodes}
 use Rattle.firm_graph.specs.Network.{away}
 use Rattle.firm_graph.proofs.Totals.{machines-paired, jobs-paired, preferred-count, slots-count, nodes-counted}
-use Rattle.firm_graph.proofs.Totals.{flat_sum-push, nodes-total, spans-total, tasks-same, sum-one}
+use Rattle.firm_graph.proofs.Totals.{flat_sum-push, nodes-total, spans-total, tasks-same}
 use Rattle.firm_graph.proofs.Counts.{arcs-counted}
 use Rattle.firm_graph.proofs.Lookups.{map-all, position-is, node_under-at, weight_under-at, node_under-push}
 use Rattle.firm_graph.proofs.Lookups.{weight_under-push}
@@ -80,12 +80,7 @@ job-added g net after parts name weight is sound node arc room =
     let exit : Span = record
     { arc = parts.exit; tail = parts.node; head = g.sink; cap = g.rows.limits.nodes; cost = 0 } in
     grown g new parts.node (exit ∷ []) is (edit-then g.net net after (parts.node ∷ []) [] (exit ∷ []) node arc)
-    (λ w. omega (
-      arith,
-      nodes-total w g,
-      nodes-total w new,
-      sum_by_push (λ (p : JobParts). w p.node) g.jobs parts,
-    ))
+    (λ w. omega (arith, nodes-total w g, nodes-total w new, sum_by_push {X = JobParts}))
     (λ w. omega (
       arith,
       spans-total w g,
@@ -158,24 +153,7 @@ task-added g n1 n2 n3 n4 n5 parts job name preferred owner far weight is node ne
     let to_wide = edit-then g.net n4 n5 (parts.node ∷ []) linked (s1 ∷ []) to_stay wide in
     let in_order : IsEdit g.net n5 [] (parts.node ∷ []) [] (s1 ∷ s2 ∷ s3 ∷ ss) =
     edit-same g.net n5 (parts.node ∷ []) (linked ++ s1 ∷ []) (s1 ∷ s2 ∷ s3 ∷ ss) to_wide
-    (λ w. omega (
-      arith,
-      sum_by-append w linked (s1 ∷ []),
-      sum_by-append w (ss ++ s3 ∷ []) (s2 ∷ []),
-      sum_by-append w ss (s3 ∷ []),
-      sum-one w s1,
-      sum-one w s2,
-      sum-one w s3,
-      sum_by-cons w s1 (s2 ∷ s3 ∷ ss),
-      sum_by-cons w s2 (s3 ∷ ss),
-      sum_by-cons w s3 ss,
-    ))
-    (omega (
-      arith,
-      length-append linked (s1 ∷ []),
-      length-append (ss ++ s3 ∷ []) (s2 ∷ []),
-      length-append ss (s3 ∷ []),
-    )) in
+    (λ w. omega (arith, sum_by-append {X = Span}, sum_by-cons {X = Span})) (omega (arith, length-append {A = Span})) in
     let E : Span → Span → Type 0 = λ (a b : Span). IsEdit g.net n5 [] (parts.node ∷ []) [] (a ∷ s2 ∷ b ∷ ss) in
     let whole : IsEdit g.net n5 [] (parts.node ∷ []) [] (t1 ∷ s2 ∷ t3 ∷ ss) =
     subst (λ (s : Span). E t1 s) e3 (subst (λ (s : Span). E s s3) e1 in_order) in
@@ -184,12 +162,7 @@ task-added g n1 n2 n3 n4 n5 parts job name preferred owner far weight is node ne
     let counted : length ss ≡ length (nodes_under g preferred) = preferred-count parts.node 0 (nodes_under g preferred)
     parts.arcs.preferred (paired ∙ sym heads) in
     grown g new parts.node (t1 ∷ s2 ∷ t3 ∷ ss) is whole
-    (λ w. omega (
-      arith,
-      nodes-total w g,
-      nodes-total w new,
-      sum_by_push (λ (p : TaskParts). w p.node) g.tasks parts,
-    ))
+    (λ w. omega (arith, nodes-total w g, nodes-total w new, sum_by_push {X = TaskParts}))
     (λ w. omega (
       arith,
       spans-total w g,
@@ -268,12 +241,7 @@ machine-added g n1 n2 n3 parts name slots is sound node through rest slots_is fe
     let to_through = edit-then g.net n1 n2 (parts.node ∷ []) [] (s1 ∷ []) node through in
     let whole = edit-then g.net n2 n3 (parts.node ∷ []) (s1 ∷ []) later to_through rest in
     grown g new parts.node (s1 ∷ later) is whole
-    (λ w. omega (
-      arith,
-      nodes-total w g,
-      nodes-total w new,
-      sum_by_push (λ (p : MachineParts). w p.node) g.machines parts,
-    ))
+    (λ w. omega (arith, nodes-total w g, nodes-total w new, sum_by_push {X = MachineParts}))
     (λ w. omega (
       arith,
       spans-total w g,
@@ -289,13 +257,7 @@ machine-added g n1 n2 n3 parts name slots is sound node through rest slots_is fe
       slots = AllZip-push (λ (m : Machine) (p : MachineParts). length p.slots ≡ m.slots) g.rows.machines g.machines
           machine parts is.slots slots_is;
       preferred = is.preferred;
-      machines = omega (
-        arith,
-        is.machines,
-        length-append g.machines (parts ∷ []),
-        length-append g.rows.machines
-            (machine ∷ []),
-      );
+      machines = omega (arith, is.machines, length-append {A = MachineParts}, length-append {A = Machine});
       jobs = is.jobs;
       tasks = is.tasks;
     })
@@ -328,9 +290,7 @@ opened n0 n1 n2 hub sink limits empty first second =
           arith,
           second.nodes w,
           first.nodes w,
-          sum-one w sink,
-          sum-one w hub,
-          sum_by-cons w hub (sink ∷ []),
+          sum_by-cons {X = NodeId},
           ap (λ (n : Net). sum_by w (nodes_of n)) empty,
           nodes-sum w (empty_net limits.nodes limits.arcs),
           none-held (node_weight w) 0 limits.nodes,
@@ -400,7 +360,3 @@ job-read g place read is name e at =
     let below : place < length g.jobs = omega (arith, there.1, is.jobs, length-map g.rows.jobs (λ (j : Job). j.name)) in
     let P : JobParts → Type 0 = λ (p : JobParts). IsNode g.net p.node in
     subst P (sym at) (job-there g place read is below)
-
--- what a read at an index gave
-pub read-at : {X : Type 0} (xs : List X) (i : ℕ) (x : X) → Some x ≡ slice_get xs i → (d : X) → get_or xs i d ≡ x
-read-at xs i x h d = get_or_from_slice_get xs i x d (sym h)

@@ -10,7 +10,7 @@ use Rattle.firm_rules.specs.Round.{case_of, place_of, machine_place, job_place, 
 use Rattle.firm_rules.specs.declared.book.Machine.{Machine}
 use Rattle.firm_rules.specs.declared.book.Job.{Job}
 use Rattle.firm_rules.specs.declared.book.Task.{Task}
-use Rattle.firm_graph.proofs.Lookups.{weight_under-at}
+use Rattle.firm_graph.proofs.Lookups.{at-first, at-later, weight_under-at}
 use Rattle.firm_graph.specs.declared.network.Node.{Node}
 use Rattle.firm_graph.specs.declared.network.Node.TheVariants.{Sink, Hub, Machine as MachineAt, Owner, Task as TaskAt}
 use Rattle.firm_graph.specs.declared.network.Key.{Key}
@@ -106,8 +106,8 @@ module _ (rows : TenantRows) (low x : Key → ℕ) where
   unfolding from
   machines_same j [] d h = refl
   machines_same j (m ∷ ms) d h =
-      let own : m.slots ≡ slots_of c j = sym (h 0 (omega arith)) ∙ ap (slots_of c)
-      (let e : j + 0 ≡ j = omega arith in e) in
+      let P : ℕ → Machine → Type 0 = λ (i : ℕ) (n : Machine). slots_of c i ≡ n.slots in
+      let own : m.slots ≡ slots_of c j = sym (at-first P d j m ms h) in
       map-append (fill low x) (bare (Through j) Hub (MachineAt j) m.slots 0 ∷ slot_rows rows.limits.spread j 0 m.slots)
       (machine_rows rows.limits.spread (j + 1) ms)
       ∙ ap₂ (λ (a b : List (Arc Node Key)). a ++ b)
@@ -116,8 +116,7 @@ module _ (rows : TenantRows) (low x : Key → ℕ) where
       (slots_same j 0 m.slots ∙ (sym (gather_from
       (λ (k : ℕ). arc low x (Slot j k) (MachineAt j) Sink 1 (k * c.spread) ∷ []) m.slots)
       ∙ ap (gather (λ (k : ℕ). arc low x (Slot j k) (MachineAt j) Sink 1 (k * c.spread) ∷ [])) own)))
-      (machines_same (j + 1) ms d (λ i l. ap (slots_of c) (let e : j + 1 + i ≡ j + suc i = omega arith in e) ∙ h
-      (suc i) (omega (arith, l))))
+      (machines_same (j + 1) ms d (at-later P d j m ms h))
 
   jobs_same : (k : ℕ) (js : List Job) → map (fill low x) (job_rows rows.limits.nodes k js) ≡ from (job_arcs c low x) k
       (length js)
@@ -141,11 +140,10 @@ module _ (rows : TenantRows) (low x : Key → ℕ) where
   unfolding from
   preferred_same place cost i k [] h = refl
   preferred_same place cost i k (name ∷ names) h =
-      let own : place_of rows name ≡ place k = sym (h 0 (omega arith)) ∙ ap place
-      (let e : k + 0 ≡ k = omega arith in e) in
+      let P : ℕ → List ℕ → Type 0 = λ (j : ℕ) (m : List ℕ). place j ≡ place_of rows m in
+      let own : place_of rows name ≡ place k = sym (at-first P [] k name names h) in
       ap₂ (λ (m : ℕ) (l : List (Arc Node Key)). arc low x (Prefer i k) (TaskAt i) (MachineAt m) 1 cost ∷ l) own
-      (preferred_same place cost i (k + 1) names
-      (λ j below. ap place (let e : k + 1 + j ≡ k + suc j = omega arith in e) ∙ h (suc j) (omega (arith, below))))
+      (preferred_same place cost i (k + 1) names (at-later P [] k name names h))
 
   -- the arcs of a task by what it brings to a round
   abbrev by_demand : ℕ → Demand → List (Arc Node Key)
@@ -189,12 +187,11 @@ module _ (rows : TenantRows) (low x : Key → ℕ) where
   unfolding from
   tasks_same i [] d h = refl
   tasks_same i (t ∷ ts) d h =
-      let own : demand_of rows t ≡ demand c i = sym (h 0 (omega arith)) ∙ ap (demand c)
-      (let e : i + 0 ≡ i = omega arith in e) in
+      let P : ℕ → Task → Type 0 = λ (k : ℕ) (s : Task). demand c k ≡ demand_of rows s in
+      let own : demand_of rows t ≡ demand c i = sym (at-first P d i t ts h) in
       map-append (fill low x) (one_task_rows rows i t) (task_rows rows (i + 1) ts)
       ∙ ap₂ (λ (a b : List (Arc Node Key)). a ++ b) (one_same i t ∙ ap (by_demand i) own)
-      (tasks_same (i + 1) ts d (λ k l. ap (demand c) (let e : i + 1 + k ≡ i + suc k = omega arith in e) ∙ h (suc k)
-      (omega (arith, l))))
+      (tasks_same (i + 1) ts d (at-later P d i t ts h))
 
   pub network_is : map (fill low x) (rows_network rows) ≡ network c low x
   network_is =

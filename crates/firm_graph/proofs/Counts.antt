@@ -36,13 +36,12 @@ machines-count : (spread j : ℕ) (ms : List Machine)
     → length (machine_rows spread j ms) ≡ sum_by (λ machine. 1 + machine.slots) ms
 machines-count spread j [] = refl
 machines-count spread j (m ∷ ms) =
-    let w : Machine → ℕ = λ (machine : Machine). 1 + machine.slots in
     omega (
       arith,
       length-append (slot_rows spread j 0 m.slots) (machine_rows spread (j + 1) ms),
       slots-count spread j 0 m.slots,
       machines-count spread (j + 1) ms,
-      sum_by-cons w m ms,
+      sum_by-cons {X = Machine},
     )
 
 jobs-count : (limit k : ℕ) (js : List Job) → length (job_rows limit k js) ≡ length js

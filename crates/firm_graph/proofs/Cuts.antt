@@ -1,9 +1,9 @@
 -- No cut leaves a task without a way: its job's arc carries as many as there are tasks.
 use Rattle.std.proofs.Common.{◌≡◌, ℕ, zero, suc, ◌+◌, ◌<◌, ◌≤◌, Bool, true, false, cond, is_some, ◌||◌, inl, inr}
-use Rattle.std.proofs.Common.{⊎_elim, List, [], ◌∷◌, ◌++◌, length, get_or, count_by, bytes_eq, arith, refl, sym, ap}
+use Rattle.std.proofs.Common.{⊎_elim, List, [], ◌∷◌, ◌++◌, length, get_or, count_by, bytes_eq, arith, sym, ap}
 use Rattle.std.proofs.Common.{◌∙◌}
 use Rattle.std.specs.List.{sum_by, All, list_any}
-use Rattle.std.proofs.lemmas.Bool.{cases_Bool, cases_eq, cond-true, cond-false}
+use Rattle.std.proofs.lemmas.Bool.{cases_Bool, cases_eq, cond-true, cond-false, cond_both}
 use Rattle.std.proofs.lemmas.List.Sums.{sum_by-cons, count_by-le-length, get_or-le-sum_by}
 use Rattle.std.proofs.lemmas.List.{length-map, get_or_default}
 use Rattle.std.proofs.lemmas.List.Elements.{All-head, All-tail, Contains-append_right}
@@ -31,7 +31,6 @@ use Rattle.firm_graph.specs.Network.{away}
 use Rattle.firm_graph.proofs.Found.{ones, same_id-refl, node-there, sink-there}
 use Rattle.firm_graph.proofs.Drops.{is_node, node-once, four-sum, wide_arc, stay_arc, wait_arc}
 use Rattle.firm_net.specs.Laws.{sum-map, spans-sum}
-use Rattle.firm_graph.proofs.Lookups.{cond-case}
 use Rattle.firm_graph.proofs.Totals.{jobs-paired, nodes-total, spans-total}
 
 -- what an arc carries out of a set of places
@@ -71,7 +70,6 @@ jobs-out inside sink limit (j ∷ js) (p ∷ ps) e f some =
     let none : v p ≡ ones false = ap ones g in
     omega (
       arith,
-      sum,
       jobs-out inside sink limit js ps (omega arith) f
           (omega (arith, some, none, sum_by-cons v p ps)),
     ))
@@ -100,7 +98,6 @@ tasks-out inside hub churn remote target (t ∷ ts) (p ∷ ps) e h =
     omega (
       arith,
       four-sum w s1 s2 s3 ss more,
-      own,
       sum_by-cons v p ps,
       tasks-out inside hub churn remote target ts ps (omega arith) (All-tail P t ts h),
     )
@@ -112,7 +109,7 @@ among-weight : (w : NodeId → ℕ) (names : List (List ℕ)) (nodes : List Node
 among-weight w [] nodes other name e h = let clash : false ≡ true = h in absurd cc
 among-weight w (n ∷ names) [] other name e h = absurd (omega arith)
 among-weight w (n ∷ names) (node ∷ nodes) other name e h =
-    cond-case (λ (m : NodeId). w m ≤ sum_by w (node ∷ nodes)) (bytes_eq name n) node (node_under names nodes other name)
+    cond_both (bytes_eq name n) node (node_under names nodes other name) (λ (m : NodeId). w m ≤ sum_by w (node ∷ nodes))
     (λ _. omega (arith, sum_by-cons w node nodes))
     (λ f. omega (
       arith,
@@ -122,8 +119,7 @@ among-weight w (n ∷ names) (node ∷ nodes) other name e h =
     ))
 
 ones-none : (b : Bool) → ones b ≡ 0 → b ≡ false
-ones-none true e = absurd (omega (arith, e))
-ones-none false e = refl
+ones-none b e = grind arith
 
 -- no set of nodes without the sink holds more tasks than its arcs let out
 pub no-cut : (g : Graph) (inside : ℕ → Bool) → Mirrors g → AreSound g.rows
@@ -153,29 +149,18 @@ no-cut g inside is sound cut =
           ones-none (inside (node_under (job_names g.rows) (job_nodes g) g.hub name).id.place)
           (omega (
             arith,
-            none,
             sum-map u (λ (p : JobParts). p.node) g.jobs,
             among-weight u (job_names g.rows)
                 (job_nodes g) g.hub name (jobs-paired g is.jobs) (sound.jobs_there k d below),
           )) in
           absurd (omega (
             arith,
-            cut.too_many,
-            whole,
-            parts,
-            sources,
             tasks-out inside g.hub g.rows.limits.churn g.rows.limits.remote
                 (target_of g) g.rows.tasks g.tasks is.tasks outside,
           ))
       | inr some ↦
           absurd (omega (
             arith,
-            cut.too_many,
-            whole,
-            parts,
-            most,
-            is.tasks,
-            sound.fits.nodes,
             jobs-out inside g.sink g.rows.limits.nodes g.rows.jobs g.jobs is.jobs cut.sink_outside
                 (omega (arith, some)),
           ))

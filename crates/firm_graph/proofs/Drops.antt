@@ -3,6 +3,7 @@ use Rattle.std.proofs.Common.{◌≡◌, ℕ, zero, suc, ◌+◌, ◌*◌, ◌<�
 use Rattle.std.proofs.Common.{Option, Some, None, List, [], ◌∷◌, ◌++◌, map, length, get_or, drop, bytes_eq, arith, refl}
 use Rattle.std.proofs.Common.{sym, ap, ◌∙◌, subst, drop-cons}
 use Rattle.std.specs.List.{sum_by, AllZip, Contains, remove}
+use Rattle.std.proofs.lemmas.Bool.{cond_both}
 use Rattle.std.proofs.lemmas.List.Sums.{sum_by-cons, sum_by-append, sum_by-remove}
 use Rattle.std.proofs.lemmas.List.Edits.{length-remove}
 use Rattle.std.proofs.lemmas.List.{drop_all, length-map}
@@ -32,7 +33,6 @@ use Rattle.firm_graph.specs.Network.{away}
 use Rattle.firm_arena.specs.Sums.{sum-slot, sum-without}
 use Rattle.firm_net.specs.Laws.{nodes-sum, spans-sum, span_weight, sum-map, row-below, contains-mapped}
 use Rattle.firm_graph.proofs.Found.{node-there, span-there, HasRow, ones, same_id, same_id-true, same_id-refl}
-use Rattle.firm_graph.proofs.Lookups.{cond-case}
 use Rattle.firm_graph.proofs.Said.{shrunk}
 use Rattle.firm_graph.proofs.Totals.{nodes-total, spans-total, sum-one}
 
@@ -136,8 +136,8 @@ under-weight : (w : NodeId → ℕ) (names : List (List ℕ)) (nodes : List Node
 under-weight w [] nodes other name = omega arith
 under-weight w (n ∷ names) [] other name = omega arith
 under-weight w (n ∷ names) (node ∷ nodes) other name =
-    cond-case (λ (m : NodeId). w m ≤ w other + sum_by w (node ∷ nodes)) (bytes_eq name n) node
-    (node_under names nodes other name) (λ _. omega (arith, sum_by-cons w node nodes))
+    cond_both (bytes_eq name n) node (node_under names nodes other name)
+    (λ (m : NodeId). w m ≤ w other + sum_by w (node ∷ nodes)) (λ _. omega (arith, sum_by-cons w node nodes))
     (λ _. omega (arith, sum_by-cons w node nodes, under-weight w names nodes other name))
 
 pub home-weight : (w : NodeId → ℕ) (names : List (List ℕ)) (nodes : List NodeId) (hub : NodeId) (home : Option (List ℕ))
@@ -172,7 +172,6 @@ machines-weight w hub sink spread (m ∷ ms) (p ∷ ps) a b c =
           (slot_spans p.node sink spread 0 p.slots),
       slots-weight w p.node sink spread 0 p.slots own b,
       machines-weight w hub sink spread ms ps a b rest,
-      own,
     )
 
 jobs-weight : (w : NodeId → ℕ) (sink : NodeId) (limit : ℕ) (js : List Job) (ps : List JobParts) → w sink ≡ 0
@@ -188,20 +187,12 @@ jobs-weight w sink limit (j ∷ js) (p ∷ ps) b c =
       sum_by-cons (end_weight w) (record { arc = p.exit; tail = p.node; head = sink; cap = limit; cost = 0 })
           (flat_zip (job_spans sink limit) js ps),
       jobs-weight w sink limit js ps b rest,
-      own,
     )
 
 -- three arcs and further ones
 pub four-sum : (w : Span → ℕ) (s1 s2 s3 : Span) (ss rest : List Span)
     → sum_by w (s1 ∷ s2 ∷ s3 ∷ ss ++ rest) ≡ w s1 + (w s2 + (w s3 + (sum_by w ss + sum_by w rest)))
-four-sum w s1 s2 s3 ss rest =
-    omega (
-      arith,
-      sum_by-cons w s1 (s2 ∷ s3 ∷ ss ++ rest),
-      sum_by-cons w s2 (s3 ∷ ss ++ rest),
-      sum_by-cons w s3 (ss ++ rest),
-      sum_by-append w ss rest,
-    )
+four-sum w s1 s2 s3 ss rest = omega (arith, sum_by-cons {X = Span}, sum_by-append {X = Span})
 
 -- a task's arc to the hub, its arc home, and the arc by which it waits
 abbrev pub wide_arc : NodeId → ℕ → TaskParts → Span
@@ -223,8 +214,6 @@ under-none w names nodes other (name ∷ asked) a b =
       sum_by-cons w (node_under names nodes other name) (map (node_under names nodes other) asked),
       under-weight w names nodes other name,
       under-none w names nodes other asked a b,
-      a,
-      b,
     )
 
 preferred-weight : (w : NodeId → ℕ) (node : NodeId) (cost : ℕ) (heads : List NodeId) (arcs : List ArcId) → w node ≡ 0
@@ -236,8 +225,6 @@ preferred-weight w node cost (head ∷ heads) (arc ∷ arcs) a b =
     let rest : sum_by w heads ≡ 0 = omega (arith, b, sum_by-cons w head heads) in
     omega (
       arith,
-      a,
-      own,
       sum_by-cons (end_weight w) (record { arc = arc; tail = node; head = head; cap = 1; cost = cost })
           (preferred_spans node cost heads arcs),
       preferred-weight w node cost heads arcs a rest,
@@ -270,8 +257,6 @@ tasks-weight w hub churn remote target (x ∷ ts) (p ∷ ps) a t c =
       four-sum (end_weight w) s1 s2 s3 ss more,
       preferred-weight w p.node leaving (target x).preferred p.arcs.preferred own (t x).preferred,
       tasks-weight w hub churn remote target ts ps a t rest,
-      own,
-      a,
       (t x).home,
       (t x).owner,
     )
@@ -288,16 +273,9 @@ ends-free w g none =
     (arith, machines, sum-map w (λ (p : MachineParts). p.node) g.machines) in
     let targets : (t : Task) → IsLight w (target_of g t) =
     λ t. record {
-      home = omega (
-        arith,
-        hub,
-        machines_free,
-        home-weight w (machine_names g.rows) (machine_nodes g) g.hub t.machine,
-      );
+      home = omega (arith, home-weight w (machine_names g.rows) (machine_nodes g) g.hub t.machine);
       owner = omega (
         arith,
-        hub,
-        jobs,
         under-weight w (job_names g.rows) (job_nodes g) g.hub t.job,
         sum-map w (λ (p : JobParts). p.node) g.jobs,
       );
@@ -375,13 +353,8 @@ pub flat_sum-remove : {A B C : Type 0} (w : C → ℕ) (f : A → B → List C) 
 flat_sum-remove w f [] ys i d e below same = absurd (omega arith)
 flat_sum-remove w f (x ∷ xs) [] i d e below same = absurd (omega arith)
 flat_sum-remove w f (x ∷ xs) (y ∷ ys) zero d e below same = omega (arith, sum_by-append w (f x y) (flat_zip f xs ys))
-flat_sum-remove w f (x ∷ xs) (y ∷ ys) (suc i) d e below same =
-    omega (
-      arith,
-      sum_by-append w (f x y) (flat_zip f xs ys),
-      sum_by-append w (f x y) (flat_zip f (remove xs i) (remove ys i)),
-      flat_sum-remove w f xs ys i d e (omega arith) (omega arith),
-    )
+flat_sum-remove {A} {B} {C} w f (x ∷ xs) (y ∷ ys) (suc i) d e below same =
+    omega (arith, sum_by-append {X = C}, flat_sum-remove w f xs ys i d e (omega arith) (omega arith))
 
 pub AllZip-remove : {A B : Type 0} (R : A → B → Type 0) (xs : List A) (ys : List B) (i : ℕ) → AllZip R xs ys
     → AllZip R (remove xs i) (remove ys i)
@@ -434,11 +407,7 @@ pub task-sum : (g : Graph) (w : Span → ℕ) (place : ℕ) (parts : TaskParts)
     ≡ w (wide_of g place parts) + (w (stay_of g place parts) + (w (wait_of g place parts) + sum_by w
     (preferred_of g place parts)))
 task-sum g w place parts =
-    let s1 : Span = wide_of g place parts in
-    let s2 : Span = stay_of g place parts in
-    let s3 : Span = wait_of g place parts in
-    let ss : List Span = preferred_of g place parts in
-    omega (arith, sum_by-cons w s1 (s2 ∷ s3 ∷ ss), sum_by-cons w s2 (s3 ∷ ss), sum_by-cons w s3 ss)
+    omega (arith, sum_by-cons {X = Span})
 
 pub task-start : (g : Graph) (net : Net) (place : ℕ) (parts : TaskParts) → Mirrors g → place < length g.tasks
     → parts ≡ get_or g.tasks place parts

@@ -1,8 +1,9 @@
 -- Steps of a loop that changes the elements of a list in turn.
+use mathlib.Core.List.{map-map}
 use Rattle.std.proofs.Common.{◌≡◌, ℕ, zero, suc, ◌+◌, ◌<◌, ◌≤◌, true, false, not, Option, None, List, [], ◌∷◌, map}
 use Rattle.std.proofs.Common.{length, get_or, bytes_eq, arith, refl, sym, ap, ap₂, ◌∙◌}
 use Rattle.std.specs.List.{All}
-use Rattle.std.proofs.lemmas.Bool.{cond-true, cond-false, not-true}
+use Rattle.std.proofs.lemmas.Bool.{cond-true, cond-false, cond_both, not-true}
 use Rattle.std.proofs.lemmas.List.{get_or-map, length-map}
 use Rattle.std.proofs.lemmas.List.Elements.{All-map, filter_passes}
 use Rattle.firm_rules.specs.Book.{TenantRows, is_on, forgetting, evicted}
@@ -13,8 +14,7 @@ use Rattle.firm_rules.specs.declared.rounds.Choice.{Choice}
 use Rattle.firm_rules.specs.declared.rounds.Choice.TheVariants.{On, Wait}
 use Rattle.firm_graph.specs.inner.Steps.{update_at, placed, with_task_at, changed_first, settled_first, no_task}
 use Rattle.firm_graph.specs.inner.Steps.{task_at, forgetting_rows, thrown_out, thrown_out_first}
-use Rattle.firm_graph.proofs.Lookups.{cond-case}
-use Rattle.firm_graph.proofs.Permutes.{map-map}
+use Rattle.firm_graph.proofs.Lookups.{at-first, at-later}
 
 module _ {X : Type 0} (f : ℕ → X → X) where
   pub length-first : (i n : ℕ) (xs : List X) → length (changed_first f i n xs) ≡ length xs
@@ -76,11 +76,10 @@ first-zipped f h i (suc n) [] [] d e all at = refl
 first-zipped f h i n [] (c ∷ cs) d e all at = absurd (omega arith)
 first-zipped f h i n (x ∷ xs) [] d e all at = absurd (omega arith)
 first-zipped f h i zero (x ∷ xs) (c ∷ cs) d e all at = absurd (omega arith)
-first-zipped {A} f h i (suc n) (x ∷ xs) (c ∷ cs) d e all at =
-    let own : h i ≡ c = ap h (let z : i ≡ i + 0 = omega arith in z) ∙ at 0 (omega arith) in
-    ap₂ (λ (y : A) (l : List A). y ∷ l) (ap (f x) own)
-    (first-zipped f h (i + 1) n xs cs d (omega arith) (omega arith)
-    (λ k below. ap h (let z : i + 1 + k ≡ i + suc k = omega arith in z) ∙ at (suc k) (omega (arith, below))))
+first-zipped {A} {C} f h i (suc n) (x ∷ xs) (c ∷ cs) d e all at =
+    let P : ℕ → C → Type 0 = λ (k : ℕ) (b : C). h k ≡ b in
+    ap₂ (λ (y : A) (l : List A). y ∷ l) (ap (f x) (at-first P d i c cs at))
+    (first-zipped f h (i + 1) n xs cs d (omega arith) (omega arith) (at-later P d i c cs at))
 
 -- a task that forgot a machine is where it was, and of the same job
 pub record HasForgotten (rows old : TenantRows) (place : ℕ) : Type 0 where
@@ -133,8 +132,8 @@ throw-end rows name n all =
 -- no task runs on a machine whose tasks were evicted, or prefers it
 evicted-off : (name : List ℕ) (task : Task) → is_on name (evicted name task).machine ≡ false
 evicted-off name task =
-    cond-case (λ (x : Task). is_on name x.machine ≡ false) (is_on name task.machine)
-    (placed None 0 (forgetting name task)) (forgetting name task) (λ _. refl) (λ f. f)
+    cond_both (is_on name task.machine) (placed None 0 (forgetting name task)) (forgetting name task)
+    (λ (x : Task). is_on name x.machine ≡ false) (λ _. refl) (λ f. f)
 
 forgotten : (name : List ℕ) (preferred : List (List ℕ))
     → All (λ m. bytes_eq name m ≡ false) (without_preference name preferred)
@@ -144,8 +143,8 @@ forgotten name preferred k d below =
 
 evicted-loose : (name : List ℕ) (task : Task) → All (λ m. bytes_eq name m ≡ false) (evicted name task).preferred
 evicted-loose name task =
-    cond-case (λ (x : Task). All (λ m. bytes_eq name m ≡ false) x.preferred) (is_on name task.machine)
-    (placed None 0 (forgetting name task)) (forgetting name task) (λ _. forgotten name task.preferred)
+    cond_both (is_on name task.machine) (placed None 0 (forgetting name task)) (forgetting name task)
+    (λ (x : Task). All (λ m. bytes_eq name m ≡ false) x.preferred) (λ _. forgotten name task.preferred)
     (λ _. forgotten name task.preferred)
 
 pub all-out : (name : List ℕ) (tasks : List Task)

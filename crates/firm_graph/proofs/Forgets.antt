@@ -3,7 +3,7 @@ use Rattle.std.proofs.Common.{◌≡◌, ℕ, zero, suc, ◌+◌, ◌<◌, ◌�
 use Rattle.std.proofs.Common.{[], ◌∷◌, ◌++◌, map, length, get_or, set, bytes_eq, arith, refl, sym, ap, ap₂, ◌∙◌, ltb}
 use Rattle.std.proofs.Common.{subst}
 use Rattle.std.specs.List.{sum_by, AllZip, AllByRecursion, IsDistinct, remove, position, position_or_len}
-use Rattle.std.proofs.lemmas.Bool.{ltb-false, not-false}
+use Rattle.std.proofs.lemmas.Bool.{cond_both, ltb-false, not-false}
 use Rattle.std.proofs.lemmas.List.{length-set, set-get_or}
 use Rattle.std.proofs.lemmas.List.Edits.{length-remove}
 use Rattle.std.proofs.lemmas.List.Sums.{sum_by-cons, sum_by-set}
@@ -25,7 +25,7 @@ use Rattle.firm_graph.specs.Graph.{graph_spans, machine_nodes}
 use Rattle.firm_graph.specs.inner.Steps.{Holds, near, update_at, refitted, with_forgetting_at, IsFitting, no_task}
 use Rattle.firm_graph.specs.inner.Steps.{task_at, forgetting_first, forgetting_rows}
 use Rattle.firm_graph.proofs.Totals.{nodes-total, spans-total}
-use Rattle.firm_graph.proofs.Lookups.{cond-case, position-is}
+use Rattle.firm_graph.proofs.Lookups.{position-is}
 use Rattle.firm_graph.proofs.Drops.{holds-unlinked, task_dropped, task-start, wide_of, stay_of, wait_of, preferred_of}
 use Rattle.firm_graph.proofs.Drops.{leaving_of, four-sum, preferred-paired, heads-counted}
 use Rattle.firm_graph.proofs.Places.{flat_sum-both, Rates, rated, holds-same, holds-rated, length-updated}
@@ -51,7 +51,7 @@ forget-place name [] k apart e below = absurd (omega arith)
 forget-place name (n ∷ names) k apart e below =
     let later : ℕ = position_or_len (bytes_eq name) names in
     let rest : List (List ℕ) = without_preference name names in
-    cond-case (λ (l : List (List ℕ)). l ≡ remove (n ∷ names) k) (not (bytes_eq name n)) (n ∷ rest) rest
+    cond_both (not (bytes_eq name n)) (n ∷ rest) rest (λ (l : List (List ℕ)). l ≡ remove (n ∷ names) k)
     (λ t.
     let own : suc later ≡ k = omega (arith, e, ap (λ (b : Bool). cond b (1 + later) 0) t) in
     ap (λ (l : List (List ℕ)). n ∷ l)
@@ -68,7 +68,7 @@ forget-none name [] none = refl
 forget-none name (n ∷ names) none =
     let later : ℕ = position_or_len (bytes_eq name) names in
     let rest : List (List ℕ) = without_preference name names in
-    cond-case (λ (l : List (List ℕ)). l ≡ n ∷ names) (not (bytes_eq name n)) (n ∷ rest) rest
+    cond_both (not (bytes_eq name n)) (n ∷ rest) rest (λ (l : List (List ℕ)). l ≡ n ∷ names)
     (λ t. ap (λ (l : List (List ℕ)). n ∷ l)
     (forget-none name names (omega (arith, none, ap (λ (b : Bool). cond b (1 + later) 0) t))))
     (λ f. absurd (omega (arith, none, ap (λ (b : Bool). cond b (1 + later) 0) f)))
@@ -77,10 +77,8 @@ nowhere : (name : List ℕ) (names : List (List ℕ)) → position (bytes_eq nam
     → length names ≤ position_or_len (bytes_eq name) names
 nowhere name names e =
     let at : ℕ = position_or_len (bytes_eq name) names in
-    let by : position (bytes_eq name) names ≡ None → length names ≤ at =
-    cond-case (λ (o : Option ℕ). o ≡ None → length names ≤ at) (ltb at (length names)) (Some at) None
-    (λ _ clash. absurd cc) (λ f _. ltb-false at (length names) f) in
-    by e
+    cond_both (ltb at (length names)) (Some at) None (λ (o : Option ℕ). o ≡ None → length names ≤ at)
+    (λ _ clash. absurd cc) (λ f _. ltb-false at (length names) f) e
 
 -- an arc less to the machines that a task prefers
 near-out : (w : Span → ℕ) (node : NodeId) (cost k : ℕ) (heads : List NodeId) (arcs : List ArcId) (h : NodeId)
@@ -140,7 +138,6 @@ module _ (g : Graph) (place : ℕ) (parts : TaskParts) (name : List ℕ) (k : �
       let whole = preferred-paired g place parts is below at in
       omega (
         arith,
-        whole,
         its-place.1,
         length-remove parts.arcs.preferred k (omega (arith, whole, its-place.1)),
         length-remove task.preferred k its-place.1,
@@ -225,9 +222,7 @@ module _ (g : Graph) (place : ℕ) (parts : TaskParts) (name : List ℕ) (k : �
             four-sum w s1 s2 s3 left_spans rest,
             ap w e1,
             ap (λ (l : List Span). sum_by w l) es,
-            sum_by-cons w t1 (s2 ∷ s3 ∷ ts),
-            sum_by-cons w s2 (s3 ∷ ts),
-            sum_by-cons w s3 ts,
+            sum_by-cons {X = Span},
             spans-total w new,
             spans-total w (task_dropped g g.net place),
             flat_sum-both w f (forgetting name) g.rows.tasks g.tasks place no_task after here is.tasks,
@@ -237,12 +232,7 @@ module _ (g : Graph) (place : ℕ) (parts : TaskParts) (name : List ℕ) (k : �
         preferred = AllZip-both R g.rows.tasks g.tasks place (forgetting name) no_task after is.preferred left-paired;
         machines = is.machines;
         jobs = is.jobs;
-        tasks = omega (
-          arith,
-          is.tasks,
-          length-updated g.rows.tasks place (forgetting name),
-          length-set g.tasks place after,
-        );
+        tasks = omega (arith, length-updated g.rows.tasks place (forgetting name), length-set g.tasks place after);
         node_room = h.node_room ∙ is.node_room;
         arc_room = h.arc_room ∙ is.arc_room;
         added = omega (arith, h.added, is.added);

@@ -4,7 +4,7 @@ use Rattle.std.proofs.Common.{Some, None, IsSome, List, [], ◌∷◌, ◌++◌,
 use Rattle.std.proofs.Common.{subst}
 use Rattle.std.specs.List.{sum_by, All, Contains}
 use Rattle.std.proofs.lemmas.List.Sums.{get_or-le-sum_by}
-use Rattle.std.proofs.lemmas.Bool.{cases_eq, eqb-true, eq-eqb}
+use Rattle.std.proofs.lemmas.Bool.{and_from, and_parts, cases_eq, eqb-true, eq-eqb}
 use Rattle.std.proofs.lemmas.List.Elements.{Contains-append_left, Contains-append_right}
 use Rattle.firm_arena.specs.Arena.{Arena, entries_from, entries, find}
 use Rattle.firm_arena.specs.declared.Id.{Id}
@@ -82,25 +82,18 @@ module _ {X : Type 0} where
       }
 
 -- tests of equality
-and-true : (a b : Bool) → a && b ≡ true → (a ≡ true) × (b ≡ true)
-and-true true b h = (refl, h)
-and-true false b h = let e : false ≡ true = h in absurd cc
-
-true-and : (a b : Bool) → a ≡ true → b ≡ true → a && b ≡ true
-true-and a b p q = ap (λ (x : Bool). x && b) p ∙ q
-
 abbrev pub same_id : Id → Id → Bool
 same_id a b = (a.place == b.place) && (a.stamp == b.stamp)
 
 pub same_id-true : (a b : Id) → same_id a b ≡ true → a ≡ b
 same_id-true a b h =
-    let p = and-true (a.place == b.place) (a.stamp == b.stamp) h in
+    let p = and_parts (a.place == b.place) (a.stamp == b.stamp) h in
     ap₂ (λ (x y : ℕ). let i : Id = record { place = x; stamp = y } in i) (eqb-true a.place b.place p.0)
     (eqb-true a.stamp b.stamp p.1)
 
 pub same_id-refl : (a : Id) → same_id a a ≡ true
 same_id-refl a =
-    true-and (a.place == a.place) (a.stamp == a.stamp) (eq-eqb a.place a.place refl) (eq-eqb a.stamp a.stamp refl)
+    and_from (a.place == a.place) (a.stamp == a.stamp) (eq-eqb a.place a.place refl) (eq-eqb a.stamp a.stamp refl)
 
 abbrev pub same_span : Span → Span → Bool
 same_span s t =
@@ -109,12 +102,12 @@ same_span s t =
 
 pub same_span-true : (s t : Span) → same_span s t ≡ true → s ≡ t
 same_span-true s t h =
-    let a = and-true (same_id s.arc.id t.arc.id)
+    let a = and_parts (same_id s.arc.id t.arc.id)
     (same_id s.tail.id t.tail.id && (same_id s.head.id t.head.id && ((s.cap == t.cap) && (s.cost == t.cost)))) h in
-    let b = and-true (same_id s.tail.id t.tail.id)
+    let b = and_parts (same_id s.tail.id t.tail.id)
     (same_id s.head.id t.head.id && ((s.cap == t.cap) && (s.cost == t.cost))) a.1 in
-    let d = and-true (same_id s.head.id t.head.id) ((s.cap == t.cap) && (s.cost == t.cost)) b.1 in
-    let e = and-true (s.cap == t.cap) (s.cost == t.cost) d.1 in
+    let d = and_parts (same_id s.head.id t.head.id) ((s.cap == t.cap) && (s.cost == t.cost)) b.1 in
+    let e = and_parts (s.cap == t.cap) (s.cost == t.cost) d.1 in
     let arc : s.arc.id ≡ t.arc.id = same_id-true s.arc.id t.arc.id a.0 in
     let tail : s.tail.id ≡ t.tail.id = same_id-true s.tail.id t.tail.id b.0 in
     let head : s.head.id ≡ t.head.id = same_id-true s.head.id t.head.id d.0 in
@@ -128,19 +121,18 @@ same_span-true s t h =
 
 pub same_span-refl : (s : Span) → same_span s s ≡ true
 same_span-refl s =
-    true-and (same_id s.arc.id s.arc.id) (same_id s.tail.id s.tail.id &&
+    and_from (same_id s.arc.id s.arc.id) (same_id s.tail.id s.tail.id &&
     (same_id s.head.id s.head.id && ((s.cap == s.cap) && (s.cost == s.cost)))) (same_id-refl s.arc.id)
-    (true-and (same_id s.tail.id s.tail.id) (same_id s.head.id s.head.id && ((s.cap == s.cap) && (s.cost == s.cost)))
+    (and_from (same_id s.tail.id s.tail.id) (same_id s.head.id s.head.id && ((s.cap == s.cap) && (s.cost == s.cost)))
     (same_id-refl s.tail.id)
-    (true-and (same_id s.head.id s.head.id) ((s.cap == s.cap) && (s.cost == s.cost)) (same_id-refl s.head.id)
-    (true-and (s.cap == s.cap) (s.cost == s.cost) (eq-eqb s.cap s.cap refl) (eq-eqb s.cost s.cost refl))))
+    (and_from (same_id s.head.id s.head.id) ((s.cap == s.cap) && (s.cost == s.cost)) (same_id-refl s.head.id)
+    (and_from (s.cap == s.cap) (s.cost == s.cost) (eq-eqb s.cap s.cap refl) (eq-eqb s.cost s.cost refl))))
 
 abbrev pub ones : Bool → ℕ
 ones b = cond b 1 0
 
 pub ones-true : (b : Bool) → 0 < ones b → b ≡ true
-ones-true true h = refl
-ones-true false h = absurd (omega arith)
+ones-true b h = grind arith
 
 -- an element of a list weighs in its sum
 pub weighs-in : {X : Type 0} (w : X → ℕ) (xs : List X) (x : X) → Contains xs x → w x ≤ sum_by w xs

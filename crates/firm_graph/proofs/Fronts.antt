@@ -2,7 +2,7 @@
 use Rattle.std.proofs.Common.{◌≡◌, ℕ, zero, suc, ◌+◌, ◌-◌, ◌<◌, ◌≤◌, Option, Some, None, List, [], ◌∷◌, ◌++◌, map}
 use Rattle.std.proofs.Common.{length, set, replicate, append_assoc, length-append, arith, refl, sym, ap, ◌∙◌}
 use Rattle.std.specs.List.{remove}
-use Rattle.std.proofs.Math.Seq.{set-append_seam}
+use Rattle.std.proofs.lemmas.List.{replicate_more, set_at}
 use Rattle.std.proofs.lemmas.List.Edits.{length-remove}
 use Rattle.firm_net.specs.declared.row.ArcId.{ArcId}
 use Rattle.firm_graph.specs.inner.Tables.{arcs_in, padded, AreFront}
@@ -58,13 +58,6 @@ front-added table count arc is room =
     ∙ ap (front (xs ++ arc ∷ [])) less
 
 -- one arc less: the places from its own on are turned by one, and the last is emptied
-set-last : {X : Type 0} (t : List X) (y z : X) (i : ℕ) → length t ≡ i → set (t ++ y ∷ []) i z ≡ t ++ z ∷ []
-set-last t y z i e = ap (λ (k : ℕ). set (t ++ y ∷ []) k z) (sym e) ∙ set-append_seam t y [] z
-
-replicate-push : {X : Type 0} (m : ℕ) (x : X) → replicate m x ++ x ∷ [] ≡ replicate (suc m) x
-replicate-push zero x = refl
-replicate-push {X} (suc m) x = ap (λ (l : List X). x ∷ l) (replicate-push m x)
-
 remove-front : (xs : List ArcId) (m i : ℕ) → i < length xs → remove (front xs m) i ≡ front (remove xs i) m
 remove-front [] m i below = absurd (omega arith)
 remove-front (x ∷ xs) m zero below = refl
@@ -80,13 +73,12 @@ front-removed table count place last is below =
     let here : place < length xs = omega (arith, below, is.counted) in
     let removed : remove table place ≡ front left m =
     ap (λ (t : List (Option ArcId)). remove t place) is.rest ∙ remove-front xs m place here in
-    let three : length (front left m) ≡ 3 = omega
-    (arith, is.few, here, length-front left m, length-remove xs place here) in
-    let more : suc m ≡ 4 - length left = omega (arith, is.few, here, length-remove xs place here) in
+    let three : length (front left m) ≡ 3 = omega (arith, length-front left m, length-remove xs place here) in
+    let more : m + 1 ≡ 4 - length left = omega (arith, is.few, here, length-remove xs place here) in
     ap (λ (t : List (Option ArcId)). set (t ++ last ∷ []) 3 None) removed
-    ∙ set-last (front left m) last None 3 three
+    ∙ set_at (front left m) last [] None 3 three
     ∙ append_assoc (map Some left) (replicate m None) (None ∷ [])
-    ∙ ap (λ (l : List (Option ArcId)). map Some left ++ l) (replicate-push m None)
+    ∙ ap (λ (l : List (Option ArcId)). map Some left ++ l) (replicate_more m None)
     ∙ ap (front left) more
 
 pub removed-counted : (table : List (Option ArcId)) (count place : ℕ) → AreFront table count → place < count
@@ -104,5 +96,4 @@ front-length table count is =
       arith,
       ap (λ (t : List (Option ArcId)). length t) is.rest,
       length-front (arcs_in table) (4 - length (arcs_in table)),
-      is.few,
     )

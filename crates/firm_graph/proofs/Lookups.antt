@@ -1,23 +1,14 @@
 -- Look-ups by name, where a name is added last.
-use Rattle.std.proofs.Common.{◌≡◌, ℕ, zero, suc, not, ltb, get_or, Option, Some, None, ◌+◌, ◌<◌, Bool, true, false}
+use Rattle.std.proofs.Common.{◌≡◌, ℕ, suc, not, ltb, get_or, Some, ◌+◌, ◌<◌, Bool, true, false, subst}
 use Rattle.std.proofs.Common.{cond, ◌||◌, List, [], ◌∷◌, ◌++◌, map, length, bytes_eq, arith, refl, sym, ap, ap₂, ◌∙◌}
 use Rattle.std.proofs.lemmas.List.Elements.{All-head, All-tail}
-use Rattle.std.specs.List.{All, AllByRecursion, list_any, position_or_len, position}
+use Rattle.std.specs.List.{All, list_any, position_or_len, position}
 use Rattle.std.proofs.lemmas.Bool.{ltb-true}
+use Rattle.std.proofs.lemmas.Option.{cond_some}
 use Rattle.firm_net.specs.declared.row.NodeId.{NodeId}
 use Rattle.firm_rules.specs.Names.{is_among}
 use Rattle.firm_rules.specs.declared.book.Job.{Job}
 use Rattle.firm_graph.specs.Graph.{node_under, weight_under}
-
-pub or-false : (a b : Bool) → a ≡ false → a || b ≡ b
-or-false a b e = ap (λ (x : Bool). x || b) e
-
--- what holds of each element holds of the one at a place
-pub all-at : {X : Type 0} (P : X → Type 0) (xs : List X) (i : ℕ) (d : X) → AllByRecursion P xs → i < length xs
-    → P (get_or xs i d)
-all-at P [] i d h below = absurd (omega arith)
-all-at P (x ∷ xs) zero d h below = h.0
-all-at P (x ∷ xs) (suc i) d h below = all-at P xs i d h.1 (omega arith)
 
 -- two functions that agree on a list make the same of it
 pub map-all : {A B : Type 0} (f g : A → B) (xs : List A) → All (λ x. f x ≡ g x) xs → map f xs ≡ map g xs
@@ -25,12 +16,6 @@ map-all f g [] same = refl
 map-all {A} {B} f g (x ∷ xs) same =
     let P : A → Type 0 = λ (y : A). f y ≡ g y in
     ap₂ (λ (y : B) (l : List B). y ∷ l) (All-head P x xs same) (map-all f g xs (All-tail P x xs same))
-
--- what holds of each branch where it is taken holds of the choice
-pub cond-case : {X : Type 0} (P : X → Type 0) (b : Bool) (x y : X) → (b ≡ true → P x) → (b ≡ false → P y)
-    → P (cond b x y)
-cond-case P true x y first second = first refl
-cond-case P false x y first second = second refl
 
 cond-same : {X : Type 0} (b : Bool) (x y z : X) → (b ≡ false → y ≡ z) → cond b x y ≡ cond b x z
 cond-same true x y z same = refl
@@ -46,26 +31,33 @@ node_under-push (m ∷ names) (x ∷ nodes) n node other name e h =
     cond-same (bytes_eq name m) x (node_under (names ++ n ∷ []) (nodes ++ node ∷ []) other name)
     (node_under names nodes other name)
     (λ f. node_under-push names nodes n node other name (omega arith)
-    (sym (or-false (bytes_eq name m) (list_any (bytes_eq name) names) f) ∙ h))
+    (sym (ap (λ (b : Bool). b || list_any (bytes_eq name) names) f) ∙ h))
 
 pub weight_under-push : (jobs : List Job) (job : Job) (name : List ℕ) → is_among (map (λ j. j.name) jobs) name ≡ true
     → weight_under (jobs ++ job ∷ []) name ≡ weight_under jobs name
 weight_under-push [] job name h = let clash : false ≡ true = h in absurd cc
 weight_under-push (j ∷ jobs) job name h =
     cond-same (bytes_eq name j.name) j.weight (weight_under (jobs ++ job ∷ []) name) (weight_under jobs name)
-    (λ f. weight_under-push jobs job name (sym (or-false (bytes_eq name j.name)
-    (list_any (bytes_eq name) (map (λ i. i.name) jobs)) f) ∙ h))
+    (λ f. weight_under-push jobs job name
+    (sym (ap (λ (b : Bool). b || list_any (bytes_eq name) (map (λ i. i.name) jobs)) f) ∙ h))
+
+-- what holds of each element and its number, of those from the k-th on, holds of the first and of the rest
+module _ {X : Type 0} (P : ℕ → X → Type 0) (d : X) (k : ℕ) (x : X) (xs : List X)
+    (h : (i : ℕ) → i < length (x ∷ xs) → P (k + i) (get_or (x ∷ xs) i d)) where
+  pub at-first : P k x
+  at-first = subst (λ (n : ℕ). P n x) (let e : k + 0 ≡ k = omega arith in e) (h 0 (omega arith))
+
+  pub at-later : (i : ℕ) → i < length xs → P (k + 1 + i) (get_or xs i d)
+  at-later i below =
+      subst (λ (n : ℕ). P n (get_or xs i d)) (let e : k + suc i ≡ k + 1 + i = omega arith in e)
+      (h (suc i) (omega (arith, below)))
 
 -- what a position says
 pub position-is : {X : Type 0} (p : X → Bool) (xs : List X) (i : ℕ) → position p xs ≡ Some i
     → (position_or_len p xs ≡ i) × (i < length xs)
 position-is p xs i e =
     let at : ℕ = position_or_len p xs in
-    let by : position p xs ≡ Some i → (at ≡ i) × (i < length xs) =
-    cond-case (λ (o : Option ℕ). o ≡ Some i → (at ≡ i) × (i < length xs)) (ltb at (length xs)) (Some at) None
-    (λ t same. let is : at ≡ i = cc in (is, omega (arith, is, ltb-true at (length xs) t)))
-    (λ _ clash. absurd cc) in
-    by e
+    let is = cond_some (ltb at (length xs)) at i e in (is.1, omega (arith, is.1, ltb-true at (length xs) is.0))
 
 -- a look-up reads at the position
 pub node_under-at : (names : List (List ℕ)) (nodes : List NodeId) (other : NodeId) (name : List ℕ)

@@ -171,7 +171,6 @@ module _ (g : Graph) (net : Net) (place : ℕ) (name : List ℕ) (parts : Machin
         preferred = is.preferred;
         machines = omega (
           arith,
-          is.machines,
           length-remove g.machines place below,
           length-remove g.rows.machines place
               here,

@@ -56,7 +56,6 @@ link-step base old new node under names i name head arcs more arc below at head_
       arith,
       length-map (take i names) under,
       length-take-le i names (let b : i ≤ length names = omega (arith, below) in b),
-      counted,
     ) in
     let spans : preferred_spans node 0 (map under (take (i + 1) names)) more ≡ preferred_spans node 0 heads arcs ++
     near node head 0 arc ∷ [] =
@@ -145,9 +144,8 @@ rate-step base was now ns ss node new old i heads arcs arc e below at h edit non
       arith,
       (mixed-sums w node new old i heads arcs node arc e below).0,
       its w old,
-      sum_by-append w (mixed i) ss,
-      sum_by-append w (s ∷ rest) ss,
-      sum_by-cons w s rest,
+      sum_by-append {X = Span},
+      sum_by-cons {X = Span},
     )) in
     subst (λ (k : ℕ). Holds base now ns (mixed k ++ ss)) (let z : suc i ≡ i + 1 = omega arith in z)
     (holds-same base now ns (t ∷ rest ++ ss) (mixed (suc i) ++ ss)
@@ -156,9 +154,8 @@ rate-step base was now ns ss node new old i heads arcs arc e below at h edit non
       arith,
       (mixed-sums w node new old i heads arcs node arc e below).1,
       its w new,
-      sum_by-append w (mixed (suc i)) ss,
-      sum_by-append w (t ∷ rest) ss,
-      sum_by-cons w t rest,
+      sum_by-append {X = Span},
+      sum_by-cons {X = Span},
     )))
 
 all-mixed : (node : NodeId) (new old n : ℕ) (heads : List NodeId) (arcs : List ArcId) → length arcs ≤ n

@@ -1,6 +1,6 @@
 -- What the rows make under the graph's ids is the network of the rows.
-use Rattle.std.proofs.Common.{◌≡◌, ℕ, suc, ◌+◌, ◌*◌, ◌<◌, cond, is_some, Option, Some, None, List, [], ◌∷◌, ◌++◌, map}
-use Rattle.std.proofs.Common.{length, get_or, bytes_eq, arith, refl, sym, ap, ap₂, ◌∙◌, subst}
+use Rattle.std.proofs.Common.{◌≡◌, ℕ, ◌+◌, ◌*◌, ◌<◌, cond, is_some, Option, Some, None, List, [], ◌∷◌, ◌++◌, map}
+use Rattle.std.proofs.Common.{length, get_or, bytes_eq, arith, refl, sym, ap, ap₂, ◌∙◌}
 use Rattle.std.specs.List.{AllZip, position_or_len}
 use Rattle.std.proofs.lemmas.List.{map-append, get_or-map}
 use Rattle.firm_net.specs.declared.row.NodeId.{NodeId}
@@ -28,7 +28,7 @@ use Rattle.firm_graph.proofs.Bridge.{bare, slot_rows, machine_rows, job_rows, pr
 use Rattle.firm_graph.proofs.Bridge.{head_of, rows_network}
 use Rattle.firm_graph.proofs.Drops.{wide_arc, stay_arc, wait_arc}
 use Rattle.firm_graph.proofs.Totals.{machines-paired, jobs-paired}
-use Rattle.firm_graph.proofs.Lookups.{map-all, node_under-at}
+use Rattle.firm_graph.proofs.Lookups.{map-all, at-first, at-later, node_under-at}
 
 -- an arc of the network under ids
 abbrev pub shown : (Node → NodeId) → (Key → ArcId) → Arc Node Key → Span
@@ -39,76 +39,54 @@ slots-shown : (name : Node → NodeId) (id : Key → ArcId) (spread j k : ℕ) (
     → map (shown name id) (slot_rows spread j k (length slots)) ≡ slot_spans node (name Sink) spread k slots
 slots-shown name id spread j k node [] e h = refl
 slots-shown name id spread j k node (a ∷ slots) e h =
-    let own : a ≡ id (Slot j k) = h 0 (omega arith) ∙ ap (λ (n : ℕ). id (Slot j n))
-    (let z : k + 0 ≡ k = omega arith in z) in
-    let later : (i : ℕ) → i < length slots → get_or slots i no_arc ≡ id (Slot j (k + 1 + i)) =
-    λ i below. h (suc i) (omega (arith, below)) ∙ ap (λ (n : ℕ). id (Slot j n))
-    (let z : k + suc i ≡ k + 1 + i = omega arith in z) in
+    let P : ℕ → ArcId → Type 0 = λ (n : ℕ) (b : ArcId). b ≡ id (Slot j n) in
     ap₂ (λ (s : Span) (l : List Span). s ∷ l)
     (ap₂ (λ (b : ArcId) (n : NodeId). let s : Span = record
-    { arc = b; tail = n; head = name Sink; cap = 1; cost = k * spread } in s) (sym own) (sym e))
-    (slots-shown name id spread j (k + 1) node slots e later)
+    { arc = b; tail = n; head = name Sink; cap = 1; cost = k * spread } in s) (sym (at-first P no_arc k a slots h))
+    (sym e))
+    (slots-shown name id spread j (k + 1) node slots e (at-later P no_arc k a slots h))
+
+-- the parts of a machine carry the network's ids
+abbrev AreMachineIds : (Node → NodeId) → (Key → ArcId) → ℕ → MachineParts → Type 0
+AreMachineIds name id j p =
+    (p.node ≡ name (MachineAt j)) × (p.through ≡ id (Through j))
+    × ((k : ℕ) → k < length p.slots → get_or p.slots k no_arc ≡ id (Slot j (0 + k)))
 
 machines-shown : (name : Node → NodeId) (id : Key → ArcId) (spread j : ℕ) (d : MachineParts) (ms : List Machine)
     (ps : List MachineParts)
     → AllZip (λ machine parts. length parts.slots ≡ machine.slots) ms ps
-    → ((i : ℕ) → i < length ps → ((get_or ps i d).node ≡ name (MachineAt (j + i))) ×
-    ((get_or ps i d).through ≡ id (Through (j + i)))
-    × ((k : ℕ) → k < length (get_or ps i d).slots → get_or (get_or ps i d).slots k no_arc ≡ id (Slot (j + i) k)))
+    → ((i : ℕ) → i < length ps → AreMachineIds name id (j + i) (get_or ps i d))
     → map (shown name id) (machine_rows spread j ms) ≡ flat_zip (machine_spans (name Hub) (name Sink) spread) ms ps
 machines-shown name id spread j d [] [] z h = refl
 machines-shown name id spread j d [] (p ∷ ps) z h = absurd z
 machines-shown name id spread j d (m ∷ ms) [] z h = absurd z
 machines-shown name id spread j d (m ∷ ms) (p ∷ ps) z h =
-    let here : j + 0 ≡ j = omega arith in
-    let own = h 0 (omega arith) in
-    let node : p.node ≡ name (MachineAt j) = own.0 ∙ ap (λ (n : ℕ). name (MachineAt n)) here in
-    let through : p.through ≡ id (Through j) = own.1 ∙ ap (λ (n : ℕ). id (Through n)) here in
-    let slots : (k : ℕ) → k < length p.slots → get_or p.slots k no_arc ≡ id (Slot j (0 + k)) =
-    λ k below. own.2 k below ∙ ap₂ (λ (a b : ℕ). id (Slot a b)) here (let q : k ≡ 0 + k = omega arith in q) in
-    let later : (i : ℕ) → i < length ps → ((get_or ps i d).node ≡ name (MachineAt (j + 1 + i))) ×
-    ((get_or ps i d).through ≡ id (Through (j + 1 + i)))
-    × ((k : ℕ) → k < length (get_or ps i d).slots → get_or (get_or ps i d).slots k no_arc ≡ id (Slot (j + 1 + i) k)) =
-    λ i below.
-    let q : j + suc i ≡ j + 1 + i = omega arith in
-    let r = h (suc i) (omega (arith, below)) in (
-      r.0 ∙ ap (λ (n : ℕ). name (MachineAt n)) q,
-      r.1 ∙ ap (λ (n : ℕ). id (Through n)) q,
-      λ k b. r.2 k b ∙ ap
-          (λ (n : ℕ). id (Slot n k)) q,
-    ) in
+    let own : AreMachineIds name id j p = at-first (AreMachineIds name id) d j p ps h in
     map-append (shown name id) (bare (Through j) Hub (MachineAt j) m.slots 0 ∷ slot_rows spread j 0 m.slots)
     (machine_rows spread (j + 1) ms)
     ∙ ap₂ (λ (a b : List Span). a ++ b)
     (ap₂ (λ (s : Span) (l : List Span). s ∷ l)
     (ap₂ (λ (b : ArcId) (n : NodeId). let s : Span = record
-    { arc = b; tail = name Hub; head = n; cap = m.slots; cost = 0 } in s) (sym through) (sym node))
+    { arc = b; tail = name Hub; head = n; cap = m.slots; cost = 0 } in s) (sym own.1) (sym own.0))
     (ap (λ (n : ℕ). map (shown name id) (slot_rows spread j 0 n)) (sym z.0) ∙ slots-shown name id spread j 0 p.node
-    p.slots node slots))
-    (machines-shown name id spread (j + 1) d ms ps z.1 later)
+    p.slots own.0 own.2))
+    (machines-shown name id spread (j + 1) d ms ps z.1 (at-later (AreMachineIds name id) d j p ps h))
+
+abbrev AreJobIds : (Node → NodeId) → (Key → ArcId) → ℕ → JobParts → Type 0
+AreJobIds name id k p = (p.node ≡ name (JobAt k)) × (p.exit ≡ id (Exit k))
 
 jobs-shown : (name : Node → NodeId) (id : Key → ArcId) (limit k : ℕ) (d : JobParts) (js : List Job)
     (ps : List JobParts) → length ps ≡ length js
-    → ((i : ℕ) → i < length ps → ((get_or ps i d).node ≡ name (JobAt (k + i))) ×
-    ((get_or ps i d).exit ≡ id (Exit (k + i))))
+    → ((i : ℕ) → i < length ps → AreJobIds name id (k + i) (get_or ps i d))
     → map (shown name id) (job_rows limit k js) ≡ flat_zip (job_spans (name Sink) limit) js ps
 jobs-shown name id limit k d [] ps e h = refl
 jobs-shown name id limit k d (j ∷ js) [] e h = absurd (omega arith)
 jobs-shown name id limit k d (j ∷ js) (p ∷ ps) e h =
-    let here : k + 0 ≡ k = omega arith in
-    let own = h 0 (omega arith) in
-    let node : p.node ≡ name (JobAt k) = own.0 ∙ ap (λ (n : ℕ). name (JobAt n)) here in
-    let exit : p.exit ≡ id (Exit k) = own.1 ∙ ap (λ (n : ℕ). id (Exit n)) here in
-    let later : (i : ℕ) → i < length ps → ((get_or ps i d).node ≡ name (JobAt (k + 1 + i))) ×
-    ((get_or ps i d).exit ≡ id (Exit (k + 1 + i))) =
-    λ i below.
-    let q : k + suc i ≡ k + 1 + i = omega arith in
-    let r = h (suc i) (omega (arith, below)) in
-    (r.0 ∙ ap (λ (n : ℕ). name (JobAt n)) q, r.1 ∙ ap (λ (n : ℕ). id (Exit n)) q) in
+    let own : AreJobIds name id k p = at-first (AreJobIds name id) d k p ps h in
     ap₂ (λ (s : Span) (l : List Span). s ∷ l)
     (ap₂ (λ (b : ArcId) (n : NodeId). let s : Span = record
-    { arc = b; tail = n; head = name Sink; cap = limit; cost = 0 } in s) (sym exit) (sym node))
-    (jobs-shown name id limit (k + 1) d js ps (omega arith) later)
+    { arc = b; tail = n; head = name Sink; cap = limit; cost = 0 } in s) (sym own.1) (sym own.0))
+    (jobs-shown name id limit (k + 1) d js ps (omega arith) (at-later (AreJobIds name id) d k p ps h))
 
 preferred-shown : (name : Node → NodeId) (id : Key → ArcId) (names : List (List ℕ)) (cost i k : ℕ) (node : NodeId)
     (preferred : List (List ℕ)) (arcs : List ArcId) → length arcs ≡ length preferred → node ≡ name (TaskAt i)
@@ -119,15 +97,12 @@ preferred-shown name id names cost i k node [] arcs e n h = refl
 preferred-shown name id names cost i k node (m ∷ preferred) [] e n h = absurd (omega arith)
 preferred-shown name id names cost i k node (m ∷ preferred) (a ∷ arcs) e n h =
     let head : NodeId = name (MachineAt (position_or_len (bytes_eq m) names)) in
-    let own : a ≡ id (Prefer i k) = h 0 (omega arith) ∙ ap (λ (q : ℕ). id (Prefer i q))
-    (let z : k + 0 ≡ k = omega arith in z) in
-    let later : (j : ℕ) → j < length arcs → get_or arcs j no_arc ≡ id (Prefer i (k + 1 + j)) =
-    λ j below. h (suc j) (omega (arith, below)) ∙ ap (λ (q : ℕ). id (Prefer i q))
-    (let z : k + suc j ≡ k + 1 + j = omega arith in z) in
+    let P : ℕ → ArcId → Type 0 = λ (q : ℕ) (b : ArcId). b ≡ id (Prefer i q) in
     ap₂ (λ (s : Span) (l : List Span). s ∷ l)
     (ap₂ (λ (b : ArcId) (t : NodeId). let s : Span = record
-    { arc = b; tail = t; head = head; cap = 1; cost = cost } in s) (sym own) (sym n))
-    (preferred-shown name id names cost i (k + 1) node preferred arcs (omega arith) n later)
+    { arc = b; tail = t; head = head; cap = 1; cost = cost } in s) (sym (at-first P no_arc k a arcs h))
+    (sym n))
+    (preferred-shown name id names cost i (k + 1) node preferred arcs (omega arith) n (at-later P no_arc k a arcs h))
 
 -- the parts of a task carry the network's ids
 record AreTaskIds (name : Node → NodeId) (id : Key → ArcId) (i : ℕ) (p : TaskParts) : Type 0 where
@@ -185,14 +160,10 @@ tasks-shown : (name : Node → NodeId) (id : Key → ArcId) (rows : TenantRows) 
 tasks-shown name id rows target i d [] ps e t h = refl
 tasks-shown name id rows target i d (x ∷ ts) [] e t h = absurd e
 tasks-shown name id rows target i d (x ∷ ts) (p ∷ ps) e t h =
-    let own : AreTaskIds name id i p = subst (λ (n : ℕ). AreTaskIds name id n p)
-    (let z : i + 0 ≡ i = omega arith in z) (h 0 (omega arith)) in
-    let later : (k : ℕ) → k < length ps → AreTaskIds name id (i + 1 + k) (get_or ps k d) =
-    λ k below. subst (λ (n : ℕ). AreTaskIds name id n (get_or ps k d))
-    (let z : i + suc k ≡ i + 1 + k = omega arith in z) (h (suc k) (omega (arith, below))) in
     map-append (shown name id) (one_task_rows rows i x) (task_rows rows (i + 1) ts)
-    ∙ ap₂ (λ (a b : List Span). a ++ b) (one-shown name id rows target i x p e.0 (t x) own)
-    (tasks-shown name id rows target (i + 1) d ts ps e.1 t later)
+    ∙ ap₂ (λ (a b : List Span). a ++ b) (one-shown name id rows target i x p e.0 (t x)
+    (at-first (AreTaskIds name id) d i p ps h))
+    (tasks-shown name id rows target (i + 1) d ts ps e.1 t (at-later (AreTaskIds name id) d i p ps h))
 
 home-named : (g : Graph) (home : Option (List ℕ)) → length g.machines ≡ length g.rows.machines
     → home_node (machine_names g.rows) (machine_nodes g) g.hub home ≡ node_id g (head_of (machine_names g.rows) home)
@@ -216,7 +187,7 @@ graph-shown g is =
       sym (get_or-map (λ (p : MachineParts). p.node) g.machines i (no_machine g) g.hub below) ∙ ap
           (λ (n : ℕ). name (MachineAt n)) (at i),
       ap (λ (n : ℕ). id (Through n)) (at i),
-      λ k b. ap (λ (n : ℕ). id (Slot n k)) (at i),
+      λ k b. ap₂ (λ (n q : ℕ). id (Slot n q)) (at i) (at k),
     )) in
     let jobs : map show (job_rows g.rows.limits.nodes 0 g.rows.jobs) ≡ flat_zip (job_spans g.sink g.rows.limits.nodes)
     g.rows.jobs g.jobs =

@@ -1,4 +1,5 @@
 -- The net's arcs are the network's in another order.
+use mathlib.Core.List.{map-map}
 use Rattle.std.proofs.Common.{◌≡◌, ℕ, suc, ◌+◌, ◌<◌, true, false, Option, Some, None, List, [], ◌∷◌, ◌++◌, map, get_or}
 use Rattle.std.proofs.Common.{arith, refl, sym, ap, ap₂, ◌∙◌, subst, ⊎_elim}
 use Rattle.std.specs.List.{sum_by}
@@ -61,11 +62,9 @@ often-permutes (x ∷ xs) ys often =
       weighs = λ v. omega (
         arith,
         often.weighs v,
-        sum_by-cons v x xs,
         ap (λ (l : List Span). sum_by v l) at.is,
-        sum_by-append v at.front (x ∷ at.back),
-        sum_by-cons v x at.back,
-        sum_by-append v at.front at.back,
+        sum_by-cons {X = Span},
+        sum_by-append {X = Span},
       );
     } in
     subst (λ (l : List Span). IsPermutation (x ∷ xs) l) (sym at.is)
@@ -94,10 +93,6 @@ same-entries f g a h =
     subst (λ (n : ℕ). f (record { place = n; stamp = own.0 }, own.1) ≡ g (record { place = n; stamp = own.0 }, own.1))
     (let z : i ≡ q = omega (arith, at) in z)
     (h (record { place = i; stamp = own.0 }) own.1 (find-held_own a i own e)))
-
-pub map-map : {A B C : Type 0} (f : B → C) (g : A → B) (xs : List A) → map f (map g xs) ≡ map (λ x. f (g x)) xs
-map-map f g [] = refl
-map-map {A} {B} {C} f g (x ∷ xs) = ap (λ (l : List C). f (g x) ∷ l) (map-map f g xs)
 
 -- an arc with the flow that the net gives it
 abbrev flowing : Net → Span → Arc ℕ ArcId

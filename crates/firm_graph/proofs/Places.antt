@@ -2,6 +2,7 @@
 use Rattle.std.proofs.Common.{◌≡◌, ◌≢◌, ℕ, zero, suc, ◌+◌, ◌<◌, ◌≤◌, true, cond, is_some, Option, Some, None, List, []}
 use Rattle.std.proofs.Common.{◌∷◌, ◌++◌, length, get_or, set, bytes_eq, arith, refl, sym, ap, ap₂, ◌∙◌, subst}
 use Rattle.std.specs.List.{sum_by, AllZip, Contains, remove}
+use Rattle.std.proofs.lemmas.Bool.{cond_both}
 use Rattle.std.proofs.lemmas.List.{set-get_or}
 use Rattle.std.proofs.lemmas.List.Sums.{sum_by-cons, sum_by-append, sum_by-remove}
 use Rattle.std.proofs.lemmas.List.Elements.{Contains-append_left}
@@ -20,10 +21,9 @@ use Rattle.firm_graph.specs.Graph.{preferred_spans, graph_nodes, graph_spans, ma
 use Rattle.firm_graph.specs.Network.{away}
 use Rattle.firm_net.specs.Laws.{sum-map}
 use Rattle.firm_graph.proofs.Found.{ones, same_id-refl, node-there}
-use Rattle.firm_graph.proofs.Lookups.{cond-case}
-use Rattle.firm_graph.proofs.Totals.{nodes-total, spans-total, sum-one}
+use Rattle.firm_graph.proofs.Totals.{nodes-total, spans-total}
 use Rattle.firm_graph.proofs.Drops.{holds-row, task-start, task_dropped, task_at, wide_of, stay_of, wait_of, is_node}
-use Rattle.firm_graph.proofs.Drops.{wide_arc, stay_arc, wait_arc, preferred_of, leaving_of, four-sum, heads-counted}
+use Rattle.firm_graph.proofs.Drops.{wide_arc, stay_arc, wait_arc, preferred_of, leaving_of, heads-counted}
 use Rattle.firm_graph.proofs.Drops.{node-once, home-weight}
 
 pub length-updated : {X : Type 0} (xs : List X) (place : ℕ) (f : X → X) → length (update_at xs place f) ≡ length xs
@@ -63,17 +63,7 @@ holds-changed base old new ns s t ss h edit none =
     record {
       net = edit.net;
       nodes = record { weighs = λ w. omega (arith, edit.nodes w, h.nodes.weighs w) };
-      spans = record {
-        weighs = λ w. omega (
-          arith,
-          edit.spans w,
-          h.spans.weighs w,
-          sum-one w s,
-          sum-one w t,
-          sum_by-cons w s ss,
-          sum_by-cons w t ss,
-        );
-      };
+      spans = record { weighs = λ w. omega (arith, edit.spans w, h.spans.weighs w, sum_by-cons {X = Span}) };
       node_room = edit.node_room ∙ h.node_room;
       arc_room = edit.arc_room ∙ h.arc_room;
       added = omega (arith, none, h.added);
@@ -96,27 +86,13 @@ pub holds-swap : (base now : Net) (ns : List NodeId) (s t : Span) (ss : List Spa
     → Holds base now ns (t ∷ s ∷ ss)
 holds-swap base now ns s t ss h =
     holds-same base now ns (s ∷ t ∷ ss) (t ∷ s ∷ ss) h
-    (λ w. omega (
-      arith,
-      sum_by-cons w s (t ∷ ss),
-      sum_by-cons w t ss,
-      sum_by-cons w t (s ∷ ss),
-      sum_by-cons w s ss,
-    ))
+    (λ w. omega (arith, sum_by-cons {X = Span}))
 
 pub holds-back : (base now : Net) (ns : List NodeId) (s t u : Span) (ss : List Span)
     → Holds base now ns (s ∷ t ∷ u ∷ ss) → Holds base now ns (u ∷ s ∷ t ∷ ss)
 holds-back base now ns s t u ss h =
     holds-same base now ns (s ∷ t ∷ u ∷ ss) (u ∷ s ∷ t ∷ ss) h
-    (λ w. omega (
-      arith,
-      sum_by-cons w s (t ∷ u ∷ ss),
-      sum_by-cons w t (u ∷ ss),
-      sum_by-cons w u ss,
-      sum_by-cons w u (s ∷ t ∷ ss),
-      sum_by-cons w s (t ∷ ss),
-      sum_by-cons w t ss,
-    ))
+    (λ w. omega (arith, sum_by-cons {X = Span}))
 
 -- an arc's numbers, and its head, said anew
 abbrev pub rated : ℕ → ℕ → Span → Span
@@ -153,7 +129,7 @@ under-listed : (names : List (List ℕ)) (nodes : List NodeId) (other : NodeId) 
 under-listed [] nodes other name = (0, omega arith, refl)
 under-listed (n ∷ names) [] other name = (0, omega arith, refl)
 under-listed (n ∷ names) (node ∷ nodes) other name =
-    cond-case (Contains (other ∷ node ∷ nodes)) (bytes_eq name n) node (node_under names nodes other name)
+    cond_both (bytes_eq name n) node (node_under names nodes other name) (Contains (other ∷ node ∷ nodes))
     (λ _. (1, omega arith, refl))
     (λ _. skip other node nodes (node_under names nodes other name) (under-listed names nodes other name))
   where
@@ -196,8 +172,6 @@ home-other g place parts home is below at e =
     let there : w (home_node (machine_names g.rows) (machine_nodes g) g.hub home) ≡ w n = ap w (sym e) in
     absurd (omega (
       arith,
-      own,
-      there,
       node-once g.net (graph_nodes g) n is.nodes,
       nodes-total w g,
       home-weight w (machine_names g.rows) (machine_nodes g) g.hub home,
@@ -260,10 +234,8 @@ task-placed g after place parts home waited is below at h =
         weighs = λ w. omega (
           arith,
           h.spans.weighs w,
-          four-sum w s1 s2 s3 ss rest,
-          sum_by-cons w s1 (s2 ∷ s3 ∷ ss),
-          sum_by-cons w s2 (s3 ∷ ss),
-          sum_by-cons w s3 ss,
+          sum_by-cons {X = Span},
+          sum_by-append {X = Span},
           spans-total w new,
           spans-total w (task_dropped g g.net place),
           flat_sum-update w f said g.rows.tasks g.tasks place no_task parts here is.tasks,
@@ -353,12 +325,7 @@ step-4 g place parts n3 n4 node cost cap delay h edit none =
     holds-same g.net n4 (graph_nodes g) (s3 ∷ s2 ∷ s1 ∷ ss ++ rest) (ss ++ s3 ∷ s2 ∷ s1 ∷ rest)
     (holds-rated g.net n3 n4 (graph_nodes g) (wait_of g place parts) (s2 ∷ s1 ∷ rest_of g place parts) 1 delay h edit
     none)
-    (λ w. omega (
-      arith,
-      four-sum w s3 s2 s1 ss rest,
-      sum_by-append w ss (s3 ∷ s2 ∷ s1 ∷ rest),
-      four-sum w s3 s2 s1 [] rest,
-    ))
+    (λ w. omega (arith, sum_by-cons {X = Span}, sum_by-append {X = Span}))
 
 pub step-5 : (g : Graph) (place : ℕ) (parts : TaskParts) (n4 n5 : Net) (home : Option (List ℕ)) (node : NodeId)
     (waited leaving far cap weight : ℕ) → Mirrors g → place < length g.tasks → parts ≡ get_or g.tasks place parts
@@ -398,7 +365,6 @@ step-5 g place parts n4 n5 home node waited leaving far cap weight is below at h
       ap w e2,
       ap w e3,
       ap (λ (l : List Span). sum_by w l) es,
-      sum_by-append w ss (s3 ∷ s2 ∷ s1 ∷ rest),
-      four-sum w s3 s2 s1 [] rest,
-      four-sum w t1 t2 t3 ts rest,
+      sum_by-cons {X = Span},
+      sum_by-append {X = Span},
     ))

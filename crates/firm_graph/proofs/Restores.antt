@@ -3,9 +3,12 @@ use Rattle.std.proofs.Common.{◌≡◌, ℕ, zero, suc, ◌+◌, ◌<◌, ◌�
 use Rattle.std.proofs.Common.{get_or, Option, None, Some, IfSome, bytes_eq, slice_index_or, refl, sym, ap, ◌∙◌, subst}
 use Rattle.std.proofs.Common.{arith, length-append}
 use Rattle.std.specs.List.{sum_by, All, IsDistinct, slice_get}
-use Rattle.std.proofs.lemmas.List.{get_or-map, length-map, length-take, length-take-le, take_more}
+use Rattle.std.proofs.lemmas.List.{get_or-map, get_or-take, length-map, length-take, length-take-le, take-map}
+use Rattle.std.proofs.lemmas.List.{take_more}
+use Rattle.std.proofs.lemmas.List.Folds.{list_any_none}
 use Rattle.std.proofs.lemmas.List.Sums.{sum_by-cons, sum_by-append, sum_by-take-le}
-use Rattle.std.proofs.lemmas.Map.Keys.{IsDistinct-head, IsDistinct-tail}
+use Rattle.std.proofs.lemmas.Option.{get_or_from_slice_get}
+use Rattle.std.proofs.lemmas.Map.Keys.{apart_from_distinct}
 use Rattle.firm_rules.specs.Names.{is_among}
 use Rattle.firm_rules.specs.Book.{TenantRows, with_machine, with_job, with_task, with_task_placed, placed_at, standing}
 use Rattle.firm_rules.specs.Book.{new_task, is_on}
@@ -16,8 +19,6 @@ use Rattle.firm_rules.specs.declared.book.Task.{Task}
 use Rattle.firm_graph.specs.Graph.{LackNodes, LackArcs}
 use Rattle.firm_graph.specs.inner.Restored.{machines_first, jobs_first, tasks_first}
 use Rattle.firm_graph.specs.inner.Steps.{update_at, placed, with_task_at}
-use Rattle.firm_graph.proofs.Additions.{read-at}
-use Rattle.firm_graph.proofs.Lookups.{or-false, all-at}
 use Rattle.firm_graph.proofs.Machines.{bytes_eq-swap}
 
 module _ {Row : Type 0} (name_of : Row → List ℕ) where
@@ -25,26 +26,25 @@ module _ {Row : Type 0} (name_of : Row → List ℕ) where
   pub fresh-at : (rows : List Row) (place : ℕ) (row : Row) → IsDistinct bytes_eq (map name_of rows)
       → place < length rows → Some row ≡ slice_get rows place
       → is_among (map name_of (take place rows)) (name_of row) ≡ false
-  fresh-at [] place row differ below read = absurd (omega arith)
-  fresh-at (first ∷ rows) zero row differ below read = refl
-  fresh-at (first ∷ rows) (suc place) row differ below read =
-      let here : place < length rows = omega (arith, below) in
-      let later : place < length (map name_of rows) = omega (arith, here, length-map rows name_of) in
-      let named : get_or (map name_of rows) place [] ≡ name_of row =
-      get_or-map name_of rows place row [] here ∙ ap name_of (read-at rows place row read row) in
-      let apart : bytes_eq (name_of first) (name_of row) ≡ false =
-      subst (λ (n : List ℕ). bytes_eq (name_of first) n ≡ false) named
-      (all-at (λ (y : List ℕ). bytes_eq (name_of first) y ≡ false) (map name_of rows) place []
-      (IsDistinct-head bytes_eq (name_of first) (map name_of rows) differ) later) in
-      or-false (bytes_eq (name_of row) (name_of first)) (is_among (map name_of (take place rows)) (name_of row))
-      (bytes_eq-swap (name_of first) (name_of row) apart)
-      ∙ fresh-at rows place row (IsDistinct-tail bytes_eq (name_of first) (map name_of rows) differ) (omega arith) read
+  fresh-at rows place row differ below read =
+      let names : List (List ℕ) = map name_of rows in
+      let long : length names ≡ length rows = length-map rows name_of in
+      subst (λ (l : List (List ℕ)). is_among l (name_of row) ≡ false) (take-map name_of place rows)
+      (list_any_none (bytes_eq (name_of row)) (take place names)
+      (λ k d l.
+      let before : k < place = omega (arith, l, length-take place names) in
+      let own : get_or names place d ≡ name_of row =
+      get_or-map name_of rows place row d below ∙ ap name_of (get_or_from_slice_get rows place row row (sym read)) in
+      ap (bytes_eq (name_of row)) (get_or-take place names k d before)
+      ∙ bytes_eq-swap (get_or names k d) (name_of row) (ap (bytes_eq (get_or names k d)) (sym own)
+      ∙ apart_from_distinct bytes_eq names k place d differ before (omega (arith, below, long)))))
 
 -- one row more of those that are the first
 pub take-next : {X : Type 0} (xs : List X) (place : ℕ) (x : X) → place < length xs → Some x ≡ slice_get xs place
     → take place xs ++ x ∷ [] ≡ take (place + 1) xs
 take-next {X} xs place x below read =
-    ap (λ (y : X). take place xs ++ y ∷ []) (sym (read-at xs place x read x)) ∙ sym (take_more xs place x below)
+    ap (λ (y : X). take place xs ++ y ∷ []) (sym (get_or_from_slice_get xs place x x (sym read)))
+    ∙ sym (take_more xs place x below)
 
 -- they weigh no more than all
 pub sum-next : {X : Type 0} (w : X → ℕ) (xs : List X) (place : ℕ) (x : X) → place < length xs
@@ -123,15 +123,9 @@ module _ (rows : TenantRows) (sound : AreSound rows) where
         let few = length-take (place + 1) rows.tasks in
         let first : List Task = take place rows.tasks in
         let as_long : length (first ++ anew ∷ []) ≡ length (first ++ task ∷ []) =
-        omega (arith, length-append first (anew ∷ []), length-append first (task ∷ [])) in
+        omega (arith, length-append {A = Task}) in
         let as_many : sum_by many (first ++ anew ∷ []) ≡ sum_by many (first ++ task ∷ []) =
-        omega (
-          arith,
-          sum_by-append many first (anew ∷ []),
-          sum_by-append many first (task ∷ []),
-          sum_by-cons many anew [],
-          sum_by-cons many task [],
-        ) in
+        omega (arith, sum_by-append {X = Task}, sum_by-cons {X = Task}) in
         let wide = sum-next many rows.tasks place task below read in (
           λ lack. omega (arith, lack, as_long, long, few, sound.fits.nodes),
           λ lack. omega (arith, lack.1, as_long, as_many, long, few, wide, sound.fits.arcs),
@@ -170,4 +164,4 @@ module _ (rows : TenantRows) (sound : AreSound rows) where
 
     -- what holds of each task holds of this one
     pub of-task : (P : Task → Type 0) → All P rows.tasks → P task
-    of-task P each = subst P (read-at rows.tasks place task read task) (each place task below)
+    of-task P each = subst P (get_or_from_slice_get rows.tasks place task task (sym read)) (each place task below)

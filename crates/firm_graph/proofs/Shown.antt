@@ -5,7 +5,7 @@ use Rattle.std.proofs.Common.{arith, refl, sym, ap, ap₂, ◌∙◌, subst, len
 use Rattle.std.specs.List.{sum_by, All, Contains, position_or_len, list_any}
 use Rattle.std.specs.List.Sorted.{IsPermutation}
 use Rattle.std.specs.Option.{option_map}
-use Rattle.std.proofs.lemmas.Bool.{cases_Bool, cases_eq, cases_lt, eqb-true, eq-eqb, not-true}
+use Rattle.std.proofs.lemmas.Bool.{cases_Bool, cases_eq, cases_lt, cond_both, eqb-true, eq-eqb, not-true}
 use Rattle.std.proofs.lemmas.List.{map-append, get_or-map, get_or_default, length-map}
 use Rattle.std.proofs.lemmas.List.Sums.{position_or_len_is, sum_by-append, sum_by-cons, sum_by_push}
 use Rattle.std.proofs.lemmas.List.Elements.{Contains-append_left, Contains-append_right}
@@ -43,7 +43,7 @@ use Rattle.firm_graph.specs.inner.Steps.{no_task}
 use Rattle.firm_net.specs.Laws.{sum-map, contains-mapped, nodes-sum, spans-sum}
 use Rattle.firm_graph.proofs.Found.{ones, ones-true, same_id, same_id-refl, same_id-true, node-there, node-weighs}
 use Rattle.firm_graph.proofs.Drops.{once-from, id-once, preferred-paired}
-use Rattle.firm_graph.proofs.Lookups.{cond-case}
+use Rattle.firm_graph.proofs.Lookups.{at-first, at-later}
 use Rattle.firm_graph.proofs.Cuts.{two}
 use Rattle.firm_graph.proofs.Bridge.{from, gather_from, fill, rows_network, network_is}
 use Rattle.firm_graph.proofs.Networks.{shown, graph-shown}
@@ -61,10 +61,8 @@ from-list : {X : Type 0} (h : ℕ → X) (j : ℕ) (xs : List X) (d : X)
 unfolding from
 from-list h j [] d at = refl
 from-list {X} h j (x ∷ xs) d at =
-    let own : h j ≡ x = ap h (let z : j ≡ j + 0 = omega arith in z) ∙ at 0 (omega arith) in
-    ap₂ (λ (y : X) (l : List X). y ∷ l) own
-    (from-list h (j + 1) xs d (λ i below. ap h (let z : j + 1 + i ≡ j + suc i = omega arith in z) ∙ at (suc i)
-    (omega (arith, below))))
+    let P : ℕ → X → Type 0 = λ (i : ℕ) (y : X). h i ≡ y in
+    ap₂ (λ (y : X) (l : List X). y ∷ l) (at-first P d j x xs at) (from-list h (j + 1) xs d (at-later P d j x xs at))
 
 pub gather-list : {X : Type 0} (xs : List X) (d : X) → gather (λ i. get_or xs i d ∷ []) (length xs) ≡ xs
 gather-list {X} xs d =
@@ -113,8 +111,8 @@ among-below : (names : List (List ℕ)) (name : List ℕ) → is_among names nam
     → position_or_len (bytes_eq name) names < length names
 among-below [] name h = let clash : false ≡ true = h in absurd cc
 among-below (m ∷ names) name h =
-    cond-case (λ (n : ℕ). n < length (m ∷ names)) (not (bytes_eq name m))
-    (1 + position_or_len (bytes_eq name) names) 0
+    cond_both (not (bytes_eq name m)) (1 + position_or_len (bytes_eq name) names) 0
+    (λ (n : ℕ). n < length (m ∷ names))
     (λ t. omega (
       arith,
       among-below names name
@@ -166,13 +164,7 @@ heavy-node c w some =
     let js : List Node = gather (λ k. JobAt k ∷ []) c.jobs in
     let ts : List Node = case_tasks c in
     let whole : sum_by w (nodes c) ≡ w Hub + (w Sink + (sum_by w ms + (sum_by w js + sum_by w ts))) =
-    omega (
-      arith,
-      sum_by-cons w Hub (Sink ∷ ms ++ (js ++ ts)),
-      sum_by-cons w Sink (ms ++ (js ++ ts)),
-      sum_by-append w ms (js ++ ts),
-      sum_by-append w js ts,
-    ) in
+    omega (arith, sum_by-cons {X = Node}, sum_by-append {X = Node}) in
     elim (cases_eq (w Hub) 0) [
       | inr own ↦ (Hub, tt, omega (arith, own))
       | inl no_hub ↦
@@ -382,7 +374,6 @@ module _ (g : Graph) (is : IsGraph g) where
       let other : w (get_or all k Hub) ≡ ones true = ap ones t in
       absurd (omega (
         arith,
-        before,
         apart w all k c.0 Hub (spots-once p) (omega (arith, before, c.1)) c.1
             (omega (arith, other)) (omega (arith, heavy)),
       )))
@@ -447,7 +438,6 @@ module _ (g : Graph) (is : IsGraph g) where
       r.1 in
       omega (
         arith,
-        job,
         among-below (job_names g.rows) (get_or g.rows.tasks i no_task).job (is.sound.jobs_there i no_task r.0),
         length-map g.rows.jobs (λ (j : Job). j.name),
       )
@@ -496,8 +486,7 @@ module _ (g : Graph) (is : IsGraph g) where
   pub case-sound : IsSound v.case
   case-sound = record {
     jobs_in = job-below;
-    limit_fits = omega
-        (arith, is.sound.fits.nodes, length-map g.rows.tasks (demand_of g.rows));
+    limit_fits = omega (arith, length-map g.rows.tasks (demand_of g.rows));
   }
 
   pub graph-shows : Shows (view_of g)

@@ -1,6 +1,6 @@
 -- What a graph is once a task stays where it was.
 use mathlib.Core.Bool.{beq}
-use Rattle.std.proofs.Common.{◌≡◌, ℕ, ◌+◌, ◌<◌, ◌≤◌, Bool, true, false, not, cond, is_some, Option, Some, List, [], ◌∷◌}
+use Rattle.std.proofs.Common.{◌≡◌, ℕ, ◌+◌, ◌<◌, ◌≤◌, Bool, false, not, cond, is_some, Option, Some, List, [], ◌∷◌}
 use Rattle.std.proofs.Common.{◌++◌, get_or, length, arith, refl, sym, ap, ap₂, ◌∙◌}
 use Rattle.std.specs.List.{sum_by}
 use Rattle.firm_net.specs.Row.{Row}
@@ -20,10 +20,7 @@ use Rattle.firm_graph.proofs.Places.{Rates, holds-back, holds-rated, holds-same,
 
 -- booleans that do not differ
 pub no-other : (a b : Bool) → not (beq a b) ≡ false → a ≡ b
-no-other true true h = refl
-no-other true false h = h
-no-other false true h = sym h
-no-other false false h = refl
+no-other a b h = grind arith
 
 -- a net that stays as it is gives an arc what the arc has
 pub same-edit : (net : Net) (s : Span) → IsNet net → IsEdit net net [] [] (s ∷ []) (s ∷ [])

@@ -34,12 +34,7 @@ module _ {A B C : Type 0} where
   flat_sum-push w f (a ∷ xs) [] x y e = absurd (omega arith)
   flat_sum-push w f (a ∷ xs) (b ∷ ys) x y e =
       let shorter : length ys ≡ length xs = omega arith in
-      omega (
-        arith,
-        flat_sum-push w f xs ys x y shorter,
-        sum_by-append w (f a b) (flat_zip f xs ys),
-        sum_by-append w (f a b) (flat_zip f (xs ++ x ∷ []) (ys ++ y ∷ [])),
-      )
+      omega (arith, flat_sum-push w f xs ys x y shorter, sum_by-append {X = C})
 
   -- two functions that agree on the first list make the same
   pub flat_zip-same : (f g : A → B → List C) (xs : List A) (ys : List B) → All (λ x. (y : B) → f x y ≡ g x y) xs →
@@ -68,15 +63,10 @@ pub nodes-total : (w : NodeId → ℕ) (g : Graph) → sum_by w (graph_nodes g)
     ≡ w g.hub + (w g.sink + (sum_by (λ p. w p.node) g.machines +
     (sum_by (λ p. w p.node) g.jobs + sum_by (λ p. w p.node) g.tasks)))
 nodes-total w g =
-    let machines : List NodeId = machine_nodes g in
-    let jobs : List NodeId = job_nodes g in
-    let tasks : List NodeId = task_nodes g in
     omega (
       arith,
-      sum_by-cons w g.hub (g.sink ∷ machines ++ (jobs ++ tasks)),
-      sum_by-cons w g.sink (machines ++ (jobs ++ tasks)),
-      sum_by-append w machines (jobs ++ tasks),
-      sum_by-append w jobs tasks,
+      sum_by-cons {X = NodeId},
+      sum_by-append {X = NodeId},
       sum-map w (λ (p : MachineParts). p.node) g.machines,
       sum-map w (λ (p : JobParts). p.node) g.jobs,
       sum-map w (λ (p : TaskParts). p.node) g.tasks,
@@ -96,11 +86,7 @@ tasks_total w g target = sum_by w (flat_zip (task_spans g.hub g.rows.limits.chur
 pub spans-total : (w : Span → ℕ) (g : Graph)
     → sum_by w (graph_spans g) ≡ machines_total w g + (jobs_total w g + tasks_total w g (target_of g))
 spans-total w g =
-    let machines : List Span = flat_zip (machine_spans g.hub g.sink g.rows.limits.spread) g.rows.machines g.machines in
-    let jobs : List Span = flat_zip (job_spans g.sink g.rows.limits.nodes) g.rows.jobs g.jobs in
-    let tasks : List Span = flat_zip (task_spans g.hub g.rows.limits.churn g.rows.limits.remote (target_of g))
-    g.rows.tasks g.tasks in
-    omega (arith, sum_by-append w machines (jobs ++ tasks), sum_by-append w jobs tasks)
+    omega (arith, sum_by-append {X = Span})
 
 -- the arcs of tasks are the same where their targets are
 pub tasks-same : (w : Span → ℕ) (g : Graph) (one other : Task → Target)
@@ -151,7 +137,4 @@ nodes-counted g is =
       length-map g.machines (λ (p : MachineParts). p.node),
       length-map g.jobs (λ (p : JobParts). p.node),
       length-map g.tasks (λ (p : TaskParts). p.node),
-      is.machines,
-      is.jobs,
-      is.tasks,
     )

@@ -1,10 +1,10 @@
 -- What a net holds once the arcs of a task were changed.
-use Rattle.std.proofs.Common.{◌≡◌, ◌≢◌, ℕ, zero, suc, ◌+◌, ◌<◌, true, false, Option, Some, None, List, [], ◌∷◌, map}
+use Rattle.std.proofs.Common.{◌≡◌, ◌≢◌, ℕ, ◌+◌, ◌<◌, true, false, Option, Some, None, List, [], ◌∷◌, map}
 use Rattle.std.proofs.Common.{length, get_or, bytes_eq, arith, refl, sym, ap, ◌∙◌, subst}
 use Rattle.std.specs.List.{IsDistinct}
-use Rattle.std.proofs.lemmas.Bool.{cond-true, cond-false}
 use Rattle.std.proofs.lemmas.List.{get_or-map, length-map}
-use Rattle.std.proofs.lemmas.Map.Keys.{IsDistinct-head, IsDistinct-tail}
+use Rattle.std.proofs.lemmas.List.Sums.{position_or_len_is}
+use Rattle.std.proofs.lemmas.Map.Keys.{apart_from_distinct}
 use Rattle.std.proofs.lemmas.Slice.Eq.{bytes_eq-Decides}
 use Rattle.firm_net.specs.Row.{Row}
 use Rattle.firm_net.specs.Net.{Net, IsNode, row_at}
@@ -22,7 +22,7 @@ use Rattle.firm_graph.specs.declared.ids.Stand.{Stand}
 use Rattle.firm_graph.specs.Graph.{Graph, Mirrors, graph_nodes, home_node, node_under, machine_nodes}
 use Rattle.firm_graph.specs.inner.Steps.{IsPlacing, Stands, Holds, moved, with_task_at, thrown_out, thrown_out_first}
 use Rattle.firm_graph.specs.inner.Steps.{forgetting_rows, settled_first, no_task, task_at}
-use Rattle.firm_graph.proofs.Lookups.{all-at}
+use Rattle.firm_graph.proofs.Lookups.{node_under-at}
 use Rattle.firm_graph.proofs.Machines.{bytes_eq-swap}
 use Rattle.firm_graph.proofs.Drops.{holds-row}
 use Rattle.firm_graph.proofs.Places.{home-there, home-other}
@@ -122,17 +122,13 @@ settle-next g rows machines hub choices place choice parts stand before after ro
 pub node_under-own : (names : List (List ℕ)) (nodes : List NodeId) (other : NodeId) (place : ℕ)
     → IsDistinct bytes_eq names → length nodes ≡ length names
     → place < length names → node_under names nodes other (get_or names place []) ≡ get_or nodes place other
-node_under-own [] nodes other place d e below = absurd (omega arith)
-node_under-own (m ∷ names) [] other place d e below = absurd (omega arith)
-node_under-own (m ∷ names) (n ∷ nodes) other zero d e below =
-    cond-true (bytes_eq m m) n (node_under names nodes other m) ((bytes_eq-Decides m m).1 refl)
-node_under-own (m ∷ names) (n ∷ nodes) other (suc place) d e below =
+node_under-own names nodes other place d e below =
     let name : List ℕ = get_or names place [] in
-    let differ : bytes_eq name m ≡ false = bytes_eq-swap m name
-    (all-at (λ (y : List ℕ). bytes_eq m y ≡ false) names place [] (IsDistinct-head bytes_eq m names d)
-    (omega arith)) in
-    cond-false (bytes_eq name m) n (node_under names nodes other name) differ
-    ∙ node_under-own names nodes other place (IsDistinct-tail bytes_eq m names d) (omega arith) (omega arith)
+    node_under-at names nodes other name e
+    ∙ ap (λ (k : ℕ). get_or nodes k other)
+    (position_or_len_is (bytes_eq name) names place [] (omega (arith, below))
+    (λ k before. bytes_eq-swap (get_or names k []) name (apart_from_distinct bytes_eq names k place [] d before below))
+    (λ _. (bytes_eq-Decides name name).1 refl))
 
 -- the node of the machine at a place, by its name
 pub stand-node : (rows : TenantRows) (machines : List MachineParts) (hub node : NodeId) (place : ℕ)

@@ -37,12 +37,7 @@ returns-clause-round c =
     let tie : c.chosen-1.given.0 ≡ c.choose_all.new.self.chosen.now = search rules in
     rw tie (ends c.the_round_is_the_first.ensures old end _ c.choose_all.new.self.chosen.now.items same
     c.choose_all.ensures.ready.keeps
-    (omega (
-      arith,
-      c.choose_all.ensures.all,
-      c.task_count-tasks.ensures.case,
-      ap (λ (k : Case). length k.tasks) same.case,
-    )))
+    (omega (arith, ap (λ (k : Case). length k.tasks) same.case)))
 
 -- a search for each task in the flow, and two in its choice
 made : (c : After-choose_all) → HasMadeUpTo c.args.scratch.now c.choose_all.new.self.scratch.now

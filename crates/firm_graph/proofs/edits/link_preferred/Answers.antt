@@ -16,12 +16,9 @@ link-arc-requires-clause-room c =
     (take c.loop-name.name-index c.args.names.now) in
     omega (
       arith,
-      c.requires.room,
       (c.loop-name.invariant.edit c.args.node).counted_arcs,
       (c.loop-name.invariant.edit c.args.node).arc_room,
       spans-counted c.args.node 0 heads c.loop-name.arcs,
-      c.loop-name.invariant.so_far,
-      c.loop-name-test.true,
     )
 
 pub link-arc-requires-clause-stamps : goal.link-arc-requires-clause-stamps
@@ -29,15 +26,7 @@ link-arc-requires-clause-stamps c =
     let heads : List NodeId = map (node_under (machine_names c.args.rows.now)
     (map (λ (p : MachineParts). p.node) c.args.machines.now) c.args.node)
     (take c.loop-name.name-index c.args.names.now) in
-    omega (
-      arith,
-      c.requires.stamps,
-      c.requires.few,
-      (c.loop-name.invariant.edit c.args.node).added,
-      spans-counted c.args.node 0 heads c.loop-name.arcs,
-      c.loop-name.invariant.so_far,
-      c.loop-name-test.true,
-    )
+    omega (arith, (c.loop-name.invariant.edit c.args.node).added, spans-counted c.args.node 0 heads c.loop-name.arcs)
 
 pub loop-name-preserved : goal.loop-name-preserved
 loop-name-preserved c = record {
@@ -51,7 +40,6 @@ loop-name-preserved c = record {
     arith,
     ap (λ (l : List ArcId). length l) c.add.ensures,
     length-append c.loop-name.arcs (c.link-arc.result ∷ []),
-    c.loop-name.invariant.so_far,
   );
   node = c.link-arc.ensures.nodes c.args.node c.loop-name.invariant.node;
   nodes = λ n there. c.link-arc.ensures.nodes n (c.loop-name.invariant.nodes n there);

@@ -9,26 +9,11 @@ use Rattle.firm_graph.proofs.edits.link_slots.Goals as goal
 
 pub link-arc-requires-clause-room : goal.link-arc-requires-clause-room
 link-arc-requires-clause-room c =
-    omega (
-      arith,
-      c.requires.room,
-      c.loop-k.invariant.edit.counted_arcs,
-      c.loop-k.invariant.edit.arc_room,
-      c.loop-k.invariant.so_far,
-      slots-count c.args.ladder.node c.args.ladder.sink c.args.ladder.spread 0 c.loop-k.slots.items,
-      c.loop-k-test.true,
-    )
+    omega (arith, slots-count c.args.ladder.node c.args.ladder.sink c.args.ladder.spread 0 c.loop-k.slots.items)
 
 pub link-arc-requires-clause-stamps : goal.link-arc-requires-clause-stamps
 link-arc-requires-clause-stamps c =
-    omega (
-      arith,
-      c.requires.stamps,
-      c.loop-k.invariant.edit.added,
-      c.loop-k.invariant.so_far,
-      slots-count c.args.ladder.node c.args.ladder.sink c.args.ladder.spread 0 c.loop-k.slots.items,
-      c.loop-k-test.true,
-    )
+    omega (arith, slots-count c.args.ladder.node c.args.ladder.sink c.args.ladder.spread 0 c.loop-k.slots.items)
 
 pub loop-k-preserved : goal.loop-k-preserved
 loop-k-preserved c =
@@ -58,7 +43,6 @@ loop-k-preserved c =
         ap length c.push_reserved.ensures.items,
         length-append c.loop-k.slots.items
             (c.link-arc.result ∷ []),
-        c.loop-k.invariant.so_far,
       );
       len = omega (arith, c.push_reserved.ensures.len, c.loop-k.invariant.len);
       reserved = omega (arith, c.push_reserved.ensures.capacity, c.loop-k.invariant.reserved);

@@ -8,8 +8,7 @@ use Rattle.firm_graph.proofs.moves.evict_tasks.Goals as goal
 pub returns : goal.returns
 returns c = record {
   evicted = λ g mirrors net_is rows_is tasks_is hub_is.
-      let all : length c.args.rows.now.tasks ≤ c.loop-place.place = omega
-      (arith, c.loop-place-test.false, c.requires) in
+      let all : length c.args.rows.now.tasks ≤ c.loop-place.place = omega arith in
       subst (λ (r : TenantRows). Mirrors (moved g r c.loop-place.net))
       (ap (λ (r : TenantRows). thrown_out_first r c.args.name c.loop-place.place) rows_is
       ∙ throw-end c.args.rows.now c.args.name c.loop-place.place all)

@@ -1,6 +1,7 @@
 use Rattle.std.proofs.Common.{◌≡◌, ◌+◌, ◌<◌, ℕ, Bool, cond, ltb, is_some, Some, List, [], ◌∷◌, length, set, bytes_eq}
 use Rattle.std.proofs.Common.{arith, ap, ap₂, sym, ◌∙◌, subst}
 use Rattle.std.specs.List.{IsDistinct, position, remove}
+use Rattle.std.proofs.lemmas.Option.{get_or_from_slice_get}
 use Rattle.firm_net.specs.Net.{Net, row_at}
 use Rattle.firm_net.specs.Row.{Row}
 use Rattle.firm_net.specs.Edits.{IsEdit, span_of}
@@ -11,7 +12,6 @@ use Rattle.firm_graph.specs.declared.ids.TaskParts.{TaskParts}
 use Rattle.firm_graph.specs.Network.{away}
 use Rattle.firm_graph.specs.Graph.{Mirrors}
 use Rattle.firm_graph.specs.inner.Steps.{refitted, with_forgetting_at, task_at, no_task}
-use Rattle.firm_graph.proofs.Additions.{read-at}
 use Rattle.firm_graph.proofs.Lookups.{position-is}
 use Rattle.firm_graph.proofs.Forgets.{forgot, forgot-holds, not-preferred}
 use Rattle.firm_graph.proofs.moves.forget_at.Goals as goal
@@ -20,7 +20,8 @@ pub returns-in_default-place_among-clause-step : goal.returns-in_default-place_a
 returns-in_default-place_among-clause-step c =
     λ g fit.
     let row : task_at g.rows c.args.place ≡ c.in-Some.task =
-    fit.its_row ∙ read-at c.args.rows.now.tasks c.args.place c.in-Some.task c.in-Some.ensures no_task in
+    fit.its_row
+    ∙ get_or_from_slice_get c.args.rows.now.tasks c.args.place c.in-Some.task no_task (sym c.in-Some.ensures) in
     not-preferred g c.args.place c.args.parts c.args.name c.args.net.now fit.mirrors fit.over fit.below fit.its_parts
     (ap (λ (t : Task). position (bytes_eq c.args.name) t.preferred) row
     ∙ sym (ap (position (bytes_eq c.args.name)) c.as_slice.ensures.names)
@@ -35,12 +36,11 @@ its-place c =
     sym (ap (position (bytes_eq c.args.name)) c.as_slice.ensures.names) ∙ sym c.place_among.ensures
     ∙ c.in-Some-place_among.is in
     let row : task_at c.args.rows.now c.args.place ≡ c.in-Some.task =
-    read-at c.args.rows.now.tasks c.args.place c.in-Some.task c.in-Some.ensures no_task in (
+    get_or_from_slice_get c.args.rows.now.tasks c.args.place c.in-Some.task no_task (sym c.in-Some.ensures) in (
       named,
       omega (
         arith,
         (position-is (bytes_eq c.args.name) c.in-Some.task.preferred c.in-Some-place_among.preference named).1,
-        c.requires.preferred,
         ap (λ (t : Task). length t.preferred) row,
       ),
     )
@@ -57,7 +57,7 @@ returns-clause-step c =
     let leaving : ℕ = c.where_runs.result in
     let far : ℕ = c.away_cost-away.result in
     let row : task_at g.rows place ≡ c.in-Some.task =
-    fit.its_row ∙ read-at c.args.rows.now.tasks place c.in-Some.task c.in-Some.ensures no_task in
+    fit.its_row ∙ get_or_from_slice_get c.args.rows.now.tasks place c.in-Some.task no_task (sym c.in-Some.ensures) in
     let named : position (bytes_eq c.args.name) (task_at g.rows place).preferred ≡ Some k =
     ap (λ (t : Task). position (bytes_eq c.args.name) t.preferred) row
     ∙ sym (ap (position (bytes_eq c.args.name)) c.as_slice.ensures.names) ∙ sym c.place_among.ensures

@@ -42,9 +42,6 @@ returns-clause-forgotten c =
     λ g mirrors net_is rows_is tasks_is.
     let all : length g.rows.tasks ≤ c.loop-place.place = omega (
       arith,
-      c.loop-place-test.false,
-      c.loop-place.auto.tasks,
-      c.requires.tasks,
       ap (λ (r : TenantRows). length r.tasks) rows_is,
     ) in
     subst (λ (r : TenantRows). Mirrors (refitted g r c.loop-place.net c.loop-place.tasks))

@@ -1,4 +1,5 @@
 use Rattle.std.proofs.Common.{◌≡◌, ◌+◌, ◌≤◌, ℕ, Bool, cond, is_some, List, ap, ap₂, sym, ◌∙◌, subst}
+use Rattle.std.proofs.lemmas.Option.{get_or_from_slice_get}
 use Rattle.firm_net.specs.Net.{Net, added_of, row_at}
 use Rattle.firm_rules.specs.Limits.{TenantLimits}
 use Rattle.firm_rules.specs.declared.book.Job.{Job}
@@ -6,7 +7,6 @@ use Rattle.firm_rules.specs.declared.book.Task.{Task}
 use Rattle.firm_graph.specs.declared.ids.TaskParts.{TaskParts}
 use Rattle.firm_graph.specs.Graph.{Mirrors, weight_under}
 use Rattle.firm_graph.specs.inner.Steps.{moved, with_task_at, task_at, no_task}
-use Rattle.firm_graph.proofs.Additions.{read-at}
 use Rattle.firm_graph.proofs.Places.{Rates}
 use Rattle.firm_graph.proofs.Stays.{IsHome, no-other, kept-whole, kept-but-wait, stay-read}
 use Rattle.firm_graph.proofs.moves.settle_task.Goals as goal
@@ -16,8 +16,8 @@ returns-then-task-stand c = record {
   settled = λ g home p read.
       let place : ℕ = c.args.place in
       let parts : TaskParts = c.args.parts.now in
-      let row : task_at g.rows place ≡ c.in-Some.task = read ∙ read-at c.args.rows.now.tasks place c.in-Some.task
-      c.in-Some.ensures no_task in
+      let row : task_at g.rows place ≡ c.in-Some.task = read
+      ∙ get_or_from_slice_get c.args.rows.now.tasks place c.in-Some.task no_task (sym c.in-Some.ensures) in
       let same : IsHome g place home = record {
         runs = ap (λ (t : Task). is_some t.machine) row ∙ sym c.is_some-runs.ensures
             ∙ no-other c.is_some-runs.result c.args.stand.runs c.if-runs-stand.false ∙ p.runs;
@@ -37,8 +37,8 @@ returns c = record {
       let parts : TaskParts = c.args.parts.now in
       let leaving : ℕ = c.where_runs-leaving.result in
       let weight : ℕ = c.weight_of-weight.result in
-      let row : task_at g.rows place ≡ c.in-Some.task = read ∙ read-at c.args.rows.now.tasks place c.in-Some.task
-      c.in-Some.ensures no_task in
+      let row : task_at g.rows place ≡ c.in-Some.task = read
+      ∙ get_or_from_slice_get c.args.rows.now.tasks place c.in-Some.task no_task (sym c.in-Some.ensures) in
       let same : IsHome g place home = record {
         runs = ap (λ (t : Task). is_some t.machine) row ∙ sym c.is_some-runs.ensures
             ∙ no-other c.is_some-runs.result c.args.stand.runs c.if-runs-stand.false ∙ p.runs;

@@ -12,8 +12,7 @@ use Rattle.firm_graph.proofs.moves.settle_tasks.Goals as goal
 pub loop-place-preserved : goal.loop-place-preserved
 loop-place-preserved c = record {
   so_far = λ g mirrors net_is rows_is machines_is tasks_is hub_is.
-      let here : c.loop-place.place < length c.args.rows.now.tasks = omega
-      (arith, c.loop-place-test.true, c.requires.one_each) in
+      let here : c.loop-place.place < length c.args.rows.now.tasks = omega arith in
       let listed : c.loop-place.place < length c.args.tasks.now = omega (arith, here, c.requires.tasks) in
       let below : c.loop-place.place < length g.tasks = omega
       (arith, listed, ap (λ (l : List TaskParts). length l) tasks_is) in

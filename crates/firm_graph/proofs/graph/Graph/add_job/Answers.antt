@@ -33,8 +33,6 @@ link-exit-requires-clause-room c =
       arith,
       (room-left (graph_of c.self.inside) c.args.self.now 1 1 c.self.view_is c.self.invariant.graph.mirrors
           c.in_ok-find_room.ensures.fits).1,
-      c.put_node-node.ensures.edit.counted_arcs,
-      c.put_node-node.ensures.edit.arc_room,
     )
 
 kept : (c : goal.After-self-1)

@@ -32,8 +32,6 @@ link-through-requires-clause-room c =
       arith,
       (room-left (graph_of c.self.inside) c.args.self.now 1 (1 + c.get-count.result) c.self.view_is
           c.self.invariant.graph.mirrors c.in_ok-find_room.ensures.fits).1,
-      c.put_node-node.ensures.edit.counted_arcs,
-      c.put_node-node.ensures.edit.arc_room,
     )
 
 pub link_slots-requires-clause-sink : goal.link_slots-requires-clause-sink
@@ -53,10 +51,6 @@ link_slots-requires-clause-room c =
       arith,
       (room-left (graph_of c.self.inside) c.args.self.now 1 (1 + c.get-count.result) c.self.view_is
           c.self.invariant.graph.mirrors c.in_ok-find_room.ensures.fits).1,
-      c.put_node-node.ensures.edit.counted_arcs,
-      c.put_node-node.ensures.edit.arc_room,
-      c.link-through.ensures.edit.counted_arcs,
-      c.link-through.ensures.edit.arc_room,
     )
 
 kept : (c : goal.After-self-1)

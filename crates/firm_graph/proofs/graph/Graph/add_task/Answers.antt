@@ -48,10 +48,7 @@ link_preferred-preferred-requires-clause-room c =
       (room-left (graph_of c.self.inside) c.args.self.now 1 (3 + c.len-count.result) c.self.view_is
           c.self.invariant.graph.mirrors
           c.in_ok-find_room.ensures.fits).1,
-      c.len-count.ensures.value,
       ap (λ (l : List (List ℕ)). length l) c.as_slice-names.ensures.names,
-      c.put_node-node.ensures.edit.counted_arcs,
-      c.put_node-node.ensures.edit.arc_room,
     )
 
 pub link-wait-requires-clause-head : goal.link-wait-requires-clause-head
@@ -74,12 +71,7 @@ link-wait-requires-clause-room c =
       (room-left (graph_of c.self.inside) c.args.self.now 1 (3 + c.len-count.result) c.self.view_is
           c.self.invariant.graph.mirrors
           c.in_ok-find_room.ensures.fits).1,
-      c.len-count.ensures.value,
       ap (λ (l : List (List ℕ)). length l) c.as_slice-names.ensures.names,
-      c.put_node-node.ensures.edit.counted_arcs,
-      c.put_node-node.ensures.edit.arc_room,
-      c.link_preferred-preferred.ensures.arcs,
-      c.link_preferred-preferred.ensures.arc_room,
     )
 
 pub link-stay-requires-clause-head : goal.link-stay-requires-clause-head
@@ -101,14 +93,7 @@ link-stay-requires-clause-room c =
       (room-left (graph_of c.self.inside) c.args.self.now 1 (3 + c.len-count.result) c.self.view_is
           c.self.invariant.graph.mirrors
           c.in_ok-find_room.ensures.fits).1,
-      c.len-count.ensures.value,
       ap (λ (l : List (List ℕ)). length l) c.as_slice-names.ensures.names,
-      c.put_node-node.ensures.edit.counted_arcs,
-      c.put_node-node.ensures.edit.arc_room,
-      c.link_preferred-preferred.ensures.arcs,
-      c.link_preferred-preferred.ensures.arc_room,
-      c.link-wait.ensures.edit.counted_arcs,
-      c.link-wait.ensures.edit.arc_room,
     )
 
 pub link-wide-requires-clause-head : goal.link-wide-requires-clause-head
@@ -131,16 +116,7 @@ link-wide-requires-clause-room c =
       (room-left (graph_of c.self.inside) c.args.self.now 1 (3 + c.len-count.result) c.self.view_is
           c.self.invariant.graph.mirrors
           c.in_ok-find_room.ensures.fits).1,
-      c.len-count.ensures.value,
       ap (λ (l : List (List ℕ)). length l) c.as_slice-names.ensures.names,
-      c.put_node-node.ensures.edit.counted_arcs,
-      c.put_node-node.ensures.edit.arc_room,
-      c.link_preferred-preferred.ensures.arcs,
-      c.link_preferred-preferred.ensures.arc_room,
-      c.link-wait.ensures.edit.counted_arcs,
-      c.link-wait.ensures.edit.arc_room,
-      c.link-stay.ensures.edit.counted_arcs,
-      c.link-stay.ensures.edit.arc_room,
     )
 
 abbrev its_parts : goal.After-self-1 → TaskParts

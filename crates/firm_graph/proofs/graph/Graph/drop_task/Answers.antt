@@ -43,8 +43,7 @@ kept : (c : goal.After-drop_node)
     })
 kept c =
     let g : Graph = graph_of c.self.inside in
-    let below : c.in-Some.place < length g.tasks = omega
-    (arith, c.in-Some.ensures.below, c.self.invariant.graph.mirrors.tasks) in
+    let below : c.in-Some.place < length g.tasks = omega (arith, c.in-Some.ensures.below) in
     said (task_dropped g c.drop_node.new.net c.in-Some.place) c.remove_task.new.self g.machines g.jobs
     c.remove-parts.new.self.items
     (task-rows c.remove_task.new.self g.rows _ c.in-Some.place c.remove_task.ensures.rows

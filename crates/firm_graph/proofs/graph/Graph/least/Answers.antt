@@ -1,3 +1,4 @@
+use mathlib.Core.List.{map-map}
 use Rattle.std.proofs.Common.{ℕ, List, length, arith, ap, subst, sym, ◌∙◌}
 use Rattle.std.proofs.lemmas.List.{length-map}
 use Rattle.firm_net.specs.declared.row.NodeId.{NodeId}
@@ -13,7 +14,6 @@ use Rattle.firm_graph.proofs.Cuts.{no-cut, distinct}
 use Rattle.firm_graph.proofs.Reflows.{reflowed_graph}
 use Rattle.firm_graph.specs.Network.{task_nodes as case_tasks}
 use Rattle.firm_graph.specs.Ids.{node_id, view_of}
-use Rattle.firm_graph.proofs.Permutes.{map-map}
 use Rattle.firm_graph.proofs.Shown.{graph-shows, sources-named, task-count}
 use Rattle.firm_graph.proofs.graph.Graph.least.Goals as goal
 
@@ -57,7 +57,6 @@ returns-clause-counts c =
       made.0,
       omega (
         arith,
-        made.1,
         ap (λ (l : List NodeId). length l) (c.deref.ensures.value ∙ c.self.invariant.sources),
         length-map g.tasks (λ (p : TaskParts). p.node),
         ap (λ (h : Graph). length (view_of h).case.tasks) c.self.view_is,

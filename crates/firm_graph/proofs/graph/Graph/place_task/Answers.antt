@@ -13,12 +13,7 @@ kept : (c : goal.After-place_task-2)
 kept c =
     let g : Graph = graph_of c.self.inside in
     let below : c.args.place < length g.tasks =
-    omega (
-      arith,
-      c.requires.there,
-      c.self.invariant.graph.mirrors.tasks,
-      ap (λ (h : Graph). length h.rows.tasks) c.self.view_is,
-    ) in
+    omega (arith, ap (λ (h : Graph). length h.rows.tasks) c.self.view_is) in
     let items : c.deref.result.now ≡ c.self.inside.machines.items = search rules in
     subst (λ (r : TenantRows). Mirrors (moved g r c.place_task.new.net))
     (rows-updated g.rows c.args.place c.args.machine c.args.waited ∙ sym c.place_task-2.ensures.rows)

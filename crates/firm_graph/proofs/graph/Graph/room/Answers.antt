@@ -10,22 +10,12 @@ pub returns-clause-nodes : goal.returns-clause-nodes
 returns-clause-nodes c =
     let g : Graph = graph_of c.self.inside in
     let P : Graph → Type 0 = λ (h : Graph). c.room.result.0 + arena_nodes h.rows ≡ h.rows.limits.nodes in
-    let here : P g = omega (
-      arith,
-      c.room.ensures.nodes,
-      nodes-counted g c.self.invariant.graph.mirrors,
-      c.self.invariant.graph.mirrors.node_room,
-    ) in
+    let here : P g = omega (arith, nodes-counted g c.self.invariant.graph.mirrors) in
     subst P c.self.view_is here
 
 pub returns-clause-arcs : goal.returns-clause-arcs
 returns-clause-arcs c =
     let g : Graph = graph_of c.self.inside in
     let P : Graph → Type 0 = λ (h : Graph). c.room.result.1 + arena_arcs h.rows ≡ h.rows.limits.arcs in
-    let here : P g = omega (
-      arith,
-      c.room.ensures.arcs,
-      arcs-counted g c.self.invariant.graph.mirrors,
-      c.self.invariant.graph.mirrors.arc_room,
-    ) in
+    let here : P g = omega (arith, arcs-counted g c.self.invariant.graph.mirrors) in
     subst P c.self.view_is here
