@@ -97,9 +97,9 @@ COUNTS = [
 ]
 
 NO_NOTIFICATION = Edit(
-    "firm_hall/src/halls.rt",
-    "self.queue.put(rt, pass, job);\n        self.bell.came(older);",
-    "self.queue.put(rt, pass, job);\n        let _ = older;",
+    "firm_hall/src/bell.rt",
+    "let resting = table.load::<LooksForRest>(&mut seat, RESTING);\n        if resting != 0 {",
+    "let resting = table.load::<LooksForRest>(&mut seat, RESTING);\n        if self.workers < resting {",
 )
 
 

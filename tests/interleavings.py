@@ -1,260 +1,26 @@
 """Tries every interleaving of the places where a thread sleeps until another wakes it, one atomic step at a time.
 
-usage: tools/run tests/interleavings.py
+usage: tools/run tests/interleavings.py [--large]
 A model has the steps of the code on the words that its threads share. A wake-up is lost where no thread can step any
 more and one sleeps although what it waits for is there; and a round, where it is left behind the last worker of a hall
-that was shut. The code's form must lose nothing in any interleaving, and each of its runs must end; each wrong form is
-a control, in which something must be lost. Each form has a line; the exit status is 1 where one fails.
+that was shut. The code's form must lose nothing in any interleaving, and each of its runs must end, unless a thread
+looks again for ever and the one that it looks for takes no step. Each wrong form is a control, in which something must
+be lost. Each form has a line; the exit status is 1 where one fails. With `--large` the largest halls are tried instead,
+with four workers, with three callers, and with all that sleep, which takes minutes and a gigabyte.
 
-All steps are sequentially consistent, as the code's are. The kernel compares the word and lays the thread down in one
-step; a wake of one takes any of those that sleep. A sleep that ends for no reason leads to one more look, and is left
-out. So are the looks but for one before each announcement.
+harness/interleaving.py says what a step is, and searches. A sleep that ends for no reason leads to one more look, and
+is left out. So are the looks but for one before each announcement.
 """
 
 from __future__ import annotations
 
-from collections import Counter
+import argparse
 from functools import partial
-from itertools import chain
-from typing import Any, Callable, Generator, Iterable, Iterator, NamedTuple, Union
+from typing import Any, Callable, NamedTuple
 
 from harness.checks import Check, Suite, require, run_script, run_suites
-
-Words = dict[str, int]
-Act = Callable[[Words], object]  # an atomic step on the words, and what the thread learns by it
-
-
-class Sleep(NamedTuple):
-    """Sleeps if the word has the value, until a wake; then, or at once, the thread learns whether it lay down."""
-
-    word: str
-    value: int
-    compares: bool = True
-
-
-class Wake(NamedTuple):
-    """Wakes one that sleeps on the word, or all."""
-
-    word: str
-    takes_all: bool = False
-
-
-class Join(NamedTuple):
-    """Stands until no thread is in such a turn."""
-
-    turn: Turn
-
-
-Step = Union[Act, Sleep, Wake, Join]
-Steps = Generator[Step, Any, Any]
-Turn = Callable[..., Steps]
-
-
-def load(word: str) -> Act:
-    return lambda words: words[word]
-
-
-def store(word: str, value: int) -> Act:
-    return lambda words: words.update({word: value})
-
-
-def add(word: str, number: int) -> Act:
-    return lambda words: words.update({word: words[word] + number})
-
-
-def fetch_add(word: str, number: int) -> Act:
-    """Adds; the number before."""
-
-    def act(words: Words) -> int:
-        words[word] += number
-        return words[word] - number
-
-    return act
-
-
-def exchange(word: str, old: int, new: int) -> Act:
-    """Stores the new value if the old one is there; whether it was."""
-
-    def act(words: Words) -> bool:
-        is_there = words[word] == old
-        words[word] = new if is_there else words[word]
-        return is_there
-
-    return act
-
-
-def push(word: str, room: int) -> Act:
-    """One more in a queue, if there is room; whether there was."""
-
-    def act(words: Words) -> bool:
-        has_room = words[word] < room
-        words[word] += has_room
-        return has_room
-
-    return act
-
-
-def pop(word: str) -> Act:
-    """One less in a queue, if there is one; whether there was."""
-
-    def act(words: Words) -> bool:
-        is_there = words[word] > 0
-        words[word] -= is_there
-        return is_there
-
-    return act
-
-
-class Thread(NamedTuple):
-    """Where a thread stands: in a turn, which is a generator of steps, behind those by which it learnt this."""
-
-    turn: Turn
-    arguments: tuple[Any, ...]
-    learnt: tuple[object, ...] = ()
-    is_asleep: bool = False
-
-    def replay(self) -> tuple[Steps, Step]:
-        """The turn, at the step that is next."""
-        steps = self.turn(*self.arguments)
-        step = next(steps)
-        for lesson in self.learnt:
-            step = steps.send(lesson)
-        return steps, step
-
-    def behind(self, lesson: object) -> Thread | None:
-        """The thread behind that step: in the same turn, in the one that it gives, or gone."""
-        steps, _ = self.replay()
-        try:
-            steps.send(lesson)
-        except StopIteration as end:
-            following: Thread | None = end.value
-            return following
-        return Thread(self.turn, self.arguments, (*self.learnt, lesson))
-
-
-def begin(turn: Turn, *arguments: object) -> Thread:
-    return Thread(turn, arguments)
-
-
-def has_changed(words: Words, word: str, value: int) -> object:
-    return words[word] != value
-
-
-class Model(NamedTuple):
-    """The words and threads at the start, whether what a sleeper on a word at a value waits for is there, and whether
-    something is left once no thread can step."""
-
-    words: Words
-    threads: list[Thread]
-    is_there: Callable[[Words, str, int], object]
-    is_left: Callable[[Words], object] = lambda _: False
-
-
-Numbers = tuple[int, ...]
-State = tuple[Numbers, Numbers]  # the values of the words, and the numbers of the threads, in order
-GONE = -1
-
-
-class Search:
-    """All states that a model reaches. Threads that stand alike have one number: which is which does not matter."""
-
-    def __init__(self, model: Model, until_lost: bool = False) -> None:
-        self.model, self.names = model, list(model.words)
-        self.threads: list[tuple[Thread, Step]] = []
-        self.numbers: dict[Thread, int] = {}
-        self.moves: dict[tuple[int, Numbers], tuple[int, Numbers]] = {}
-        self.lost = 0
-        first = tuple(model.words.values()), self.in_order(map(self.number, model.threads))
-        self.following: dict[State, list[State]] = {}
-        left = [first]
-        while left and not (until_lost and self.lost):
-            state = left.pop()
-            if state not in self.following:
-                self.following[state] = list(self.steps(*state))
-                left += self.following[state]
-                self.lost += not self.following[state] and self.is_lost(*state)
-
-    def number(self, thread: Thread | None) -> int:
-        if thread is None:
-            return GONE
-        if thread not in self.numbers:
-            self.numbers[thread] = len(self.threads)
-            self.threads.append((thread, thread.replay()[1]))
-        return self.numbers[thread]
-
-    @staticmethod
-    def in_order(numbers: Iterable[int]) -> Numbers:
-        return tuple(sorted(number for number in numbers if number != GONE))
-
-    def steps(self, words: Numbers, numbers: Numbers) -> Iterator[State]:
-        """The states behind one step of one thread."""
-        for place, number in enumerate(numbers):
-            if place and number == numbers[place - 1]:
-                continue
-            others = numbers[:place] + numbers[place + 1 :]
-            thread, step = self.threads[number]
-            if isinstance(step, Wake):
-                behind = self.number(thread.behind(None))
-                for left in self.woken(step, others):
-                    yield words, self.in_order(chain(left, [behind]))
-            elif isinstance(step, Join):
-                if all(self.threads[other][0].turn is not step.turn for other in others):
-                    yield words, self.in_order(chain(others, [self.number(thread.behind(None))]))
-            elif not thread.is_asleep:
-                if (number, words) not in self.moves:
-                    self.moves[number, words] = self.move(thread, step, words)
-                behind, changed = self.moves[number, words]
-                yield changed, self.in_order(chain(others, [behind]))
-
-    def move(self, thread: Thread, step: Act | Sleep, words: Numbers) -> tuple[int, Numbers]:
-        """A thread and the words behind a step that leaves the others alone."""
-        named = dict(zip(self.names, words))
-        if not isinstance(step, Sleep):
-            lesson = step(named)
-            return self.number(thread.behind(lesson)), tuple(named.values())
-        if step.compares and named[step.word] != step.value:
-            return self.number(thread.behind(False)), words
-        return self.number(thread._replace(is_asleep=True)), words
-
-    def woken(self, wake: Wake, numbers: Numbers) -> list[list[int]]:
-        """The other threads behind a wake, for each choice of the one that wakes."""
-        sleeps = {number: self.sleep_of(number) for number in numbers}
-        asleep = [number for number, sleep in sleeps.items() if sleep is not None and sleep.word == wake.word]
-        behind = {number: self.number(self.threads[number][0].behind(True)) for number in asleep}
-        if wake.takes_all:
-            return [[behind.get(number, number) for number in numbers]]
-        choices = []
-        for chosen in behind:
-            place = numbers.index(chosen)
-            choices.append([*numbers[:place], behind[chosen], *numbers[place + 1 :]])
-        return choices or [list(numbers)]
-
-    def sleep_of(self, number: int) -> Sleep | None:
-        """What a thread sleeps on, if it does."""
-        thread, step = self.threads[number]
-        return step if thread.is_asleep and isinstance(step, Sleep) else None
-
-    def is_lost(self, words: Numbers, numbers: Numbers) -> bool:
-        """Whether a thread sleeps although what it waits for is there, or something is left."""
-        named = dict(zip(self.names, words))
-        if self.model.is_left(named):
-            return True
-        sleeps = (sleep for sleep in map(self.sleep_of, numbers) if sleep is not None)
-        return any(self.model.is_there(named, sleep.word, sleep.value) for sleep in sleeps)
-
-    def ends(self) -> bool:
-        """Whether each run ends: no state leads back to itself."""
-        entering = Counter(chain.from_iterable(self.following.values()))
-        left = [state for state in self.following if not entering[state]]
-        ended = 0
-        while left:
-            ended += 1
-            for state in self.following[left.pop()]:
-                entering[state] -= 1
-                if not entering[state]:
-                    left.append(state)
-        return ended == len(self.following)
-
+from harness.interleaving import Act, Again, Join, Model, Numbers, Search, Sleep, Steps, Thread, Wake, Words
+from harness.interleaving import add, begin, exchange, fetch_add, has_changed, load, pop, push, store, swap
 
 # An event count: how many announced a wait, and how often they were notified.
 
@@ -264,39 +30,59 @@ EARLY_NOTIFICATION = "a notification before the change"
 ONE_AT_A_TIME = "no notification while one that was woken has not looked"
 
 
-def event_count() -> Words:
-    return {"waiters": 0, "epoch": 0, "woken": 0}
+def event_count(name: str = "") -> Words:
+    return {name + "waiters": 0, name + "epoch": 0, name + "woken": 0}
 
 
-def announce() -> Steps:
+def announce(name: str = "") -> Steps:
     """Gives the key to wait by."""
-    yield add("waiters", 1)
-    return (yield load("epoch"))
+    yield add(name + "waiters", 1)
+    return (yield take_key(name))
 
 
-def cancel() -> Steps:
-    yield add("waiters", -1)
+def take_key(name: str) -> Act:
+    """How many notifications there were; counted from 0 again where nobody else has a key to compare with."""
+
+    def act(words: Words) -> int:
+        words[name + "epoch"] *= words[name + "waiters"] > 1
+        return words[name + "epoch"]
+
+    return act
 
 
-def waiting(form: str, key: int, then: Thread) -> Steps:
+def cancel(name: str = "") -> Steps:
+    yield leave(name)
+
+
+def leave(name: str) -> Act:
+    """One waiter less; notifications are counted from 0 again where no key is left."""
+
+    def act(words: Words) -> None:
+        words[name + "waiters"] -= 1
+        words[name + "epoch"] *= words[name + "waiters"] > 0
+
+    return act
+
+
+def waiting(form: str, key: int, then: Thread, name: str = "") -> Steps:
     """Sleeps until a notification behind the announcement that gave the key."""
-    if form == NO_COMPARE and (yield load("epoch")) == key:
-        yield Sleep("epoch", key, compares=False)
-    elif form != NO_COMPARE and (yield Sleep("epoch", key)):
-        return begin(waiting, form, key, then)
+    if form == NO_COMPARE and (yield load(name + "epoch")) == key:
+        yield Sleep(name + "epoch", key, compares=False)
+    elif form != NO_COMPARE and (yield Sleep(name + "epoch", key)):
+        return begin(waiting, form, key, then, name)
     if form == ONE_AT_A_TIME:
-        yield store("woken", 0)
-    yield from cancel()
+        yield store(name + "woken", 0)
+    yield from cancel(name)
     return then
 
 
-def notify(form: str, takes_all: bool = False) -> Steps:
-    if not (yield load("waiters")):
+def notify(form: str, name: str = "") -> Steps:
+    if not (yield load(name + "waiters")):
         return
-    if form == ONE_AT_A_TIME and not (yield exchange("woken", 0, 1)):
+    if form == ONE_AT_A_TIME and not (yield exchange(name + "woken", 0, 1)):
         return
-    yield add("epoch", 1)
-    yield Wake("epoch", takes_all)
+    yield add(name + "epoch", 1)
+    yield Wake(name + "epoch")
 
 
 def change(form: str, *acts: Act) -> Steps:
@@ -309,97 +95,271 @@ def change(form: str, *acts: Act) -> Steps:
         yield from notify(form)
 
 
-# The workers of a hall, which rest until they are woken for a round or the hall is shut.
+# The workers of a hall, which rest until they are woken for a round or the hall is shut; callers, which may sleep at a
+# full queue; and the clerk, which sleeps until there is room for a round, or an answer. That each step keeps the rule
+# of the bell's words is proved (`crates/firm_hall/specs/Bell.antt`); here stands what no clause sees: the queue, the
+# event counts, and the kernel, which lays threads down and wakes them.
+#
+# What is left out changes nothing: the notifications of a queue with room for all rounds and of a clerk that is not
+# there, which find no waiter; answers and the stop word, where workers stay in their gates; and each read by which a
+# worker only decides whether to look once more. A load and an exchange of what it found are one step where the thread
+# looks again if the exchange fails: it then changed nothing, and might as well have come later. The clerk takes any
+# answer; that of the code waits for a certain one, and looks in vain where another is notified, as here for room.
 
-EARLY_STOP = "the stop word is read before the announcement"
+EVERYONE = 1 << 16
+ROOM, ANSWERS = "room ", "answers "  # the event counts of the queue and of the clerk
 LATE_STOP = "the stop word is read behind the look"
-SHUT_WAKES_ONE = "a shut that wakes one"
+SHUT_WAKES_ONE = "a shut that leaves one wake"
 NO_RING = "callers that never ring"
 ALONE = "a worker that was woken and calls nobody"
-NO_CALL = "a first round that wakes nobody"
+NO_CALL = "a round that wakes nobody"
+ONE_KERNEL_CALL = "a wake that is left without a call of the kernel"
+LATE_COUNT = "a round is counted behind its put and the call"
+ROOM_UNTOLD = "a worker that takes a round from a full queue and does not tell the clerk"
 
 
-def call(form: str) -> Steps:
-    """Wakes a worker if a round waits."""
+class Hall(NamedTuple):
+    """A hall's workers; its callers, by the rounds that each puts; and the rounds that its clerk puts. Workers stay in
+    their gates for ever, unless the hall is shut at the end."""
+
+    workers: int
+    callers: Numbers = ()
+    rounds: int = 0
+    is_shut: bool = False
+    most: int = 4  # so many rounds may wait without a wake
+    room: int = 8
+    form: str = ""
+
+    @property
+    def may_be_full(self) -> bool:
+        return self.room < sum(self.callers) + self.rounds
+
+
+def maximum(word: str, least: int) -> Act:
+    """Raises the word to this; the number before."""
+
+    def act(words: Words) -> int:
+        before = words[word]
+        words[word] = max(before, least)
+        return before
+
+    return act
+
+
+def use(word: str) -> Act:
+    """One wake less, unless they are for everyone; whether there was one."""
+
+    def act(words: Words) -> bool:
+        is_there = words[word] > 0
+        words[word] -= 0 < words[word] < EVERYONE
+        return is_there
+
+    return act
+
+
+def call_if_waiting(hall: Hall) -> Steps:
+    """Wakes a worker if a round waits and one rests."""
     if (yield load("waiting")):
-        yield from notify(form)
+        yield from call(hall, (yield load("resting")))
 
 
-def worker(form: str, leaves: bool, was_woken: bool = False) -> Steps:
-    """A look without an announcement. A worker with a round stands in its gate: for ever, or until it leaves."""
+def call(hall: Hall, resting: int) -> Steps:
+    """Leaves a wake for one of the workers that rest, if there are some, unless each has one."""
+    if not resting:
+        return
+    wakes = min((yield load("wakes")) + 1, resting, hall.workers)
+    del resting
+    calls = wakes - (yield maximum("wakes", wakes))
+    del wakes
+    while calls > 0 and hall.form != ONE_KERNEL_CALL:
+        yield Wake("wakes")
+        calls -= 1
+
+
+def worker(hall: Hall, owes_call: bool = False) -> Steps:
+    """Looks for a round. Ends where the hall was shut before and no round waits."""
+    is_shut = hall.is_shut and hall.form != LATE_STOP and (yield load("stop")) != 0
     if (yield pop("queue")):
-        yield add("waiting", -1)
-        if was_woken and form != ALONE:
-            yield from call(form)
-        return begin(worker, form, leaves) if leaves else None
-    return begin(announced_worker, form, leaves)
+        return begin(worker_with_round, hall, owes_call)
+    if is_shut or hall.form == LATE_STOP:
+        waits = yield load("waiting")
+        if not waits and (is_shut or (yield load("stop"))):
+            return None
+    return begin(idle_worker, hall, owes_call)
 
 
-def announced_worker(form: str, leaves: bool) -> Steps:
-    is_shut = (yield load("stop")) if form == EARLY_STOP else 0
+def worker_with_round(hall: Hall, owes_call: bool) -> Steps:
+    """Goes into its gate, in which it stays for ever; or answers, where the hall is shut at the end."""
+    if hall.may_be_full:
+        yield from notify(hall.form, ROOM)
+    if (yield fetch_add("waiting", -1)) == hall.room and hall.rounds and hall.form != ROOM_UNTOLD:
+        yield from notify(hall.form, ANSWERS)
+    if owes_call and hall.form != ALONE:
+        yield from call_if_waiting(hall)
+    if not hall.is_shut:
+        return None
+    return begin(answering_worker, hall) if hall.rounds else begin(worker, hall)
+
+
+def answering_worker(hall: Hall) -> Steps:
+    yield add("answers", 1)
+    yield from notify(hall.form, ANSWERS)
+    return begin(worker, hall)
+
+
+def idle_worker(hall: Hall, owes_call: bool) -> Steps:
+    """Announces a rest, and sleeps unless a round waits."""
     yield add("resting", 1)
-    key = yield from announce()
-    if form == NO_LOOK:
-        return begin(waiting, form, key, begin(rested_worker, form, leaves))
-    is_shut = (yield load("stop")) if leaves and form != EARLY_STOP else is_shut
-    has_round = yield pop("queue")
-    if form == LATE_STOP:
-        is_shut = yield load("stop")
-    if not has_round and not is_shut:
-        return begin(waiting, form, key, begin(rested_worker, form, leaves))
-    if has_round:
-        yield add("waiting", -1)
-    yield from cancel()
+    if hall.form != NO_LOOK and (yield load("waiting")):
+        yield Again(add("resting", -1))
+        return begin(worker, hall, owes_call)
+    return begin(resting_worker, hall)
+
+
+def resting_worker(hall: Hall) -> Steps:
+    """Sleeps until a wake, which it uses."""
+    if not (yield use("wakes")):
+        yield Sleep("wakes", 0, compares=hall.form != NO_COMPARE)
+        return begin(resting_worker, hall)
     yield add("resting", -1)
-    return begin(worker, form, leaves) if has_round and leaves else None
+    return begin(worker, hall, True)
 
 
-def rested_worker(form: str, leaves: bool) -> Steps:
-    yield add("resting", -1)
-    return begin(worker, form, leaves, True)
-
-
-def caller(form: str, workers: int, most: int, puts: int, first: int) -> Steps:
-    """Puts rounds, and rings behind the last, before it waits or reads. Up to `most` may wait without a wake."""
-    if form == EARLY_NOTIFICATION:
-        yield from put_is_heard(form, workers, most, 0)
-    older = yield fetch_add("waiting", 1)
-    yield add("queue", 1)
-    if form != EARLY_NOTIFICATION:
-        yield from put_is_heard(form, workers, most, older)
-    if first < puts:
-        return begin(caller, form, workers, most, puts, first + 1)
-    if form != NO_RING and (yield exchange("owes", 1, 0)):
-        yield from call(form)
+def caller(hall: Hall, puts: int) -> Steps:
+    """Puts rounds, and rings behind the last, before it waits."""
+    yield from put(hall)
+    if puts > 1:
+        return begin(caller, hall, puts - 1)
+    yield from ring(hall)
     return None
 
 
-def put_is_heard(form: str, workers: int, most: int, older: int) -> Steps:
-    """Wakes a worker where all rest or many rounds wait; else one is owed."""
-    if ((yield load("resting")) == workers and form != NO_CALL) or most <= older:
-        yield from notify(form)
-    elif form != NO_CALL:
-        yield store("owes", 1)
+def put(hall: Hall) -> Steps:
+    if hall.form == NO_CALL:
+        yield from count_and_put(hall)
+    else:
+        yield from call(hall, (yield from resting_to_call(hall, (yield from count_and_put(hall)))))
+    if hall.form == LATE_COUNT:
+        yield add("waiting", 1)
 
 
-def shutter(form: str) -> Steps:
+def count_and_put(hall: Hall) -> Steps:
+    """Whether many rounds waited before."""
+    many_wait = hall.form != LATE_COUNT and hall.most <= (yield fetch_add("waiting", 1))
+    if not (yield push("queue", hall.room)):
+        yield from put_in_full_queue(hall)
+    return many_wait
+
+
+def resting_to_call(hall: Hall, many_wait: bool) -> Steps:
+    """How many workers rest, if one is to be woken: where all rest or many rounds wait. Else a wake is owed."""
+    resting = yield load("resting")
+    if many_wait or resting in (0, hall.workers):
+        return resting
+    yield store("owes", 1)
+    return 0
+
+
+def put_in_full_queue(hall: Hall) -> Steps:
+    """Sleeps until there is room, and puts the round."""
+    is_put = False
+    while not is_put:
+        key = yield from announce(ROOM)
+        is_put = yield push("queue", hall.room)
+        if not is_put:
+            yield from sleep_by(key, ROOM)
+        del key
+        yield from cancel(ROOM)
+
+
+def sleep_by(key: int, name: str, awaits: str = "") -> Steps:
+    """Sleeps until a notification behind the announcement that gave the key."""
+    is_woken = True
+    while is_woken:
+        is_woken = yield Sleep(name + "epoch", key, awaits=awaits)
+
+
+def ring(hall: Hall) -> Steps:
+    """Wakes a worker if one is owed and a round waits."""
+    if hall.form != NO_RING and (yield swap("owes", 0)):
+        yield from call_if_waiting(hall)
+
+
+def shutter(hall: Hall) -> Steps:
     """Shuts the hall once all callers have ended."""
     yield Join(caller)
     yield store("stop", 1)
-    yield from notify(form, takes_all=form != SHUT_WAKES_ONE)
+    yield store("wakes", 1 if hall.form == SHUT_WAKES_ONE else EVERYONE)
+    yield Wake("wakes", takes_all=True)
 
 
-def hall(form: str, workers: int, puts: tuple[int, ...], leaves: bool, most: int = 4) -> Model:
-    """Workers, and a caller for each number of puts. The hall is shut at the end where workers leave their gates."""
-    threads = [begin(worker, form, leaves)] * workers
-    threads += [begin(caller, form, workers, most, count, 1) for count in puts]
-    threads += [begin(shutter, form)] * leaves
+def hall_clerk(hall: Hall, rounds: int, away: int = 0) -> Steps:
+    """Puts rounds, each once there is room; then takes the answers, and shuts the hall."""
+    if (yield from has_come(hall, rounds)):
+        return clerk_behind(hall, rounds, away)
+    yield from ring(hall)
+    return begin(waiting_clerk, hall, rounds, away)
+
+
+def waiting_clerk(hall: Hall, rounds: int, away: int) -> Steps:
+    """Sleeps until there is room for a round, or an answer."""
+    key = yield from announce(ANSWERS)
+    is_there = hall.form != NO_LOOK and (yield from has_come(hall, rounds))
+    if not is_there:
+        yield from ring(hall)
+        yield from sleep_by(key, ANSWERS, "room" if rounds else "answers")
+    del key
+    yield from cancel(ANSWERS)
+    return clerk_behind(hall, rounds, away) if is_there else begin(hall_clerk, hall, rounds, away)
+
+
+def has_come(hall: Hall, rounds: int) -> Steps:
+    """Whether there is room for a round, if some are left; else whether there is an answer, which is taken."""
+    if not rounds:
+        return (yield pop("answers"))
+    waiting = yield load("waiting")
+    return waiting < hall.room
+
+
+def clerk_behind(hall: Hall, rounds: int, away: int) -> Thread:
+    """The clerk, for whom there is room or an answer."""
+    if rounds:
+        return begin(putting_clerk, hall, rounds, away)
+    return begin(hall_clerk, hall, 0, away - 1) if away > 1 else begin(shutter, hall)
+
+
+def putting_clerk(hall: Hall, rounds: int, away: int) -> Steps:
+    """Puts a round, and rings behind the last, before it reads."""
+    yield from put(hall)
+    if rounds == 1:
+        yield from ring(hall)
+    return begin(hall_clerk, hall, rounds - 1, away + 1)
+
+
+def open_hall(form: str, hall: Hall) -> Model:
+    """A thread for each worker, each caller and the clerk, who shuts the hall if it has one. All must leave a hall that
+    is shut."""
+    hall = hall._replace(form=form)
+    threads = [begin(worker, hall)] * hall.workers + [begin(caller, hall, puts) for puts in hall.callers]
+    if hall.rounds:
+        threads.append(begin(hall_clerk, hall, hall.rounds))
+    elif hall.is_shut:
+        threads.append(begin(shutter, hall))
+    words = dict.fromkeys(["queue", "waiting", "owes", "resting", "wakes", "stop", "answers"], 0)
     return Model(
-        {"queue": 0, "waiting": 0, "owes": 0, "resting": 0, "stop": 0, **event_count()},
+        {**words, **event_count(ROOM), **event_count(ANSWERS)},
         threads,
-        lambda words, *_: words["queue"] or words["stop"],
-        lambda words: leaves and words["queue"],
+        partial(is_hall_served, hall),
+        lambda words, threads: hall.is_shut and (words["queue"] or threads),
     )
+
+
+def is_hall_served(hall: Hall, words: Words, sleep: Sleep) -> object:
+    if sleep.word == "wakes":
+        return words["queue"] or words["stop"]
+    if sleep.awaits:
+        return words["answers"] if sleep.awaits == "answers" else words["waiting"] < hall.room
+    return words["queue"] < hall.room
 
 
 # A tray: its word is 0, 1 once it was answered, and 2 once the answer was taken.
@@ -423,7 +383,7 @@ def answerer(form: str) -> Steps:
         yield Wake("word")
 
 
-def tray(form: str) -> Model:
+def tray(form: str, _: None) -> Model:
     return Model({"word": 0}, [begin(asker, form), begin(answerer, form)], has_changed)
 
 
@@ -457,7 +417,7 @@ def popper(form: str, room: int, pops: int) -> Steps:
     return begin(popper, form, room, pops - 1) if pops > 1 else None
 
 
-def queue(form: str, room: int, puts: tuple[int, ...], pops: tuple[int, ...]) -> Model:
+def queue(form: str, room: int, puts: Numbers, pops: Numbers) -> Model:
     """A queue that is full at first, a thread for each number of puts, and one for each number of tries to pop."""
     threads = [begin(putter, form, room, count) for count in puts] + [
         begin(popper, form, room, count) for count in pops
@@ -534,7 +494,7 @@ def reader(form: str) -> Steps:
     return begin(reader, form)
 
 
-def answering_worker(form: str) -> Steps:
+def solving_worker(form: str) -> Steps:
     if form == EARLY_ANSWER:
         yield from notify(form)
     yield add("answers", 1)
@@ -542,16 +502,16 @@ def answering_worker(form: str) -> Steps:
         yield from notify(form)
 
 
-def is_served(words: Words, word: str, value: int) -> object:
+def is_served(words: Words, sleep: Sleep) -> object:
     """The clerk sleeps on the turn while the reader is asked, and the reader until it is."""
-    if word == "turn":
-        return (words["turn"] == ASKED) != (value == ASKED)
+    if sleep.word == "turn":
+        return (words["turn"] == ASKED) != (sleep.value == ASKED)
     return words["answers"] or words["turn"] == READ
 
 
 def service(form: str, away: int, answers: int, pieces: int) -> Model:
     """Rounds that are away, the answers among them that come, and the pieces of input that come."""
-    threads = [begin(clerk, form, away), begin(reader, form), *[begin(answering_worker, form)] * answers]
+    threads = [begin(clerk, form, away), begin(reader, form), *[begin(solving_worker, form)] * answers]
     words = {"answers": 0, "input": pieces, "turn": IDLE, "waker": 0, **event_count()}
     return Model(words, threads, is_served)
 
@@ -560,41 +520,52 @@ class Subject(NamedTuple):
     """What a model is of, the cases in which no wake-up may be lost, and of each wrong form one in which it must be."""
 
     name: str
-    model: Callable[..., Model]
-    cases: list[tuple[Any, ...]]
-    wrong: dict[str, tuple[Any, ...]]
+    model: Callable[[str, Any], Model]
+    cases: list[Any]
+    wrong: dict[str, Any]
 
+
+LARGE_HALLS = [Hall(4, (1, 1)), Hall(3, (1, 1, 1)), Hall(2, (1,), rounds=1, is_shut=True, room=1)]
 
 SUBJECTS = [
     Subject(
-        "workers that rest until they are woken for a round",
-        hall,
+        "workers that rest until they are woken for a round, callers at a full queue, and a clerk",
+        open_hall,
         [
-            *((2, puts, False) for puts in ((1,), (2,), (3,), (1, 1))),
-            (3, (2,), False),
-            *((2, puts, False, 1) for puts in ((2,), (3,))),
-            *((workers, (1,), True) for workers in (1, 2, 3)),
-            (2, (2,), True),
+            *(Hall(2, callers) for callers in ((1,), (2,), (3,), (1, 1), (2, 1), (1, 1, 1))),
+            *(Hall(3, callers) for callers in ((1,), (2,), (3,), (1, 1))),
+            *(Hall(workers, (puts,), most=1) for workers in (2, 3) for puts in (2, 3)),
+            *(Hall(workers, (1,), is_shut=True) for workers in (1, 2, 3)),
+            *(Hall(workers, (2,), is_shut=True) for workers in (1, 2, 3)),
+            Hall(2, (1, 1), is_shut=True),
+            *(Hall(workers, (1, 1), is_shut=True, room=1) for workers in (1, 2)),
+            *(Hall(1, rounds=rounds, is_shut=True, room=room) for rounds in (1, 2, 3) for room in (1, 2)),
+            *(Hall(2, rounds=2, is_shut=True, room=room) for room in (1, 2)),
+            Hall(2, rounds=3, room=1),
+            Hall(1, (1,), rounds=1, is_shut=True, room=1),
         ],
         {
-            NO_LOOK: (2, (2,), False),
-            EARLY_NOTIFICATION: (2, (2,), False),
-            NO_COMPARE: (2, (2,), False),
-            ONE_AT_A_TIME: (2, (2,), False),
-            EARLY_STOP: (2, (2,), True),
-            LATE_STOP: (2, (2,), True),
-            SHUT_WAKES_ONE: (2, (2,), True),
-            NO_CALL: (2, (2,), False),
-            NO_RING: (2, (2,), False),
-            ALONE: (3, (3,), False),
+            NO_LOOK: Hall(2, (2,)),
+            NO_COMPARE: Hall(2, (2,)),
+            LATE_STOP: Hall(1, (1,), is_shut=True),
+            SHUT_WAKES_ONE: Hall(2, (2,), is_shut=True),
+            NO_CALL: Hall(2, (2,)),
+            NO_RING: Hall(2, (2,)),
+            ALONE: Hall(3, (3,)),
+            ONE_KERNEL_CALL: Hall(2, (2,)),
+            LATE_COUNT: Hall(2, (2,)),
+            ROOM_UNTOLD: Hall(1, rounds=2, room=1),
         },
     ),
     Subject(
-        "an asker that sleeps until its tray is answered", tray, [()], {EARLY_WAKE: (), NO_COMPARE: (), NO_WAKE: ()}
+        "an asker that sleeps until its tray is answered",
+        tray,
+        [None],
+        {EARLY_WAKE: None, NO_COMPARE: None, NO_WAKE: None},
     ),
     Subject(
         "puts that sleep until there is room",
-        queue,
+        lambda form, case: queue(form, *case),
         [
             (room, puts, pops)
             for room in (1, 2)
@@ -611,7 +582,7 @@ SUBJECTS = [
     ),
     Subject(
         "a clerk that sleeps until there is an answer or input",
-        service,
+        lambda form, case: service(form, *case),
         [(away, answers, pieces) for away in (1, 2) for answers in range(away + 1) for pieces in (0, 1, 2)],
         {
             NO_LOOK: (1, 1, 0),
@@ -626,21 +597,32 @@ SUBJECTS = [
 
 def holds(subject: Subject) -> None:
     """The code's form loses nothing in all its cases, and each of its runs ends."""
-    count = 0
-    for case in subject.cases:
-        search = Search(subject.model("", *case))
-        count += len(search.following)
-        require(not search.lost, f"something is lost in the case {case}")
-        require(search.ends(), f"a run never ends in the case {case}")
+    count = sum(lost_in_none(subject.model("", case), case) for case in subject.cases)
     print(f"{subject.name}: {len(subject.cases)} cases, {count:,} states", flush=True)
+
+
+def lost_in_none(model: Model, case: object) -> int:
+    """Nothing is lost in any of the states, which are counted, and each run ends."""
+    search = Search(model)
+    require(not search.lost, f"something is lost in the case {case}")
+    require(search.ends(), f"a run never ends in the case {case}")
+    return len(search.following)
+
+
+def large_hall_holds(hall: Hall) -> None:
+    print(f"{lost_in_none(open_hall('', hall), hall):,} states", flush=True)
 
 
 def is_refuted(subject: Subject, form: str) -> None:
     """A wake-up or a round is lost in the wrong form, as it must be."""
-    require(Search(subject.model(form, *subject.wrong[form]), until_lost=True).lost, "nothing is lost")
+    require(Search(subject.model(form, subject.wrong[form]), until_lost=True).lost, "nothing is lost")
 
 
 def main() -> int:
+    parser = argparse.ArgumentParser(description="Tries every interleaving of the places where a thread sleeps.")
+    parser.add_argument("--large", action="store_true", help="try the largest halls instead, for minutes")
+    if parser.parse_args().large:
+        return run_suites(Suite({str(hall): partial(large_hall_holds, hall) for hall in LARGE_HALLS}))
     checks: dict[str, Check] = {}
     for subject in SUBJECTS:
         checks[subject.name] = partial(holds, subject)

@@ -1,4 +1,5 @@
 mod Alls
+mod BellMoves
 mod Opening
 mod Once
 mod Shutting

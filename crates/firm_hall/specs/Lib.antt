@@ -1,3 +1,4 @@
+pub mod Bell
 pub mod Desks
 pub mod Polls
 pub mod Admissions

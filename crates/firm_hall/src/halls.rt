@@ -11,22 +11,19 @@ use crate::desks::Desk;
 use crate::empty::EmptyDesk;
 use crate::places::Place;
 use crate::workers::WorkerPass;
-use crossbeam_utils::CachePadded;
 use crossbeam_utils::sync::EventCount;
 use firm_rounds::{Job, PopPass, PutPass, Queue};
 use firm_text::{PLACES, Roster};
+use firm_tray::Spent;
 use std::alloc::{AllocError, Global};
 use std::marker::Model;
-use std::sync::atomic::{AtomicU64, Ordering};
 use std::sync::{Arc, Wait};
 
 /// What desks and workers share. Contracts see which queue it has, and how many desks and workers.
 #[derive(Drop)]
 pub struct Hall {
     queue: Queue,
-    // 1 once the hall is shut. Each worker reads it at every turn, so nothing else shares its cache line.
-    stop: CachePadded<AtomicU64>,
-    // Workers without a round sleep until it rings.
+    // Workers without a round sleep until it rings, or tells them that the hall is shut.
     bell: Bell,
     // Notified of each solved round, and of room in a queue that was full. The clerk sleeps on it, for these or for
     // input.
@@ -82,11 +79,11 @@ impl Hall {
     {
         let (queue, puts, pops) = Queue::open(alloc, places, workers)?;
         let passes = open_passes(alloc, pops)?;
+        let bell = Bell::open(alloc, workers)?;
         let answers = Arc::new(alloc, EventCount::new())?;
         let hall = Hall {
             queue,
-            stop: CachePadded::new(AtomicU64::new(0)),
-            bell: Bell::new(workers),
+            bell,
             answers,
         };
         Ok((hall, puts, passes))
@@ -94,12 +91,7 @@ impl Hall {
 
     /// Tells the workers to end once the queue is empty. Takes no memory.
     pub fn shut(&self) {
-        self.stop.store(1, Ordering::SeqCst);
-        self.bell.call_all();
-    }
-
-    pub(crate) fn is_shut(&self) -> bool {
-        self.stop.load(Ordering::SeqCst) == 1
+        self.bell.shut();
     }
 
     pub(crate) fn bell(&self) -> &Bell {
@@ -109,6 +101,11 @@ impl Hall {
     // Notified of each solved round, and of room in a queue that was full.
     pub(crate) fn answers(&self) -> &Arc<EventCount, Global> {
         &self.answers
+    }
+
+    // Tells the clerk that a round was answered, of which this is the proof.
+    pub(crate) fn tell(&self, _answered: Spent) {
+        self.answers.notify_one();
     }
 
     // Whether the queue has room for one more round.
@@ -123,9 +120,9 @@ impl Hall {
         requires room { pass.old.put < 2 ^ 55 }
         ensures { pass.new ≡ put_is pass.old.queue pass.old.place (pass.old.put + 1) }
     {
-        let older = self.bell.expect();
+        let (caller, older) = self.bell.expect();
         self.queue.put(rt, pass, job);
-        self.bell.came(older);
+        self.bell.came(caller, older);
     }
 
     pub(crate) fn pop<R: Wait>(&self, rt: &R, pass: &mut PopPass) -> Option<Job>
@@ -133,11 +130,7 @@ impl Hall {
         ensures { MatchOption result (pass.new ≡ pass.old)
             (λ job. pass.new ≡ pop_is pass.old.queue (pass.old.got ++ job.ticket ∷ [])) }
     {
-        let job = self.queue.pop(rt, pass)?;
-        if self.bell.took() {
-            self.answers.notify_one();
-        }
-        Some(job)
+        self.queue.pop(rt, pass)
     }
 
     // How many desks there are, and how many workers.

@@ -41,18 +41,23 @@
 //! - `Desk::ask` at a full queue: sleeps until a worker takes a round; woken by the queue
 //!
 //! A round wakes a worker at once only if all workers rest or four rounds wait; else a wake is owed (why:
-//! docs/DECISIONS.md). `Desk::ask` *rings* at once; the clerk rings before each read, and after 256 looks in any wait:
-//! if a wake is owed and a round still waits, one worker wakes. One that takes a round right after its sleep calls
-//! another while rounds wait. So after a ring no worker sleeps on while a round waits.
+//! docs/DECISIONS.md). `Desk::ask` *rings* at once; the clerk rings before each read, after 256 looks in any wait, and
+//! before it sleeps: if a wake is owed and a round still waits, one worker wakes. One that takes a round right after
+//! its sleep calls another while rounds wait. So after a ring no worker sleeps on while a round waits.
+//! `specs/Bell.antt` states this as a rule over the bell's words, and each step of callers and workers is proved to
+//! keep it.
 //!
-//! A sleeper announces its sleep on an event count (the bell's for workers, `answers` for the clerk) and then looks
-//! once more. A change that this look misses follows the announcement, so its notification ends the sleep, even one not
-//! yet begun. A worker ends once it has read the stop word as set and then found the queue empty.
+//! A worker announces its rest in a count of the bell's, and rests only if no round waits then: a caller that counts
+//! its round later finds that count. It sleeps until a caller leaves it a wake, in a count on which workers sleep; that
+//! the kernel wakes a thread for each wake no clause sees. The clerk announces its sleep on an event count (`answers`)
+//! and then looks once more. A change that this look misses follows the announcement, so its notification ends the
+//! sleep, even one not yet begun. A worker ends once it has read the stop word as set and then that no round waits.
 //!
 //! `serve` and `worker` call a `Gate` between taking a round and solving it; the program's is `Open`.
 #![tactic(auto)]
 
 mod bell;
+mod bell_rule;
 mod clerk;
 mod close;
 mod desk_states;

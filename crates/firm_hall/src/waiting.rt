@@ -174,6 +174,8 @@ impl Serving {
             spin_loop();
             return looks.saturating_add(1);
         };
+        // While it sleeps, no round of its own waits unheard.
+        setting.hall.bell().ring();
         key.wait(setting.rt);
         0
     }

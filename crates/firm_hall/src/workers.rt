@@ -1,15 +1,14 @@
 //! The workers of a hall.
-ghost use Rattle.std.specs.Prelude.{◌≡◌, ◌++◌, List, length, ◌∷◌, [], ◌<◌, ℕ};
+ghost use Rattle.std.specs.Prelude.{◌≡◌, ◌++◌, List, length, ◌∷◌, [], ◌<◌, ℕ, false};
 ghost use Rattle.firm_rules.specs.declared.tickets.Ticket.{Ticket};
 ghost use Rattle.firm_rounds.specs.Passes.{closing_is, spent_pop};
 ghost use Rattle.firm_rounds.specs.Rounds.{share};
 
-use crate::bell::Rest;
+use crate::bell::Listener;
 use crate::halls::Hall;
-use firm_rounds::{Closing, PopPass, Queue};
+use firm_rounds::{Closing, Job, PopPass, Queue};
 use firm_rules::Ticket;
 use std::alloc::Global;
-use std::hint::spin_loop;
 use std::marker::Model;
 use std::sync::Wait;
 
@@ -52,14 +51,20 @@ impl WorkerPass {
 #[derive(Drop)]
 pub struct Report {
     taken: PopPass,
+    // Its worker ended as the bell's rule asks: in a shut hall, when no round waited.
+    listener: Listener,
 }
 
 impl Model for Report {
+    ghost use Rattle.std.specs.Prelude.{◌≡◌};
     ghost use Rattle.firm_rounds.specs.Passes.{PopIs};
+    ghost use Rattle.firm_hall.specs.declared.bell_rule.Stage.TheVariants.{Ended};
 
     ghost Value = { PopIs };
 
     ghost view = { λ r. r.taken };
+
+    ghost invariant = { λ r. r.listener.seat.me.0.stage ≡ Ended };
 }
 
 impl Report {
@@ -90,8 +95,8 @@ impl Report {
     }
 }
 
-/// Solves rounds from the queue, each after passing the gate. Ends once it has read the stop word as set and then found
-/// the queue empty. If it finds nothing otherwise, looks again, and after some looks in vain sleeps until it is woken
+/// Solves rounds from the queue, each after passing the gate. Ends once it has read the stop word as set and then that
+/// no round waits. If it finds nothing otherwise, looks again, and after some looks in vain sleeps until it is woken
 /// for a round or the hall is shut. The allocator is for the rounds and the lists in their replies.
 pub fn worker<R: Wait, G: Gate>(
     rt: &R,
@@ -105,39 +110,38 @@ pub fn worker<R: Wait, G: Gate>(
     ensures tickets { (more : List Ticket) × (result.got ≡ pass.got ++ more) }
 {
     let WorkerPass { mut taken } = pass;
+    let bell = hall.bell();
+    let mut listener = bell.listener();
     let mut looks = 0;
-    let mut was_woken = false;
     for _ in rt.forever() {
-        let rest = hall.bell().announce(looks);
-        let is_shut = hall.is_shut();
+        let is_shut = bell.is_shut(&mut listener);
         match hall.pop(rt, &mut taken) {
             Some(job) => {
-                drop(rest);
-                if was_woken {
-                    hall.bell().call();
+                if bell.took(&mut listener) {
+                    hall.answers().notify_one();
                 }
-                gate.pass(job.ticket());
-                let _spent = job.finish(alloc);
-                hall.answers().notify_one();
+                bell.make_owed_call(&mut listener);
+                solve(alloc, hall, job, gate, &listener);
                 looks = 0;
-                was_woken = false;
             }
-            None if is_shut => return Report { taken },
             None => {
-                was_woken = rest.is_some();
-                looks = rest_or_look(rt, rest, looks);
+                if is_shut && bell.ends(&mut listener) {
+                    return Report { taken, listener };
+                }
+                looks = bell.rest_or_look(rt, &mut listener, looks);
             }
         }
     }
     unreachable!()
 }
 
-// Sleeps if a rest was announced. Returns the number of looks in vain since the last sleep.
-fn rest_or_look<R: Wait>(rt: &R, rest: Option<Rest<'_>>, looks: u32) -> u32 {
-    let Some(rest) = rest else {
-        spin_loop();
-        return looks.saturating_add(1);
-    };
-    rest.sleep(rt);
-    0
+// Solves the round behind the gate, and tells the clerk. That may take long, so the worker has made the call that it
+// owed.
+fn solve<G: Gate>(alloc: Global, hall: &Hall, job: Job, gate: &G, listener: &Listener)
+    requires { listener.now.seat.me.0.owes_call ≡ false }
+{
+    let _ = listener;
+    gate.pass(job.ticket());
+    let answered = job.finish(alloc);
+    hall.tell(answered);
 }

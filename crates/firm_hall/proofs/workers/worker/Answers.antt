@@ -9,6 +9,7 @@ loop-preserved-in-Some-pop g c =
     let before = c.loop.invariant.got in
     record {
       queue = search rules;
+      listens = search rules;
       got = (
         before.0 ++ one,
         ap (λ (p : PopIs). p.got) c.in-Some-pop.ensures

@@ -1,0 +1,320 @@
+"""Models of threads that share words, and a search through all their interleavings, one atomic step at a time.
+
+A thread is a generator of steps: an act on the words, which is atomic, or a step of the kinds below. It is sent what it
+learns by each. All steps are sequentially consistent, as the code's are. The kernel compares the word and lays the
+thread down in one step; a wake of one takes any of those that sleep.
+"""
+
+from __future__ import annotations
+
+from collections import Counter
+from itertools import chain
+from typing import Any, Callable, Generator, Iterable, Iterator, NamedTuple, Union
+
+Words = dict[str, int]
+Act = Callable[[Words], object]  # an atomic step on the words, and what the thread learns by it
+
+
+class Sleep(NamedTuple):
+    """Sleeps if the word has the value, until a wake; then, or at once, the thread learns whether it lay down."""
+
+    word: str
+    value: int
+    compares: bool = True
+    awaits: str = ""  # what it waits for, where that differs among those who sleep on the word
+
+
+class Wake(NamedTuple):
+    """Wakes one that sleeps on the word, or all."""
+
+    word: str
+    takes_all: bool = False
+
+
+class Join(NamedTuple):
+    """Stands until no thread is in such a turn."""
+
+    turn: Turn
+
+
+class Again(NamedTuple):
+    """Steps back, to look again for what is there in part: another thread is in the middle of its steps."""
+
+    act: Act
+
+
+Step = Union[Act, Sleep, Wake, Join, Again]
+Steps = Generator[Step, Any, Any]
+Turn = Callable[..., Steps]
+
+
+def load(word: str) -> Act:
+    return lambda words: words[word]
+
+
+def store(word: str, value: int) -> Act:
+    return lambda words: words.update({word: value})
+
+
+def add(word: str, number: int) -> Act:
+    return lambda words: words.update({word: words[word] + number})
+
+
+def fetch_add(word: str, number: int) -> Act:
+    """Adds; the number before."""
+
+    def act(words: Words) -> int:
+        words[word] += number
+        return words[word] - number
+
+    return act
+
+
+def swap(word: str, value: int) -> Act:
+    """Stores the value; the one before."""
+
+    def act(words: Words) -> int:
+        before = words[word]
+        words[word] = value
+        return before
+
+    return act
+
+
+def exchange(word: str, old: int, new: int) -> Act:
+    """Stores the new value if the old one is there; whether it was."""
+
+    def act(words: Words) -> bool:
+        is_there = words[word] == old
+        words[word] = new if is_there else words[word]
+        return is_there
+
+    return act
+
+
+def push(word: str, room: int) -> Act:
+    """One more in a queue, if there is room; whether there was."""
+
+    def act(words: Words) -> bool:
+        has_room = words[word] < room
+        words[word] += has_room
+        return has_room
+
+    return act
+
+
+def pop(word: str) -> Act:
+    """One less in a queue, if there is one; whether there was."""
+
+    def act(words: Words) -> bool:
+        is_there = words[word] > 0
+        words[word] -= is_there
+        return is_there
+
+    return act
+
+
+class Thread(NamedTuple):
+    """Where a thread stands: in a turn, which is a generator of steps, behind those by which it learnt this."""
+
+    turn: Turn
+    arguments: tuple[Any, ...]
+    learnt: tuple[object, ...] = ()
+    is_asleep: bool = False
+
+    def replay(self) -> tuple[Steps, Step]:
+        """The turn, at the step that is next."""
+        steps = self.turn(*self.arguments)
+        step = next(steps)
+        for lesson in self.learnt:
+            step = steps.send(lesson)
+        return steps, step
+
+    def behind(self, lesson: object) -> Thread | None:
+        """The thread behind that step: in the same turn, in the one that it gives, or gone."""
+        steps, _ = self.replay()
+        try:
+            steps.send(lesson)
+        except StopIteration as end:
+            following: Thread | None = end.value
+            return following
+        return Thread(self.turn, self.arguments, (*self.learnt, lesson))
+
+
+def place_of(steps: Steps) -> object:
+    """Where a turn stands, and in it each turn that it takes steps from, by the variables: what a thread learnt and
+    does not keep makes no difference. So a turn keeps what it needs in variables alone."""
+    places: list[object] = []
+    inner: Steps | None = steps
+    while inner is not None:
+        frame = inner.gi_frame
+        places.append((frame.f_code, frame.f_lasti, tuple(frame.f_locals.items())))
+        inner = inner.gi_yieldfrom
+    return tuple(places)
+
+
+def begin(turn: Turn, *arguments: object) -> Thread:
+    return Thread(turn, arguments)
+
+
+def has_changed(words: Words, sleep: Sleep) -> object:
+    return words[sleep.word] != sleep.value
+
+
+class Model(NamedTuple):
+    """The words and threads at the start; whether what a sleeper waits for is there; and whether something is left
+    once no thread can step, by the words and the number of threads then."""
+
+    words: Words
+    threads: list[Thread]
+    is_there: Callable[[Words, Sleep], object]
+    is_left: Callable[[Words, int], object] = lambda *_: False
+
+
+Numbers = tuple[int, ...]
+State = Numbers  # the number of the words' values, and those of the threads, in order
+GONE = -1
+
+
+class Search:
+    """All states that a model reaches. Threads that stand alike have one number: which is which does not matter."""
+
+    def __init__(self, model: Model, until_lost: bool = False) -> None:
+        self.model, self.names = model, list(model.words)
+        self.values: list[Numbers] = []
+        self.numbers_of_values: dict[Numbers, int] = {}
+        self.threads: list[tuple[Thread, Step]] = []
+        self.numbers: dict[object, int] = {}
+        self.moves: dict[tuple[int, int], tuple[int, int]] = {}
+        self.following: list[list[int]] = []  # of each state those behind a step
+        self.again: dict[int, list[int]] = {}  # and those behind a step back
+        self.lost = 0
+        self.reach((self.number_of(model.words), *self.in_order(map(self.number, model.threads))), until_lost)
+
+    def reach(self, first: State, until_lost: bool) -> None:
+        numbers, states = {first: 0}, [first]
+        for number, state in enumerate(states):
+            following: list[int] = []
+            again: list[int] = []
+            for other, is_again in self.steps(state[0], state[1:]):
+                if other not in numbers:
+                    numbers[other] = len(states)
+                    states.append(other)
+                (again if is_again else following).append(numbers[other])
+            self.following.append(following)
+            if again:
+                self.again[number] = again
+            elif not following and self.is_lost(state[0], state[1:]):
+                self.lost += 1
+                if until_lost:
+                    return
+
+    def number_of(self, words: Words) -> int:
+        """The number of the words' values."""
+        values = tuple(words.values())
+        if values not in self.numbers_of_values:
+            self.numbers_of_values[values] = len(self.values)
+            self.values.append(values)
+        return self.numbers_of_values[values]
+
+    def named(self, values: int) -> Words:
+        return dict(zip(self.names, self.values[values]))
+
+    def number(self, thread: Thread | None) -> int:
+        if thread is None:
+            return GONE
+        steps, step = thread.replay()
+        place = place_of(steps), thread.is_asleep
+        if place not in self.numbers:
+            self.numbers[place] = len(self.threads)
+            self.threads.append((thread, step))
+        return self.numbers[place]
+
+    @staticmethod
+    def in_order(numbers: Iterable[int]) -> list[int]:
+        """The numbers of the threads that are not gone."""
+        ordered = sorted(numbers)
+        return ordered[ordered.count(GONE) :]
+
+    def steps(self, words: int, numbers: Numbers) -> Iterator[tuple[State, bool]]:
+        """The states behind one step of one thread, and whether it is a step back."""
+        for place, number in enumerate(numbers):
+            if place and number == numbers[place - 1]:
+                continue
+            others = numbers[:place] + numbers[place + 1 :]
+            thread, step = self.threads[number]
+            if isinstance(step, Wake):
+                behind = self.number(thread.behind(None))
+                for left in self.woken(step, others):
+                    yield (words, *self.in_order((*left, behind))), False
+            elif isinstance(step, Join):
+                if all(self.threads[other][0].turn is not step.turn for other in others):
+                    yield (words, *self.in_order((*others, self.number(thread.behind(None))))), False
+            elif not thread.is_asleep:
+                move = self.moves.get((number, words))
+                if move is None:
+                    move = self.moves[number, words] = self.move(thread, step, words)
+                yield (move[1], *self.in_order((*others, move[0]))), isinstance(step, Again)
+
+    def move(self, thread: Thread, step: Act | Sleep | Again, words: int) -> tuple[int, int]:
+        """A thread and the words behind a step that leaves the others alone."""
+        named = self.named(words)
+        if isinstance(step, Sleep):
+            if step.compares and named[step.word] != step.value:
+                return self.number(thread.behind(False)), words
+            return self.number(thread._replace(is_asleep=True)), words
+        lesson = step.act(named) if isinstance(step, Again) else step(named)
+        return self.number(thread.behind(lesson)), self.number_of(named)
+
+    def woken(self, wake: Wake, numbers: Numbers) -> list[list[int]]:
+        """The other threads behind a wake, for each choice of the one that wakes."""
+        sleeps = {number: self.sleep_of(number) for number in numbers}
+        asleep = [number for number, sleep in sleeps.items() if sleep is not None and sleep.word == wake.word]
+        behind = {number: self.number(self.threads[number][0].behind(True)) for number in asleep}
+        if wake.takes_all:
+            return [[behind.get(number, number) for number in numbers]]
+        choices = []
+        for chosen in behind:
+            place = numbers.index(chosen)
+            choices.append([*numbers[:place], behind[chosen], *numbers[place + 1 :]])
+        return choices or [list(numbers)]
+
+    def sleep_of(self, number: int) -> Sleep | None:
+        """What a thread sleeps on, if it does."""
+        thread, step = self.threads[number]
+        return step if thread.is_asleep and isinstance(step, Sleep) else None
+
+    def is_lost(self, words: int, numbers: Numbers) -> bool:
+        """Whether a thread sleeps although what it waits for is there, or something is left."""
+        named = self.named(words)
+        if self.model.is_left(named, len(numbers)):
+            return True
+        sleeps = (sleep for sleep in map(self.sleep_of, numbers) if sleep is not None)
+        return any(self.model.is_there(named, sleep) for sleep in sleeps)
+
+    def ends(self) -> bool:
+        """Whether each run ends in which a thread that steps back lets the others go on: no state leads back to itself
+        without a step back, and each leads to an end."""
+        entering = Counter(chain.from_iterable(self.following))
+        left = [state for state in range(len(self.following)) if not entering[state]]
+        ended = 0
+        while left:
+            ended += 1
+            for state in self.following[left.pop()]:
+                entering[state] -= 1
+                if not entering[state]:
+                    left.append(state)
+        return ended == len(self.following) and (not self.again or self.each_leads_to_an_end())
+
+    def each_leads_to_an_end(self) -> bool:
+        leading: list[list[int]] = [[] for _ in self.following]
+        for state, others in chain(enumerate(self.following), self.again.items()):
+            for other in others:
+                leading[other].append(state)
+        left = [state for state, others in enumerate(self.following) if not others and state not in self.again]
+        reached = set(left)
+        while left:
+            found = [state for state in leading[left.pop()] if state not in reached]
+            reached.update(found)
+            left += found
+        return len(reached) == len(self.following)
