@@ -32,12 +32,12 @@ use Rattle.firm_rules.proofs.SlotCosts.{load-step}
 use Rattle.firm_rules.proofs.Exchanges.{cost-set, home-at, own-cost, preempted-cost, at-place, fresh}
 
 -- one term of a total grows
-total_same-below : (f g : ℕ → ℕ) (n : ℕ) → ((j : ℕ) → j < n → f j ≡ g j) → total f n ≡ total g n
+pub total_same-below : (f g : ℕ → ℕ) (n : ℕ) → ((j : ℕ) → j < n → f j ≡ g j) → total f n ≡ total g n
 total_same-below f g zero same = refl
 total_same-below f g (suc n) same =
     omega (arith, total_same-below f g n (λ j l. same j (omega arith)), same n (omega arith))
 
-total_one : (f g : ℕ → ℕ) (n at more : ℕ) → at < n → f at ≡ g at + more → ((j : ℕ) → (j ≡ at → ⊥) → f j ≡ g j)
+pub total_one : (f g : ℕ → ℕ) (n at more : ℕ) → at < n → f at ≡ g at + more → ((j : ℕ) → (j ≡ at → ⊥) → f j ≡ g j)
     → total f n ≡ total g n + more
 total_one f g zero at more below grown same = absurd (omega (arith, below))
 total_one f g (suc n) at more below grown same =
@@ -284,7 +284,7 @@ module _ (rows : TenantRows) (sound : AreSound rows) where
       (bytes_eq-Decides xs ys).1 (sym ((bytes_eq-Decides ys xs).0 e)) ∙ sym e)
       (λ (e : bytes_eq ys xs ≡ false). bytes_eq-other ys xs e ∙ sym e) (cases_Bool (bytes_eq ys xs))
 
-  at_machine : (j : ℕ) → j < length (machine_names rows) → (home : Option (List ℕ))
+  pub at_machine : (j : ℕ) → j < length (machine_names rows) → (home : Option (List ℕ))
       → runs_at (machine_place rows home) j ≡ is_on (name_at (machine_names rows) j) home
   at_machine j below None = refl
   at_machine j below (Some name) =

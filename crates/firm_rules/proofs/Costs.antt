@@ -1,54 +1,91 @@
 -- No legal placement of sound rows costs more than a round may.
-use Rattle.std.proofs.Common.{ℕ, zero, suc, ◌-◌, ◌*◌, ◌/◌, ◌<◌, ◌≤◌, Bool, true, false, cond, List, [], ◌∷◌}
-use Rattle.std.proofs.Common.{length, map, All, slice_index_or, arith}
-use Rattle.std.proofs.Math.Nat.{mul-le-mul, div-le_of_le-mul}
+use Rattle.std.proofs.Common.{◌≡◌, ℕ, zero, suc, ◌+◌, ◌*◌, ◌<◌, ◌≤◌, Bool, true, false, cond, List, [], ◌∷◌}
+use Rattle.std.proofs.Common.{length, map, All, slice_index_or, refl, sym, ap, arith}
+use Rattle.std.proofs.lemmas.Bool.{eq-eqb, ne_eqb}
 use Rattle.std.proofs.lemmas.List.{length-map}
+use Rattle.std.proofs.lemmas.List.Sums.{sum_by-cons}
 use Rattle.std.proofs.lemmas.List.Elements.{All-head, All-tail, All-map}
 use Rattle.firm_rules.specs.Book.{TenantRows}
 use Rattle.firm_rules.specs.Sound.{AreSound}
 use Rattle.firm_rules.specs.SoundBook.{most_cost}
-use Rattle.firm_rules.specs.Placement.{Case, Demand, IsLegal, total, load, load_cost, leaves, is_remote, task_cost}
-use Rattle.firm_rules.specs.Placement.{tasks_cost, placement_cost}
+use Rattle.firm_rules.specs.Placement.{Case, Demand, IsLegal, IsPlace, total, load, load_cost, leaves, is_remote}
+use Rattle.firm_rules.specs.Placement.{goes_to, task_cost, tasks_cost, placement_cost}
 use Rattle.firm_rules.specs.Round.{case_of, demand_of, job_place}
 use Rattle.firm_rules.specs.declared.book.Machine.{Machine}
 use Rattle.firm_rules.specs.declared.book.Job.{Job}
 use Rattle.firm_rules.specs.declared.book.Task.{Task}
 use Rattle.firm_rules.specs.declared.rounds.Choice.{Choice}
 use Rattle.firm_rules.specs.declared.rounds.Choice.TheVariants.{On, Wait}
+use Rattle.firm_rules.proofs.Causes.{total_same-below, total_one}
+use Rattle.firm_rules.proofs.SlotCosts.{load-most}
+use Rattle.firm_rules.proofs.SoundRows.{one_if}
 
--- a load of 64 tasks at a spread of 1,000 costs most
-load-most : (spread n : ℕ) → spread ≤ 1000 → n ≤ 64 → load_cost spread n ≤ 2016000
-load-most spread n narrow few =
-    let pairs : n * (n - 1) ≤ 64 * 63 = mul-le-mul few (let less : n - 1 ≤ 63 = omega arith in less) in
-    let half : n * (n - 1) / 2 ≤ 2016 = div-le_of_le-mul 2 (let twice : n * (n - 1) ≤ 2 * 2016 = pairs in twice) in
-    mul-le-mul narrow half
+total-most : (f g : ℕ → ℕ) (n : ℕ) → ((j : ℕ) → j < n → f j ≤ 1000000 * g j) → total f n ≤ 1000000 * total g n
+total-most f g zero each = omega arith
+total-most f g (suc n) each = omega (arith, total-most f g n (λ j l. each j (omega arith)), each n (omega arith))
 
-total-most : (f : ℕ → ℕ) (n : ℕ) → ((j : ℕ) → j < n → f j ≤ 2016000) → total f n ≤ n * 2016000
-total-most f zero each = omega arith
-total-most f (suc n) each = omega (arith, total-most f n (λ j l. each j (omega arith)), each n (omega arith))
+-- the tasks that a placement places
+abbrev seats : Choice → ℕ
+seats (On j) = 1
+seats Wait = 0
+
+abbrev placed : List Choice → ℕ
+placed [] = 0
+placed (choice ∷ placement) = seats choice + placed placement
+
+-- the loads of all machines count each of them once
+loads-placed : (placement : List Choice) (machines : ℕ) → All (IsPlace machines) placement
+    → total (load placement) machines ≡ placed placement
+loads-placed [] machines places = none machines
+  where
+    none : (n : ℕ) → total (load []) n ≡ 0
+    none zero = refl
+    none (suc n) = omega (arith, none n)
+loads-placed (On k ∷ placement) machines places =
+    let goes : ℕ → Choice → ℕ = λ j c. cond (goes_to j c) 1 0 in
+    omega (
+      arith,
+      total_one (load (On k ∷ placement)) (load placement) machines k 1
+          (All-head (IsPlace machines) (On k) placement places)
+          (omega (arith, sum_by-cons (goes k) (On k) placement, ap one_if (eq-eqb k k refl)))
+          (λ j other. omega (
+            arith,
+            sum_by-cons (goes j) (On k) placement,
+            ap one_if (ne_eqb k j (λ (e : k ≡ j). other (sym e))),
+          )),
+      loads-placed placement machines (All-tail (IsPlace machines) (On k) placement places),
+    )
+loads-placed (Wait ∷ placement) machines places =
+    omega (
+      arith,
+      total_same-below (load (Wait ∷ placement)) (load placement) machines
+          (λ j l. omega (arith, sum_by-cons (λ (c : Choice). cond (goes_to j c) 1 0) Wait placement)),
+      loads-placed placement machines (All-tail (IsPlace machines) Wait placement places),
+    )
 
 if-most : (b : Bool) (n most : ℕ) → n ≤ most → cond b n 0 ≤ most
 if-most true n most h = h
 if-most false n most h = omega arith
 
--- a wait costs at most 2,000,000 and churn
-tasks-most : (case : Case) (tasks : List Demand) (placement : List Choice) → case.churn ≤ 1000000
-    → case.remote ≤ 1000000 → All (λ task. task.delay ≤ 2000000) tasks
-    → tasks_cost case tasks placement ≤ length tasks * 3000000
-tasks-most case [] placement churn remote delays = omega arith
-tasks-most case (task ∷ tasks) [] churn remote delays = omega arith
-tasks-most case (task ∷ tasks) (choice ∷ placement) churn remote delays =
+-- a wait costs at most 2,000,000 and churn, a place churn, remote, and what the task brings to its machine's load
+tasks-most : (case : Case) (tasks : List Demand) (placement : List Choice) → length placement ≡ length tasks
+    → case.churn ≤ 1000000 → case.remote ≤ 1000000 → All (λ task. task.delay ≤ 2000000) tasks
+    → tasks_cost case tasks placement + 1000000 * placed placement ≤ length tasks * 3000000
+tasks-most case [] [] same churn remote delays = omega arith
+tasks-most case [] (choice ∷ placement) same churn remote delays = absurd (omega (arith, same))
+tasks-most case (task ∷ tasks) [] same churn remote delays = absurd (omega (arith, same))
+tasks-most case (task ∷ tasks) (choice ∷ placement) same churn remote delays =
     omega (
       arith,
       one choice,
-      tasks-most case tasks placement churn remote
+      tasks-most case tasks placement (omega (arith, same)) churn remote
           (All-tail (λ (t : Demand). t.delay ≤ 2000000) task tasks delays),
     )
   where
     delay : task.delay ≤ 2000000
     delay = All-head (λ (t : Demand). t.delay ≤ 2000000) task tasks delays
 
-    one : (choice : Choice) → task_cost case task choice ≤ 3000000
+    one : (choice : Choice) → task_cost case task choice + 1000000 * seats choice ≤ 3000000
     one (On j) =
         omega (
           arith,
@@ -68,9 +105,10 @@ pub placement-most : (rows : TenantRows) (placement : List Choice) → AreSound 
 placement-most rows placement sound legal =
     omega (
       arith,
-      total-most (λ j. load_cost rows.limits.spread (load placement j)) (length (case_of rows).slots) loads,
-      tasks-most (case_of rows) (case_of rows).tasks placement sound.most_churn sound.most_remote delays,
-      length-map rows.machines (λ (m : Machine). m.slots),
+      total-most (λ j. load_cost rows.limits.spread (load placement j)) (load placement) (length (case_of rows).slots)
+          loads,
+      loads-placed placement (length (case_of rows).slots) legal.places,
+      tasks-most (case_of rows) (case_of rows).tasks placement legal.one_each sound.most_churn sound.most_remote delays,
       length-map rows.tasks (demand_of rows),
       sound.fits.nodes,
       sound.most_nodes,
@@ -80,7 +118,7 @@ placement-most rows placement sound legal =
     slots = All-map (λ (n : ℕ). n ≤ 64) (λ (m : Machine). m.slots) rows.machines (λ k d l. (sound.slots k d l).1)
 
     loads : (j : ℕ) → j < length (case_of rows).slots
-        → load_cost rows.limits.spread (load placement j) ≤ 2016000
+        → load_cost rows.limits.spread (load placement j) ≤ 1000000 * load placement j
     loads j below =
         load-most rows.limits.spread (load placement j) sound.most_spread
         (omega (arith, legal.room j below, at-most 64 (case_of rows).slots j slots))

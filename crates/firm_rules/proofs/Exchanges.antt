@@ -74,7 +74,7 @@ pub preempted-cost : (case : Case) (task : Demand) (j : ℕ) → task.home ≡ S
 preempted-cost case task j home = ap (λ (h : Option ℕ). task.delay + cond (leaves h Wait) case.churn 0) home
 
 -- what one pays that is brought to a machine, and what it would pay for a wait
-brought-cost : (case : Case) (task : Demand) (j : ℕ) → runs_at task.home j ≡ false
+pub brought-cost : (case : Case) (task : Demand) (j : ℕ) → runs_at task.home j ≡ false
     → task_cost case task Wait + cond (is_remote task j) case.remote 0 ≡ task_cost case task (On j) + task.delay
 brought-cost case task j elsewhere =
     omega (arith, ap (λ (b : Bool). cond b case.churn 0) (leaves-elsewhere task.home j elsewhere))

@@ -26,6 +26,9 @@ pub mod Firsts
 pub mod Exchanges
 pub mod Causes
 pub mod Waits
+pub mod Bids
+pub mod StandingTasks
+pub mod NearBids
 mod Examples
 mod RoundExamples
 pub mod Orders

@@ -28,3 +28,9 @@ rises spread earlier later l = mul-le-mul l (let same : spread ≤ spread = omeg
 
 pub within : SlotsCostAtMost
 within spread k narrow few = mul-le-mul (let last : k ≤ 63 = omega arith in last) narrow
+
+-- each task of a machine's load brings 1,000,000 to its cost at most
+pub load-most : (spread n : ℕ) → spread ≤ 1000 → n ≤ 64 → load_cost spread n ≤ 1000000 * n
+load-most spread zero narrow few = omega (arith, mul-zero spread)
+load-most spread (suc n) narrow few =
+    omega (arith, load-step spread n, load-most spread n narrow (omega (arith, few)), within spread n narrow few)

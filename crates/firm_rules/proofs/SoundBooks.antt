@@ -9,7 +9,7 @@ use Rattle.firm_rules.specs.Limits.{TenantLimits, are_limits, is_within, longest
 use Rattle.firm_rules.specs.Book.{Book, opening_rows}
 use Rattle.firm_rules.specs.Sound.{AreSound}
 use Rattle.firm_rules.specs.SoundBook.{AreInForm, IsSoundBook, OpeningBooksAreSound, is_cost, most_cost, entry_count}
-use Rattle.firm_rules.specs.SoundBook.{most_rounds, rounds_shown}
+use Rattle.firm_rules.specs.SoundBook.{MayStand, may_stand, most_rounds, rounds_shown}
 use Rattle.firm_rules.specs.declared.book.Task.{Task}
 
 -- what passes a test throughout
@@ -98,14 +98,16 @@ openings limits within =
       life = omega arith;
       count = omega arith;
       rounds = λ k d l. absurd (omega arith);
+      standing = λ k d l. absurd (omega arith);
     }
 
 -- a book of sound rows in form whose costs are few and pass the test, and whose count of commands is in its range
 pub sound-book : (book : Book) → AreSound book.rows → AreInForm book.rows → length book.costs ≤ 8
     → list_all is_cost book.costs ≡ true → book.given ≤ book.rows.limits.life → entry_count book ≤ book.given
     → list_all (λ task. nat_le (rounds_shown task) (most_rounds book)) book.rows.tasks ≡ true
+    → list_all (λ task. may_stand book.rows (most_rounds book) task task.machine) book.rows.tasks ≡ true
     → IsSoundBook book
-sound-book book sound form few costs life count rounds =
+sound-book book sound form few costs life count rounds standing =
     record {
       rows = sound;
       form = form;
@@ -115,6 +117,8 @@ sound-book book sound form few costs life count rounds =
       count = count;
       rounds = λ k d l. leb-true _ _ (all-pass (λ (task : Task). nat_le (rounds_shown task) (most_rounds book))
           book.rows.tasks rounds k d l);
+      standing = all-pass (λ (task : Task). may_stand book.rows (most_rounds book) task task.machine) book.rows.tasks
+          standing;
     }
 
 -- one whose tasks show more rounds than there may have been is not sound
@@ -123,6 +127,14 @@ pub other-rounds : (book : Book)
 other-rounds book failed sound =
     true≢false (sym (pass-all (λ (task : Task). nat_le (rounds_shown task) (most_rounds book)) book.rows.tasks
     (λ k d l. le-leb _ _ (sound.rounds k d l))) ∙ failed)
+
+-- nor is one with a task that no round may have left where it runs
+pub other-standing : (book : Book)
+    → list_all (λ task. may_stand book.rows (most_rounds book) task task.machine) book.rows.tasks ≡ false
+    → IsSoundBook book → ⊥
+other-standing book failed sound =
+    true≢false (sym (pass-all (λ (task : Task). may_stand book.rows (most_rounds book) task task.machine)
+    book.rows.tasks sound.standing) ∙ failed)
 
 -- one whose costs do not pass the test is not sound
 pub other-costs : (book : Book) → list_all is_cost book.costs ≡ false → IsSoundBook book → ⊥

@@ -227,14 +227,14 @@ names-evicted name (task ∷ tasks) =
     (evicted-cases name task (λ (t : Task). t.name ≡ task.name) (λ _. refl) (λ _. refl))
     ∙ ap (λ (l : List (List ℕ)). task.name ∷ l) (names-evicted name tasks)
 
-on-evicted-le : (gone name : List ℕ) (task : Task)
+pub on-evicted-le : (gone name : List ℕ) (task : Task)
     → cond (is_on name (evicted gone task).machine) 1 0 ≤ cond (is_on name task.machine) 1 0
 on-evicted-le gone name task =
     evicted-cases gone task (λ (t : Task). cond (is_on name t.machine) 1 0 ≤ cond (is_on name task.machine) 1 0)
     (λ _. omega arith) (λ _. omega arith)
 
 -- nothing passes a test that no element passes
-all-fail : {X : Type 0} (p : X → Bool) (xs : List X) → list_any p xs ≡ false → All (λ x. p x ≡ false) xs
+pub all-fail : {X : Type 0} (p : X → Bool) (xs : List X) → list_any p xs ≡ false → All (λ x. p x ≡ false) xs
 all-fail p [] none = All-nil (λ x. p x ≡ false)
 all-fail {X} p (x ∷ xs) none =
     elim (p x) as (λ b. p x ≡ b → (b || list_any p xs) ≡ false → All (λ (x : X). p x ≡ false) (x ∷ xs)) [
@@ -485,8 +485,8 @@ same-name names differ j k j-there k-there =
         other_places o above = ⊎_elim (λ (l : k < j). l) (λ (g : j ≤ k). absurd (o (omega arith))) (cases_lt k j)
 
 -- as many tasks run on a machine after a round as the placement has there
-load-after : (rows : TenantRows) → IsDistinct bytes_eq (machine_names rows) → (k : ℕ) → k < length (machine_names rows)
-    → (tasks : List Task) (placement : List Choice) → length placement ≡ length tasks
+pub load-after : (rows : TenantRows) → IsDistinct bytes_eq (machine_names rows) → (k : ℕ)
+    → k < length (machine_names rows) → (tasks : List Task) (placement : List Choice) → length placement ≡ length tasks
     → All (IsPlace (length (machine_names rows))) placement
     → count_by (λ task. is_on (name_at (machine_names rows) k) task.machine) (zipped (task_after rows) tasks placement)
     ≡ load placement k

@@ -27,7 +27,7 @@ use Rattle.firm_rules.proofs.SlotCosts.{rises}
 use Rattle.firm_rules.proofs.Exchanges.{exchanged, exchanged-legal, exchanged-cost, at-place}
 use Rattle.firm_rules.proofs.Causes.{placed, placed-legal, placed-cost, position-below}
 
-if-most : (b : Bool) (n : ℕ) → cond b n 0 ≤ n
+pub if-most : (b : Bool) (n : ℕ) → cond b n 0 ≤ n
 if-most true n = omega arith
 if-most false n = omega arith
 
@@ -36,17 +36,17 @@ leaves-less : (churn j : ℕ) (home : Option ℕ) → cond (leaves home (On j)) 
 leaves-less churn j None = omega arith
 leaves-less churn j (Some h) = if-most (not (eqb h j)) churn
 
--- a machine costs a task at most `remote` and what a wait would cost apart from its delay
+-- a machine costs a task at most what a wait would cost apart from its delay, and `remote` where it is remote
 on-cost : (case : Case) (task : Demand) (j : ℕ)
-    → task_cost case task (On j) + task.delay ≤ task_cost case task Wait + case.remote
-on-cost case task j =
-    omega (arith, leaves-less case.churn j task.home, if-most (is_remote task j) case.remote)
+    → task_cost case task (On j) + task.delay ≤ task_cost case task Wait + cond (is_remote task j) case.remote 0
+on-cost case task j = omega (arith, leaves-less case.churn j task.home)
 
--- where one task waits and another is placed, the wait of the other would cost as much, up to `remote`
-yields : (case : Case) (p : List Choice) → IsRound case p → (machine from to : ℕ) (waiting running : Demand)
+-- where one task waits and another is placed, the wait of the other would cost as much, up to what is remote
+pub yields : (case : Case) (p : List Choice) → IsRound case p → (machine from to : ℕ) (waiting running : Demand)
     → slice_get case.tasks from ≡ Some waiting → slice_get p from ≡ Some Wait
     → slice_get case.tasks to ≡ Some running → slice_get p to ≡ Some (On machine)
-    → waiting.delay + task_cost case running (On machine) ≤ task_cost case running Wait + case.remote
+    → waiting.delay + task_cost case running (On machine)
+    ≤ task_cost case running Wait + cond (is_remote waiting machine) case.remote 0
 yields case p round machine from to waiting running there waits beside runs =
     omega (
       arith,
@@ -68,6 +68,7 @@ dear-slot case p round machine from waiting there waits below room =
       round.least (placed case p round.legal machine from waiting there waits below room)
           (placed-legal case p round.legal machine from waiting there waits below room),
       on-cost case waiting machine,
+      if-most (is_remote waiting machine) case.remote,
     )
 
 module _ (rows : TenantRows) (sound : AreSound rows) where
@@ -139,6 +140,7 @@ module _ (rows : TenantRows) (p : List Choice) (most : ℕ) (sound : AreSound ro
         yields (case_of rows) p round machine place to (demand_of rows passed) placed
             (demand-at rows rows.tasks place passed over.there) over.waits
             (demand-at rows rows.tasks to task beside) runs,
+        if-most (is_remote (demand_of rows passed) machine) rows.limits.remote,
       ) in
       by task.machine refl weight gives
     where

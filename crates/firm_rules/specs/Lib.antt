@@ -13,6 +13,7 @@ pub mod Round
 pub mod Recent
 pub mod SoundBook
 pub mod Keeping
+pub mod Standing
 pub mod Preemption
 pub mod Starvation
 pub mod Refusals

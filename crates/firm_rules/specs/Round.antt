@@ -1,11 +1,12 @@
 -- The placement of a round, and what it changes.
-use Rattle.std.specs.Prelude.{◌≡◌, ℕ, ◌+◌, ◌≤◌, ◌==◌, not, false, min, List, [], ◌∷◌, ◌++◌, length, map, filter, Option}
-use Rattle.std.specs.Prelude.{Some, None, if◌then◌else◌, bytes_eq, slice_index_or}
-use Rattle.std.specs.List.{flat_map, position_or_len}
+use Rattle.std.specs.Prelude.{◌≡◌, ℕ, ◌+◌, ◌<◌, ◌≤◌, ◌==◌, not, false, min, List, [], ◌∷◌, ◌++◌, length, map, filter}
+use Rattle.std.specs.Prelude.{Option, Some, None, if◌then◌else◌, bytes_eq, position, slice_index_or}
+use Rattle.std.specs.List.{All, flat_map, position_or_len}
 use Rattle.firm_rules.specs.Book.{TenantRows, machine_names, job_names, name_at}
 use Rattle.firm_rules.specs.Placement.{Demand, Case, numbers, IsLegal, is_legal, placement_cost, runs_at, comes_before}
 use Rattle.firm_rules.specs.declared.book.Machine.{Machine}
 use Rattle.firm_rules.specs.declared.book.Task.{Task}
+use Rattle.firm_rules.specs.declared.book.NewTask.{NewTask}
 use Rattle.firm_rules.specs.declared.rounds.Choice.{Choice}
 use Rattle.firm_rules.specs.declared.rounds.Choice.TheVariants.{On, Wait}
 use Rattle.firm_rules.specs.declared.rounds.Change.{Change}
@@ -88,6 +89,12 @@ demand_of rows task =
       delay = weight_at rows (job_place rows task) + task.waited;
       job = job_place rows task;
     }
+
+-- the job and the machines of a task that is to be added stand at these places
+pub record IsFound (rows : TenantRows) (task : NewTask) : Type 0 where
+  pub owner : position (bytes_eq task.job) (job_names rows) ≡ Some task.owner
+  pub machines : task.machines.items ≡ map (place_of rows) task.preferred
+  pub below : All (λ place. place < length rows.machines) task.machines.items
 
 -- what a round of these rows is about
 abbrev pub case_of : TenantRows → Case

@@ -5,6 +5,7 @@ ghost use Rattle.firm_rules.specs.SoundBook.{IsSoundBook, entry_count, is_cost, 
 ghost use Rattle.firm_rules.specs.declared.book.Task.{Task as TaskRow};
 
 use crate::recent::{MOST_COSTS, RecentCosts};
+use crate::standing::may_stand;
 use crate::tables::Rows;
 use std::marker::Model;
 
@@ -22,6 +23,9 @@ pub enum BookFault {
     Count,
     /// A task runs or has waited, and there were fewer rounds.
     Rounds,
+    /// A task runs where its wait would cost less than its slot, or than that is worth to a task that waits, in each
+    /// round that there may have been.
+    Crowded,
 }
 
 /// The rows of a tenant, the costs of its last rounds, and how many commands it was given.
@@ -98,8 +102,12 @@ fn fault_of(rows: &Rows, costs: RecentCosts, given: u64) -> Option<BookFault>
     if given < entries_of(rows, costs) {
         return Some(BookFault::Count);
     }
-    if !are_shown(rows, most_rounds(rows, costs, given)) {
+    let rounds = most_rounds(rows, costs, given);
+    if !are_shown(rows, rounds) {
         return Some(BookFault::Rounds);
+    }
+    if !may_stand(rows, rounds) {
+        return Some(BookFault::Crowded);
     }
     None
 }

@@ -108,7 +108,7 @@ impl<A: Allocator> Case<A> {
     }
 
     /// The place of the job of the task of this number.
-    pub(crate) fn job(&self, task: usize) -> u32
+    pub fn job(&self, task: usize) -> u32
         requires { task < length self.now.tasks }
         ensures { result ≡ (task_at self.now task).job }
     {

@@ -76,11 +76,25 @@ pub fn changes_of<A: Allocator>(
     requires { is_legal (case_of rows.now) placement.now ≡ true }
     ensures { IfOk result (λ changes. changes ≡ changes_made rows.now placement.now) }
 {
-    let mut list = Vec::new(alloc);
+    let mut list = Vec::with_capacity(alloc, moves(rows, placement))?;
     for task in 0..rows.task_count() {
         note(&mut list, change_at(rows, task, placement[task]))?;
     }
     Ok(list.into())
+}
+
+// How many tasks are chosen to be elsewhere than where they are: the list of changes takes its memory at once.
+fn moves<A: Allocator>(rows: &Rows<A>, placement: &[Choice]) -> usize
+    requires { length placement.now ≡ length rows.now.tasks }
+{
+    rows.limits();
+    let mut moves = 0;
+    for task in 0..rows.task_count() {
+        if !is_same(rows.case().home(task), placement[task]) {
+            moves += 1;
+        }
+    }
+    moves
 }
 
 // Adds the change last, if there is one.

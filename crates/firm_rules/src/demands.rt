@@ -1,17 +1,16 @@
 //! What a task brings to a round, by place: its names are looked up once, when its row comes.
 ghost use Rattle.std.specs.Prelude.{◌≡◌, ◌+◌, ◌<◌, ◌≤◌, true, ℕ, length, map, All, IfSome, bytes_eq};
 ghost use Rattle.std.specs.List.{position_or_len};
-ghost use Rattle.firm_rules.specs.Book.{job_names, machine_names};
+ghost use Rattle.firm_rules.specs.Book.{job_names, machine_names, new_task};
 ghost use Rattle.firm_rules.specs.Limits.{longest_patience};
 ghost use Rattle.firm_rules.specs.Names.{is_among};
 ghost use Rattle.firm_rules.specs.Placement.{is_remote, prefers, runs_at};
-ghost use Rattle.firm_rules.specs.Round.{demand_of, job_place, machine_place, place_of, weight_at};
+ghost use Rattle.firm_rules.specs.Round.{demand_of, machine_place, place_of, weight_at, IsFound};
 ghost use Rattle.firm_rules.specs.inner.Demands.{seen, Fits, home_without, place_without, preferred_without};
 ghost use Rattle.firm_rules.specs.inner.Demands.{without_job_at, without_machine_at};
 
-use crate::book::Task;
+use crate::book::{NewTask, Task};
 use crate::names::Name;
-use crate::placements::weight_of;
 use crate::preferences::MOST_PREFERENCES;
 use crate::tables::Rows;
 use arrayvec::ArrayVec;
@@ -34,11 +33,28 @@ pub(crate) fn demand_of<A: Allocator>(rows: &Rows<A>, task: &Task) -> Demand
     ensures seen { seen result ≡ demand_of rows.now task.now }
     ensures fits { Fits (length rows.now.machines) (seen result) }
 {
+    let job = job_place_of(rows, task.job);
     Demand {
         home: home_of(rows, task.machine),
         preferred: places_of(rows, task.preferred.as_slice()),
-        delay: delay_of(rows, task),
-        job: job_place_of(rows, task.job),
+        delay: delay_of(rows, job, task.waited),
+        job,
+    }
+}
+
+/// What a task that is to be added to these rows brings to a round.
+pub(crate) fn demand_of_new<A: Allocator>(rows: &Rows<A>, task: &NewTask) -> Demand
+    requires found { IsFound rows.now task.now }
+    ensures seen { seen result ≡ demand_of rows.now (new_task task.now.job task.now.name task.now.preferred) }
+    ensures fits { Fits (length rows.now.machines) (seen result) }
+{
+    rows.limits();
+    let job = task.owner as u32;
+    Demand {
+        home: None,
+        preferred: copied(task.machines.as_slice()),
+        delay: delay_of(rows, job, 0),
+        job,
     }
 }
 
@@ -66,14 +82,13 @@ fn place_of<A: Allocator>(rows: &Rows<A>, name: Name) -> u32
     }
 }
 
-// What a wait costs a task apart from churn.
-fn delay_of<A: Allocator>(rows: &Rows<A>, task: &Task) -> u64
-    requires { task.now.waited ≤ longest_patience }
-    ensures delay { result ≡ weight_at rows.now (job_place rows.now task.now) + task.now.waited }
+// What a wait costs a task of the job at a place apart from churn.
+fn delay_of<A: Allocator>(rows: &Rows<A>, job: u32, waited: u32) -> u64
+    requires { waited ≤ longest_patience }
+    ensures delay { result ≡ weight_at rows.now job + waited }
     ensures most { result ≤ 2000000 }
 {
-    rows.limits();
-    u64::from(weight_of(rows, task.job)) + u64::from(task.waited)
+    rows.weight_at(job) + u64::from(waited)
 }
 
 // The place of the job of this name; by definition past the last if no job has it.
@@ -99,6 +114,18 @@ fn places_of<A: Allocator>(rows: &Rows<A>, names: &[Name]) -> ArrayVec<u32, MOST
         places.push(place_of(rows, *name));
     }
     places
+}
+
+// The same places.
+fn copied(places: &[u32]) -> ArrayVec<u32, MOST_PREFERENCES>
+    requires { length places.now ≤ 4 }
+    ensures { result.items ≡ places.now }
+{
+    let mut same = ArrayVec::new();
+    for place in places {
+        same.push(*place);
+    }
+    same
 }
 
 /// Takes the machine at a place from all tasks.

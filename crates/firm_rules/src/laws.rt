@@ -5,6 +5,7 @@ ghost use Rattle.firm_rules.specs.Order.{FirstDifferenceDecides};
 ghost use Rattle.firm_rules.specs.Round.{TheRoundIsTheFirst};
 ghost use Rattle.firm_rules.specs.Preemption.{PatienceBoundsPreemptions, PreemptionsGain, PreemptionsHaveCauses};
 ghost use Rattle.firm_rules.specs.Keeping.{SoundRowsStaySound};
+ghost use Rattle.firm_rules.specs.Standing.{TasksStayStanding};
 ghost use Rattle.firm_rules.specs.Starvation.{LongWaitsYieldToLongWaits};
 ghost use Rattle.firm_rules.specs.SoundBook.{OpeningBooksAreSound};
 
@@ -53,9 +54,9 @@ pub fn preemptions_have_causes()
     ensures { PreemptionsHaveCauses }
 {}
 
-/// Where no job weighs more than W, a round passes over a task that has waited for `remote` and max(63 `spread`, W and
-/// `churn`) rounds only if each machine is full of tasks that were waiting too, each for more rounds than it, less W
-/// and `remote`.
+/// Where no job weighs more than W, a round passes over a task that has waited for `remote` and max(what a 64th slot
+/// costs, W and `churn`) rounds only if each machine is full of tasks that were waiting too, each for more rounds than
+/// it, less W and `remote`.
 pub fn long_waits_yield_to_long_waits()
     ensures { LongWaitsYieldToLongWaits }
 {}
@@ -63,6 +64,12 @@ pub fn long_waits_yield_to_long_waits()
 /// Rows that are sound and in form stay so as a machine, a job or a task comes or goes, and after a legal placement.
 pub fn sound_rows_stay_sound()
     ensures { SoundRowsStaySound }
+{}
+
+/// Each task that runs is where some round may have left it, beside the tasks that run there and those that wait: it
+/// stays so as a machine, a job or a task comes or goes, and after a round.
+pub fn tasks_stay_where_they_may_stand()
+    ensures { TasksStayStanding }
 {}
 
 /// The book of a tenant that has nothing yet is sound, for limits in their ranges.

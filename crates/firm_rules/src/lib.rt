@@ -32,11 +32,12 @@ mod preferences;
 mod recent;
 mod replies;
 mod rounds;
+mod standing;
 mod tables;
 mod tickets;
 
 pub use amounts::{Slots, Weight};
-pub use book::{Job, Machine, Task, Use};
+pub use book::{Job, Machine, NewTask, Task, Use};
 pub use books::{Book, BookFault};
 pub use bounds::{LONGEST_PATIENCE, Limits};
 pub use cases::Case;
@@ -45,8 +46,8 @@ pub use commands::{Command, LineFault};
 pub use laws::{
     legality_is_judged, loads_are_sums_of_slots, long_waits_yield_to_long_waits,
     opening_books_are_sound, patience_bounds_preemptions, preemptions_gain,
-    preemptions_have_causes, sound_rows_stay_sound, the_first_difference_decides,
-    the_round_is_the_first,
+    preemptions_have_causes, sound_rows_stay_sound, tasks_stay_where_they_may_stand,
+    the_first_difference_decides, the_round_is_the_first,
 };
 pub use names::Name;
 pub use placements::{cost_of, cost_of_load, legal, loads_of, ranks_before, slot_cost, weight_of};
@@ -54,5 +55,6 @@ pub use preferences::{MOST_PREFERENCES, Preferred};
 pub use recent::{MOST_COSTS, RecentCosts};
 pub use replies::{Outcome, Refusal, Reply};
 pub use rounds::{Change, Choice};
+pub use standing::may_run;
 pub use tables::{Rows, use_of};
 pub use tickets::Ticket;

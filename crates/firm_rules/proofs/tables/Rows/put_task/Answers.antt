@@ -6,7 +6,7 @@ use Rattle.firm_rules.proofs.SoundRows.{one_if, one_if-from_bool}
 use Rattle.firm_rules.proofs.TableLemmas.{tables-with_restored}
 use Rattle.firm_rules.proofs.CaseKept.{kept, sound-rows}
 use Rattle.firm_rules.proofs.CaseLaws.{case-with_restored}
-use Rattle.firm_rules.proofs.tables.Rows.restore_task.Goals as goal
+use Rattle.firm_rules.proofs.tables.Rows.put_task.Goals as goal
 
 pub invariant_of-self-2 : goal.invariant_of-self-2
 invariant_of-self-2 g c =
@@ -28,7 +28,7 @@ invariant_of-self-2 g c =
           c.self.invariant.case c.self.view_is
           (c.in_ok-add_task.ensures.ok
           ∙ ap (λ (d : Demand). let k : Case = record was { tasks = was.tasks ++ d ∷ [] } in k)
-          c.demand_of-demand.ensures.seen)
+          c.requires.seen)
           (case-with_restored c.args.self.now (sound-rows c.self.invariant c.self.view_is) task) all.view;
     }
 
