@@ -8,9 +8,9 @@ use Rattle.std.proofs.lemmas.List.{get_or-set_same, get_or-set_other, get_or_pas
 use Rattle.firm_rules.specs.declared.rounds.Choice.{Choice}
 use Rattle.firm_rules.specs.declared.rounds.Choice.TheVariants.{On, Wait}
 use Rattle.firm_rules.specs.Placement.{Case, IsPlace, load, slot_cost}
-use Rattle.firm_rents.specs.Rents.{rent, paid, AreRents, Suit}
+use Rattle.firm_rents.specs.Rents.{rent, paid, AreRents, Suit, IsBelow}
 use Rattle.firm_rules.specs.Placement.{task_at, choice_at}
-use Rattle.firm_rents.specs.inner.Bounds.{IsBelow, IsWithin}
+use Rattle.firm_rents.specs.inner.Bounds.{IsWithin}
 use Rattle.firm_rules.specs.ChoiceCost.{wide_cost}
 use Rattle.firm_rents.proofs.Cheapest.{wide-le}
 

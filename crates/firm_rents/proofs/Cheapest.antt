@@ -11,7 +11,8 @@ use Rattle.firm_rules.specs.declared.rounds.Choice.{Choice}
 use Rattle.firm_rules.specs.declared.rounds.Choice.TheVariants.{On, Wait}
 use Rattle.firm_rules.specs.Placement.{Demand, Case, IsPlace, leaves, runs_at, prefers, is_remote, task_cost}
 use Rattle.firm_rents.specs.Rents.{paid, least_paid}
-use Rattle.firm_rents.specs.inner.Lowest.{IsNeither, IsLowest, IsCheapestSoFar}
+use Rattle.firm_rents.specs.Lowest.{IsNeither, IsLowest}
+use Rattle.firm_rents.specs.inner.Lowest.{IsCheapestSoFar}
 use Rattle.firm_rules.specs.ChoiceCost.{wide_cost, near}
 use Rattle.firm_rents.proofs.Payments.{least_on-le, least_on-ge}
 

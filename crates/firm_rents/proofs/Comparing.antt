@@ -5,8 +5,10 @@ use Rattle.std.proofs.lemmas.Bool.{cases_lt, cases_eq, cond-true, cond-false, eq
 use Rattle.firm_rents.specs.declared.classes.Class.{Class}
 use Rattle.firm_rents.specs.declared.classes.Offer.{Offer}
 use Rattle.firm_rents.specs.declared.classes.Differences.{Differences}
+use Rattle.firm_rents.specs.declared.classes.Left.{Left}
 use Rattle.firm_rents.specs.Levels.{IsAtMost}
 use Rattle.firm_rents.specs.inner.Classes.{class_at, number_by, number, AreClasses, offered, Covers, Differ}
+use Rattle.firm_rents.specs.inner.Classes.{IsCheaperFrom}
 
 -- THE NUMBER OF A CLASS IS ITS OWN OR ITS PARENT'S
 enough : (classes : List Class) → AreClasses classes → (a b k t : ℕ) → k < length classes → k ≤ a → k ≤ b
@@ -52,6 +54,73 @@ number_parent classes tree k t some l ne =
     opened classes tree k t some l
     ∙ cond-false (eqb (class_at classes k).time t) (class_at classes k).number
     (number classes (class_at classes k).parent t) (ne_eqb (class_at classes k).time t ne)
+
+past : (classes : List Class) → AreClasses classes → (most k t : ℕ) → k ≤ most → k < length classes
+    → (0 < k → (class_at classes k).time < t) → number classes k t ≡ 1
+past classes tree zero k t below l late =
+    let e : 0 ≡ k = omega arith in
+    subst (λ k. number classes k t ≡ 1) e refl
+past classes tree (suc most) k t below l late =
+    ⊎_elim (λ (e : 0 ≡ k). subst (λ k. number classes k t ≡ 1) e refl)
+    (λ (ne : 0 ≡ k → ⊥).
+    let some : 0 < k = omega arith in
+    let parent : (class_at classes k).parent < k = tree.parents k some l in
+    let sooner : (class_at classes k).time < t = late some in
+    number_parent classes tree k t some l (λ e. omega (arith, e, sooner))
+    ∙ past classes tree most (class_at classes k).parent t (omega (arith, parent)) (omega (arith, parent))
+    (λ p. omega (arith, tree.times k some l p, sooner)))
+    (cases_eq 0 k)
+
+-- at a time later than its own, and so than those of all behind it, a class has 1
+pub number_past : (classes : List Class) → AreClasses classes → (k t : ℕ) → k < length classes
+    → (0 < k → (class_at classes k).time < t) → number classes k t ≡ 1
+number_past classes tree k t l late = past classes tree k k t (omega arith) l late
+
+-- on the way from a class to the first, before the time of the class left behind last the one that is reached tells
+-- the numbers
+pub record IsLeft (classes : List Class) (class here : ℕ) (left : Left) : Type 0 where
+  pub inside : here < length classes
+  pub most : left.time ≤ 2 ^ 32
+  pub told : (t : ℕ) → t < left.time → number classes class t ≡ number classes here t
+  pub early : left.time < 2 ^ 32 → 0 < here → (class_at classes here).time < left.time
+  pub own : left.time < 2 ^ 32 → number classes class left.time ≡ left.number
+  pub fresh : left.time ≡ 2 ^ 32 → here ≡ class
+
+pub left_on : (classes : List Class) → AreClasses classes → (class here : ℕ) (left next : Left)
+    → IsLeft classes class here left → 0 < here → next.time ≡ (class_at classes here).time → next.time < 2 ^ 32
+    → next.number ≡ (class_at classes here).number
+    → IsLeft classes class (class_at classes here).parent next
+left_on classes tree class here left next held some time small own =
+    let parent : (class_at classes here).parent < here = tree.parents here some held.inside in
+    let sooner : next.time < left.time =
+    ⊎_elim (λ (h : left.time < 2 ^ 32). omega (arith, held.early h some, time))
+    (λ (h : 2 ^ 32 ≤ left.time). omega arith) (cases_lt left.time (2 ^ 32)) in
+    record {
+      inside = omega (arith, parent, held.inside);
+      most = omega arith;
+      told = λ t before. held.told t (omega (arith, before, sooner))
+          ∙ number_parent classes tree here t some held.inside (λ e. omega (arith, e, time, before));
+      early = λ h more. omega (arith, tree.times here some held.inside more, time);
+      own = λ h. held.told next.time sooner
+          ∙ (number_own classes tree here next.time some held.inside (sym time) ∙ sym own);
+      fresh = λ e. absurd (omega (arith, e, small));
+    }
+
+-- where two ways meet
+pub met : (classes : List Class) (one other here there : ℕ) (first second : Left) → here ≡ there
+    → IsLeft classes one here first → IsLeft classes other there second
+    → (t : ℕ) → t < first.time → t < second.time → number classes one t ≡ number classes other t
+met classes one other here there first second same held kept t a b =
+    held.told t a ∙ (ap (λ k. number classes k t) same ∙ sym (kept.told t b))
+
+-- at the earlier of the times left behind last the other class has 1
+pub left_number : (classes : List Class) → AreClasses classes → (one other here there : ℕ) (first second : Left)
+    → here ≡ there → IsLeft classes one here first → IsLeft classes other there second → first.time < second.time
+    → number classes other first.time ≡ 1
+left_number classes tree one other here there first second same held kept sooner =
+    kept.told first.time sooner
+    ∙ (ap (λ k. number classes k first.time) (sym same)
+    ∙ number_past classes tree here first.time held.inside (held.early (omega (arith, kept.most, sooner))))
 
 -- A TIME IS LOOKED AT, OR THE CLASSES STILL TO BE LOOKED AT TELL THE NUMBERS
 pub record StillTold (classes : List Class) (one other : Offer) (here there t : ℕ) : Type 0 where
@@ -188,43 +257,98 @@ by_first f g less more e covers differ l (suc t) same =
     (λ (h : f (suc t) ≤ g (suc t)). h)
     (cases_lt (g (suc t)) (f (suc t)))
 
--- with other times of their choices, none of them before this one
-pub by_dearer : (classes : List Class) (one other : Offer) (found : Differences) (time a b : ℕ)
-    → one.amount ≡ other.amount → one.time ≡ other.time
-    → ((t : ℕ) → Covers (offered classes one) (offered classes other) found t)
-    → Differ (offered classes one) (offered classes other) found → found.less < found.more → found.less < time
-    → time < 2 ^ 32 → time ≤ a → time ≤ b
-    → IsAtMost (offered classes (record one { time = a })) (offered classes (record other { time = b }))
-by_dearer classes one other found time a b amounts times covers differ less before most la lb zero same =
-    omega (arith, amounts)
-by_dearer classes one other found time a b amounts times covers differ less before most la lb (suc t) same =
-    let dearer : offered classes one (suc found.less) < offered classes other (suc found.less) =
-    differ.less (omega arith) in
-    let marks : mark found.less one.time ≡ mark found.less other.time = ap (mark found.less) times in
-    ⊎_elim (λ (h : found.less < t).
-    let equal : offered classes (record one { time = a }) (suc found.less)
-    ≡ offered classes (record other { time = b }) (suc found.less) = same (suc found.less) (omega arith) in
-    absurd (omega (
+-- the first differences of classes alone
+pub cheaper_of : (classes : List Class) (one other : ℕ) (found : Differences)
+    → ((t : ℕ) → Covers (offered classes (record { amount = 0; class = one; time = 0 }))
+    (offered classes (record { amount = 0; class = other; time = 0 })) found t)
+    → Differ (offered classes (record { amount = 0; class = one; time = 0 }))
+    (offered classes (record { amount = 0; class = other; time = 0 })) found
+    → found.less < found.more → found.less < 2 ^ 32
+    → IsCheaperFrom (number classes one) (number classes other) found.less
+cheaper_of classes one other found covers differ sooner some =
+    record {
+      before = λ t h.
+          ⊎_elim (λ (l : number classes one t < number classes other t).
+          let late : (found.less ≤ t) × (found.less < 2 ^ 32) = (covers t).less (omega (arith, l)) in
+          absurd (omega (arith, late.0, h)))
+          (λ (m : number classes other t ≤ number classes one t).
+          ⊎_elim (λ (l : number classes other t < number classes one t).
+          let late : (found.more ≤ t) × (found.more < 2 ^ 32) = (covers t).more (omega (arith, l)) in
+          absurd (omega (arith, late.0, h, sooner)))
+          (λ (l : number classes one t ≤ number classes other t). omega (arith, l, m))
+          (cases_lt (number classes other t) (number classes one t)))
+          (cases_lt (number classes one t) (number classes other t));
+      cheaper = omega (arith, differ.less some);
+    }
+
+-- the first level at which they differ decides
+pub by_level : (f g : ℕ → ℕ) (first : ℕ) → f 0 ≡ g 0 → ((t : ℕ) → t < first → f (suc t) ≡ g (suc t))
+    → f (suc first) < g (suc first) → IsAtMost f g
+by_level f g first amounts before less zero same = omega (arith, amounts)
+by_level f g first amounts before less (suc t) same =
+    ⊎_elim (λ (h : t < first). omega (arith, before t h))
+    (λ (h : first ≤ t).
+    ⊎_elim (λ (e : first ≡ t). subst (λ t. f (suc t) ≤ g (suc t)) e (omega (arith, less)))
+    (λ (ne : first ≡ t → ⊥).
+    let equal : f (suc first) ≡ g (suc first) = same (suc first) (omega arith) in absurd (omega (arith, equal, less)))
+    (cases_eq first t))
+    (cases_lt t first)
+
+-- the sooner choice is cheaper, if the classes do not differ before it
+pub by_choice : (classes : List Class) (one other : Offer) → one.amount ≡ other.amount
+    → ((t : ℕ) → t ≤ one.time → number classes one.class t ≡ number classes other.class t) → one.time < other.time
+    → IsAtMost (offered classes one) (offered classes other)
+by_choice classes one other amounts alike sooner =
+    by_level (offered classes one) (offered classes other) one.time amounts
+    (λ t h. omega (
       arith,
-      dearer,
-      marks,
-      equal,
-      mark_other found.less a (λ (e : found.less ≡ a). omega arith),
-      mark_other found.less b (λ (e : found.less ≡ b). omega arith),
-    )))
-    (λ (h : t ≤ found.less).
-    let here : mark t one.time ≡ mark t other.time = ap (mark t) times in
-    ⊎_elim (λ (l : offered classes other (suc t) < offered classes one (suc t)).
-    let late : (found.more ≤ t) × (found.more < 2 ^ 32) = (covers t).more l in
-    let no : found.more ≤ t = late.0 in
-    absurd (omega (arith, no, less, h)))
-    (λ (l : offered classes one (suc t) ≤ offered classes other (suc t)).
+      alike t (omega (arith, h)),
+      mark_other t one.time (λ (e : t ≡ one.time). omega (arith, e, h)),
+      mark_other t other.time (λ (e : t ≡ other.time). omega (arith, e, h, sooner)),
+    ))
+    (omega (
+      arith,
+      alike one.time (omega arith),
+      mark_own one.time,
+      mark_other one.time other.time (λ (e : one.time ≡ other.time). omega (arith, e, sooner)),
+    ))
+
+-- the classes' first difference decides, if no choice is before it or both are made at one time
+pub by_parting : (classes : List Class) (one other : Offer) (first : ℕ) → one.amount ≡ other.amount
+    → ((t : ℕ) → t < first → number classes one.class t ≡ number classes other.class t)
+    → (one.time ≡ other.time ⊎ ((first ≤ one.time) × (first ≤ other.time)))
+    → offered classes one (suc first) < offered classes other (suc first)
+    → IsAtMost (offered classes one) (offered classes other)
+by_parting classes one other first amounts alike choices less =
+    by_level (offered classes one) (offered classes other) first amounts
+    (λ t h.
+    let marks : mark t one.time ≡ mark t other.time =
+    ⊎_elim (λ (e : one.time ≡ other.time). ap (mark t) e)
+    (λ (late : (first ≤ one.time) × (first ≤ other.time)).
     omega (
       arith,
-      l,
-      here,
-      mark_other t a (λ (e : t ≡ a). omega arith),
-      mark_other t b (λ (e : t ≡ b). omega arith),
+      mark_other t one.time (λ (e : t ≡ one.time). omega (arith, e, h, late.0)),
+      mark_other t other.time (λ (e : t ≡ other.time). omega (arith, e, h, late.1)),
     ))
-    (cases_lt (offered classes other (suc t)) (offered classes one (suc t))))
-    (cases_lt found.less t)
+    choices in
+    omega (arith, alike t h, marks))
+    less
+
+-- with choices later than the classes' first difference
+pub by_dearer : (classes : List Class) (one other : Offer) (first a b : ℕ) → one.amount ≡ other.amount
+    → IsCheaperFrom (number classes one.class) (number classes other.class) first → first < a → first < b
+    → IsAtMost (offered classes (record one { time = a })) (offered classes (record other { time = b }))
+by_dearer classes one other first a b amounts from la lb =
+    by_level (offered classes (record one { time = a })) (offered classes (record other { time = b })) first amounts
+    (λ t h. omega (
+      arith,
+      from.before t h,
+      mark_other t a (λ (e : t ≡ a). omega (arith, e, h, la)),
+      mark_other t b (λ (e : t ≡ b). omega (arith, e, h, lb)),
+    ))
+    (omega (
+      arith,
+      from.cheaper,
+      mark_other first a (λ (e : first ≡ a). omega (arith, e, la)),
+      mark_other first b (λ (e : first ≡ b). omega (arith, e, lb)),
+    ))

@@ -6,7 +6,7 @@ use Rattle.firm_rules.specs.declared.rounds.Choice.TheVariants.{On, Wait}
 use Rattle.firm_rules.specs.Placement.{Demand, Case, task_cost}
 use Rattle.firm_rents.specs.Rents.{rent, paid}
 use Rattle.firm_rents.specs.TwoTables.{more_by_both, AreAtGap}
-use Rattle.firm_rents.specs.inner.Lowest.{IsLowest}
+use Rattle.firm_rents.specs.Lowest.{IsLowest}
 
 -- a machine costs more by both tables as it does by the greater rents alone
 at_gap : (cost low high own least gap : ℕ)

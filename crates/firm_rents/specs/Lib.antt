@@ -1,5 +1,6 @@
 pub mod inner
 pub mod Rents
+pub mod Lowest
 pub mod Placed
 pub mod OtherSlots
 pub mod CostParts

@@ -11,6 +11,10 @@ pub record AreRents (machines : ℕ) (rents : List ℕ) : Type 0 where
   pub one_each : length rents ≡ machines
   pub small : (j : ℕ) → slice_index rents j ≤ 2 ^ 40
 
+-- none of the rents is above its bound
+abbrev pub IsBelow : List ℕ → List ℕ → Type 0
+IsBelow rents bounds = (j : ℕ) → slice_index rents j ≤ slice_index bounds j
+
 -- the rent of a choice: that of its machine, and 0 for waiting
 abbrev pub rent : List ℕ → Choice → ℕ
 rent rents (On j) = slice_index rents j

@@ -4,7 +4,7 @@ ghost use Rattle.firm_rules.specs.declared.rounds.Choice.TheVariants.{On};
 ghost use Rattle.firm_rents.specs.Rents.{rent};
 ghost use Rattle.firm_rules.specs.Placement.{task_at, home_choice};
 ghost use Rattle.firm_rents.specs.TwoTables.{more_by_both, AreAtGap};
-ghost use Rattle.firm_rents.specs.inner.Lowest.{IsLowest};
+ghost use Rattle.firm_rents.specs.Lowest.{IsLowest};
 
 use crate::choices::cheapest_other;
 use crate::rents::Rents;

@@ -3,7 +3,7 @@ ghost use Rattle.std.specs.Prelude.{◌≡◌, ◌-◌, ◌^◌, ◌<◌, ◌≤
 ghost use Rattle.firm_rules.specs.Placement.{goes_to, IsPlace};
 ghost use Rattle.firm_rents.specs.Rents.{paid, least_paid, CostsMore};
 ghost use Rattle.firm_rules.specs.Placement.{task_at};
-ghost use Rattle.firm_rents.specs.inner.Lowest.{IsLowest};
+ghost use Rattle.firm_rents.specs.Lowest.{IsLowest};
 ghost use Rattle.firm_rules.specs.declared.rounds.Choice.TheVariants.{On};
 
 use crate::rents::Rents;

@@ -1,7 +1,9 @@
 //! Rents in levels, behind their amounts by classes of places, and how they compare.
-ghost use Rattle.std.specs.Prelude.{◌≡◌, ◌+◌, ◌^◌, ◌<◌, ◌≤◌, true, false, ℕ, length, suc};
+ghost use Rattle.std.specs.Prelude.{◌≡◌, ◌≢◌, ◌^◌, ◌<◌, ◌≤◌, true, false, ℕ, List, length, suc};
 ghost use Rattle.firm_rents.specs.Levels.{IsAtMost};
+ghost use Rattle.firm_rents.specs.declared.classes.Class.{Class as ClassOf};
 ghost use Rattle.firm_rents.specs.inner.Classes.{number, AreClasses, offered, Covers, Differ};
+ghost use Rattle.firm_rents.specs.inner.Classes.{IsCheaperFrom, IsParting};
 
 /// A class of places: at its time their rents have its number, else they are those of its parent's. A rent of the first
 /// class has 1 at each time.
@@ -19,7 +21,7 @@ pub struct LevelRents {
     pub amounts: Vec<u64>,
     /// The class of each machine and, last, that of waiting.
     pub places: Vec<u32>,
-    /// Each but the first stands behind its parent.
+    /// Each but the first stands behind its parent, and has a later time than that unless it is the first.
     pub classes: Vec<Class>,
 }
 
@@ -33,15 +35,31 @@ pub(crate) struct Offer {
 
 /// The first times at which one offer is less and at which it is more than another; 2^32 if it never is.
 #[derive(Clone, Copy)]
-pub(crate) struct Differences {
-    pub(crate) less: u64,
-    pub(crate) more: u64,
+struct Differences {
+    less: u64,
+    more: u64,
+}
+
+/// The first time at which the numbers of two classes may differ, and what they are then.
+#[derive(Clone, Copy)]
+struct Parting {
+    time: u64,
+    one: u32,
+    other: u32,
+}
+
+/// The time and the number of the class that was left behind last on a way to the first class; `NEVER` before.
+#[derive(Clone, Copy)]
+struct Left {
+    time: u64,
+    number: u32,
 }
 
 /// No time.
 const NEVER: u64 = 1 << 32;
 
-/// Whether the one offer is at most the other, level by level.
+/// Whether the one offer is at most the other, level by level. It is inlined, as amounts tell most offers apart.
+#[inline(always)]
 pub(crate) fn is_at_most(classes: &[Class], one: Offer, other: Offer) -> bool
     requires tree { AreClasses classes.now }
     requires one { one.class < length classes.now }
@@ -55,45 +73,167 @@ pub(crate) fn is_at_most(classes: &[Class], one: Offer, other: Offer) -> bool
     if one.class == other.class {
         return one.time <= other.time;
     }
+    is_at_most_behind(classes, one, other)
+}
+
+// Whether the one offer is at most the other, where their amounts are the same and their classes are not.
+fn is_at_most_behind(classes: &[Class], one: Offer, other: Offer) -> bool
+    requires tree { AreClasses classes.now }
+    requires one { one.class < length classes.now }
+    requires other { other.class < length classes.now }
+    requires amounts { one.amount ≡ other.amount }
+    requires classes { one.class ≢ other.class }
+    ensures yes { result ≡ true → IsAtMost (offered classes.now one) (offered classes.now other) }
+    ensures no { result ≡ false → IsAtMost (offered classes.now other) (offered classes.now one) }
+{
+    let parting = first_parting(classes, one.class, other.class);
+    if u64::from(one.time.min(other.time)) < parting.time && one.time != other.time {
+        return one.time < other.time;
+    }
+    let here = marked(one, parting.one, parting.time);
+    let there = marked(other, parting.other, parting.time);
+    if here != there {
+        return here < there;
+    }
     let found = first_differences(classes, one, other);
     found.less <= found.more
 }
 
-/// Whether the other offer is dearer than the one already before this time, so that times of choices from then on do
-/// not count. Both are of one time.
-pub(crate) fn is_dearer_before(classes: &[Class], one: Offer, other: Offer, time: u32) -> bool
+/// The time from which on the one offer is at most the other for whatever choices, since it is cheaper before; 2^32 or
+/// more if there is none. The offers' own times do not count.
+pub(crate) fn cheaper_since(classes: &[Class], one: Offer, other: Offer) -> u64
     requires tree { AreClasses classes.now }
     requires one { one.class < length classes.now }
     requires other { other.class < length classes.now }
-    requires same { one.time ≡ other.time }
-    ensures { result ≡ true → (a b : ℕ) → time ≤ a → time ≤ b
+    ensures { (time a b : ℕ) → result ≤ time → time < 2 ^ 32 → time ≤ a → time ≤ b
         → IsAtMost (offered classes.now (record one { time = a })) (offered classes.now (record other { time = b })) }
 {
     if one.amount != other.amount {
-        return one.amount < other.amount;
+        return if one.amount < other.amount { 0 } else { NEVER };
     }
-    if one.class == other.class {
-        return false;
-    }
-    let found = first_differences(classes, one, other);
-    found.less < found.more && found.less < u64::from(time)
+    cheaper_from(classes, one.class, other.class).saturating_add(1)
 }
 
-/// The first times at which two offers differ behind their amounts. Looks only at the times of the two choices and at
-/// those of classes that not both belong to.
-pub(crate) fn first_differences(classes: &[Class], one: Offer, other: Offer) -> Differences
+/// The first time at which two classes differ, if the one is cheaper then; else 2^32.
+pub(crate) fn cheaper_from(classes: &[Class], one: u32, other: u32) -> u64
+    requires tree { AreClasses classes.now }
+    requires one { one < length classes.now }
+    requires other { other < length classes.now }
+    ensures { result < 2 ^ 32 → IsCheaperFrom (number classes.now one) (number classes.now other) result }
+{
+    if one == other {
+        return NEVER;
+    }
+    let parting = first_parting(classes, one, other);
+    if parting.one != parting.other {
+        return if parting.one < parting.other {
+            parting.time
+        } else {
+            NEVER
+        };
+    }
+    let first = Offer {
+        amount: 0,
+        class: one,
+        time: 0,
+    };
+    let second = Offer {
+        class: other,
+        ..first
+    };
+    let found = first_differences(classes, first, second);
+    if found.less < found.more {
+        found.less
+    } else {
+        NEVER
+    }
+}
+
+// The first time at which the numbers of two classes may differ: the earlier of those at which the classes were parted
+// from the nearest one that both belong to.
+fn first_parting(classes: &[Class], one: u32, other: u32) -> Parting
+    requires tree { AreClasses classes.now }
+    requires one { one < length classes.now }
+    requires other { other < length classes.now }
+    requires apart { one ≢ other }
+    ensures { IsParting (number classes.now one) (number classes.now other) result }
+{
+    let mut here = one;
+    let mut there = other;
+    let mut first = Left::NONE;
+    let mut second = Left::NONE;
+    while here != there {
+        if there < here {
+            let class = classes[here as usize];
+            first = Left::of(class);
+            here = class.parent;
+        } else {
+            let class = classes[there as usize];
+            second = Left::of(class);
+            there = class.parent;
+        }
+    }
+    if first.time < second.time {
+        return Parting {
+            time: first.time,
+            one: first.number,
+            other: 1,
+        };
+    }
+    if second.time < first.time {
+        return Parting {
+            time: second.time,
+            one: 1,
+            other: second.number,
+        };
+    }
+    Parting {
+        time: first.time,
+        one: first.number,
+        other: second.number,
+    }
+}
+
+impl Left {
+    /// None.
+    const NONE: Left = Left {
+        time: NEVER,
+        number: 1,
+    };
+
+    fn of(class: Class) -> Left
+        ensures same { (result.time ≡ class.time) × (result.number ≡ class.number) }
+        ensures some { result.time < 2 ^ 32 }
+    {
+        Left {
+            time: u64::from(class.time),
+            number: class.number,
+        }
+    }
+}
+
+// What is offered at a time at which its class has this number.
+fn marked(offer: Offer, own: u32, time: u64) -> u64
+    ensures { (classes : List ClassOf) → number classes offer.class time ≡ own
+        → offered classes offer (suc time) ≡ result }
+{
+    if time == u64::from(offer.time) {
+        u64::from(own)
+    } else {
+        1 + u64::from(own)
+    }
+}
+
+// The first times at which two offers differ behind their amounts. Looks only at the times of the two choices and at
+// those of classes that not both belong to.
+fn first_differences(classes: &[Class], one: Offer, other: Offer) -> Differences
     requires tree { AreClasses classes.now }
     requires one { one.class < length classes.now }
     requires other { other.class < length classes.now }
     ensures covers { (t : ℕ) → Covers (offered classes.now one) (offered classes.now other) result t }
     ensures differ { Differ (offered classes.now one) (offered classes.now other) result }
 {
-    let mut found = Differences {
-        less: NEVER,
-        more: NEVER,
-    };
-    found = looked_at(classes, one, other, one.time, found);
-    found = looked_at(classes, one, other, other.time, found);
+    let mut found = at_choices(classes, one, other);
     let mut here = one.class;
     let mut there = other.class;
     while here != there {
@@ -108,6 +248,26 @@ pub(crate) fn first_differences(classes: &[Class], one: Offer, other: Offer) -> 
         }
     }
     found
+}
+
+// The first times among those of the two choices.
+fn at_choices(classes: &[Class], one: Offer, other: Offer) -> Differences
+    requires tree { AreClasses classes.now }
+    requires one { one.class < length classes.now }
+    requires other { other.class < length classes.now }
+    ensures one { Covers (offered classes.now one) (offered classes.now other) result one.time }
+    ensures other { Covers (offered classes.now one) (offered classes.now other) result other.time }
+    ensures differ { Differ (offered classes.now one) (offered classes.now other) result }
+{
+    let none = Differences {
+        less: NEVER,
+        more: NEVER,
+    };
+    let found = looked_at(classes, one, other, one.time, none);
+    if other.time == one.time {
+        return found;
+    }
+    looked_at(classes, one, other, other.time, found)
 }
 
 // The first times once this time is looked at too.

@@ -10,7 +10,7 @@ ghost use Rattle.firm_rules.specs.ChoiceCost.{near, wide_cost};
 ghost use Rattle.firm_rents.specs.inner.Classes.{AreClasses, AreInLevels, IsLeast, IsSpent, NoMore, SuitsLoad};
 ghost use Rattle.firm_rents.specs.inner.Classes.{level_rents, place_of, place_offer};
 
-use crate::classes::{Class, LevelRents, Offer, first_differences, is_at_most, is_dearer_before};
+use crate::classes::{Class, LevelRents, Offer, cheaper_from, cheaper_since, is_at_most};
 use crate::laws::rents_show_first;
 use crate::rents::MOST_RENT;
 use firm_rules::{Case, Choice, legality_is_judged, loads_of, slot_cost};
@@ -71,13 +71,15 @@ fn are_below(places: &[u32], classes: usize) -> bool
     classes > 0
 }
 
-// Whether each class but the first stands behind its parent.
+// Whether each class but the first stands behind its parent, and has a later time than that unless it is the first.
 fn are_classes(classes: &[Class]) -> bool
     requires { 0 < length classes.now }
     ensures { result ≡ true → AreClasses classes.now }
 {
     for place in 1..classes.len() {
-        if classes[place].parent as usize >= place {
+        let class = classes[place];
+        let parent = class.parent as usize;
+        if parent >= place || (parent > 0 && classes[parent].time >= class.time) {
             return false;
         }
     }
@@ -159,12 +161,13 @@ fn offer_of(rents: &LevelRents, more: u64, place: usize, time: u32) -> Offer
     }
 }
 
-// Where the look at machines that cost all tasks alike stands: the one of the lowest rent, and before which place all
-// are spent, dearer than that one before the times of the task.
+// Where the look at machines that cost all tasks alike stands: the one of the lowest rent, before which place all are
+// spent, dearer than that one before the times of the task, and from which time on the one at that place is spent.
 #[derive(Clone, Copy)]
 struct Mark {
     lowest: usize,
     spent: usize,
+    since: u64,
 }
 
 // Whether each task's choice is its cheapest.
@@ -178,9 +181,11 @@ fn tasks_suit(case: &Case, rents: &LevelRents, placement: &[Choice]) -> bool
         → IsAtMost (paid_by_level case.now (level_rents rents.now) i (choice_at placement.now i))
         (paid_by_level case.now (level_rents rents.now) i other) }
 {
+    let lowest = lowest_machine(case, rents);
     let mut mark = Mark {
-        lowest: lowest_machine(case, rents),
+        lowest,
         spent: 0,
+        since: spent_since(rents, lowest, 0),
     };
     for task in 0..case.task_count() {
         mark = passed(case, rents, mark, time_of(case, task, 0));
@@ -327,9 +332,9 @@ fn told_from(case: &Case, rents: &LevelRents, task: usize, chosen: Offer, lowest
     requires lowest { lowest < length case.now.slots }
 {
     let begun = time_of(case, task, 0);
-    let rent = offer_of(rents, 0, lowest, chosen.time);
-    let found = first_differences(rents.classes.as_slice(), chosen, rent);
-    let dearer = found.less.saturating_sub(u64::from(begun));
+    let rent = offer_of(rents, 0, lowest, 0);
+    let from = cheaper_from(rents.classes.as_slice(), chosen.class, rent.class);
+    let dearer = from.saturating_sub(u64::from(begun));
     let made = u64::from(chosen.time.saturating_sub(begun));
     dearer.min(made).min(4_096) as usize
 }
@@ -372,30 +377,43 @@ fn time_of(case: &Case, task: usize, rank: usize) -> u32
 // The mark once the times before this one are past.
 fn passed(case: &Case, rents: &LevelRents, mark: Mark, begun: u32) -> Mark
     requires levels { AreInLevels (length case.now.slots) rents.now }
-    requires lowest { 0 < length case.now.slots → mark.lowest < length case.now.slots }
+    requires lowest { mark.lowest ≤ length case.now.slots }
     requires spent { (j : ℕ) → j < mark.spent → IsSpent rents.now mark.lowest begun j }
+    requires next { (t : ℕ) → mark.since ≤ t → t < 2 ^ 32 → IsSpent rents.now mark.lowest t mark.spent }
     ensures lowest { result.lowest ≡ mark.lowest }
     ensures spent { (j : ℕ) → j < result.spent → IsSpent rents.now mark.lowest begun j }
+    ensures next { (t : ℕ) → result.since ≤ t → t < 2 ^ 32 → IsSpent rents.now mark.lowest t result.spent }
 {
     let mut spent = mark.spent;
-    while spent < case.machine_count() {
-        let lowest = offer_of(rents, 0, mark.lowest, 0);
-        let other = offer_of(rents, 0, spent, 0);
-        if !is_dearer_before(rents.classes.as_slice(), lowest, other, begun) {
-            break;
-        }
+    let mut since = mark.since;
+    while spent < case.machine_count() && since <= u64::from(begun) {
         spent += 1;
+        since = spent_since(rents, mark.lowest, spent);
     }
     Mark {
         lowest: mark.lowest,
         spent,
+        since,
     }
+}
+
+// The time from which on the machine at this place is spent. What it says of the place behind the last one is not used.
+fn spent_since(rents: &LevelRents, lowest: usize, place: usize) -> u64
+    requires levels { AreInLevels (length rents.now.amounts.items) rents.now }
+    requires lowest { lowest ≤ length rents.now.amounts.items }
+    requires place { place ≤ length rents.now.amounts.items }
+    ensures { (t : ℕ) → result ≤ t → t < 2 ^ 32 → IsSpent rents.now lowest t place }
+{
+    let first = offer_of(rents, 0, lowest, 0);
+    let other = offer_of(rents, 0, place, 0);
+    cheaper_since(rents.classes.as_slice(), first, other)
 }
 
 // The machine of the lowest rent; 0 if there is none.
 fn lowest_machine(case: &Case, rents: &LevelRents) -> usize
     requires levels { AreInLevels (length case.now.slots) rents.now }
     ensures lowest { 0 < length case.now.slots → result < length case.now.slots }
+    ensures most { result ≤ length case.now.slots }
     ensures least { (j : ℕ) → j < length case.now.slots → IsLeast rents.now result j }
 {
     let mut lowest = 0;

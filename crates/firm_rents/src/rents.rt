@@ -1,7 +1,8 @@
 //! The rents of a tenant's machines.
 ghost use Rattle.std.specs.Prelude.{◌≡◌, ◌^◌, ◌≤◌, ℕ, length, slice_index};
 ghost use Rattle.firm_rents.specs.Rents.{rent, AreRents};
-ghost use Rattle.firm_rents.specs.inner.Lowest.{IsLowest, is_neither};
+ghost use Rattle.firm_rents.specs.Lowest.{IsLowest};
+ghost use Rattle.firm_rents.specs.inner.Lowest.{is_neither};
 
 use crate::choices::is_on;
 use firm_rules::Choice;

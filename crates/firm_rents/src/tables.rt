@@ -5,9 +5,9 @@ ghost use Rattle.std.specs.Prelude.{if◌then◌else◌, nat_lt, min, max, slice
 ghost use Rattle.firm_rules.specs.Placement.{is_legal, IsPlace, load, slot_cost};
 ghost use Rattle.firm_rules.specs.declared.rounds.Choice.{Choice as ChoiceOf};
 ghost use Rattle.firm_rules.specs.declared.rounds.Choice.TheVariants.{On};
-ghost use Rattle.firm_rents.specs.Rents.{rent, paid, AreRents, Show, Suit};
+ghost use Rattle.firm_rents.specs.Rents.{AreRents, IsBelow, Show, Suit, paid, rent};
 ghost use Rattle.firm_rules.specs.Placement.{task_at, choice_at};
-ghost use Rattle.firm_rents.specs.inner.Bounds.{IsBelow, IsWithin};
+ghost use Rattle.firm_rents.specs.inner.Bounds.{IsWithin};
 
 use crate::laws::rents_that_show_suit;
 use crate::rents::{MOST_RENT, Rents, rent_of};

@@ -1,10 +1,6 @@
 -- Bounds of rents.
 use Rattle.std.specs.Prelude.{ℕ, ◌+◌, ◌<◌, ◌≤◌, List, length, slice_index}
 
--- none of the rents is above its bound
-abbrev pub IsBelow : List ℕ → List ℕ → Type 0
-IsBelow rents bounds = (j : ℕ) → slice_index rents j ≤ slice_index bounds j
-
 -- each of the rents is no more than its bound plus what `more` is beyond `less`
 abbrev pub IsWithin : List ℕ → List ℕ → ℕ → ℕ → Type 0
 IsWithin rents bounds less more =

@@ -9,6 +9,7 @@ use Rattle.firm_rents.specs.declared.classes.Class.{Class}
 use Rattle.firm_rents.specs.declared.classes.Offer.{Offer}
 use Rattle.firm_rents.specs.declared.classes.Differences.{Differences}
 use Rattle.firm_rents.specs.declared.classes.LevelRents.{LevelRents}
+use Rattle.firm_rents.specs.declared.classes.Parting.{Parting}
 
 -- the class of this number
 abbrev pub class_at : List Class → ℕ → Class
@@ -25,10 +26,12 @@ number_by classes (suc more) k t =
 abbrev pub number : List Class → ℕ → ℕ → ℕ
 number classes k t = number_by classes k k t
 
--- each class but the first comes after its parent
+-- each class but the first comes after its parent, and its time after that of its parent, if this is not the first
 pub record AreClasses (classes : List Class) : Type 0 where
   pub some : 0 < length classes
   pub parents : (k : ℕ) → 0 < k → k < length classes → (class_at classes k).parent < k
+  pub times : (k : ℕ) → 0 < k → k < length classes → 0 < (class_at classes k).parent
+      → (class_at classes (class_at classes k).parent).time < (class_at classes k).time
 
 -- what is offered, level by level
 abbrev pub offered : List Class → Offer → ℕ → ℕ
@@ -44,6 +47,17 @@ pub record Covers (one other : ℕ → ℕ) (found : Differences) (t : ℕ) : Ty
 pub record Differ (one other : ℕ → ℕ) (found : Differences) : Type 0 where
   pub less : found.less < 2 ^ 32 → one (suc found.less) < other (suc found.less)
   pub more : found.more < 2 ^ 32 → other (suc found.more) < one (suc found.more)
+
+-- the same before a time, and at it these numbers
+pub record IsParting (f g : ℕ → ℕ) (parting : Parting) : Type 0 where
+  pub before : (t : ℕ) → t < parting.time → f t ≡ g t
+  pub one : f parting.time ≡ parting.one
+  pub other : g parting.time ≡ parting.other
+
+-- one is the cheaper at the first time at which they differ
+pub record IsCheaperFrom (one other : ℕ → ℕ) (first : ℕ) : Type 0 where
+  pub before : (t : ℕ) → t < first → one t ≡ other t
+  pub cheaper : one first < other first
 
 -- rents in levels for this number of machines, with a class for each and for waiting
 pub record AreInLevels (machines : ℕ) (rents : LevelRents) : Type 0 where

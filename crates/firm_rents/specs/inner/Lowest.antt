@@ -1,28 +1,17 @@
--- The machine with the lowest number, apart from two.
-use Rattle.std.specs.Prelude.{◌≡◌, ℕ, ◌+◌, ◌<◌, ◌≤◌, Bool, true, false, not, ◌&&◌, ◌^◌, List, length}
-use Rattle.std.specs.Prelude.{slice_index}
+-- How the machine with the lowest number is found.
+use Rattle.std.specs.Prelude.{ℕ, ◌+◌, ◌<◌, ◌≤◌, Bool, true, not, ◌&&◌, ◌^◌, List, length, slice_index}
 use Rattle.firm_rules.specs.declared.rounds.Choice.{Choice}
 use Rattle.firm_rules.specs.declared.rounds.Choice.TheVariants.{On, Wait}
 use Rattle.firm_rules.specs.Placement.{Demand, Case, goes_to}
 use Rattle.firm_rules.specs.ChoiceCost.{wide_cost, near}
+use Rattle.firm_rents.specs.Lowest.{IsLowest, IsNeither}
 use Rattle.firm_rents.specs.Rents.{paid}
 use Rattle.firm_rents.specs.declared.rents.Rents.TheInside.{Inside}
-
--- the machine is neither of these
-pub record IsNeither (a b : Choice) (j : ℕ) : Type 0 where
-  pub first : goes_to j a ≡ false
-  pub second : goes_to j b ≡ false
 
 -- the choice is neither of these machines
 abbrev pub is_neither : Choice → Choice → Choice → Bool
 is_neither a b (On k) = not (goes_to k a) && not (goes_to k b)
 is_neither a b Wait = true
-
--- of the first n machines apart from these two, this one has the lowest number, or there is none
-abbrev pub IsLowest : (ℕ → ℕ) → ℕ → Choice → Choice → Choice → Type 0
-IsLowest number n a b (On k) =
-    (k < n) × IsNeither a b k × ((j : ℕ) → j < n → IsNeither a b j → number k ≤ number j)
-IsLowest number n a b Wait = (j : ℕ) → j < n → IsNeither a b j → ⊥
 
 -- rents, with the three lowest of them
 pub record RentsFit (rents : Inside) : Type 0 where

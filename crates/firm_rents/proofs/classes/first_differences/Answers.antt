@@ -8,19 +8,17 @@ loop-here-init c =
     record {
       here = c.requires.one;
       there = c.requires.other;
-      one_time = c.looked_at-found-2.ensures.kept c.args.one.time c.looked_at-found.ensures.covers;
-      other_time = c.looked_at-found-2.ensures.covers;
+      one_time = c.at_choices-found.ensures.one;
+      other_time = c.at_choices-found.ensures.other;
       looked = λ t. inr (record { one_told = refl; other_told = refl });
-      differ = c.looked_at-found-2.ensures.differ
-          (c.looked_at-found.ensures.differ
-          (record { less = λ l. absurd (omega arith); more = λ l. absurd (omega arith) }));
+      differ = c.at_choices-found.ensures.differ;
     }
 
 pub loop-here-preserved-then-there-here : goal.loop-here-preserved-then-there-here
 loop-here-preserved-then-there-here c =
     let classes = c.args.classes.now in
     let here = c.loop-here.here in
-    let looked_at = c.looked_at-found-then-there-here in
+    let looked_at = c.looked_at-found in
     let below : (class_at classes here).parent < here =
     c.requires.tree.parents here (omega arith) c.loop-here.invariant.here in
     record {

@@ -1,5 +1,5 @@
 use Rattle.std.specs.Prelude.{slice_index}
-use Rattle.firm_rents.specs.inner.Lowest.{IsLowest}
+use Rattle.firm_rents.specs.Lowest.{IsLowest}
 use Rattle.firm_rents.proofs.rents.lowest_of.Given as goal
 
 abbrev pub invariant-loop-place : goal.invariant-loop-place

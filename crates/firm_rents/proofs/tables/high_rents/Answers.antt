@@ -1,5 +1,6 @@
 use Rattle.std.proofs.Common.{ℕ, List, length, drop, sym, ap, subst, ◌∙◌, arith}
-use Rattle.firm_rents.specs.inner.Bounds.{IsBelow, IsWithin}
+use Rattle.firm_rents.specs.Rents.{IsBelow}
+use Rattle.firm_rents.specs.inner.Bounds.{IsWithin}
 use Rattle.firm_rents.proofs.Bounding.{below_all, free_within, written}
 use Rattle.firm_rents.proofs.tables.high_rents.Goals as goal
 

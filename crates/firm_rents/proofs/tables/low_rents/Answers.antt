@@ -1,5 +1,5 @@
 use Rattle.std.proofs.Common.{ℕ, List, length, drop, sym, ap, subst, ◌∙◌, arith}
-use Rattle.firm_rents.specs.inner.Bounds.{IsBelow}
+use Rattle.firm_rents.specs.Rents.{IsBelow}
 use Rattle.firm_rents.proofs.Bounding.{paid_below, written}
 use Rattle.firm_rents.proofs.tables.low_rents.Goals as goal
 

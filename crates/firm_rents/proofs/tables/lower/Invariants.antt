@@ -1,6 +1,6 @@
 use Rattle.std.proofs.Common.{◌≡◌, ◌<◌, ◌≤◌, ℕ, List, length}
-use Rattle.firm_rents.specs.Rents.{Suit}
-use Rattle.firm_rents.specs.inner.Bounds.{IsBelow, IsWithin}
+use Rattle.firm_rents.specs.Rents.{Suit, IsBelow}
+use Rattle.firm_rents.specs.inner.Bounds.{IsWithin}
 use Rattle.firm_rents.proofs.tables.lower.Given as goal
 
 abbrev pub invariant-loop-task : goal.invariant-loop-task

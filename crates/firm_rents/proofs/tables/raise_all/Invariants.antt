@@ -1,7 +1,6 @@
 use Rattle.std.proofs.Common.{◌≡◌, ◌≤◌, ℕ, List, length}
 use Rattle.std.specs.Prelude.{slice_index}
-use Rattle.firm_rents.specs.Rents.{Suit}
-use Rattle.firm_rents.specs.inner.Bounds.{IsBelow}
+use Rattle.firm_rents.specs.Rents.{Suit, IsBelow}
 use Rattle.firm_rents.proofs.tables.raise_all.Given as goal
 
 abbrev pub invariant-loop : goal.invariant-loop

@@ -1,9 +1,8 @@
 use Rattle.std.proofs.Common.{◌≡◌, ◌<◌, ◌≤◌, ℕ, List, length}
 use Rattle.std.specs.Prelude.{slice_index}
 use Rattle.firm_rules.specs.declared.rounds.Choice.TheVariants.{On}
-use Rattle.firm_rents.specs.Rents.{paid}
+use Rattle.firm_rents.specs.Rents.{paid, IsBelow}
 use Rattle.firm_rules.specs.Placement.{task_at}
-use Rattle.firm_rents.specs.inner.Bounds.{IsBelow}
 use Rattle.firm_rents.proofs.tables.raise_near.Given as goal
 
 abbrev pub invariant-loop-place : goal.invariant-loop-place

@@ -1,6 +1,6 @@
 use Rattle.std.proofs.Common.{◌≡◌, ◌<◌, ◌≤◌, ℕ, List, length}
 use Rattle.std.specs.Prelude.{slice_index}
-use Rattle.firm_rents.specs.inner.Bounds.{IsBelow}
+use Rattle.firm_rents.specs.Rents.{IsBelow}
 use Rattle.firm_rents.proofs.tables.raise_to_floor.Given as goal
 
 abbrev pub invariant-loop-place : goal.invariant-loop-place

@@ -2,7 +2,7 @@ use Rattle.std.proofs.Common.{length, subst}
 use Rattle.firm_rules.specs.declared.rounds.Choice.TheVariants.{On}
 use Rattle.firm_rents.specs.Rents.{paid}
 use Rattle.firm_rules.specs.Placement.{task_at, home_choice}
-use Rattle.firm_rents.specs.inner.Lowest.{IsLowest}
+use Rattle.firm_rents.specs.Lowest.{IsLowest}
 use Rattle.firm_rents.proofs.NearestByBoth.{nearest}
 use Rattle.firm_rents.proofs.both.Nearest.machine.Goals as goal
 
