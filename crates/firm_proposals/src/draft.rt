@@ -37,7 +37,8 @@ pub(crate) struct Draft {
     through: Numbers,
     // How many of those may no longer go back to the hub.
     held: Numbers,
-    // The tasks at each place that may move, as a list in both directions.
+    // The tasks at each place that may move, as a list in both directions, and the place of each.
+    here: Numbers,
     first: Numbers,
     next: Numbers,
     before: Numbers,
@@ -51,6 +52,7 @@ impl Draft {
         let loads = Numbers::new(alloc, nodes)?;
         let through = Numbers::new(alloc, nodes)?;
         let held = Numbers::new(alloc, nodes)?;
+        let here = Numbers::new(alloc, nodes)?;
         let first = Numbers::new(alloc, nodes)?;
         let next = Numbers::new(alloc, nodes)?;
         let before = Numbers::new(alloc, nodes)?;
@@ -60,6 +62,7 @@ impl Draft {
             loads,
             through,
             held,
+            here,
             first,
             next,
             before,
@@ -214,15 +217,22 @@ impl Draft {
     pub(crate) fn enter(&mut self, table: &Table, task: u32) {
         let place = self.place_of(table, task);
         let next = self.first.at(place);
+        self.here.set(task, place);
         self.next.set(task, next);
         self.before.set(task, NONE);
         self.before.set(next, task);
         self.first.set(place, task);
     }
 
+    /// The place on whose list the task is.
+    #[inline(always)]
+    pub(crate) fn here(&self, task: u32) -> u32 {
+        self.here.at(task)
+    }
+
     /// Takes the task off the list of its place.
-    pub(crate) fn leave(&mut self, table: &Table, task: u32) {
-        let place = self.place_of(table, task);
+    pub(crate) fn leave(&mut self, task: u32) {
+        let place = self.here.at(task);
         let next = self.next.at(task);
         let before = self.before.at(task);
         if before == NONE {
@@ -237,7 +247,7 @@ impl Draft {
     pub(crate) fn turn(&mut self, table: &Table, way: u32) {
         let task = table.way(way).task;
         if self.taken.at(task) != NONE {
-            self.leave(table, task);
+            self.leave(task);
         }
         self.taken.set(task, way);
         self.enter(table, task);

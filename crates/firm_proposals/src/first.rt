@@ -84,8 +84,8 @@ impl First {
     {
         self.links.read(table, draft);
         self.classes.clear(table);
-        self.ahead.clear(table);
-        self.behind.clear(table);
+        self.ahead.read(table, draft, &self.links);
+        self.behind.read(table, draft, &self.links);
         self.search = 0;
         self.alive = 0;
         for task in 0..table.tasks() {
@@ -99,7 +99,7 @@ impl First {
             }
             self.chosen.set(task, place);
             if self.links.may_move(task) {
-                draft.leave(table, task);
+                draft.leave(task);
             }
         }
         true
@@ -146,19 +146,22 @@ impl First {
         ensures most { work.new.most ≡ work.old.most }
     {
         let preferred = table.preferred_ways(task);
-        let mut next = preferred.from;
+        let mut next = self.next_tight(preferred.from, preferred);
         let mut machine = self.first_alive(table, draft);
         let mut at_hub = self.at_hub(table, draft, task);
         let begun = time_of(table, task).saturating_add(1);
         for _ in 0..table.way_count().saturating_add(table.machines()) {
-            next = self.next_tight(next, preferred);
-            let wanted = table.way(next).place;
-            if next < preferred.to && (wanted <= machine || at_hub == AtHub::No) {
+            let wanted = if next < preferred.to {
+                table.way(next).place
+            } else {
+                NONE
+            };
+            if wanted != NONE && (wanted <= machine || at_hub == AtHub::No) {
                 let time = begun.saturating_add(wanted);
                 if self.turn_to(table, draft, Trial { at: next, time }, work) {
                     return wanted;
                 }
-                next = next.saturating_add(1);
+                next = self.next_tight(next.saturating_add(1), preferred);
             } else if machine >= table.machines() || at_hub == AtHub::No {
                 return NONE;
             } else if table.is_near(task, machine) || !self.is_alive(table, draft, machine) {
@@ -317,7 +320,8 @@ impl First {
         };
         self.ahead.begin(view, wish.from);
         self.behind.begin(view, wish.to);
-        for _ in 0..work.left() {
+        // Once more than looks are left, so that a lack of them is told.
+        for _ in 0..work.left().saturating_add(1) {
             if !work.look() {
                 return NONE;
             }

@@ -240,7 +240,15 @@ fn yields(table: &Table, draft: &mut Draft, task: u32) -> bool {
     if way.place >= table.machines() {
         return false;
     }
-    let other = draft.cheapest(table, table.ways_of(task), taken).paid;
+    let ways = table.ways_of(task);
+    let hub_way = ways.to.saturating_sub(2);
+    // Most tasks have ways to no machine but this one.
+    let other = if ways.from.saturating_add(1) == hub_way {
+        let wide = draft.paid(table.way(hub_way));
+        wide.min(table.way(hub_way.saturating_add(1)).cost)
+    } else {
+        draft.cheapest(table, ways, taken).paid
+    };
     if draft.paid(way) <= other {
         return false;
     }
@@ -272,12 +280,11 @@ fn settle(table: &Table, draft: &mut Draft, task: u32, market: &mut Market) {
     if draft.taken(task) == NONE {
         settle_left(table, draft, task, market);
     }
-    let waits = draft.paid(table.way(table.wait_way(task)));
     let home = table.home(task);
     if home != NONE
-        && draft.taken(task) == table.own_way(task)
-        && waits == market.price
         && draft.price(home) == market.price
+        && draft.taken(task) == table.own_way(task)
+        && draft.paid(table.way(table.wait_way(task))) == market.price
     {
         market.movable = market.movable.saturating_add(1);
     }
@@ -285,7 +292,11 @@ fn settle(table: &Table, draft: &mut Draft, task: u32, market: &mut Market) {
 
 fn settle_left(table: &Table, draft: &mut Draft, task: u32, market: &mut Market) {
     let ways = table.ways_of(task);
-    let hub_way = table.hub_way(task);
+    let hub_way = ways.to.saturating_sub(2);
+    if ways.from == hub_way {
+        settle_wide(table, draft, task, market);
+        return;
+    }
     let best = draft.cheapest(table, ways, NONE);
     if best.way > hub_way {
         draft.take(task, best.way);
@@ -307,6 +318,22 @@ fn settle_left(table: &Table, draft: &mut Draft, task: u32, market: &mut Market)
     } else {
         market.left = market.left.saturating_add(u32::from(is_sure));
     }
+}
+
+// The same for a task that no machine costs less than others.
+fn settle_wide(table: &Table, draft: &mut Draft, task: u32, market: &mut Market) {
+    let hub_way = table.ways_of(task).from;
+    let wait_way = hub_way.saturating_add(1);
+    let wide = table.way(hub_way).cost.saturating_add(market.price);
+    let wait = table.way(wait_way).cost;
+    if wait < wide {
+        draft.take(task, wait_way);
+        return;
+    }
+    draft.take(task, hub_way);
+    let is_sure = u32::from(wait > wide);
+    market.sure = market.sure.saturating_add(is_sure);
+    market.ties = market.ties.saturating_add(1u32.saturating_sub(is_sure));
 }
 
 /// How many slots are left on machines of this price that cost less, and how many that cost as much.

@@ -1,8 +1,8 @@
 //! The two sides of a search for a path: what leads on from its start, and what leads to its goal.
 
 use crate::classes::Classes;
-use crate::draft::{Draft, Step};
-use crate::links::{Links, Look, Walk};
+use crate::draft::{Draft, Step, UNIT};
+use crate::links::{Links, Look, UnitLinks, Walk};
 use crate::numbers::{NONE, Numbers, Stack};
 use crate::table::Table;
 use std::alloc::{AllocError, Global};
@@ -31,6 +31,69 @@ pub(crate) enum Found {
     Met(u32),
 }
 
+/// Machines that are looked at in turn; each round begins with the one at which the last round ended.
+#[derive(Drop)]
+struct Circle {
+    machines: Stack,
+    // The one with which the round began, and the one that is next.
+    start: u32,
+    next: u32,
+}
+
+impl Circle {
+    fn new(alloc: Global, nodes: usize) -> Result<Circle, AllocError> {
+        let machines = Stack::new(alloc, nodes)?;
+        Ok(Circle {
+            machines,
+            start: 0,
+            next: 0,
+        })
+    }
+
+    fn clear(&mut self) {
+        self.machines.clear();
+        self.next = 0;
+    }
+
+    /// Begins with the machine that was taken last; gives how many there are.
+    fn begin(&mut self) -> u32 {
+        let last = self.next.saturating_sub(1);
+        self.start = if last < self.machines.count() {
+            last
+        } else {
+            0
+        };
+        self.next = self.start;
+        self.machines.count()
+    }
+
+    /// The next machine.
+    #[inline(always)]
+    fn take(&mut self) -> u32 {
+        if self.next >= self.machines.count() {
+            self.next = 0;
+        }
+        let machine = self.machines.at(self.next);
+        self.next = self.next.saturating_add(1);
+        machine
+    }
+
+    /// Drops the machine that was taken last. One that is not yet taken in this round comes in its place, so that none
+    /// is passed over or taken twice.
+    fn forget(&mut self) {
+        let mut gap = self.next.saturating_sub(1);
+        self.next = gap;
+        if gap < self.start {
+            self.start = self.start.saturating_sub(1);
+            let moved = self.machines.at(self.start);
+            self.machines.set(gap, moved);
+            gap = self.start;
+        }
+        let last = self.machines.pop();
+        self.machines.set(gap, last);
+    }
+}
+
 /// The places that a side saw, depth first; hub and outside, which have many links, come last.
 #[derive(Drop)]
 pub(crate) struct Side {
@@ -43,9 +106,9 @@ pub(crate) struct Side {
     walks: Vec<Walk>,
     depth: u32,
     far: Stack,
-    // Where the walks over the machines of the hub and of the outside begin: where the last ones led on.
-    hub_machine: u32,
-    outside_machine: u32,
+    // The machines between which and the hub or the outside units may go, without those seen to be of other classes.
+    at_hub: Circle,
+    at_edge: Circle,
 }
 
 impl Side {
@@ -56,6 +119,8 @@ impl Side {
         let by = Numbers::new(alloc, nodes)?;
         let walks = vec![in alloc; Walk::NONE; nodes]?;
         let far = Stack::new(alloc, 2)?;
+        let at_hub = Circle::new(alloc, nodes)?;
+        let at_edge = Circle::new(alloc, nodes)?;
         Ok(Side {
             is_ahead,
             seen,
@@ -65,16 +130,25 @@ impl Side {
             walks,
             depth: 0,
             far,
-            hub_machine: 0,
-            outside_machine: 0,
+            at_hub,
+            at_edge,
         })
     }
 
-    /// Forgets all searches.
-    pub(crate) fn clear(&mut self, table: &Table) {
+    /// Forgets all searches, and reads between which machines and the hub or the outside units may go.
+    pub(crate) fn read(&mut self, table: &Table, draft: &Draft, links: &Links) {
         self.marks.reset(table.places(), NONE);
-        self.hub_machine = 0;
-        self.outside_machine = 0;
+        self.at_hub.clear();
+        self.at_edge.clear();
+        let hub = draft.price(table.hub());
+        for machine in 0..table.machines() {
+            if draft.price(machine) == hub {
+                self.at_hub.machines.push(machine);
+            }
+            if links.is_at_edge(machine) {
+                self.at_edge.machines.push(machine);
+            }
+        }
     }
 
     /// The places that this search saw, the one it began with first.
@@ -102,27 +176,27 @@ impl Side {
                 return Found::Closed;
             }
             self.walk(view, place);
+            return Found::On;
         }
         let top = self.depth.saturating_sub(1);
         let Some(walk) = self.walks.get_mut(top as usize) else {
             return Found::Closed;
         };
         let place = walk.place;
+        if walk.units.machines > 0 {
+            walk.units.machines = walk.units.machines.saturating_sub(1);
+            return self.look_round(view, other, place);
+        }
         let look = if self.is_ahead {
             view.links.look_ahead(view.table, view.draft, walk)
         } else {
             view.links
                 .look_behind(view.table, view.draft, walk, view.now)
         };
-        if place >= view.table.hub() {
-            let machine = walk.machine();
-            self.keep(view, place, machine);
+        if walk.is_done() {
+            self.depth = top;
         }
         match look {
-            Look::End => {
-                self.depth = top;
-                Found::On
-            }
             Look::Nothing => Found::On,
             Look::At(to, by) => self.see(
                 view,
@@ -134,6 +208,39 @@ impl Side {
                 },
             ),
         }
+    }
+
+    // Looks at a machine between which and the hub or the outside a unit may go. One of another class is forgotten:
+    // classes that were parted stay so.
+    #[inline(always)]
+    fn look_round(&mut self, view: View, other: &Side, place: u32) -> Found {
+        let is_hub = place == view.table.hub();
+        let circle = if is_hub {
+            &mut self.at_hub
+        } else {
+            &mut self.at_edge
+        };
+        let machine = circle.take();
+        if !view.classes.are_one(place, machine) {
+            circle.forget();
+            return Found::On;
+        }
+        let (links, draft) = (view.links, view.draft);
+        let goes = match (is_hub, self.is_ahead) {
+            (true, true) => true,
+            (true, false) => draft.is_loose(machine),
+            (false, true) => links.may_leave(draft, machine),
+            (false, false) => links.may_come(draft, machine),
+        };
+        if !goes {
+            return Found::On;
+        }
+        let step = Step {
+            from: place,
+            to: machine,
+            by: UNIT,
+        };
+        self.see(view, other, step)
     }
 
     // Sees a place, unless it did or the place is of another class.
@@ -157,31 +264,32 @@ impl Side {
         Found::On
     }
 
-    // Goes into a place.
+    // Goes into a place, if it leads anywhere.
     #[inline(always)]
     fn walk(&mut self, view: View, place: u32) {
-        let from = if place == view.table.hub() {
-            self.hub_machine
+        let (hub, outside) = (view.table.hub(), view.table.outside());
+        let units = if place < hub {
+            UnitLinks {
+                outside: self.marks.at(outside) != view.search,
+                hub: self.marks.at(hub) != view.search,
+                machines: 0,
+            }
+        } else if place == hub {
+            UnitLinks::with(self.at_hub.begin())
         } else {
-            self.outside_machine
+            UnitLinks::with(self.at_edge.begin())
         };
         let walk = if self.is_ahead {
-            view.links.walk_ahead(view.table, view.draft, place, from)
+            view.links.walk_ahead(view.draft, place, units)
         } else {
-            view.links.walk_behind(view.table, place, from)
+            view.links.walk_behind(place, units)
         };
+        if walk.is_done() {
+            return;
+        }
         if let Some(top) = self.walks.get_mut(self.depth as usize) {
             *top = walk;
             self.depth = self.depth.saturating_add(1);
-        }
-    }
-
-    // Has the next walk over the machines of hub or outside begin with this one.
-    fn keep(&mut self, view: View, place: u32, machine: u32) {
-        if place == view.table.hub() {
-            self.hub_machine = machine;
-        } else {
-            self.outside_machine = machine;
         }
     }
 

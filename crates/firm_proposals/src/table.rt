@@ -186,11 +186,12 @@ impl Table {
     /// Whether one of the task's ways leads to this machine alone.
     pub(crate) fn is_near(&self, task: u32, machine: u32) -> bool {
         let ways = self.ways_of(task);
-        let mut is_near = false;
-        for way in ways.from..ways.to {
-            is_near = is_near || self.way(way).place == machine;
+        for way in ways.from..ways.to.saturating_sub(2) {
+            if self.way(way).place == machine {
+                return true;
+            }
         }
-        is_near
+        false
     }
 
     /// What a task costs in a machine's slot of this number, counted from 0; `NONE` behind the last.
@@ -278,9 +279,7 @@ impl Table {
             self.add_way(task, home, 0);
         }
         self.read_preferred(case, task, home);
-        // No machine stands behind the last one, so none costs a task more.
-        let any = Choice::On(case.machine_count() as u32);
-        let away = case.cost_of_choice(number, any) as u32;
+        let away = case.wide_cost(number) as u32;
         let hub = self.hub();
         self.add_way(task, hub, away);
         let wait = case.cost_of_choice(number, Choice::Wait) as u32;
