@@ -13,6 +13,7 @@ use Rattle.firm_flow.specs.Flow.{IsWithinBounds, cost_of}
 use Rattle.firm_flow.specs.Balance.{Balanced}
 use Rattle.firm_rules.specs.declared.rounds.Choice.{Choice}
 use Rattle.firm_rules.specs.Placement.{Case, IsLegal, placement_cost as cost}
+use Rattle.firm_rules.specs.SlotCosts.{LoadsAreSumsOfSlots}
 use Rattle.firm_graph.specs.declared.network.Node.{Node}
 use Rattle.firm_graph.specs.declared.network.Node.TheVariants.{Sink}
 use Rattle.firm_graph.specs.declared.network.Key.{Key}
@@ -65,9 +66,10 @@ sum_of F c low x g =
     ∙ sym (sum_network (λ (a : Arc Node Key). F a.tail a.head a.cost a.flow) c low g)
 
 -- the flow of a placement that goes on from the prefix
-pub flow_placed : (c : Case) (p r : List Choice) (most : ℕ) → IsSound c → IsLegal c (p ++ r) → cost c (p ++ r) ≤ most
+pub flow_placed : LoadsAreSumsOfSlots → (c : Case) (p r : List Choice) (most : ℕ) → IsSound c → IsLegal c (p ++ r)
+    → cost c (p ++ r) ≤ most
     → IsAsCheap c p most (placed c (p ++ r))
-flow_placed c p r most sound legal cheap =
+flow_placed sums c p r most sound legal cheap =
     let low : Key → ℕ = low_of c p in
     let x : Key → ℕ = placed c (p ++ r) in
     record {
@@ -82,7 +84,7 @@ flow_placed c p r most sound legal cheap =
       cheap = omega (
         arith,
         cheap,
-        cost_placed c (p ++ r) low x legal,
+        cost_placed sums c (p ++ r) low x legal,
         sum_of (λ tail head cost flow. cost * flow) c low x x,
       );
     }

@@ -34,7 +34,8 @@ module _ (v : View) (price : ℕ → ℕ) (p : List Choice) (keeps : Keeps v pri
   held : (key : Key) → IsSpent v.case p (best v p) key → (r : List Choice) → IsLegal v.case (p ++ r)
       → cost v.case (p ++ r) ≤ best v p → placed v.case (p ++ r) key ≤ low_of v.case p key
   held key spent r legal cheap =
-      spent (placed v.case (p ++ r)) (flow_placed v.case p r (best v p) keeps.shows.sound legal cheap)
+      spent (placed v.case (p ++ r)) (flow_placed keeps.laws.sums v.case p r (best v p) keeps.shows.sound legal
+      cheap)
 
   -- a machine is shut where the choice of it adds to a spent arc
   shut_by : (key : Key) (j : ℕ) → added v.case p (On j) key ≡ 1 → IsSpent v.case p (best v p) key → Shut v p j

@@ -25,7 +25,7 @@ use Rattle.firm_canon.proofs.Placed.{sum_network, cost_placed, balanced_placed}
 use Rattle.firm_canon.proofs.Parts.{parts, whole, within_placed}
 use Rattle.firm_canon.proofs.Read.{read}
 use Rattle.firm_flow.specs.Balance.{Balanced}
-use Rattle.firm_canon.specs.inner.Laws.{FlowLaws}
+use Rattle.firm_canon.specs.inner.Laws.{ChoiceLaws}
 use Rattle.firm_canon.specs.inner.Choosing.{low_of, Stands}
 
 pick_append : (p r : List Choice) (i : ℕ) → (pick p i ≡ None) ⊎ (pick (p ++ r) i ≡ pick p i)
@@ -127,7 +127,7 @@ before_push m d (t ∷ ts) (b ∷ q) (a ∷ p) o aq ap' h bars =
     (cases_Bool (eqb (rank m t.home b) (rank m t.home a))))
 
 -- the start: a least flow with nothing held
-pub start : FlowLaws → (c : Case) (x : Key → ℕ) (price : Node → ℕ) → IsSound c
+pub start : ChoiceLaws → (c : Case) (x : Key → ℕ) (price : Node → ℕ) → IsSound c
     → AreValid (network c (low_of c []) x) price → IsWithinBounds (network c (low_of c []) x) carried
     → Balanced (network c (low_of c []) x) (task_nodes c) Sink carried
     → Stands c [] x price
@@ -137,7 +137,8 @@ start laws c x price sound valid within balanced = record {
   balanced = balanced;
   places = All-nil (IsPlace (length c.slots));
   least = λ q legal.
-      subst (λ (z : ℕ). cost_of (network c (low_of c []) x) carried ≤ z) (cost_placed c q (low_of c []) x legal)
+      subst (λ (z : ℕ). cost_of (network c (low_of c []) x) carried ≤ z)
+      (cost_placed laws.sums c q (low_of c []) x legal)
       (laws.least (network c (low_of c []) x) (task_nodes c) Sink price (λ (a : Arc Node Key). placed c q a.key)
       valid balanced
       (within_placed c q (low_of c []) x sound legal (low-le c [] q))
@@ -210,12 +211,12 @@ extend c p o x price stands place within none higher =
     }
 
 -- the end: with every task chosen, the placement of the round
-pub finish : (c : Case) (p : List Choice) (x : Key → ℕ) (price : Node → ℕ) → Stands c p x price
+pub finish : ChoiceLaws → (c : Case) (p : List Choice) (x : Key → ℕ) (price : Node → ℕ) → Stands c p x price
     → length p ≡ length c.tasks → IsRound c p
-finish c p x price stands e =
+finish laws c p x price stands e =
     let bounds = parts (λ (a : Arc Node Key). (a.low ≤ a.flow) × (a.flow ≤ a.cap)) c (low_of c p) x stands.within in
     let done : IsLegal c p × (cost c p ≤ cost_of (network c (low_of c p) x) carried) =
-    read c p (low_of c p) x e stands.places (record {
+    read laws.sums laws.rises c p (low_of c p) x e stands.places (record {
       at_through = λ j l. (bounds.through j l).0;
       at_wide = λ i l. (bounds.wides i l).0;
       at_stay = λ i l. (bounds.stays i l).0;

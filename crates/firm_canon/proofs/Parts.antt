@@ -8,7 +8,7 @@ use Rattle.firm_rules.specs.declared.rounds.Choice.{Choice}
 use Rattle.firm_rules.specs.declared.rounds.Choice.TheVariants.{On, Wait}
 use Rattle.firm_paths.specs.Network.{Arc}
 use Rattle.firm_flow.specs.Flow.{IsWithinBounds}
-use Rattle.firm_rules.specs.Placement.{Case, total, load, IsLegal}
+use Rattle.firm_rules.specs.Placement.{Case, total, load, IsLegal, slot_cost}
 use Rattle.firm_graph.specs.Network.{runs, gather, arc, slots_of, demand, machine_arcs, job_arcs, task_arcs, network}
 use Rattle.firm_graph.specs.Network.{IsSound}
 use Rattle.firm_graph.specs.declared.network.Node.{Node}
@@ -42,7 +42,7 @@ All-gather_at {A} P f (suc n) i h l =
 pub record OnParts (P : Arc Node Key → Type 0) (c : Case) (low x : Key → ℕ) : Type 0 where
   pub through : (j : ℕ) → j < length c.slots → P (arc low x (Through j) Hub (Machine j) (slots_of c j) 0)
   pub slot : (j k : ℕ) → j < length c.slots → k < slots_of c j
-      → P (arc low x (Slot j k) (Machine j) Sink 1 (k * c.spread))
+      → P (arc low x (Slot j k) (Machine j) Sink 1 (slot_cost c.spread k))
   pub exit : (k : ℕ) → k < c.jobs → P (arc low x (Exit k) (Owner k) Sink c.limit 0)
   pub wides : (i : ℕ) → i < length c.tasks → P (wide_arc c low x i)
   pub stays : (i : ℕ) → i < length c.tasks → P (stay_arc c low x i)
@@ -55,10 +55,11 @@ whole P c low x h =
     (gather (job_arcs c low x) c.jobs ++ gather (task_arcs c low x) (length c.tasks))
     (All-gather P (machine_arcs c low x) (length c.slots) (λ j l.
     All-cons P (arc low x (Through j) Hub (Machine j) (slots_of c j) 0)
-    (gather (λ k. arc low x (Slot j k) (Machine j) Sink 1 (k * c.spread) ∷ []) (slots_of c j))
+    (gather (λ k. arc low x (Slot j k) (Machine j) Sink 1 (slot_cost c.spread k) ∷ []) (slots_of c j))
     (h.through j l)
-    (All-gather P (λ (k : ℕ). arc low x (Slot j k) (Machine j) Sink 1 (k * c.spread) ∷ []) (slots_of c j) (λ k r.
-    All-cons P (arc low x (Slot j k) (Machine j) Sink 1 (k * c.spread)) [] (h.slot j k l r) (All-nil P)))))
+    (All-gather P (λ (k : ℕ). arc low x (Slot j k) (Machine j) Sink 1 (slot_cost c.spread k) ∷ []) (slots_of c j)
+    (λ k r.
+    All-cons P (arc low x (Slot j k) (Machine j) Sink 1 (slot_cost c.spread k)) [] (h.slot j k l r) (All-nil P)))))
     (All-append P (gather (job_arcs c low x) c.jobs) (gather (task_arcs c low x) (length c.tasks))
     (All-gather P (job_arcs c low x) c.jobs (λ k l.
     All-cons P (arc low x (Exit k) (Owner k) Sink c.limit 0) [] (h.exit k l) (All-nil P)))
@@ -86,12 +87,12 @@ parts P c low x h =
     λ i l. All-gather_at P (task_arcs c low x) (length c.tasks) i two.1 l in
     record {
       through = λ j l. machine j l 0 (arc low x (Through j) Hub (Machine j) (slots_of c j) 0) (omega arith);
-      slot = λ j k l r. All-gather_at P (λ (k : ℕ). arc low x (Slot j k) (Machine j) Sink 1 (k * c.spread) ∷ [])
+      slot = λ j k l r. All-gather_at P (λ (k : ℕ). arc low x (Slot j k) (Machine j) Sink 1 (slot_cost c.spread k) ∷ [])
           (slots_of c j) k
           (All-tail P (arc low x (Through j) Hub (Machine j) (slots_of c j) 0)
-          (gather (λ k. arc low x (Slot j k) (Machine j) Sink 1 (k * c.spread) ∷ []) (slots_of c j)) (machine j l))
-          r
-          0 (arc low x (Slot j k) (Machine j) Sink 1 (k * c.spread)) (omega arith);
+          (gather (λ k. arc low x (Slot j k) (Machine j) Sink 1 (slot_cost c.spread k) ∷ []) (slots_of c j))
+          (machine j l)) r
+          0 (arc low x (Slot j k) (Machine j) Sink 1 (slot_cost c.spread k)) (omega arith);
       exit = λ k l. All-gather_at P (job_arcs c low x) c.jobs k two.0 l 0 (arc low x (Exit k) (Owner k) Sink c.limit 0)
           (omega arith);
       wides = λ i l. task i l 0 (wide_arc c low x i) (omega arith);

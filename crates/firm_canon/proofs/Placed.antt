@@ -11,7 +11,8 @@ use Rattle.std.proofs.Math.Nat.{mul-add, mul-zero}
 use Rattle.firm_rules.specs.declared.rounds.Choice.{Choice}
 use Rattle.firm_rules.specs.declared.rounds.Choice.TheVariants.{On, Wait}
 use Rattle.firm_rules.specs.Placement.{Demand, Case, total, load, load_cost, goes_to, task_cost, tasks_cost, leaves}
-use Rattle.firm_rules.specs.Placement.{runs_at, prefers, IsLegal, placement_cost as cost, IsPlace}
+use Rattle.firm_rules.specs.Placement.{runs_at, prefers, IsLegal, placement_cost as cost, IsPlace, slot_cost}
+use Rattle.firm_rules.specs.SlotCosts.{LoadsAreSumsOfSlots}
 use Rattle.firm_paths.specs.Network.{Arc}
 use Rattle.firm_flow.specs.Flow.{cost_of}
 use Rattle.firm_graph.specs.Network.{runs, gather, arc, slots_of, demand, preferred_at, stay_head, machine_arcs}
@@ -178,7 +179,7 @@ count_at c i = length (demand c i).preferred
 pub sum_network : (F : Arc Node Key → ℕ) (c : Case) (low x : Key → ℕ)
     → sum_by F (network c low x)
     ≡ total (λ j. F (arc low x (Through j) Hub (Machine j) (slots_of c j) 0)
-    + total (λ k. F (arc low x (Slot j k) (Machine j) Sink 1 (k * c.spread))) (slots_of c j)) (length c.slots)
+    + total (λ k. F (arc low x (Slot j k) (Machine j) Sink 1 (slot_cost c.spread k))) (slots_of c j)) (length c.slots)
     + (total (λ k. F (arc low x (Exit k) (Owner k) Sink c.limit 0)) c.jobs
     + total (λ i. F (wide_arc c low x i) + F (stay_arc c low x i) + F (delay_arc c low x i)
     + total (λ k. F (prefer_arc c low x i k)) (count_at c i)) (length c.tasks))
@@ -186,7 +187,7 @@ sum_network F c low x =
     let machines : List (Arc Node Key) = gather (machine_arcs c low x) (length c.slots) in
     let jobs : List (Arc Node Key) = gather (job_arcs c low x) c.jobs in
     let tasks : List (Arc Node Key) = gather (task_arcs c low x) (length c.tasks) in
-    let slot : ℕ → ℕ → Arc Node Key = λ (j k : ℕ). arc low x (Slot j k) (Machine j) Sink 1 (k * c.spread) in
+    let slot : ℕ → ℕ → Arc Node Key = λ (j k : ℕ). arc low x (Slot j k) (Machine j) Sink 1 (slot_cost c.spread k) in
     let one : (j : ℕ) → j < length c.slots → sum_by F (machine_arcs c low x j)
     ≡ F (arc low x (Through j) Hub (Machine j) (slots_of c j) 0) + total (λ k. F (slot j k)) (slots_of c j) =
     λ j l. omega (arith, sum_by-cons {X = Arc Node Key}, sum_ones F (slot j) (slots_of c j)) in
@@ -224,17 +225,18 @@ prefer_sum c q i l =
     (prefer_all (demand c i))
 
 -- THE COST of the flow is the placement's
-pub cost_placed : (c : Case) (q : List Choice) (low x : Key → ℕ) → IsLegal c q
+pub cost_placed : LoadsAreSumsOfSlots → (c : Case) (q : List Choice) (low x : Key → ℕ) → IsLegal c q
     → cost_of (network c low x) (λ a. placed c q a.key) ≡ cost c q
-cost_placed c q low x legal =
+cost_placed sums c q low x legal =
     let m : ℕ = length c.slots in
     let t : ℕ = length c.tasks in
     let machines : total (λ j. 0 * guests c q j
-    + total (λ k. (k * c.spread) * cond (ltb k (load q j)) 1 0) (slots_of c j)) m
+    + total (λ k. slot_cost c.spread k * cond (ltb k (load q j)) 1 0) (slots_of c j)) m
     ≡ total (λ j. load_cost c.spread (load q j)) m =
-    total_same (λ (j : ℕ). 0 * guests c q j + total (λ k. (k * c.spread) * cond (ltb k (load q j)) 1 0) (slots_of c j))
+    total_same (λ (j : ℕ). 0 * guests c q j
+    + total (λ k. slot_cost c.spread k * cond (ltb k (load q j)) 1 0) (slots_of c j))
     (λ (j : ℕ). load_cost c.spread (load q j)) m
-    (λ j l. omega (arith, staircase c.spread (load q j) (slots_of c j) (legal.room j l))) in
+    (λ j l. omega (arith, staircase sums c.spread (load q j) (slots_of c j) (legal.room j l))) in
     let exits : total (λ k. 0 * placed c q (Exit k)) c.jobs ≡ 0 =
     total_zero (λ (k : ℕ). 0 * placed c q (Exit k)) c.jobs (λ k l. omega arith) in
     let task : ℕ → ℕ = λ (i : ℕ). by_hub c (demand c i) * wide_at c q i + 0 * stay_at c q i

@@ -6,14 +6,15 @@ use Rattle.firm_rules.specs.declared.rounds.Choice.{Choice}
 use Rattle.firm_paths.specs.Network.{Arc}
 use Rattle.firm_flow.specs.Flow.{IsWithinBounds, cost_of, carried}
 use Rattle.firm_rules.specs.Placement.{Case, total, load, load_cost, tasks_cost, IsLegal, placement_cost as cost}
-use Rattle.firm_rules.specs.Placement.{IsPlace}
+use Rattle.firm_rules.specs.Placement.{IsPlace, slot_cost}
+use Rattle.firm_rules.specs.SlotCosts.{LoadsAreSumsOfSlots, LaterSlotsCostNoLess}
 use Rattle.firm_graph.specs.Network.{runs, slots_of, demand, preferred_at, stay_head, network, task_nodes}
 use Rattle.firm_graph.specs.declared.network.Node.{Node}
 use Rattle.firm_graph.specs.declared.network.Node.TheVariants.{Sink, Hub, Machine, Owner, Task}
 use Rattle.firm_graph.specs.declared.network.Key.{Key}
 use Rattle.firm_graph.specs.declared.network.Key.TheVariants.{Through, Slot, Exit, Wide, Stay, Wait, Prefer}
 use Rattle.firm_canon.proofs.Totals.{total_zero, total_same, total-add, total-le, total-mul, total_at, total_tight}
-use Rattle.firm_canon.proofs.Totals.{staircase_least, tri_least, sum_gather}
+use Rattle.firm_canon.proofs.Totals.{staircase_least, sum_gather}
 use Rattle.firm_canon.specs.inner.Placed.{pick, wide, stay, waits, near, prefer, spot, wide_at, stay_at, near_at}
 use Rattle.firm_canon.specs.inner.Placed.{prefer_at, guests, aside}
 use Rattle.firm_canon.proofs.Nears.{one_way, prefer_weighed}
@@ -223,11 +224,11 @@ held_one c p low x e held balanced i l =
     }
 
 -- READING: the placement is legal, and costs no more than the flow
-pub read : (c : Case) (p : List Choice) (low x : Key → ℕ) → length p ≡ length c.tasks → All (IsPlace (length c.slots)) p
-    → IsHeld c p x
+pub read : LoadsAreSumsOfSlots → LaterSlotsCostNoLess → (c : Case) (p : List Choice) (low x : Key → ℕ)
+    → length p ≡ length c.tasks → All (IsPlace (length c.slots)) p → IsHeld c p x
     → IsWithinBounds (network c low x) carried → Balanced (network c low x) (task_nodes c) Sink carried
     → IsLegal c p × (cost c p ≤ cost_of (network c low x) carried)
-read c p low x e places held within balanced =
+read sums rises c p low x e places held within balanced =
     let m : ℕ = length c.slots in
     let t : ℕ = length c.tasks in
     let bounds = parts (λ (a : Arc Node Key). (a.low ≤ a.flow) × (a.flow ≤ a.cap)) c low x within in
@@ -269,15 +270,15 @@ read c p low x e places held within balanced =
       total_same (comes c x j) (λ (i : ℕ). stayer j i + comer j i) t (λ i r. omega (arith, keeps j i r, closes j i r)),
       total-add (stayer j) (comer j) t,
     ) in
+    let in_slots : (j : ℕ) → j < m → (load p j ≤ slots_of c j)
+    × (load_cost c.spread (load p j) ≤ total (λ k. slot_cost c.spread k * x (Slot j k)) (slots_of c j)) =
+    λ j l. staircase_least sums rises c.spread (λ (k : ℕ). x (Slot j k)) (slots_of c j) (load p j)
+    (λ k r. (bounds.slot j k l r).1) (is_load j l) in
     let machines : total (λ j. load_cost c.spread (load p j)) m
-    ≤ total (λ j. 0 * x (Through j) + total (λ k. (k * c.spread) * x (Slot j k)) (slots_of c j)) m =
+    ≤ total (λ j. 0 * x (Through j) + total (λ k. slot_cost c.spread k * x (Slot j k)) (slots_of c j)) m =
     total-le (λ (j : ℕ). load_cost c.spread (load p j))
-    (λ (j : ℕ). 0 * x (Through j) + total (λ k. (k * c.spread) * x (Slot j k)) (slots_of c j)) m
-    (λ j l. omega (
-      arith,
-      staircase_least c.spread (λ (k : ℕ). x (Slot j k)) (slots_of c j) (load p j)
-          (λ k r. (bounds.slot j k l r).1) (is_load j l),
-    )) in
+    (λ (j : ℕ). 0 * x (Through j) + total (λ k. slot_cost c.spread k * x (Slot j k)) (slots_of c j)) m
+    (λ j l. omega (arith, (in_slots j l).1)) in
     let task : ℕ → ℕ = λ (i : ℕ). by_hub c (demand c i) * x (Wide i) + 0 * x (Stay i)
     + ((demand c i).delay + leaving c (demand c i)) * x (Wait i)
     + total (λ k. leaving c (demand c i) * x (Prefer i k)) (count_at c i) in
@@ -296,8 +297,7 @@ read c p low x e places held within balanced =
       record {
         one_each = e;
         places = places;
-        room = λ j l. (tri_least (λ (k : ℕ). x (Slot j k)) (slots_of c j) (load p j) (λ k r. (bounds.slot j k l r).1)
-            (is_load j l)).0;
+        room = λ j l. (in_slots j l).0;
       },
       omega (arith, sum_network (λ (a : Arc Node Key). a.cost * a.flow) c low x, machines, tasks),
     )

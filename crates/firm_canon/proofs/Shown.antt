@@ -22,7 +22,7 @@ use Rattle.firm_graph.specs.Network.{NetworksAreCounted, gather, arc, slots_of, 
 use Rattle.firm_graph.specs.Network.{machine_arcs, job_arcs, task_arcs, network, task_nodes, IsSound, IsNodeOf, IsKeyOf}
 use Rattle.firm_flow.specs.Flow.{IsWithinBounds, cost_of, carried}
 use Rattle.firm_flow.specs.Balance.{Balanced}
-use Rattle.firm_rules.specs.Placement.{Case}
+use Rattle.firm_rules.specs.Placement.{Case, slot_cost}
 use Rattle.firm_graph.specs.declared.network.Node.{Node}
 use Rattle.firm_graph.specs.declared.network.Node.TheVariants.{Sink, Hub, Machine, Owner, Task}
 use Rattle.firm_graph.specs.declared.network.Key.{Key}
@@ -63,9 +63,9 @@ network_same c low low' x x' e f =
     ap₂ (λ (a b : List (Arc Node Key)). a ++ b)
     (gather_same (machine_arcs c low x) (machine_arcs c low' x') (length c.slots) (λ j l.
     ap₂ (λ (a : Arc Node Key) (b : List (Arc Node Key)). a ∷ b) (same (Through j) Hub (Machine j) (slots_of c j) 0 l)
-    (gather_same (λ (k : ℕ). arc low x (Slot j k) (Machine j) Sink 1 (k * c.spread) ∷ [])
-    (λ (k : ℕ). arc low' x' (Slot j k) (Machine j) Sink 1 (k * c.spread) ∷ []) (slots_of c j)
-    (λ k m. ap (λ (a : Arc Node Key). a ∷ []) (same (Slot j k) (Machine j) Sink 1 (k * c.spread) (l, m))))))
+    (gather_same (λ (k : ℕ). arc low x (Slot j k) (Machine j) Sink 1 (slot_cost c.spread k) ∷ [])
+    (λ (k : ℕ). arc low' x' (Slot j k) (Machine j) Sink 1 (slot_cost c.spread k) ∷ []) (slots_of c j)
+    (λ k m. ap (λ (a : Arc Node Key). a ∷ []) (same (Slot j k) (Machine j) Sink 1 (slot_cost c.spread k) (l, m))))))
     (ap₂ (λ (a b : List (Arc Node Key)). a ++ b)
     (gather_same (job_arcs c low x) (job_arcs c low' x') c.jobs
     (λ k l. ap (λ (a : Arc Node Key). a ∷ []) (same (Exit k) (Owner k) Sink c.limit 0 l)))
@@ -197,7 +197,7 @@ arcs_counted listed counted g shows =
 -- the arc of a key
 unfoldable pub arc_at : (c : Case) (low x : Key → ℕ) → Key → Arc Node Key
 arc_at c low x (Through j) = arc low x (Through j) Hub (Machine j) (slots_of c j) 0
-arc_at c low x (Slot j k) = arc low x (Slot j k) (Machine j) Sink 1 (k * c.spread)
+arc_at c low x (Slot j k) = arc low x (Slot j k) (Machine j) Sink 1 (slot_cost c.spread k)
 arc_at c low x (Exit k) = arc low x (Exit k) (Owner k) Sink c.limit 0
 arc_at c low x (Wide i) = wide_arc c low x i
 arc_at c low x (Stay i) = stay_arc c low x i

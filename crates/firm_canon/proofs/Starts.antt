@@ -10,7 +10,7 @@ use Rattle.firm_flow.specs.Flow.{IsWithinBounds, carried}
 use Rattle.firm_flow.specs.Balance.{Balanced}
 use Rattle.firm_flow.specs.NetFlow.{IsLeastFlow}
 use Rattle.firm_flow.specs.Laws.{ConservedWhereBalanced}
-use Rattle.firm_canon.specs.inner.Laws.{FlowLaws}
+use Rattle.firm_canon.specs.inner.Laws.{ChoiceLaws}
 use Rattle.firm_rules.specs.declared.rounds.Choice.{Choice}
 use Rattle.firm_rules.specs.Placement.{Case}
 use Rattle.firm_rules.specs.Round.{round_placement, TheRoundIsTheFirst}
@@ -39,7 +39,7 @@ none_held c (Stay i) = stay_none (demand c i).home
 none_held c (Wait i) = refl
 none_held c (Prefer i k) = prefer_none (demand c i) k
 
-pub starts : FlowLaws → ConservedWhereBalanced → (v : View) (price : ℕ → ℕ) → Shows v
+pub starts : ChoiceLaws → ConservedWhereBalanced → (v : View) (price : ℕ → ℕ) → Shows v
     → length v.case.tasks < v.case.limit
     → All (λ (a : Arc ℕ ArcId). a.low ≡ 0) (arcs_of v.net)
     → IsLeastFlow v.net (map (spot_of v) (task_nodes v.case)) (spot_of v Sink) → AreValid (arcs_of v.net) price
@@ -75,5 +75,5 @@ starts laws conserved v price shows roomy unheld flow valid =
 pub ends : TheRoundIsTheFirst → (old v : View) (price : ℕ → ℕ) (p : List Choice) → IsSameCase old v → Keeps v price p
     → length p ≡ length v.case.tasks → p ≡ round_placement old.case
 ends law old v price p same keeps all =
-    (law v.case).alone p (finish v.case p (flows v) (λ n. price (spot_of v n)) keeps.stands all)
+    (law v.case).alone p (finish keeps.laws v.case p (flows v) (λ n. price (spot_of v n)) keeps.stands all)
     ∙ ap round_placement same.case

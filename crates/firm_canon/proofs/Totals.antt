@@ -1,11 +1,12 @@
 -- Sums over the numbers below n.
-use Rattle.std.proofs.Common.{◌≡◌, ℕ, zero, suc, ◌+◌, ◌*◌, ◌-◌, ◌/◌, ◌<◌, ◌≤◌, Bool, cond, eqb, ltb, List}
+use Rattle.std.proofs.Common.{◌≡◌, ℕ, zero, suc, ◌+◌, ◌*◌, ◌<◌, ◌≤◌, Bool, cond, eqb, ltb, List}
 use Rattle.std.proofs.Common.{arith, refl, sym, ap, subst, ◌∙◌, inl, inr, ◌⊎◌, ⊎_elim}
 use Rattle.std.specs.List.{sum_by}
 use Rattle.std.proofs.lemmas.List.Sums.{sum_by-append}
 use Rattle.std.proofs.lemmas.Bool.{cases_lt, cases_eq, cond-true, cond-false, eq-eqb, ne_eqb, lt-ltb, le-ltb}
-use Rattle.std.proofs.Math.Nat.{mul-add, mul-zero, mul-le-mul_left, mul-div_cancel_left}
-use Rattle.firm_rules.specs.Placement.{total, load_cost}
+use Rattle.std.proofs.Math.Nat.{mul-add, mul-zero}
+use Rattle.firm_rules.specs.Placement.{total, load_cost, slot_cost}
+use Rattle.firm_rules.specs.SlotCosts.{LoadsAreSumsOfSlots, LaterSlotsCostNoLess}
 use Rattle.firm_graph.specs.Network.{gather}
 
 pub total_zero : (f : ℕ → ℕ) (n : ℕ) → ((i : ℕ) → i < n → f i ≡ 0) → total f n ≡ 0
@@ -105,66 +106,55 @@ pub sum_gather : {A : Type 0} (F : A → ℕ) (f : ℕ → List A) (n : ℕ)
 sum_gather {A} F f zero = refl
 sum_gather {A} F f (suc n) = omega (arith, sum_by-append F (gather f n) (f n), sum_gather F f n)
 
--- THE STAIRCASE: units on arcs of growing cost
-abbrev pub tri : ℕ → ℕ
-tri n = total (λ k. k) n
-
-tri_twice : (n : ℕ) → suc n * n ≡ 2 * tri (suc n)
-tri_twice zero = refl
-tri_twice (suc m) = omega (arith, tri_twice m)
-
-pub load_cost_is : (spread n : ℕ) → load_cost spread n ≡ spread * tri n
-load_cost_is spread zero = refl
-load_cost_is spread (suc m) =
-    let e : suc m * (suc m - 1) ≡ 2 * tri (suc m) = ap (λ z. suc m * z) (omega arith) ∙ tri_twice m in
-    let two : 0 < 2 = omega arith in
-    ap (λ z. spread * (z / 2)) e ∙ ap (λ z. spread * z) (mul-div_cancel_left (tri (suc m)) two)
-
-pub tri_least : (x : ℕ → ℕ) (s n : ℕ) → ((k : ℕ) → k < s → x k ≤ 1) → total x s ≡ n
-    → (n ≤ s) × (tri n ≤ total (λ k. k * x k) s)
-tri_least x zero n h e = (omega arith, subst (λ z. tri z ≤ 0) e (omega arith))
-tri_least x (suc s) n h e =
+-- THE STAIRCASE: units on arcs of rising cost
+-- units, at most one on an arc, are no more than the arcs, and cost no less than the same number on the first arcs
+firsts-le : (f x : ℕ → ℕ) (s n : ℕ) → ((a b : ℕ) → a ≤ b → f a ≤ f b) → ((k : ℕ) → k < s → x k ≤ 1)
+    → total x s ≡ n → (n ≤ s) × (total f n ≤ total (λ k. f k * x k) s)
+firsts-le f x zero n rises h e = (omega arith, subst (λ z. total f z ≤ 0) e (omega arith))
+firsts-le f x (suc s) n rises h e =
     ⊎_elim (λ (z : x s ≡ 0).
-    let rest : (n ≤ s) × (tri n ≤ total (λ k. k * x k) s) = tri_least x s n (λ k l. h k (omega arith)) (omega arith) in
-    (omega (arith, rest.0), omega (arith, rest.1)))
+    let rest : (n ≤ s) × (total f n ≤ total (λ k. f k * x k) s) =
+    firsts-le f x s n rises (λ k l. h k (omega arith)) (omega arith) in
+    (omega (arith, rest.0), omega (arith, rest.1, ap (λ v. f s * v) z)))
     (λ (z : x s ≡ 1).
-    let rest : (total x s ≤ s) × (tri (total x s) ≤ total (λ k. k * x k) s) =
-    tri_least x s (total x s) (λ k l. h k (omega arith)) refl in
+    let rest : (total x s ≤ s) × (total f (total x s) ≤ total (λ k. f k * x k) s) =
+    firsts-le f x s (total x s) rises (λ k l. h k (omega arith)) refl in
     let q : n ≡ suc (total x s) = omega arith in (
       omega (arith, rest.0),
-      subst (λ m. tri m ≤ total (λ k. k * x k) s + s * x s) (sym q)
-          (omega (arith, rest.0, rest.1, ap (λ v. s * v) z)),
+      subst (λ m. total f m ≤ total (λ k. f k * x k) s + f s * x s) (sym q)
+          (omega (arith, rest.1, rises (total x s) s rest.0, ap (λ v. f s * v) z)),
     ))
     (let one : x s ≤ 1 = h s (omega arith) in
     ⊎_elim (λ (l : x s < 1). inl (omega arith)) (λ (l : 1 ≤ x s). inr (omega arith)) (cases_lt (x s) 1))
 
-pub staircase_least : (spread : ℕ) (x : ℕ → ℕ) (s n : ℕ) → ((k : ℕ) → k < s → x k ≤ 1) → total x s ≡ n
-    → load_cost spread n ≤ total (λ k. (k * spread) * x k) s
-staircase_least spread x s n h e =
-    omega (
-      arith,
-      load_cost_is spread n,
-      mul-le-mul_left spread ((tri_least x s n h e).1),
-      total-mul spread (λ (k : ℕ). k * x k) s,
-      total_same (λ (k : ℕ). (k * spread) * x k) (λ (k : ℕ). spread * (k * x k)) s (λ k l. omega arith),
-    )
-
-pub staircase : (spread n s : ℕ) → n ≤ s → total (λ k. (k * spread) * cond (ltb k n) 1 0) s ≡ load_cost spread n
-staircase spread n zero l =
-    let z : 0 ≡ n = omega arith in
-    subst (λ m. 0 ≡ load_cost spread m) z (sym (load_cost_is spread 0 ∙ mul-zero spread))
-staircase spread n (suc s) l =
+-- units on the first arcs
+firsts : (f : ℕ → ℕ) (n s : ℕ) → n ≤ s → total (λ k. f k * cond (ltb k n) 1 0) s ≡ total f n
+firsts f n zero l = let z : 0 ≡ n = omega arith in subst (λ m. 0 ≡ total f m) z refl
+firsts f n (suc s) l =
     ⊎_elim (λ (h : s < n).
     let q : suc s ≡ n = omega arith in
-    subst (λ m. total (λ k. (k * spread) * cond (ltb k m) 1 0) (suc s) ≡ load_cost spread m) q
-    (full (suc s) (suc s) (omega arith) ∙ sym (load_cost_is spread (suc s))))
+    subst (λ m. total (λ k. f k * cond (ltb k m) 1 0) (suc s) ≡ total f m) q (full (suc s) (suc s) (omega arith)))
     (λ (h : n ≤ s).
     let z : cond (ltb s n) 1 0 ≡ 0 = cond-false {A = ℕ} (ltb s n) 1 0 (le-ltb s n h) in
-    omega (arith, staircase spread n s h, ap (λ z. (s * spread) * z) z, mul-zero (s * spread)))
+    omega (arith, firsts f n s h, ap (λ z. f s * z) z, mul-zero (f s)))
     (cases_lt s n)
   where
-    full : (n s : ℕ) → s ≤ n → total (λ k. (k * spread) * cond (ltb k n) 1 0) s ≡ spread * tri s
-    full n zero l = sym (mul-zero spread)
+    full : (n s : ℕ) → s ≤ n → total (λ k. f k * cond (ltb k n) 1 0) s ≡ total f s
+    full n zero l = refl
     full n (suc s) l =
         let o : cond (ltb s n) 1 0 ≡ 1 = cond-true {A = ℕ} (ltb s n) 1 0 (lt-ltb s n (omega arith)) in
-        omega (arith, full n s (omega arith), ap (λ z. (s * spread) * z) o, mul-add spread (tri s) s)
+        omega (arith, full n s (omega arith), ap (λ z. f s * z) o)
+
+-- tasks in slots, at most one in each, are no more than the slots, and cost no less than their load
+pub staircase_least : LoadsAreSumsOfSlots → LaterSlotsCostNoLess → (spread : ℕ) (x : ℕ → ℕ) (s n : ℕ)
+    → ((k : ℕ) → k < s → x k ≤ 1) → total x s ≡ n
+    → (n ≤ s) × (load_cost spread n ≤ total (λ k. slot_cost spread k * x k) s)
+staircase_least sums rises spread x s n h e =
+    let least : (n ≤ s) × (total (slot_cost spread) n ≤ total (λ k. slot_cost spread k * x k) s) =
+    firsts-le (slot_cost spread) x s n (rises spread) h e in
+    (least.0, subst (λ m. m ≤ total (λ k. slot_cost spread k * x k) s) (sym (sums spread n)) least.1)
+
+-- in the first slots they cost their load
+pub staircase : LoadsAreSumsOfSlots → (spread n s : ℕ) → n ≤ s
+    → total (λ k. slot_cost spread k * cond (ltb k n) 1 0) s ≡ load_cost spread n
+staircase sums spread n s l = firsts (slot_cost spread) n s l ∙ sym (sums spread n)

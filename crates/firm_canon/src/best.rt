@@ -14,7 +14,7 @@ use crate::reads::{arcs_are_counted, task_count};
 use firm_flow::{balanced_flows, conserved_where_balanced};
 use firm_graph::{Graph, Key, Node, networks_are_counted};
 use firm_paths::{Prices, Scratch, arcs_are_rows};
-use firm_rules::{Choice, the_round_is_the_first};
+use firm_rules::{Choice, loads_are_sums_of_slots, the_round_is_the_first};
 use std::alloc::{AllocError, Global};
 
 /// A least flow with nothing held.
@@ -29,6 +29,7 @@ fn start(graph: &mut Graph, prices: &mut Prices, scratch: &mut Scratch)
     arcs_are_rows();
     balanced_flows::<Node, Key>();
     conserved_where_balanced();
+    loads_are_sums_of_slots();
     graph.prepare();
     arcs_are_counted(graph);
     graph.least(prices, scratch);

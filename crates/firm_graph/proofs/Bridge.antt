@@ -5,7 +5,7 @@ use Rattle.std.specs.List.{position_or_len}
 use Rattle.std.proofs.lemmas.List.{append-nil, map-append, get_or-map, length-map}
 use Rattle.firm_paths.specs.Network.{Arc}
 use Rattle.firm_rules.specs.Book.{TenantRows, machine_names, job_names}
-use Rattle.firm_rules.specs.Placement.{Case, Demand}
+use Rattle.firm_rules.specs.Placement.{slot_cost, Case, Demand}
 use Rattle.firm_rules.specs.Round.{case_of, place_of, machine_place, job_place, demand_of}
 use Rattle.firm_rules.specs.declared.book.Machine.{Machine}
 use Rattle.firm_rules.specs.declared.book.Job.{Job}
@@ -24,7 +24,8 @@ bare key tail head cap cost = record { key = key; tail = tail; head = head; low 
 
 abbrev pub slot_rows : ℕ → ℕ → ℕ → ℕ → List (Arc Node Key)
 slot_rows spread j k zero = []
-slot_rows spread j k (suc left) = bare (Slot j k) (MachineAt j) Sink 1 (k * spread) ∷ slot_rows spread j (k + 1) left
+slot_rows spread j k (suc left) =
+    bare (Slot j k) (MachineAt j) Sink 1 (slot_cost spread k) ∷ slot_rows spread j (k + 1) left
 
 abbrev pub machine_rows : ℕ → ℕ → List Machine → List (Arc Node Key)
 machine_rows spread j [] = []
@@ -94,11 +95,12 @@ module _ (rows : TenantRows) (low x : Key → ℕ) where
   c = case_of rows
 
   slots_same : (j k left : ℕ) → map (fill low x) (slot_rows rows.limits.spread j k left) ≡ from
-      (λ k. arc low x (Slot j k) (MachineAt j) Sink 1 (k * c.spread) ∷ []) k left
+      (λ k. arc low x (Slot j k) (MachineAt j) Sink 1 (slot_cost c.spread k) ∷ []) k left
   unfolding from
   slots_same j k zero = refl
-  slots_same j k (suc left) = ap (λ (z : List (Arc Node Key)). arc low x (Slot j k) (MachineAt j) Sink 1 (k * c.spread)
-      ∷ z) (slots_same j (k + 1) left)
+  slots_same j k (suc left) =
+      ap (λ (z : List (Arc Node Key)). arc low x (Slot j k) (MachineAt j) Sink 1 (slot_cost c.spread k) ∷ z)
+      (slots_same j (k + 1) left)
 
   machines_same : (j : ℕ) (ms : List Machine) (d : Machine) →
       ((i : ℕ) → i < length ms → slots_of c (j + i) ≡ (get_or ms i d).slots)
@@ -114,8 +116,8 @@ module _ (rows : TenantRows) (low x : Key → ℕ) where
       (ap₂ (λ (a : Arc Node Key) (b : List (Arc Node Key)). a ∷ b)
       (ap (λ (n : ℕ). arc low x (Through j) Hub (MachineAt j) n 0) own)
       (slots_same j 0 m.slots ∙ (sym (gather_from
-      (λ (k : ℕ). arc low x (Slot j k) (MachineAt j) Sink 1 (k * c.spread) ∷ []) m.slots)
-      ∙ ap (gather (λ (k : ℕ). arc low x (Slot j k) (MachineAt j) Sink 1 (k * c.spread) ∷ [])) own)))
+      (λ (k : ℕ). arc low x (Slot j k) (MachineAt j) Sink 1 (slot_cost c.spread k) ∷ []) m.slots)
+      ∙ ap (gather (λ (k : ℕ). arc low x (Slot j k) (MachineAt j) Sink 1 (slot_cost c.spread k) ∷ [])) own)))
       (machines_same (j + 1) ms d (at-later P d j m ms h))
 
   jobs_same : (k : ℕ) (js : List Job) → map (fill low x) (job_rows rows.limits.nodes k js) ≡ from (job_arcs c low x) k

@@ -18,6 +18,7 @@ use Rattle.firm_net.specs.declared.row.ArcId.{ArcId}
 use Rattle.firm_net.specs.declared.links.Side.{Side}
 use Rattle.firm_net.specs.declared.links.Side.TheVariants.{Out, In}
 use Rattle.firm_rules.specs.Book.{machine_names, job_names}
+use Rattle.firm_rules.specs.Placement.{slot_cost}
 use Rattle.firm_graph.specs.inner.Steps.{task_gone, no_task, Holds}
 use Rattle.firm_rules.specs.declared.book.Machine.{Machine}
 use Rattle.firm_rules.specs.declared.book.Job.{Job}
@@ -151,7 +152,7 @@ slots-weight w node sink spread k [] a b = refl
 slots-weight w node sink spread k (arc ∷ slots) a b =
     omega (
       arith,
-      sum_by-cons (end_weight w) (record { arc = arc; tail = node; head = sink; cap = 1; cost = k * spread })
+      sum_by-cons (end_weight w) (record { arc = arc; tail = node; head = sink; cap = 1; cost = slot_cost spread k })
           (slot_spans node sink spread (k + 1) slots),
       slots-weight w node sink spread (k + 1) slots a b,
     )
@@ -529,7 +530,7 @@ pub slots-step : (base old new : Net) (ns : List NodeId) (ss : List Span) (node 
     (span_of (get_or slots i d) row ∷ []) [])
     → Holds base new ns (slot_spans node sink spread (i + 1) (drop (i + 1) slots) ++ ss)
 slots-step base old new ns ss node sink spread i slots d below h edits =
-    let s : Span = record { arc = get_or slots i d; tail = node; head = sink; cap = 1; cost = i * spread } in
+    let s : Span = record { arc = get_or slots i d; tail = node; head = sink; cap = 1; cost = slot_cost spread i } in
     let front : drop i slots ≡ get_or slots i d ∷ drop (suc i) slots = drop-cons slots i d below in
     let next : suc i ≡ i + 1 = omega arith in
     let was : Holds base old ns (s ∷ slot_spans node sink spread (i + 1) (drop (i + 1) slots) ++ ss) =

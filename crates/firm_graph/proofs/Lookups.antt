@@ -87,3 +87,13 @@ weight_under-at (job ∷ jobs) name =
       | true ↦ refl
       | false ↦ weight_under-at jobs name ∙ sym (ap (λ (k : ℕ). get_or (job.weight ∷ weights) k 0) next)
     ]
+
+-- what the places of some names read
+pub nodes_under-at : (names : List (List ℕ)) (nodes : List NodeId) (other : NodeId) (some : List (List ℕ))
+    → length nodes ≡ length names
+    → map (λ place. get_or nodes place other) (map (λ name. position_or_len (bytes_eq name) names) some)
+    ≡ map (node_under names nodes other) some
+nodes_under-at names nodes other [] e = refl
+nodes_under-at names nodes other (name ∷ some) e =
+    ap₂ (λ (n : NodeId) (l : List NodeId). n ∷ l) (sym (node_under-at names nodes other name e))
+    (nodes_under-at names nodes other some e)

@@ -41,23 +41,23 @@ near-push node cost (h ∷ heads) (a ∷ arcs) head arc e =
     ap (λ (l : List Span). near node h cost a ∷ l) (near-push node cost heads arcs head arc (omega arith))
 
 -- a step of the loop that adds an arc to the node of each name
-pub link-step : (base old new : Net) (node : NodeId) (under : List ℕ → NodeId) (names : List (List ℕ)) (i : ℕ)
-    (name : List ℕ) (head : NodeId) (arcs more : List ArcId) (arc : ArcId) → i < length names
-    → name ≡ get_or names i name → head ≡ under name → length arcs ≡ i → more ≡ arcs ++ arc ∷ []
-    → IsEdit base old [] [] [] (preferred_spans node 0 (map under (take i names)) arcs)
+pub link-step : (base old new : Net) (node : NodeId) (at_place : ℕ → NodeId) (places : List ℕ) (i place : ℕ)
+    (head : NodeId) (arcs more : List ArcId) (arc : ArcId) → i < length places
+    → place ≡ get_or places i place → head ≡ at_place place → length arcs ≡ i → more ≡ arcs ++ arc ∷ []
+    → IsEdit base old [] [] [] (preferred_spans node 0 (map at_place (take i places)) arcs)
     → IsEdit old new [] [] [] (near node head 0 arc ∷ [])
-    → IsEdit base new [] [] [] (preferred_spans node 0 (map under (take (i + 1) names)) more)
-link-step base old new node under names i name head arcs more arc below at head_is counted more_is so_far edit =
-    let heads : List NodeId = map under (take i names) in
-    let whole : map under (take (i + 1) names) ≡ heads ++ head ∷ [] =
-    ap (map under) (take_more names i name below ∙ ap (λ (n : List ℕ). take i names ++ n ∷ []) (sym at))
-    ∙ map-append under (take i names) (name ∷ []) ∙ ap (λ (n : NodeId). heads ++ n ∷ []) (sym head_is) in
+    → IsEdit base new [] [] [] (preferred_spans node 0 (map at_place (take (i + 1) places)) more)
+link-step base old new node at_place places i place head arcs more arc below at head_is counted more_is so_far edit =
+    let heads : List NodeId = map at_place (take i places) in
+    let whole : map at_place (take (i + 1) places) ≡ heads ++ head ∷ [] =
+    ap (map at_place) (take_more places i place below ∙ ap (λ (n : ℕ). take i places ++ n ∷ []) (sym at))
+    ∙ map-append at_place (take i places) (place ∷ []) ∙ ap (λ (n : NodeId). heads ++ n ∷ []) (sym head_is) in
     let paired : length heads ≡ length arcs = omega (
       arith,
-      length-map (take i names) under,
-      length-take-le i names (let b : i ≤ length names = omega (arith, below) in b),
+      length-map (take i places) at_place,
+      length-take-le i places (let b : i ≤ length places = omega (arith, below) in b),
     ) in
-    let spans : preferred_spans node 0 (map under (take (i + 1) names)) more ≡ preferred_spans node 0 heads arcs ++
+    let spans : preferred_spans node 0 (map at_place (take (i + 1) places)) more ≡ preferred_spans node 0 heads arcs ++
     near node head 0 arc ∷ [] =
     ap₂ (λ (hs : List NodeId) (ids : List ArcId). preferred_spans node 0 hs ids) whole more_is
     ∙ near-push node 0 heads arcs head arc paired in

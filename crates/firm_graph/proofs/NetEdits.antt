@@ -2,6 +2,7 @@
 use Rattle.std.proofs.Common.{◌≡◌, ℕ, suc, ◌*◌, ◌++◌, length-append, ◌+◌, List, [], ◌∷◌, length, arith, ap, ◌∙◌}
 use Rattle.std.specs.List.{sum_by}
 use Rattle.std.proofs.lemmas.List.Sums.{sum_by-append}
+use Rattle.firm_rules.specs.Placement.{slot_cost}
 use Rattle.firm_net.specs.Net.{Net}
 use Rattle.firm_net.specs.declared.row.NodeId.{NodeId}
 use Rattle.firm_net.specs.declared.row.ArcId.{ArcId}
@@ -40,14 +41,16 @@ edit-same a b ns ss ts edit same long =
 
 pub slots-push : (node sink : NodeId) (spread k : ℕ) (slots : List ArcId) (arc : ArcId)
     → slot_spans node sink spread k (slots ++ arc ∷ []) ≡ slot_spans node sink spread k slots ++ record
-    { arc = arc; tail = node; head = sink; cap = 1; cost = (k + length slots) * spread } ∷ []
+    { arc = arc; tail = node; head = sink; cap = 1; cost = slot_cost spread (k + length slots) } ∷ []
 slots-push node sink spread k [] arc =
-    ap (λ (n : ℕ). let s : Span = record { arc = arc; tail = node; head = sink; cap = 1; cost = n * spread } in s ∷ [])
+    ap (λ (n : ℕ). let s : Span = record
+    { arc = arc; tail = node; head = sink; cap = 1; cost = slot_cost spread n } in s ∷ [])
     (let e : k ≡ k + 0 = omega arith in e)
 slots-push node sink spread k (a ∷ slots) arc =
-    ap (λ (l : List Span). let s : Span = record { arc = a; tail = node; head = sink; cap = 1; cost = k * spread } in s
-    ∷ l)
+    ap (λ (l : List Span). let s : Span = record
+    { arc = a; tail = node; head = sink; cap = 1; cost = slot_cost spread k } in s ∷ l)
     (slots-push node sink spread (k + 1) slots arc
-    ∙ ap (λ (n : ℕ). let s : Span = record { arc = arc; tail = node; head = sink; cap = 1; cost = n * spread } in
+    ∙ ap (λ (n : ℕ). let s : Span = record
+    { arc = arc; tail = node; head = sink; cap = 1; cost = slot_cost spread n } in
     slot_spans node sink spread (k + 1) slots ++ s ∷ [])
     (let e : k + 1 + length slots ≡ k + suc (length slots) = omega arith in e))

@@ -7,6 +7,7 @@ use Rattle.firm_net.specs.declared.row.NodeId.{NodeId}
 use Rattle.firm_net.specs.declared.row.ArcId.{ArcId}
 use Rattle.firm_paths.specs.Network.{Arc}
 use Rattle.firm_rules.specs.Book.{TenantRows, machine_names, job_names}
+use Rattle.firm_rules.specs.Placement.{slot_cost}
 use Rattle.firm_rules.specs.declared.book.Machine.{Machine}
 use Rattle.firm_rules.specs.declared.book.Job.{Job}
 use Rattle.firm_rules.specs.declared.book.Task.{Task}
@@ -42,8 +43,8 @@ slots-shown name id spread j k node (a ∷ slots) e h =
     let P : ℕ → ArcId → Type 0 = λ (n : ℕ) (b : ArcId). b ≡ id (Slot j n) in
     ap₂ (λ (s : Span) (l : List Span). s ∷ l)
     (ap₂ (λ (b : ArcId) (n : NodeId). let s : Span = record
-    { arc = b; tail = n; head = name Sink; cap = 1; cost = k * spread } in s) (sym (at-first P no_arc k a slots h))
-    (sym e))
+    { arc = b; tail = n; head = name Sink; cap = 1; cost = slot_cost spread k } in s)
+    (sym (at-first P no_arc k a slots h)) (sym e))
     (slots-shown name id spread j (k + 1) node slots e (at-later P no_arc k a slots h))
 
 -- the parts of a machine carry the network's ids

@@ -20,7 +20,7 @@ use Rattle.firm_paths.specs.Network.{Arc}
 use Rattle.firm_paths.specs.NetArcs.{arcs_of}
 use Rattle.firm_rules.specs.Book.{machine_names, job_names}
 use Rattle.firm_rules.specs.Names.{is_among}
-use Rattle.firm_rules.specs.Placement.{Case, Demand}
+use Rattle.firm_rules.specs.Placement.{slot_cost, Case, Demand}
 use Rattle.firm_rules.specs.Round.{place_of, machine_place, job_place, demand_of}
 use Rattle.firm_rules.specs.declared.book.Machine.{Machine}
 use Rattle.firm_rules.specs.declared.book.Job.{Job}
@@ -240,14 +240,14 @@ module _ (c : Case) (low x : Key → ℕ) where
   key-listed (Through j) h =
       of-machine j (arc low x (Through j) Hub (MachineAt j) (slots_of c j) 0) (Through j) h
       (first-of (arc low x (Through j) Hub (MachineAt j) (slots_of c j) 0)
-      (gather (λ k. arc low x (Slot j k) (MachineAt j) Sink 1 (k * c.spread) ∷ []) (slots_of c j))) refl
+      (gather (λ k. arc low x (Slot j k) (MachineAt j) Sink 1 (slot_cost c.spread k) ∷ []) (slots_of c j))) refl
   key-listed (Slot j k) h =
-      let a : Arc Node Key = arc low x (Slot j k) (MachineAt j) Sink 1 (k * c.spread) in
+      let a : Arc Node Key = arc low x (Slot j k) (MachineAt j) Sink 1 (slot_cost c.spread k) in
       of-machine j a (Slot j k) h.0
       (Contains-append_right (arc low x (Through j) Hub (MachineAt j) (slots_of c j) 0 ∷ [])
-      (gather (λ k. arc low x (Slot j k) (MachineAt j) Sink 1 (k * c.spread) ∷ []) (slots_of c j)) a
-      (contains-gather (λ k. arc low x (Slot j k) (MachineAt j) Sink 1 (k * c.spread) ∷ []) (slots_of c j) k a h.1
-      (first-of a []))) refl
+      (gather (λ k. arc low x (Slot j k) (MachineAt j) Sink 1 (slot_cost c.spread k) ∷ []) (slots_of c j)) a
+      (contains-gather (λ k. arc low x (Slot j k) (MachineAt j) Sink 1 (slot_cost c.spread k) ∷ []) (slots_of c j) k a
+      h.1 (first-of a []))) refl
   key-listed (Exit k) h =
       let a : Arc Node Key = arc low x (Exit k) (JobAt k) Sink c.limit 0 in
       record {

@@ -4,7 +4,7 @@ use Rattle.std.specs.Prelude.{nat_lt, slice_index, slice_index_or, if◌then◌e
 use Rattle.firm_paths.specs.Network.{Arc}
 use Rattle.firm_rules.specs.Book.{TenantRows}
 use Rattle.firm_rules.specs.ArenaUse.{arena_nodes, arena_arcs}
-use Rattle.firm_rules.specs.Placement.{Case, Demand}
+use Rattle.firm_rules.specs.Placement.{Case, Demand, slot_cost}
 use Rattle.firm_rules.specs.Round.{case_of}
 use Rattle.firm_graph.specs.declared.network.Node.{Node}
 use Rattle.firm_graph.specs.declared.network.Node.TheVariants.{Sink, Hub, Machine, Owner, Task}
@@ -39,12 +39,11 @@ abbrev pub stay_head : Option ℕ → Node
 stay_head None = Hub
 stay_head (Some home) = Machine home
 
--- the arcs of a machine: from the hub, with the capacity of its slots, and one to the sink for each slot, each dearer
--- by the spread than the one before
+-- the arcs of a machine: from the hub, with the capacity of its slots, and one to the sink for each slot, at its cost
 abbrev pub machine_arcs : Case → (Key → ℕ) → (Key → ℕ) → ℕ → List (Arc Node Key)
 machine_arcs c low flow j =
     arc low flow (Through j) Hub (Machine j) (slots_of c j) 0
-    ∷ gather (λ k. arc low flow (Slot j k) (Machine j) Sink 1 (k * c.spread) ∷ []) (slots_of c j)
+    ∷ gather (λ k. arc low flow (Slot j k) (Machine j) Sink 1 (slot_cost c.spread k) ∷ []) (slots_of c j)
 
 -- the arc of a job, with the capacity of the tenant's limit of nodes
 abbrev pub job_arcs : Case → (Key → ℕ) → (Key → ℕ) → ℕ → List (Arc Node Key)

@@ -5,19 +5,17 @@ ghost use Rattle.firm_arena.specs.Arena.{capacity_of};
 ghost use Rattle.firm_net.specs.Row.{Row};
 ghost use Rattle.firm_net.specs.Net.{IsNet, IsNode, lists_at, row_at, out_list, in_list, added_of, node_count};
 ghost use Rattle.firm_net.specs.Net.{arc_count};
-ghost use Rattle.std.specs.Prelude.{ℕ, List};
+ghost use Rattle.std.specs.Prelude.{ℕ, List, slice_index_or};
 ghost use Rattle.firm_net.specs.Net.{Net as NetRow};
 ghost use Rattle.firm_net.specs.declared.row.NodeId.{NodeId as NodeIdRow};
-ghost use Rattle.firm_rules.specs.Book.{machine_names};
-ghost use Rattle.firm_rules.specs.Names.{is_among};
-ghost use Rattle.firm_graph.specs.Graph.{slot_spans, preferred_spans, node_under};
+ghost use Rattle.firm_graph.specs.Graph.{slot_spans, preferred_spans};
 ghost use Rattle.firm_net.specs.Edits.{Span, IsEdit, span_of};
 ghost use Rattle.firm_graph.specs.inner.Steps.{Holds};
 
 use crate::ids::MachineIds;
 use crate::preferred::PreferredArcs;
 use firm_net::{ArcId, ArcRow, Net, NodeId};
-use firm_rules::{Limits, Name, Rows, slot_cost};
+use firm_rules::{Limits, slot_cost};
 
 /// Adds a node to a net with room for it.
 pub(crate) fn put_node(net: &mut Net) -> NodeId
@@ -127,8 +125,7 @@ pub(crate) fn push_reserved<T: Drop>(list: &mut Vec<T>, value: T)
     };
 }
 
-/// The arcs of a machine's slots: the machine's node, the sink, by how much each is dearer than the one before, and
-/// their number.
+/// The arcs of a machine's slots: the machine's node, the sink, the tenant's spread, and the number of slots.
 #[derive(Clone, Copy, PartialEq, Eq, Debug)]
 pub(crate) struct SlotArcs {
     pub(crate) node: NodeId,
@@ -172,50 +169,43 @@ pub(crate) fn unlink_slots(net: &mut Net, slots: &[ArcId])
     }
 }
 
-/// Adds an arc that costs nothing to the machine of each of these names.
+/// Adds an arc that costs nothing to the machine at each of these places.
 pub(crate) fn link_preferred(
     net: &mut Net,
     node: NodeId,
-    rows: &Rows,
     machines: &[MachineIds],
-    names: &[Name],
+    places: &[u32],
 ) -> PreferredArcs
     requires net { IsNet net.old }
     requires node { IsNode net.old node }
-    requires machines { length machines.now ≡ length rows.now.machines }
     requires heads { All (λ head. IsNode net.old head × (node ≢ head)) (map (λ parts. parts.node) machines.now) }
-    requires there { All (λ name. is_among (machine_names rows.now) name ≡ true) names.now }
-    requires few { length names.now ≤ 4 }
-    requires room { arc_count net.old + length names.now ≤ capacity_of net.old.arcs }
+    requires there { All (λ place. place < length machines.now) places.now }
+    requires few { length places.now ≤ 4 }
+    requires room { arc_count net.old + length places.now ≤ capacity_of net.old.arcs }
     requires stamps { added_of net.old + 4 < 2 ^ 62 }
     ensures edit { (hub : NodeIdRow) → IsEdit net.old net.new [] [] [] (preferred_spans node 0
-        (map (node_under (machine_names rows.now) (map (λ parts. parts.node) machines.now) hub) names.now) result) }
-    ensures count { length result ≡ length names.now }
+        (map (λ place. slice_index_or (map (λ parts. parts.node) machines.now) place hub) places.now) result) }
+    ensures count { length result ≡ length places.now }
     ensures nodes { (n : NodeIdRow) → IsNode net.old n → IsNode net.new n }
-    ensures arcs { arc_count net.new ≤ arc_count net.old + length names.now }
+    ensures arcs { arc_count net.new ≤ arc_count net.old + length places.now }
     ensures arc_room { capacity_of net.new.arcs ≡ capacity_of net.old.arcs }
-    ensures added { added_of net.new ≤ added_of net.old + length names.now }
+    ensures added { added_of net.new ≤ added_of net.old + length places.now }
 {
     let mut arcs = PreferredArcs::new();
-    for name in names {
-        let arc = link(net, node, machine_node(rows, machines, *name), 1, 0);
+    for place in places {
+        let arc = link(net, node, node_at(machines, *place), 1, 0);
         arcs.add(arc);
     }
     arcs
 }
 
-// The node of the machine of a name.
-fn machine_node(rows: &Rows, machines: &[MachineIds], name: Name) -> NodeId
-    requires there { is_among (machine_names rows.now) name ≡ true }
-    requires machines { length machines.now ≡ length rows.now.machines }
-    ensures node { (hub : NodeIdRow) → result
-        ≡ node_under (machine_names rows.now) (map (λ parts. parts.node) machines.now) hub name }
+// The node of the machine at a place.
+fn node_at(machines: &[MachineIds], place: u32) -> NodeId
+    requires there { place < length machines.now }
+    ensures node { (hub : NodeIdRow) → result ≡ slice_index_or (map (λ parts. parts.node) machines.now) place hub }
     ensures listed { Contains (map (λ parts. parts.node) machines.now) result }
 {
-    let Some(place) = rows.machine_place(name) else {
-        unreachable!()
-    };
-    let parts = &machines[place];
+    let parts = &machines[place as usize];
     parts.node
 }
 

@@ -1,6 +1,6 @@
 //! The network of a tenant.
 ghost use Rattle.std.specs.Prelude.{◌≡◌, ◌≢◌, ◌+◌, ◌^◌, ◌<◌, ◌≤◌, ◌↔◌, false, true, IfOk, OnOk, OnErr, IsTrue, ℕ};
-ghost use Rattle.std.specs.Prelude.{IfSome, IfNone};
+ghost use Rattle.std.specs.Prelude.{IfSome, IfNone, Some, bytes_eq, position};
 ghost use Rattle.std.specs.Prelude.{[], length, map, pos, slice_index_or, vec_capacity};
 ghost use Rattle.std.specs.List.{All};
 ghost use Rattle.firm_net.specs.Net.{CountsAre, arc_count, without_flow, CanPush, SameOtherRows, row_at, with_row};
@@ -18,7 +18,7 @@ ghost use Rattle.firm_rules.specs.Sound.{HasRoom};
 ghost use Rattle.firm_rules.specs.Names.{is_among};
 ghost use Rattle.firm_rules.specs.ArenaUse.{arena_nodes, arena_arcs};
 ghost use Rattle.firm_rules.specs.Placement.{is_legal};
-ghost use Rattle.firm_rules.specs.Round.{case_of, round_placement, rows_after};
+ghost use Rattle.firm_rules.specs.Round.{case_of, round_placement, rows_after, IsFound};
 ghost use Rattle.firm_graph.specs.Graph.{IsGraph, LackNodes, LackArcs};
 ghost use Rattle.firm_graph.specs.Ids.{view_of};
 ghost use Rattle.firm_graph.specs.Network.{task_nodes, demand};
@@ -30,7 +30,7 @@ use crate::edits::{
     SlotArcs, away_cost, drop_node, link, link_preferred, link_slots, push_reserved, put_node,
     unlink, unlink_preferred, unlink_slots,
 };
-use crate::growth::{NewTask, grow_jobs, grow_machines, grow_tasks};
+use crate::growth::{grow_jobs, grow_machines, grow_tasks};
 use crate::ids::{GraphRefusal, JobParts, MachineIds, Stand, TaskArcs, TaskParts, find_machine};
 use crate::moves::{Heads, evict_tasks, forget_machine, home_of, place_task, settle_tasks};
 use crate::proposals::Proposals;
@@ -38,7 +38,7 @@ use firm_flow::solve;
 use firm_net::{ArcId, Net, NodeId, Way};
 use firm_paths::{Prices, Scratch};
 use firm_rules::{
-    Choice, Limits, Name, Preferred, Rows, Slots, Weight, legality_is_judged,
+    Choice, Limits, Name, NewTask, Preferred, Rows, Slots, Weight, legality_is_judged,
     the_round_is_the_first,
 };
 use std::alloc::{AllocError, Global};
@@ -166,28 +166,53 @@ impl Graph {
         ensures unchanged { OnErr result (self.new ≡ self.old) }
         ensures graph { IsGraph self.new }
     {
-        let count = preferred.len();
+        let Some(owner) = self.rows.job_place(job) else {
+            unreachable!()
+        };
+        let Some(machines) = self.rows.machine_places(preferred.as_slice()) else {
+            unreachable!()
+        };
+        self.add_new_task(&NewTask {
+            name,
+            job,
+            preferred,
+            owner,
+            machines,
+        })
+    }
+
+    /// Adds a waiting task last, as `add_task`, without looking up its job and machines.
+    pub fn add_new_task(&mut self, task: &NewTask) -> Result<(), GraphRefusal>
+        requires found { IsFound self.old.rows task.now }
+        requires job_there { is_among (job_names self.old.rows) task.now.job ≡ true }
+        requires new_name { is_among (task_names self.old.rows) task.now.name ≡ false }
+        requires machines_there { All (λ machine. is_among (machine_names self.old.rows) machine ≡ true)
+            task.now.preferred }
+        requires asked { self.old.asked < 2 ^ 40 }
+        ensures ok { OnOk result (self.new.rows
+            ≡ with_task self.old.rows task.now.job task.now.name task.now.preferred) }
+        ensures counted { OnOk result (self.new.asked ≡ self.old.asked + 1) }
+        ensures nodes { (result ≡ Err GraphRefusal.Nodes)
+            ↔ LackNodes (with_task self.old.rows task.now.job task.now.name task.now.preferred) }
+        ensures arcs { (result ≡ Err GraphRefusal.Arcs)
+            ↔ LackArcs (with_task self.old.rows task.now.job task.now.name task.now.preferred) }
+        ensures unchanged { OnErr result (self.new ≡ self.old) }
+        ensures graph { IsGraph self.new }
+    {
+        let count = task.preferred.len();
         self.find_room(1, 3 + count as u32)?;
         let limits = self.rows.limits();
-        let Some(place) = self.rows.job_place(job) else {
+        let Some(row) = self.rows.job_at(task.owner) else {
             unreachable!()
-        };
-        let Some(row) = self.rows.job_at(place) else {
-            unreachable!()
-        };
-        let task = NewTask {
-            job,
-            name,
-            preferred,
         };
         let Ok(()) = grow_tasks(&mut self.tasks, &mut self.sources, &mut self.rows, task) else {
             return Err(GraphRefusal::Memory);
         };
-        let owner = self.jobs[place].node;
+        let owner = self.jobs[task.owner].node;
         let node = put_node(&mut self.net);
         // The arc that is linked last comes first in a walk: from most tasks the way on is by the hub.
-        let names = preferred.as_slice();
-        let preferred = link_preferred(&mut self.net, node, &self.rows, &self.machines, names);
+        let places = task.machines.as_slice();
+        let preferred = link_preferred(&mut self.net, node, &self.machines, places);
         let wait = link(&mut self.net, node, owner, 1, row.weight.get());
         let stay = link(&mut self.net, node, self.hub, 0, 0);
         let wide = link(&mut self.net, node, self.hub, 1, away_cost(limits, count));
@@ -258,6 +283,16 @@ impl Graph {
         let Some(place) = self.rows.task_place(name) else {
             unreachable!()
         };
+        self.drop_found_task(name, place);
+    }
+
+    /// Removes a task that was found at this place.
+    pub fn drop_found_task(&mut self, name: Name, place: usize)
+        requires found { position (bytes_eq name) (task_names self.old.rows) ≡ Some place }
+        ensures rows { self.new.rows ≡ without_task self.old.rows name }
+        ensures asked { self.new.asked ≡ self.old.asked }
+        ensures graph { IsGraph self.new }
+    {
         let parts = self.tasks.remove(place);
         self.sources.remove(place);
         self.rows.remove_task(place);
@@ -438,6 +473,17 @@ impl Graph {
         let Some(place) = self.rows.job_place(name) else {
             unreachable!()
         };
+        self.drop_found_job(name, place);
+    }
+
+    /// Removes a job without tasks that was found at this place.
+    pub fn drop_found_job(&mut self, name: Name, place: usize)
+        requires found { position (bytes_eq name) (job_names self.old.rows) ≡ Some place }
+        requires empty { has_tasks self.old.rows name ≡ false }
+        ensures rows { self.new.rows ≡ without_job self.old.rows name }
+        ensures asked { self.new.asked ≡ self.old.asked }
+        ensures graph { IsGraph self.new }
+    {
         let parts = self.jobs.remove(place);
         self.rows.close(place);
         unlink(&mut self.net, parts.exit);
@@ -456,6 +502,17 @@ impl Graph {
         let Some(place) = self.rows.machine_place(name) else {
             unreachable!()
         };
+        self.drop_found_machine(name, place)
+    }
+
+    /// Removes a machine that was found at this place, as `drop_machine`.
+    pub fn drop_found_machine(&mut self, name: Name, place: usize) -> u32
+        requires found { position (bytes_eq name) (machine_names self.old.rows) ≡ Some place }
+        ensures rows { self.new.rows ≡ without_machine self.old.rows name }
+        ensures count { result ≡ running_on self.old.rows name }
+        ensures asked { self.new.asked ≡ self.old.asked }
+        ensures graph { IsGraph self.new }
+    {
         forget_machine(&mut self.net, &self.rows, &mut self.tasks, name);
         evict_tasks(&mut self.net, &self.rows, &self.tasks, self.hub, name);
         let evicted = self.rows.drain(place);

@@ -3,11 +3,12 @@ ghost use Rattle.std.specs.Prelude.{◌≡◌, ◌<◌, ◌≤◌, false, true, 
 ghost use Rattle.firm_rules.specs.ArenaUse.{FitsLimits};
 ghost use Rattle.firm_rules.specs.Book.{machine_names, job_names, task_names, with_machine, with_job, with_task};
 ghost use Rattle.firm_rules.specs.Names.{is_among};
+ghost use Rattle.firm_rules.specs.Round.{IsFound};
 ghost use Rattle.firm_rules.specs.Sound.{AreSound};
 
 use crate::ids::{JobParts, MachineIds, TaskParts};
 use firm_net::{ArcId, NodeId};
-use firm_rules::{Name, Preferred, Rows, Slots, Weight};
+use firm_rules::{Name, NewTask, Rows, Slots, Weight};
 use std::alloc::{AllocError, Allocator};
 
 /// Adds the row of a job, with room for its parts. The error comes for lack of memory alone, and leaves all as it was.
@@ -29,37 +30,30 @@ pub(crate) fn grow_jobs<A: Allocator>(
     rows.add_job(name, weight)
 }
 
-/// A task that is to be added: its job, its name, and the machines that it prefers.
-#[derive(Clone, Copy, PartialEq, Eq, Debug)]
-pub(crate) struct NewTask {
-    pub(crate) job: Name,
-    pub(crate) name: Name,
-    pub(crate) preferred: Preferred,
-}
-
 /// Adds the row of a task, with room for its parts and its node. The error comes for lack of memory alone, and leaves
 /// all as it was.
 pub(crate) fn grow_tasks<A: Allocator>(
     parts: &mut Vec<TaskParts, A>,
     sources: &mut Vec<NodeId, A>,
     rows: &mut Rows<A>,
-    task: NewTask,
+    task: &NewTask,
 ) -> Result<(), AllocError>
-    requires job_there { is_among (job_names rows.old) task.job ≡ true }
-    requires new_name { is_among (task_names rows.old) task.name ≡ false }
-    requires machines_there { All (λ machine. is_among (machine_names rows.old) machine ≡ true) task.preferred }
-    requires fits { FitsLimits (with_task rows.old task.job task.name task.preferred) }
+    requires found { IsFound rows.old task.now }
+    requires job_there { is_among (job_names rows.old) task.now.job ≡ true }
+    requires new_name { is_among (task_names rows.old) task.now.name ≡ false }
+    requires machines_there { All (λ machine. is_among (machine_names rows.old) machine ≡ true) task.now.preferred }
+    requires fits { FitsLimits (with_task rows.old task.now.job task.now.name task.now.preferred) }
     ensures parts { parts.new.items ≡ parts.old.items }
     ensures sources { sources.new.items ≡ sources.old.items }
     ensures room { OnOk result (vec_len parts.new < vec_capacity parts.new) }
     ensures source_room { OnOk result (vec_len sources.new < vec_capacity sources.new) }
-    ensures ok { OnOk result (rows.new ≡ with_task rows.old task.job task.name task.preferred) }
+    ensures ok { OnOk result (rows.new ≡ with_task rows.old task.now.job task.now.name task.now.preferred) }
     ensures err { OnErr result (rows.new ≡ rows.old) }
     ensures sound { OnOk result (AreSound rows.new) }
 {
     parts.reserve(1)?;
     sources.reserve(1)?;
-    rows.add_task(task.job, task.name, task.preferred)
+    rows.add_new_task(task)
 }
 
 /// Adds the row of a machine, with room for its parts, and gives a list with room for its slots. The error comes for

@@ -10,6 +10,9 @@
 //!
 //! # How it works
 //!
+//! `add_new_task` and the `drop_found_..` calls take the places at which names were found: no command looks a name up
+//! twice but a new one, before it is refused or added. The others look the names up, and call these.
+//!
 //! Each change of rows sets the costs that it changes, so `prepare` only clears. A walk over a task's arcs begins with
 //! the one to the hub, by which most paths lead on.
 //!

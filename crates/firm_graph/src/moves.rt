@@ -256,17 +256,8 @@ fn weight_of(rows: &Rows, place: usize) -> u32
     ensures value { result ≡ weight_under rows.now.jobs (task_at rows.now place).job }
     ensures most { result ≤ 1000000 }
 {
-    rows.limits();
-    let Some(task) = rows.task_at(place) else {
-        unreachable!()
-    };
-    let Some(owner) = rows.job_place(task.job) else {
-        unreachable!()
-    };
-    let Some(job) = rows.job_at(owner) else {
-        unreachable!()
-    };
-    job.weight.get()
+    let owner = rows.case().job(place);
+    rows.weight_at(owner) as u32
 }
 
 // The amount where a task runs, 0 while it waits.

@@ -15,7 +15,7 @@ use Rattle.firm_graph.specs.Network.{network, task_nodes, demand, preferred_at}
 use Rattle.firm_rules.specs.Placement.{IsLegal, IsPlace, placement_cost as cost, comes_before as before}
 use Rattle.firm_graph.specs.View.{View, Shows, lows, flows, spot_of}
 use Rattle.firm_graph.specs.Network.{IsKeyOf}
-use Rattle.firm_canon.specs.inner.Laws.{FlowLaws}
+use Rattle.firm_canon.specs.inner.Laws.{ChoiceLaws}
 use Rattle.firm_canon.specs.inner.Placed.{pick, wide, stay, waits, prefer, spot, wide_at, stay_at, prefer_at}
 use Rattle.firm_canon.specs.inner.Placed.{number, guests}
 
@@ -50,7 +50,7 @@ best v p = cost_of (network v.case (low_of v.case p) (flows v)) carried
 -- the net shows a least flow whose lower bounds hold the chosen prefix, no job's arc can be full, and the laws that the
 -- next step rests on are at hand
 pub record Keeps (v : View) (price : ℕ → ℕ) (p : List Choice) : Type 0 where
-  pub laws : FlowLaws
+  pub laws : ChoiceLaws
   pub roomy : length v.case.tasks < v.case.limit
   pub shows : Shows v
   pub lows : (k : Key) → IsKeyOf v.case k → lows v k ≡ low_of v.case p k

@@ -16,6 +16,8 @@ returns-clause-keeps c =
       no_more = c.balanced_flows.ensures.no_more;
       rows = c.arcs_are_rows.ensures.arcs;
       listed = c.arcs_are_rows.ensures.rows;
+      sums = c.loads_are_sums_of_slots.ensures.sums;
+      rises = c.loads_are_sums_of_slots.ensures.rises;
     })
     c.conserved_where_balanced.ensures
     (view_of c.least.new.self) (price_of c.least.new.prices)
