@@ -13,7 +13,7 @@ use Rattle.std.proofs.lemmas.Option.{slice_get_within, get_or_from_slice_get}
 use Rattle.firm_rules.specs.Book.{Book, TenantRows, task_names}
 use Rattle.firm_rules.specs.Names.{is_among}
 use Rattle.firm_rules.specs.Limits.{TenantLimits}
-use Rattle.firm_rules.specs.Placement.{IsPlace}
+use Rattle.firm_rules.specs.Placement.{IsPlace, slot_cost}
 use Rattle.firm_rules.specs.Round.{IsRound, case_of, round_placement, rows_after, TheRoundIsTheFirst}
 use Rattle.firm_rules.specs.Keeping.{AreSoundInForm, SoundRowsStaySound}
 use Rattle.firm_rules.specs.Starvation.{WeighAtMost, long_wait, IsPassedOver, LongWaitsYieldToLongWaits}
@@ -121,7 +121,7 @@ module _ (first : TheRoundIsTheFirst) (yield : LongWaitsYieldToLongWaits) (stay 
                 is,
                 passed.long,
                 (gives.1 at 0 task beside goes).1,
-                le-max_right (63 * limits.spread) (most + limits.churn),
+                le-max_right (slot_cost limits.spread 63) (most + limits.churn),
                 ap (λ (x : TenantLimits). x.remote) due.same,
               )),
           gives.0 0 l,

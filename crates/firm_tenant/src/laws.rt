@@ -26,8 +26,8 @@ pub fn steps_count_once()
 {}
 
 /// No task starves. Where no job weighs more than W, a task that is there throughout is placed by one of
-/// `remote` + max(63 `spread`, W + `churn`) + `nodes` rounds over a book with a machine, in a row or with rounds over a
-/// book without one between them, as long as no more rounds than the patience are among them.
+/// `remote` + max(what a 64th slot costs, W + `churn`) + `nodes` rounds over a book with a machine, in a row or with
+/// rounds over a book without one between them, as long as no more rounds than the patience are among them.
 pub fn no_task_starves()
     ensures { NoTaskStarves }
 {

@@ -14,8 +14,9 @@ use firm_graph::{Graph, GraphRefusal};
 use firm_net::Net;
 use firm_paths::{Prices, Scratch};
 use firm_rules::{
-    Book, Choice, Command, Limits, MOST_COSTS, Name, Outcome, Preferred, RecentCosts, Refusal,
-    Rows, Slots, Weight, changes_of, cost_of, legality_is_judged, the_round_is_the_first, use_of,
+    Book, Choice, Command, Limits, MOST_COSTS, Name, NewTask, Outcome, Preferred, RecentCosts,
+    Refusal, Rows, Slots, Weight, changes_of, cost_of, legality_is_judged, the_round_is_the_first,
+    use_of,
 };
 use std::alloc::{AllocError, Global};
 use std::marker::Model;
@@ -179,16 +180,25 @@ impl Pool {
         ensures asked { self.new.asked ≤ self.old.asked + 1 }
         ensures counts { self.new.workspace ≡ self.old.workspace }
     {
-        if !self.graph.rows().has_machines(preferred.as_slice()) {
+        let rows = self.graph.rows();
+        let Some(machines) = rows.machine_places(preferred.as_slice()) else {
             return Err(Refusal::NoSuchMachine);
-        }
-        if !self.graph.rows().has_job(job) {
+        };
+        let Some(owner) = rows.job_place(job) else {
             return Err(Refusal::NoSuchJob);
-        }
-        if self.graph.rows().has_task(name) {
+        };
+        if rows.has_task(name) {
             return Err(Refusal::TaskExists);
         }
-        grown(self.graph.add_task(job, name, preferred))
+        grown(
+            self.graph.add_new_task(&NewTask {
+                name,
+                job,
+                preferred,
+                owner,
+                machines,
+            }),
+        )
     }
 
     fn drain(&mut self, name: Name) -> Result<Outcome, Refusal>
@@ -197,10 +207,10 @@ impl Pool {
         ensures asked { self.new.asked ≡ self.old.asked }
         ensures counts { self.new.workspace ≡ self.old.workspace }
     {
-        if !self.graph.rows().has_machine(name) {
+        let Some(place) = self.graph.rows().machine_place(name) else {
             return Err(Refusal::NoSuchMachine);
-        }
-        Ok(Outcome::Evicted(self.graph.drop_machine(name)))
+        };
+        Ok(Outcome::Evicted(self.graph.drop_found_machine(name, place)))
     }
 
     fn close_job(&mut self, name: Name) -> Result<Outcome, Refusal>
@@ -209,13 +219,13 @@ impl Pool {
         ensures asked { self.new.asked ≡ self.old.asked }
         ensures counts { self.new.workspace ≡ self.old.workspace }
     {
-        if !self.graph.rows().has_job(name) {
+        let Some(place) = self.graph.rows().job_place(name) else {
             return Err(Refusal::NoSuchJob);
-        }
+        };
         if self.graph.rows().has_tasks(name) {
             return Err(Refusal::JobHasTasks);
         }
-        self.graph.drop_job(name);
+        self.graph.drop_found_job(name, place);
         Ok(Outcome::Plain)
     }
 
@@ -225,10 +235,10 @@ impl Pool {
         ensures asked { self.new.asked ≡ self.old.asked }
         ensures counts { self.new.workspace ≡ self.old.workspace }
     {
-        if !self.graph.rows().has_task(name) {
+        let Some(place) = self.graph.rows().task_place(name) else {
             return Err(Refusal::NoSuchTask);
-        }
-        self.graph.drop_task(name);
+        };
+        self.graph.drop_found_task(name, place);
         Ok(Outcome::Plain)
     }
 

@@ -6,7 +6,10 @@ ghost use Rattle.firm_tenant.specs.Step.{step, is_memory};
 
 use crate::pools::Pool;
 use firm_paths::Scratch;
-use firm_rules::{Book, Command, Limits, Outcome, RecentCosts, Refusal, Reply, Rows};
+use firm_rules::{
+    Book, Command, Limits, Outcome, RecentCosts, Refusal, Reply, Rows,
+    tasks_stay_where_they_may_stand, the_round_is_the_first,
+};
 use std::alloc::{AllocError, Global};
 use std::marker::Model;
 
@@ -69,6 +72,9 @@ impl Tenant {
     pub fn step(&mut self, alloc: Global, command: Command) -> Reply
         ensures { (result, self.new) ≡ step self.old command (is_memory result) }
     {
+        // Laws, by which the book stays sound.
+        tasks_stay_where_they_may_stand();
+        the_round_is_the_first();
         let life = self.limits().life();
         if life <= self.given {
             return Reply {
@@ -90,6 +96,7 @@ impl Tenant {
         requires life_left { self.old.given < self.old.rows.limits.life }
         ensures { (result, self.new) ≡ step self.old Command.Round true }
     {
+        tasks_stay_where_they_may_stand();
         // Life is left, so the count still fits 64 bits.
         prove!(self.given < self.limits().life());
         let number = self.given + 1;

@@ -5,7 +5,8 @@ use Rattle.firm_tenant.proofs.tenants.Tenant.no_memory.Goals as goal
 
 pub invariant_of-self : goal.invariant_of-self
 invariant_of-self c = (
-  sound-counted c.self.inside.pool.value c.self.inside.given c.self.invariant.0
+  sound-counted c.tasks_stay_where_they_may_stand.ensures c.self.inside.pool.value c.self.inside.given
+      c.self.invariant.0
       (omega (
         arith,
         c.requires.life_left,

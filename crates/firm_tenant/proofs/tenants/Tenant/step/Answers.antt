@@ -5,12 +5,14 @@ use Rattle.firm_rules.specs.SoundBook.{entry_count}
 use Rattle.firm_rules.specs.declared.replies.Outcome.{Outcome}
 use Rattle.firm_tenant.specs.inner.Pools.{book_of, Pool, IsSoundPool}
 use Rattle.firm_tenant.specs.Step.{step, effect, is_memory_outcome}
-use Rattle.firm_tenant.proofs.Entries.{AreShown, effect-grows, shown-after, sound-book_of}
+use Rattle.firm_tenant.proofs.Entries.{after-step, effect-grows, sound-book_of}
 use Rattle.firm_tenant.proofs.Steps.{effect-keeps, step-alive}
 use Rattle.firm_tenant.proofs.tenants.Tenant.step.Goals as goal
 
 pub invariant_of-self : goal.invariant_of-self
 invariant_of-self c =
+    let law = c.tasks_stay_where_they_may_stand.ensures in
+    let first = c.the_round_is_the_first.ensures in
     let old : Pool = c.self.inside.pool.value in
     let new : Pool = c.answer-outcome.new.self in
     let given = c.self.inside.given in
@@ -24,7 +26,7 @@ invariant_of-self c =
     omega (
       arith,
       ap (λ (a : Outcome × Book). entry_count a.1) (c.answer-outcome.ensures.effect 0),
-      (effect-grows (book_of c.deref_mut.result.now 0) c.args.command mark).few,
+      (effect-grows law first (book_of c.deref_mut.result.now 0) c.args.command mark).few,
       ap (λ (p : Pool). entry_count (book_of p 0)) was,
     ) in
     let alive : given < old.rows.limits.life =
@@ -35,12 +37,14 @@ invariant_of-self c =
       ap (λ (l : TenantLimits). l.life) c.limits.ensures,
       ap (λ (b : Book). b.rows.limits.life) c.self.view_is,
     ) in
-    let shown : AreShown (book_of new (given + 1)) =
-    shown-after old c.deref_mut.result.now new given c.args.command mark c.answer-outcome.result was
-    (c.answer-outcome.ensures.effect 0) c.self.invariant.0.form c.self.invariant.0.count c.self.invariant.0.rounds in (
+    let after =
+    after-step law first old c.deref_mut.result.now new given c.args.command mark c.answer-outcome.result was
+    (c.answer-outcome.ensures.effect 0)
+    (record { sound = c.self.invariant.0.rows; form = c.self.invariant.0.form }) c.self.invariant.0.count
+    c.self.invariant.0.rounds c.self.invariant.0.standing in (
       sound-book_of new (given + 1) (subst IsSoundPool c.deref.ensures c.cost_count.ensures.sound)
           (omega (arith, alive, ap (λ (l : TenantLimits). l.life) limits))
-          (omega (arith, grown, c.self.invariant.0.count)) shown,
+          (omega (arith, grown, c.self.invariant.0.count)) after.0 after.1,
       omega (arith, c.answer-outcome.ensures.asked, ap (λ (p : Pool). p.asked) was, c.self.invariant.1),
     )
 
