@@ -1,6 +1,7 @@
 -- What is returned of a text, by what the text gives.
 use Rattle.std.proofs.Common.{◌≡◌, ◌∙◌, ℕ, List, Result, Ok, Err, sym, inl, inr}
 use Rattle.std.specs.Prelude.{◌⊎◌, IfErr, IfOk, MatchResult}
+use Rattle.firm_rules.specs.SlotCosts.{LaterSlotsCostNoLess}
 use Rattle.firm_saved.specs.Saved.{IsSoundSaved}
 use Rattle.firm_saved.specs.StateLaws.{BeginAlike}
 use Rattle.firm_saved.specs.StateText.{state_text}
@@ -32,9 +33,11 @@ pub refused_of : (result : Result (List SavedPlace) StateFault) (text : List ℕ
 refused_of (Ok saved) text gives = tt
 refused_of (Err found) text gives = gives
 
-pub first_of : (result : Result (List SavedPlace) StateFault) (text : List ℕ) → GivesState result (state_of text)
+pub first_of : LaterSlotsCostNoLess → (result : Result (List SavedPlace) StateFault) (text : List ℕ)
+    → GivesState result (state_of text)
     → IfErr result (λ found. (found.kind ≡ fault.Memory) ⊎ ((places : List SavedPlace) → IsSoundSaved places
     → BeginAlike found.line (state_text places) text → ⊥))
-first_of (Ok saved) text gives = tt
-first_of (Err found) text (inl memory) = inl memory
-first_of (Err found) text (inr refused) = inr (λ places sound alike. first_fault text found places refused sound alike)
+first_of rises (Ok saved) text gives = tt
+first_of rises (Err found) text (inl memory) = inl memory
+first_of rises (Err found) text (inr refused) =
+    inr (λ places sound alike. first_fault rises text found places refused sound alike)

@@ -18,7 +18,9 @@ use Rattle.firm_rules.specs.declared.book.Machine.{Machine}
 use Rattle.firm_rules.specs.declared.book.Job.{Job}
 use Rattle.firm_rules.specs.declared.book.Task.{Task}
 use Rattle.firm_text.specs.Commands.{◌>>=◌}
-use Rattle.firm_rules.specs.SoundBook.{AreInForm, IsSoundBook, book_fault, is_cost, most_rounds, rounds_shown}
+use Rattle.firm_rules.specs.SoundBook.{AreInForm, IsSoundBook, MayStand, book_fault, is_cost, may_stand, most_rounds}
+use Rattle.firm_rules.specs.SoundBook.{rounds_shown}
+use Rattle.firm_rules.specs.SlotCosts.{LaterSlotsCostNoLess}
 use Rattle.firm_saved.specs.declared.faults.FaultKind.{FaultKind}
 use Rattle.firm_saved.specs.declared.faults.FaultKind.TheVariants as fault
 use Rattle.firm_saved.specs.declared.rows.Row.{Row}
@@ -26,10 +28,11 @@ use Rattle.firm_saved.specs.declared.rows.Row.TheVariants as row
 use Rattle.firm_saved.specs.declared.saved.SavedPlace.{SavedPlace}
 use Rattle.firm_saved.specs.Drafts.{Draft, TenantDraft, arena_fault, commands_fault, costs_fault, costs_read, either}
 use Rattle.firm_saved.specs.Drafts.{grown, limit_fault, new_tenant}
-use Rattle.firm_saved.specs.Drafts.{rounds_fault, rounds_with, row_count}
+use Rattle.firm_saved.specs.Drafts.{book_with, crowded_fault, rounds_fault, rounds_with, row_count}
 use Rattle.firm_saved.specs.Drafts.{has_room, job_fault, kind_of, machine_fault, naming_fault, running_fault}
 use Rattle.firm_saved.specs.Drafts.{taken, task_fault}
 use Rattle.firm_saved.specs.Drafts.{unless}
+use Rattle.firm_saved.proofs.Crowding.{lighter}
 use Rattle.firm_saved.proofs.LineRows.{apart}
 
 -- the draft after some rows
@@ -65,6 +68,8 @@ book_free book sound =
       le-ltb _ _ sound.count,
       each_passes (λ (task : Task). nat_le (rounds_shown task) (most_rounds book)) book.rows.tasks
           (λ k d below. le-leb _ _ (sound.rounds k d below)),
+      each_passes (λ (task : Task). may_stand book.rows (most_rounds book) task task.machine) book.rows.tasks
+          sound.standing,
     ) refl
 
 arena_none : (rows : TenantRows) (arcs : ℕ)
@@ -105,6 +110,7 @@ module _ (name : List ℕ) (costs : List ℤ) (given : ℕ) (final : TenantRows)
     final) (count : length final.machines + length final.jobs + length final.tasks + length costs ≤ given)
     (shown : All (λ (task : Task). rounds_shown task
     ≤ most_rounds (record { rows = final; costs = costs; given = given })) final.tasks)
+    (stand : MayStand (most_rounds (record { rows = final; costs = costs; given = given })) final)
     (before : List SavedPlace) (present : Option ℕ) where
   -- the tenant once these machines, jobs and tasks are read
   abbrev pub tenant_at : List Machine → List Job → List Task → TenantDraft
@@ -294,9 +300,31 @@ module _ (name : List ℕ) (costs : List ℤ) (given : ℕ) (final : TenantRows)
       ≤ most_rounds (record { rows = final; costs = costs; given = given }))) (sym is) shown)) in
       ap (λ (b : Bool). cond b (Some fault.Rounds) None) (le-ltb _ _ few.1)
 
-  task_free : (ts1 ts2 : List Task) (t : Task) → ts1 ++ t ∷ ts2 ≡ final.tasks
+  -- beside no more tasks, and after no fewer rounds
+  crowded_free : LaterSlotsCostNoLess → (ts1 ts2 : List Task) (t : Task) → ts1 ++ t ∷ ts2 ≡ final.tasks
+      → crowded_fault (tenant_at final.machines final.jobs ts1) t ≡ None
+  crowded_free rises ts1 ts2 t is =
+      let rounds : ℕ = most_rounds (record { rows = final; costs = costs; given = given }) in
+      let book : Book = book_with (tenant_at final.machines final.jobs ts1) t in
+      let long : length final.tasks ≡ length ts1 + suc (length ts2) =
+      ap (λ (l : List Task). length l) (sym is) ∙ length-append ts1 (t ∷ ts2) in
+      let later : rounds ≤ most_rounds book =
+      more_left (nat_lt (length costs) 8) (length costs) (row_count book.rows) (row_count final)
+      (omega (arith, long, length-append ts1 (t ∷ []))) in
+      let stood : may_stand final rounds t t.machine ≡ true =
+      middle (λ (x : Task). may_stand final rounds x x.machine ≡ true) ts1 ts2 t
+      (subst (All (λ (x : Task). may_stand final rounds x x.machine ≡ true)) (sym is) stand) in
+      lighter final rounds (most_rounds book) t later rises book (ts1 ++ t ∷ []) t.machine refl refl
+      (λ machine. fewer_run ts1 ts2 t machine is) stood
+    where
+      more_left : (b : Bool) (costs fewer all : ℕ) → fewer ≤ all
+          → cond b costs (given - all) ≤ cond b costs (given - fewer)
+      more_left true costs fewer all few = omega arith
+      more_left false costs fewer all few = omega (arith, few)
+
+  task_free : LaterSlotsCostNoLess → (ts1 ts2 : List Task) (t : Task) → ts1 ++ t ∷ ts2 ≡ final.tasks
       → task_fault (tenant_at final.machines final.jobs ts1) t ≡ None
-  task_free ts1 ts2 t is =
+  task_free rises ts1 ts2 t is =
       let tenant : TenantDraft = tenant_at final.machines final.jobs ts1 in
       let there =
       middle (λ (x : Task). IfSome x.machine (λ name. is_among (machine_names final) name ≡ true)) ts1 ts2 t
@@ -317,30 +345,33 @@ module _ (name : List ℕ) (costs : List ℤ) (given : ℕ) (final : TenantRows)
       let read : rounds + row_count final ≤ given =
       subst (λ (n : ℕ). n + row_count final ≤ given) (sym (read_push (length costs) ts1 t))
       (few_read (ts1 ++ t ∷ []) ts2 (append_assoc ts1 (t ∷ []) ts2 ∙ is)) in
+      let crowded : Option FaultKind = crowded_fault tenant t in
       ap (λ (o : Option FaultKind). either o (either (running_fault (rows_at ts1) t t.machine)
-      (either (rounds_fault costs t) limit))) (naming_free ts1 ts2 t is)
-      ∙ ap (λ (o : Option FaultKind). either o (either (rounds_fault costs t) limit))
+      (either (rounds_fault costs t) (either limit crowded)))) (naming_free ts1 ts2 t is)
+      ∙ ap (λ (o : Option FaultKind). either o (either (rounds_fault costs t) (either limit crowded)))
       (running_free ts1 ts2 t t.machine is there idle)
-      ∙ ap (λ (o : Option FaultKind). either o limit) (rounds_free ts1 ts2 t is)
-      ∙ limit_none tenant (3 + length t.preferred) rounds
+      ∙ ap (λ (o : Option FaultKind). either o (either limit crowded)) (rounds_free ts1 ts2 t is)
+      ∙ ap (λ (o : Option FaultKind). either o crowded)
+      (limit_none tenant (3 + length t.preferred) rounds
       (arena_none (rows_at ts1) (3 + length t.preferred) (let n = fits.nodes in omega arith)
       (let a = fits.arcs in omega arith))
-      (omega (arith, read, long))
+      (omega (arith, read, long)))
+      ∙ crowded_free rises ts1 ts2 t is
 
-  pub tasks_run : (ts1 ts2 : List Task) (tail : List Row) → ts1 ++ ts2 ≡ final.tasks
+  pub tasks_run : LaterSlotsCostNoLess → (ts1 ts2 : List Task) (tail : List Row) → ts1 ++ ts2 ≡ final.tasks
       → dsteps (draft_at final.machines final.jobs ts1) (map row.Task ts2 ++ tail)
       ≡ dsteps (draft_at final.machines final.jobs final.tasks) tail
-  tasks_run ts1 [] tail is =
+  tasks_run rises ts1 [] tail is =
       ap (λ (ts : List Task). dsteps (draft_at final.machines final.jobs ts) tail) (sym (append-nil ts1) ∙ is)
-  tasks_run ts1 (t ∷ ts2) tail is =
+  tasks_run rises ts1 (t ∷ ts2) tail is =
       goes (tenant_at final.machines final.jobs ts1) (tenant_at final.machines final.jobs (ts1 ++ t ∷ []))
       (row.Task t)
       (map row.Task ts2 ++ tail) refl
       (unless_none (task_fault (tenant_at final.machines final.jobs ts1) t)
       (record (tenant_at final.machines final.jobs (ts1 ++ t ∷ [])) {
         rounds = rounds_with (rounds_read (length costs) ts1) t;
-      }) (task_free ts1 ts2 t is)
+      }) (task_free rises ts1 ts2 t is)
       ∙ ap (λ (rounds : ℕ). let r : Result TenantDraft FaultKind = Ok
       (record (tenant_at final.machines final.jobs (ts1 ++ t ∷ [])) { rounds = rounds }) in r)
       (read_push (length costs) ts1 t))
-      ∙ tasks_run (ts1 ++ t ∷ []) ts2 tail (append_assoc ts1 (t ∷ []) ts2 ∙ is)
+      ∙ tasks_run rises (ts1 ++ t ∷ []) ts2 tail (append_assoc ts1 (t ∷ []) ts2 ∙ is)

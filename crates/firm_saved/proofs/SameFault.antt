@@ -13,6 +13,7 @@ use Rattle.firm_saved.specs.declared.faults.StateFault.{StateFault}
 use Rattle.firm_saved.specs.declared.saved.SavedPlace.{SavedPlace}
 use Rattle.firm_saved.specs.Drafts.{Draft, empty_draft, finished}
 use Rattle.firm_text.specs.Lines.{is_line_feed}
+use Rattle.firm_rules.specs.SlotCosts.{LaterSlotsCostNoLess}
 use Rattle.firm_saved.specs.Saved.{IsSoundSaved}
 use Rattle.firm_saved.specs.StateLaws.{BeginAlike}
 use Rattle.firm_saved.specs.StateText.{heading, state_text}
@@ -226,10 +227,9 @@ same_state (x ∷ xs) ys f e alike = by (bytes_eq x heading) refl e
         ap pieces_state head.cut ∙ rw other (ap Err own)
 
 -- no text of a sound state begins as a text up to its fault
-pub first_fault : (text : List ℕ) (f : StateFault) (places : List SavedPlace) → state_of text ≡ Err f
-    → IsSoundSaved places
-    → BeginAlike f.line (state_text places) text → ⊥
-first_fault text f places e sound alike =
-    no_err {E = StateFault} places f (sym (state_back places sound)
+pub first_fault : LaterSlotsCostNoLess → (text : List ℕ) (f : StateFault) (places : List SavedPlace)
+    → state_of text ≡ Err f → IsSoundSaved places → BeginAlike f.line (state_text places) text → ⊥
+first_fault rises text f places e sound alike =
+    no_err {E = StateFault} places f (sym (state_back rises places sound)
     ∙ same_state (slice_split is_line_feed text) (slice_split is_line_feed (state_text places)) f e
     (record { same = sym alike.lines; ended = sym alike.ended }))

@@ -19,6 +19,7 @@ use Rattle.firm_text.specs.Lines.{is_line_feed}
 use Rattle.firm_text.specs.Registers.{AreApart, IsCounted, most_admissions}
 use Rattle.firm_text.specs.Rosters.{most_places}
 use Rattle.firm_saved.specs.Saved.{IsSoundPlace, IsSoundSaved, entry_of, filled, register_of, tenant_name}
+use Rattle.firm_rules.specs.SlotCosts.{LaterSlotsCostNoLess}
 use Rattle.firm_rules.specs.SoundBook.{IsSoundBook, book_fault}
 use Rattle.firm_saved.specs.StateText.{book_rows, given_places, heading, place_rows, row_text, state_rows, state_text}
 use Rattle.firm_saved.specs.StateText.{tenant_rows}
@@ -155,42 +156,42 @@ whole_after done place sound = by place.tenant refl
         (sym is)
 
 -- the rows of a tenant's book
-book_run : (done : List SavedPlace) (admissions : ℕ) (name : List ℕ) (book : Book) (tail : List Row) → IsSoundBook book
-    → has_tenant done name ≡ false
+book_run : LaterSlotsCostNoLess → (done : List SavedPlace) (admissions : ℕ) (name : List ℕ) (book : Book)
+    (tail : List Row) → IsSoundBook book → has_tenant done name ≡ false
     → dsteps (record { before = done; present = Some admissions; tenant = None }) (book_rows name book ++ tail)
     ≡ dsteps (record { before = done; present = Some admissions; tenant = drafted (Some (name, book)) }) tail
-book_run done admissions name book tail sound free =
+book_run rises done admissions name book tail sound free =
     let start : Draft = record { before = done; present = Some admissions; tenant = None } in
     let seated : Draft =
     record start { tenant = Some (new_tenant name book.rows.limits book.given) } in
-    let at = draft_at name book.costs book.given book.rows sound.rows sound.form sound.count sound.rounds done
-    (Some admissions) in
+    let at = draft_at name book.costs book.given book.rows sound.rows sound.form sound.count sound.rounds
+    sound.standing done (Some admissions) in
     let fault_none : tenant_fault start name book.rows.limits book.given ≡ None =
     rw (free, le-ltb book.rows.limits.life book.given sound.life) refl in
     let rows : List Row = map row.Machine book.rows.machines ++ map row.Job book.rows.jobs
     ++ map row.Task book.rows.tasks ++ tail in
     ap (λ (r : Result Draft FaultKind). r >>= λ after. dsteps after (row.Costs book.costs ∷ rows))
     (unless_none (tenant_fault start name book.rows.limits book.given) seated fault_none)
-    ∙ costs_run name book.costs book.given book.rows sound.rows sound.form sound.count sound.rounds done
-    (Some admissions) rows
+    ∙ costs_run name book.costs book.given book.rows sound.rows sound.form sound.count sound.rounds
+    sound.standing done (Some admissions) rows
     ∙ ap (dsteps (at [] [] []))
     (append_assoc (map row.Machine book.rows.machines ++ map row.Job book.rows.jobs) (map row.Task book.rows.tasks) tail
     ∙ append_assoc (map row.Machine book.rows.machines) (map row.Job book.rows.jobs)
     (map row.Task book.rows.tasks ++ tail))
-    ∙ machines_run name book.costs book.given book.rows sound.rows sound.form sound.count sound.rounds done
-    (Some admissions) [] book.rows.machines
+    ∙ machines_run name book.costs book.given book.rows sound.rows sound.form sound.count sound.rounds
+    sound.standing done (Some admissions) [] book.rows.machines
     (map row.Job book.rows.jobs ++ (map row.Task book.rows.tasks ++ tail)) refl
-    ∙ jobs_run name book.costs book.given book.rows sound.rows sound.form sound.count sound.rounds done
-    (Some admissions) [] book.rows.jobs
+    ∙ jobs_run name book.costs book.given book.rows sound.rows sound.form sound.count sound.rounds
+    sound.standing done (Some admissions) [] book.rows.jobs
     (map row.Task book.rows.tasks ++ tail) refl
-    ∙ tasks_run name book.costs book.given book.rows sound.rows sound.form sound.count sound.rounds done
-    (Some admissions) [] book.rows.tasks tail refl
+    ∙ tasks_run name book.costs book.given book.rows sound.rows sound.form sound.count sound.rounds
+    sound.standing done (Some admissions) rises [] book.rows.tasks tail refl
 
 -- the rows of a place
-place_run : (d : Draft) (done : List SavedPlace) (place : SavedPlace) (tail : List Row) → whole d ≡ Ok done
-    → MayFollow done place
+place_run : LaterSlotsCostNoLess → (d : Draft) (done : List SavedPlace) (place : SavedPlace) (tail : List Row)
+    → whole d ≡ Ok done → MayFollow done place
     → dsteps d (place_rows place ++ tail) ≡ dsteps (draft_after done place) tail
-place_run d done place tail is follows =
+place_run rises d done place tail is follows =
     let opening : Draft = record { before = done; present = Some place.admissions; tenant = None } in
     let room : place_fault done place.admissions ≡ None =
     rw (
@@ -214,7 +215,7 @@ place_run d done place tail is follows =
     by (Some tenant) is =
         let sound = subst (λ t. IfSome t
         (λ (x : List ℕ × Book). (is_name x.0 ≡ true) × IsSoundBook x.1)) is follows.sound in
-        rw is (book_run done place.admissions tenant.0 tenant.1 tail sound.1
+        rw is (book_run rises done place.admissions tenant.0 tenant.1 tail sound.1
         (follows.free tenant.0 (ap (option_map (λ (x : List ℕ × Book). x.0)) is)))
 
 -- what the rows of some places behind others make
@@ -240,19 +241,20 @@ follows_at done rest place sound given =
           (subst (AllPairs AreApart) wide sound.apart))) is;
     }
 
-places_run : (d : Draft) (done places : List SavedPlace) → whole d ≡ Ok done → AreSoundPlaces (done ++ places)
-    → AllByRecursion WasGiven places → AreTaken d (flat_map place_rows places) (done ++ places)
-places_run d done [] is sound given =
+places_run : LaterSlotsCostNoLess → (d : Draft) (done places : List SavedPlace) → whole d ≡ Ok done
+    → AreSoundPlaces (done ++ places) → AllByRecursion WasGiven places
+    → AreTaken d (flat_map place_rows places) (done ++ places)
+places_run rises d done [] is sound given =
     record { last = d; taken = refl; whole_is = is ∙ ap Ok (sym (append-nil done)) }
-places_run d done (place ∷ places) is sound given =
+places_run rises d done (place ∷ places) is sound given =
     let follows = follows_at done places place sound given.0 in
     let regrouped : done ++ place ∷ places
     ≡ (done ++ place ∷ []) ++ places = sym (append_assoc done (place ∷ []) places) in
-    let others = places_run (draft_after done place) (done ++ place ∷ []) places (whole_after done place follows.sound)
-    (subst AreSoundPlaces regrouped sound) given.1 in
+    let others = places_run rises (draft_after done place) (done ++ place ∷ []) places
+    (whole_after done place follows.sound) (subst AreSoundPlaces regrouped sound) given.1 in
     record {
       last = others.last;
-      taken = place_run d done place (flat_map place_rows places) is follows ∙ others.taken;
+      taken = place_run rises d done place (flat_map place_rows places) is follows ∙ others.taken;
       whole_is = others.whole_is ∙ ap Ok (sym regrouped);
     }
 
@@ -277,14 +279,14 @@ state_split rows each few =
     (and_from (above 10 (row_line (row.Rows (length rows)))) true (line_clean (row.Rows (length rows)) few) refl))
 
 -- the state of the lines of a state
-lines_state : (places : List SavedPlace) → IsSoundSaved places
+lines_state : LaterSlotsCostNoLess → (places : List SavedPlace) → IsSoundSaved places
     → pieces_state (state_lines (state_rows places) ++ [] ∷ []) ≡ Ok places
-lines_state places sound =
+lines_state rises places sound =
     let given : List SavedPlace = given_places places in
     let rows : List Row = state_rows places in
     let good = given_sound places sound in
     let facts = rows_are given good in
-    let run = places_run empty_draft [] given refl good (all_given places sound.in_order.before) in
+    let run = places_run rises empty_draft [] given refl good (all_given places sound.in_order.before) in
     let n : ℕ = length rows in
     let tail : List (List ℕ) = row_line (row.Rows n) ∷ [] ∷ [] in
     let count : 2 + n - 2 ≡ n = omega arith in
@@ -307,7 +309,8 @@ lines_state places sound =
         rw (row_back (row.Rows n) few, counted, done) refl
 
 -- the text of a sound state is read as this state
-pub state_back : (places : List SavedPlace) → IsSoundSaved places → state_of (state_text places) ≡ Ok places
-state_back places sound =
+pub state_back : LaterSlotsCostNoLess → (places : List SavedPlace) → IsSoundSaved places
+    → state_of (state_text places) ≡ Ok places
+state_back rises places sound =
     let facts = rows_are (given_places places) (given_sound places sound) in
-    ap pieces_state (state_split (state_rows places) facts.0 facts.1) ∙ lines_state places sound
+    ap pieces_state (state_split (state_rows places) facts.0 facts.1) ∙ lines_state rises places sound

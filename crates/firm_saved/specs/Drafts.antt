@@ -15,14 +15,14 @@ use Rattle.firm_text.specs.Commands.{◌>>=◌}
 use Rattle.firm_text.specs.Registers.{is_named, most_admissions}
 use Rattle.firm_text.specs.Rosters.{most_places}
 use Rattle.firm_saved.specs.Saved.{filled, tenant_name}
-use Rattle.firm_rules.specs.SoundBook.{book_fault, rounds_shown}
+use Rattle.firm_rules.specs.SoundBook.{book_fault, may_run, most_rounds, rounds_shown}
 use Rattle.firm_saved.specs.declared.faults.FaultKind.{FaultKind}
 use Rattle.firm_saved.specs.declared.faults.FaultKind.TheVariants as fault
 use Rattle.firm_saved.specs.declared.rows.Row.{Row}
 use Rattle.firm_saved.specs.declared.rows.Row.TheVariants as row
 use Rattle.firm_saved.specs.declared.saved.SavedPlace.{SavedPlace}
 use Rattle.firm_rules.specs.declared.books.BookFault.{BookFault}
-use Rattle.firm_rules.specs.declared.books.BookFault.TheVariants.{Cost, Life, Count, Rounds}
+use Rattle.firm_rules.specs.declared.books.BookFault.TheVariants.{Cost, Life, Count, Rounds, Crowded}
 
 -- a tenant of whose rows some were read; no costs mean that their row was not; there were this many
 -- rounds at least, by the costs and tasks that were read
@@ -125,6 +125,22 @@ rounds_fault costs task = if nat_lt (length costs) (min 8 (rounds_shown task)) t
 abbrev pub rounds_with : ℕ → Task → ℕ
 rounds_with rounds task = max rounds (rounds_shown task)
 
+-- the book of a tenant that has no more rows than these and the task
+abbrev pub book_with : TenantDraft → Task → Book
+book_with tenant task =
+    record { rows = with_restored tenant.rows task; costs = costs_read tenant.costs; given = tenant.given }
+
+-- the task runs where its wait would cost less than its slot, in each round that there may have been
+abbrev pub slot_fault : Book → Task → Option (List ℕ) → Option FaultKind
+slot_fault book task None = None
+slot_fault book task (Some machine) =
+    if may_run book.rows (most_rounds book) task machine (running_on book.rows machine) then None
+    else Some fault.Crowded
+
+-- so it does beside the tasks that were read; what the tasks that wait bid is judged once all are
+abbrev pub crowded_fault : TenantDraft → Task → Option FaultKind
+crowded_fault tenant task = slot_fault (book_with tenant task) task task.machine
+
 -- why a task may not be the next row of a tenant
 abbrev pub task_fault : TenantDraft → Task → Option FaultKind
 task_fault tenant task =
@@ -132,7 +148,8 @@ task_fault tenant task =
     else either (naming_fault tenant.rows task)
     (either (running_fault tenant.rows task task.machine)
     (either (rounds_fault (costs_read tenant.costs) task)
-    (limit_fault tenant (3 + length task.preferred) (rounds_with tenant.rounds task))))
+    (either (limit_fault tenant (3 + length task.preferred) (rounds_with tenant.rounds task))
+    (crowded_fault tenant task))))
 
 -- the tenant once its costs, a machine, a job or a task are read
 abbrev pub after_costs : TenantDraft → List ℤ → Result TenantDraft FaultKind
@@ -169,6 +186,7 @@ kind_of Cost = fault.BadNumber
 kind_of Life = fault.Commands
 kind_of Count = fault.Commands
 kind_of Rounds = fault.Rounds
+kind_of Crowded = fault.Crowded
 
 -- the tenant's name and its book, once its rows are read
 abbrev pub booked : TenantDraft → Option (List ℤ) → Result (List ℕ × Book) FaultKind

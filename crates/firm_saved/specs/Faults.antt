@@ -4,6 +4,7 @@ use Rattle.firm_saved.specs.declared.faults.FaultKind.{FaultKind}
 use Rattle.firm_saved.specs.declared.faults.FaultKind.TheVariants.{Version, Row, BadName, BadNumber, Repeated}
 use Rattle.firm_saved.specs.declared.faults.FaultKind.TheVariants.{NoSuchJob, NoSuchMachine, NoRoom, ArenaNodes}
 use Rattle.firm_saved.specs.declared.faults.FaultKind.TheVariants.{ArenaArcs, Commands, Places, Rows, Memory, Rounds}
+use Rattle.firm_saved.specs.declared.faults.FaultKind.TheVariants.{Crowded}
 
 -- the number of a fault
 abbrev pub fault_code : FaultKind → ℕ
@@ -22,6 +23,7 @@ fault_code Places = 12
 fault_code Rows = 13
 fault_code Memory = 14
 fault_code Rounds = 15
+fault_code Crowded = 16
 
 -- the name of a fault, as a program prints it
 abbrev pub fault_name : FaultKind → List ℕ
@@ -40,3 +42,4 @@ fault_name Places = codes "places"
 fault_name Rows = codes "rows"
 fault_name Memory = codes "memory"
 fault_name Rounds = codes "rounds"
+fault_name Crowded = codes "crowded"

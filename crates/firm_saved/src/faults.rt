@@ -45,10 +45,14 @@ pub enum FaultKind {
     Memory,
     /// The task runs or has waited, and there were fewer rounds by the costs, of which the last 8 are kept.
     Rounds,
+    /// The task runs where its wait would cost less than its slot, in each round that there may have been. Of a task
+    /// that later rows crowd, or whose slot is worth more to one that waits, the line is that which ends the tenant's
+    /// rows.
+    Crowded,
 }
 
 impl FaultKind {
-    /// The number of the fault, 1 to 15.
+    /// The number of the fault, 1 to 16.
     pub fn code(self) -> u32
         ensures { result ≡ fault_code self }
     {
@@ -68,6 +72,7 @@ impl FaultKind {
             FaultKind::Rows => 13,
             FaultKind::Memory => 14,
             FaultKind::Rounds => 15,
+            FaultKind::Crowded => 16,
         }
     }
 
@@ -91,6 +96,7 @@ impl FaultKind {
             FaultKind::Rows => "rows",
             FaultKind::Memory => "memory",
             FaultKind::Rounds => "rounds",
+            FaultKind::Crowded => "crowded",
         }
     }
 }

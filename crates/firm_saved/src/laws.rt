@@ -5,11 +5,15 @@ ghost use Rattle.firm_saved.specs.StateLaws.{AdmissionsKeepOrder, RetirementsKee
 ghost use Rattle.firm_saved.specs.StateText.{state_text};
 ghost use Rattle.firm_saved.specs.declared.saved.SavedPlace.{SavedPlace};
 
+use firm_rules::loads_are_sums_of_slots;
+
 /// A text tells its state: two sound states with one text are one.
 pub fn a_text_has_one_state()
     ensures { (first second : List SavedPlace) → IsSoundSaved first → IsSoundSaved second
         → state_text first ≡ state_text second → first ≡ second }
-{}
+{
+    loads_are_sums_of_slots();
+}
 
 /// Places are first given in their order: a roster's tenants get the first ones, and an admission gets a place that was
 /// given before, or else the first that never was.

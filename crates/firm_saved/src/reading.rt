@@ -16,6 +16,7 @@ use crate::drafts::Draft;
 use crate::faults::{FaultKind, StateFault};
 use crate::saved::Saved;
 use crate::words::cut;
+use firm_rules::loads_are_sums_of_slots;
 use std::alloc::Global;
 
 const HEADING: &[u8] = b"firm state 1";
@@ -34,6 +35,7 @@ impl Saved {
         ensures first { IfErr result (λ found. (found.kind ≡ fault.Memory) ⊎ ((places : List SavedPlace)
             → IsSoundSaved places → BeginAlike found.line (state_text places) text.now → ⊥)) }
     {
+        loads_are_sums_of_slots();
         read_text(alloc, text)
     }
 }

@@ -6,17 +6,20 @@ ghost use Rattle.firm_rules.specs.Book.{Book as BookRow, with_job, with_machine}
 ghost use Rattle.firm_rules.specs.Book.{machine_names, with_restored};
 ghost use Rattle.firm_rules.specs.Names.{is_among};
 ghost use Rattle.firm_rules.specs.declared.book.Task.{Task as TaskRow};
-ghost use Rattle.firm_rules.specs.SoundBook.{IsSoundBook};
+ghost use Rattle.firm_rules.specs.SoundBook.{IsSoundBook, most_rounds};
 ghost use Rattle.firm_saved.specs.Drafts.{after_costs, after_job, after_machine, after_task, arena_fault, booked};
 ghost use Rattle.firm_saved.specs.Drafts.{commands_fault, costs_fault, costs_read, grown, job_fault, kind_of};
 ghost use Rattle.firm_saved.specs.Drafts.{limit_fault, machine_fault, naming_fault, new_tenant, rounds_fault};
-ghost use Rattle.firm_saved.specs.Drafts.{rounds_with, running_fault, task_fault};
+ghost use Rattle.firm_saved.specs.Drafts.{book_with, crowded_fault, rounds_with, running_fault, task_fault};
 ghost use Rattle.firm_saved.specs.inner.Loads.{AreLoads, loads_of, view};
 ghost use Rattle.firm_saved.specs.inner.Returned.{Gives};
 
 use crate::faults::FaultKind;
 use crate::rows::Row;
-use firm_rules::{Book, BookFault, Job, Limits, Machine, Name, RecentCosts, Rows, Task, use_of};
+use firm_rules::{
+    Book, BookFault, Job, Limits, MOST_COSTS, Machine, Name, RecentCosts, Rows, Task, may_run,
+    use_of,
+};
 use std::alloc::Global;
 
 /// The tenant whose rows are being read.
@@ -165,7 +168,49 @@ impl TenantDraft {
         if let Some(kind) = rounds_fault(self.costs, task) {
             return Some(kind);
         }
-        self.limit_fault(3 + task.preferred.len() as u64, self.rounds_with(task))
+        let arcs = 3 + task.preferred.len() as u64;
+        if let Some(kind) = self.limit_fault(arcs, self.rounds_with(task)) {
+            return Some(kind);
+        }
+        self.crowded_fault(task)
+    }
+
+    // Why no round may have left the task on its machine, if it runs, among those that are read.
+    fn crowded_fault(&self, task: &Task) -> Option<FaultKind>
+        requires loads { AreLoads self.now }
+        requires there { IfSome task.now.machine (λ name. is_among (machine_names self.now.rows) name ≡ true) }
+        ensures { result ≡ crowded_fault (view self.now) task.now }
+    {
+        let machine = task.machine?;
+        let place = self.rows.machine_place(machine)?;
+        // No machine runs more tasks than it has slots, so no load wraps.
+        prove!(self.rows.limits().nodes() <= 4_096);
+        let load = u64::from(self.loads[place]) + 1;
+        if may_run(
+            &self.rows,
+            self.most_rounds_with_task(),
+            task,
+            machine,
+            load,
+        ) {
+            None
+        } else {
+            Some(FaultKind::Crowded)
+        }
+    }
+
+    // How many rounds there may have been, if a task is the last row.
+    fn most_rounds_with_task(&self) -> u64
+        ensures { (task : TaskRow) → result ≡ most_rounds (book_with (view self.now) task) }
+    {
+        let left = cost_count(self.costs);
+        if left < MOST_COSTS {
+            return left as u64;
+        }
+        // The rows fit the limits, so no sum wraps.
+        prove!(self.rows.limits().nodes() <= 4_096);
+        let rows = self.rows.machine_count() + self.rows.job_count() + self.rows.task_count() + 1;
+        self.given.saturating_sub(rows as u64)
     }
 
     fn running_fault(&self, task: &Task, machine: Name) -> Option<FaultKind>
@@ -241,6 +286,7 @@ impl TenantDraft {
             Err(BookFault::Cost) => Err(FaultKind::BadNumber),
             Err(BookFault::Life | BookFault::Count) => Err(FaultKind::Commands),
             Err(BookFault::Rounds) => Err(FaultKind::Rounds),
+            Err(BookFault::Crowded) => Err(FaultKind::Crowded),
         }
     }
 }

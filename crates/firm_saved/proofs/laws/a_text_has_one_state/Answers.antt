@@ -7,4 +7,6 @@ use Rattle.firm_saved.proofs.laws.a_text_has_one_state.Goals as goal
 
 pub returns : goal.returns
 returns c first second sound other same =
-    ok_is {E = StateFault} first second (sym (state_back first sound) ∙ ap state_of same ∙ state_back second other)
+    let rises = c.loads_are_sums_of_slots.ensures.rises in
+    ok_is {E = StateFault} first second
+    (sym (state_back rises first sound) ∙ ap state_of same ∙ state_back rises second other)

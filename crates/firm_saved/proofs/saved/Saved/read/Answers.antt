@@ -11,10 +11,11 @@ returns-clause-found c =
 pub returns-clause-only : goal.returns-clause-only
 returns-clause-only c places sound is =
     only_of c.read_text.result c.args.text.now c.read_text.ensures.read places sound
-    (ap state_of is ∙ state_back places sound)
+    (ap state_of is ∙ state_back c.loads_are_sums_of_slots.ensures.rises places sound)
 
 pub returns-clause-first : goal.returns-clause-first
-returns-clause-first c = first_of c.read_text.result c.args.text.now c.read_text.ensures.read
+returns-clause-first c =
+    first_of c.loads_are_sums_of_slots.ensures.rises c.read_text.result c.args.text.now c.read_text.ensures.read
 
 pub returns-clause-refused : goal.returns-clause-refused
 returns-clause-refused c = refused_of c.read_text.result c.args.text.now c.read_text.ensures.read
