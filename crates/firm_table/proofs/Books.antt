@@ -23,11 +23,11 @@ use Rattle.firm_table.specs.Places.{book_of, with_command, commanded, left_by, r
 use Rattle.firm_table.specs.Places.{obeyed}
 use Rattle.firm_table.specs.Answers.{reply_answer, answer_to_command, is_operator_memory}
 use Rattle.firm_table.specs.declared.answers.LineAnswer.TheVariants.{Replied, ToOperator}
-use Rattle.firm_table.specs.inner.Adding.{TenantsAreAnswered, StrangersAreAnswered, AdmissionsAreAnswered}
-use Rattle.firm_table.specs.inner.Adding.{AdmissionsFindNoMemory, AdmissionsAreRefused, RetirementsAreAnswered}
-use Rattle.firm_table.specs.inner.Adding.{RetirementsAreRefused}
+use Rattle.firm_table.specs.Adding.{TenantsAreAnswered, StrangersAreAnswered, AdmissionsAreAnswered}
+use Rattle.firm_table.specs.Adding.{AdmissionsFindNoMemory, AdmissionsAreRefused, RetirementsAreAnswered}
+use Rattle.firm_table.specs.Adding.{RetirementsAreRefused}
 use Rattle.firm_table.specs.Tenants.{TenantsState, tenants_are}
-use Rattle.firm_table.specs.inner.Line.{books_of, Shows}
+use Rattle.firm_table.specs.Progress.{books_of, Shows}
 use Rattle.firm_table.proofs.Alones.{book_of-more, last_reply-more}
 use Rattle.firm_table.proofs.Lookups.{not_here}
 use Rattle.firm_table.proofs.Opened.{opened_at, opened_is}

@@ -1,6 +1,6 @@
 -- The state in which a service ends.
 use Rattle.std.proofs.Common.{◌≡◌, ℕ, List, [], ◌∷◌, ◌++◌, refl, sym, ap, subst, ◌∙◌, append-nil}
-use Rattle.std.specs.Prelude.{Option, Some, None, option_map}
+use Rattle.std.specs.Prelude.{Bool, true, Option, Some, None, option_map}
 use Rattle.std.specs.Io.KnownBytes.{Appends}
 use Rattle.std.proofs.KnownBytes.{Appends-kept}
 use Rattle.firm_rules.specs.Book.{Book}
@@ -12,8 +12,8 @@ use Rattle.firm_table.specs.Service.{Device, ServedFrom}
 use Rattle.firm_table.specs.Telling.{ToldToTheEnd}
 use Rattle.firm_table.specs.Ends.{named_book, state_with, tenants_state, ServedTo}
 use Rattle.firm_table.specs.Tenants.{TenantsState}
-use Rattle.firm_table.specs.inner.Line.{State, books_of}
-use Rattle.firm_table.specs.inner.Granting.{ToldGranted}
+use Rattle.firm_table.specs.Progress.{State, books_of}
+use Rattle.firm_table.specs.inner.Granting.{ToldAs}
 
 named_stay : (stay : Option Stay)
     → named_book (option_map (λ (s : Stay). s.name) stay) (option_map book_of stay)
@@ -30,11 +30,11 @@ state_at (place ∷ rest) =
     ∙ ap (λ (saved : List SavedPlace). saved_place place ∷ saved) (state_at rest)
 
 -- all was read, and nothing is still to be written
-ends_with : (state : State) (most : ℕ) (reader writer : Device) (after : TenantsState)
-    → after ≡ state.tenants → state.pending ≡ []
-    → ToldToTheEnd (ToldGranted state) most reader writer → ServedFrom state.opening most reader writer
+ends_with : (granted : Bool) (state : State) (most : ℕ) (reader writer : Device) (after : TenantsState)
+    → granted ≡ true → after ≡ state.tenants → state.pending ≡ []
+    → ToldToTheEnd (ToldAs granted state) most reader writer → ServedFrom state.opening most reader writer
     → ServedTo state.opening most reader writer after
-ends_with state most reader writer after is none end served =
+ends_with granted state most reader writer after all is none end served =
     let t = end.told.told.told in
     let places : List Place = after_lines state.opening t.lines in
     let whole : t.sent ≡ output_from state.opening t.lines =
@@ -54,7 +54,7 @@ ends_with state most reader writer after is none end served =
         reads = served.reads;
         writes = served.writes;
       };
-      granted = end.told.told.granted;
+      granted = end.told.told.granted all;
       state =
           ap tenants_state is
           ∙ ap (λ (register : List Entry). state_with register state.tenants.books) (sym t.shows.register)
@@ -63,11 +63,12 @@ ends_with state most reader writer after is none end served =
     }
 
 -- the same of the places that a body knows to be these
-pub served_to : (opening : List Place) (state : State) (most : ℕ) (reader writer : Device) (after : TenantsState)
-    → state.opening ≡ opening → after ≡ state.tenants → state.pending ≡ []
-    → ToldToTheEnd (ToldGranted state) most reader writer → ServedFrom opening most reader writer
+pub served_to : (opening : List Place) (granted : Bool) (state : State) (most : ℕ) (reader writer : Device)
+    (after : TenantsState)
+    → state.opening ≡ opening → granted ≡ true → after ≡ state.tenants → state.pending ≡ []
+    → ToldToTheEnd (ToldAs granted state) most reader writer → ServedFrom opening most reader writer
     → ServedTo opening most reader writer after
-served_to opening state most reader writer after same is none end served =
+served_to opening granted state most reader writer after same all is none end served =
     subst (λ (places : List Place). ServedTo places most reader writer after) same
-    (ends_with state most reader writer after is none end
+    (ends_with granted state most reader writer after all is none end
     (subst (λ (places : List Place). ServedFrom places most reader writer) (sym same) served))

@@ -19,6 +19,7 @@ mod Texts
 mod Stops
 mod Ending
 mod Stating
+mod Ways
 mod Stations
 mod Kept
 mod Machine

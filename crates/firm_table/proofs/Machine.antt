@@ -10,8 +10,8 @@ use Rattle.firm_tenant.specs.Laws.{RepliesTellTheirMarks}
 use Rattle.firm_text.specs.Rosters.{RosterRow, most_places}
 use Rattle.firm_table.specs.Interleaving.{is_home, Seat, TableState, MarkedEvent, opening_seat, unused_seat}
 use Rattle.firm_table.specs.Interleaving.{opening_table, taken_by, local, seat_behind, at_place, place_held, taking}
-use Rattle.firm_table.specs.Interleaving.{take_front, may_take, answering, happens, event_answers, table_after}
-use Rattle.firm_table.specs.Histories.{History, history_here, ended_here, named_place, is_at, history_with}
+use Rattle.firm_table.specs.Interleaving.{take_front, may_take, at_event, happens, event_answers, table_after}
+use Rattle.firm_table.specs.Histories.{History, history_here, ended_here, history_with}
 use Rattle.firm_table.specs.Histories.{history_behind, ended_with, ended_behind, opening_history, history_at, ended_at}
 use Rattle.firm_table.specs.Histories.{AreFirstReplies, StaysAreCounted, EventsKeepAlone}
 use Rattle.firm_table.specs.declared.events.Event.{Event}
@@ -19,7 +19,7 @@ use Rattle.firm_table.specs.declared.events.Event.TheVariants.{Post, Ask, Take, 
 use Rattle.firm_table.specs.declared.events.Answer.{Answer as EventAnswer}
 use Rattle.firm_table.specs.declared.events.Answer.TheVariants.{NotNow}
 use Rattle.firm_rules.specs.declared.tickets.Ticket.{Ticket}
-use Rattle.firm_table.proofs.Stations.{Fits, nothing_past}
+use Rattle.firm_table.proofs.Stations.{Fits, nothing_past, here_not_now, ended_not_now}
 use Rattle.firm_table.proofs.Kept.{HaveAll, have_none, said_of, IsKept, kept_local, kept_taken, stands_there}
 
 -- two places are one or differ
@@ -65,90 +65,55 @@ none_more : (ended : List History) (history : Option History) (found : Option Se
 none_more ended history found kept =
     subst (λ (stays : List History). KeptSeat stays history found) (sym (append-nil ended)) kept
 
--- an event that does not fit adds nothing
-here_not_now : (history : Option History) (event : Event) → history_here history event NotNow ≡ history
-here_not_now history (Post place command) = refl
-here_not_now history (Ask place) = refl
-here_not_now history (Collect place) = refl
-here_not_now history (Admit place limits) = refl
-here_not_now history (Retire place) = refl
-here_not_now history (Take worker) = refl
-here_not_now history (Answer worker) = refl
-
 if_same : {X : Type 0} (b : Bool) (x y : X) → x ≡ y → (if b then x else y) ≡ y
 if_same true x y e = e
 if_same false x y e = refl
 
-with_not_now : (place : ℕ) (history : Option History) (event : Event)
-    → history_with place history event NotNow ≡ history
-with_not_now place history event =
-    if_same (is_at place (named_place event)) (history_here history event NotNow) history (here_not_now history event)
-
-ended_not_now : (place : ℕ) (history : Option History) (event : Event) → ended_with place history event NotNow ≡ []
-ended_not_now place history event =
-    if_same (is_at place (named_place event)) (ended_here history event NotNow) [] (none event)
-  where
-    none : (event : Event) → ended_here history event NotNow ≡ []
-    none (Post at command) = refl
-    none (Ask at) = refl
-    none (Collect at) = refl
-    none (Admit at limits) = refl
-    none (Retire at) = refl
-    none (Take worker) = refl
-    none (Answer worker) = refl
-
--- an event at one place
-keeps_event : RepliesTellTheirMarks → (place other : ℕ) (ended : List History) (history : Option History)
+-- an event at a place, by whether that is this place
+keeps_at : RepliesTellTheirMarks → (place other : ℕ) (ended : List History) (history : Option History)
     (table : TableState) (found : Option Seat) (event : Event) (mark : Bool)
-    → slice_get table.seats other ≡ found → named_place event ≡ Some other → Places other place
-    → KeptAt place ended history table.seats
+    → slice_get table.seats other ≡ found → Places other place → KeptAt place ended history table.seats
     → let answer = (at_place table other found event mark).0 in
-    KeptAt place (ended ++ ended_with place history event answer) (history_with place history event answer)
+    KeptAt place (ended ++ (if other == place then ended_here history event answer else []))
+    (if other == place then history_here history event answer else history)
     (at_place table other found event mark).1.seats
-keeps_event told place other ended history table None event mark here named which kept =
+keeps_at told place other ended history table None event mark here which kept =
+    let same = here_not_now history event in
+    let none = ended_not_now history event in
     subst (λ (stays : List History). KeptAt place (ended ++ stays)
-    (history_with place history event NotNow) table.seats) (sym (ended_not_now place history event))
-    (subst (λ (h : Option History). KeptAt place (ended ++ []) h table.seats) (sym (with_not_now place history event))
+    (if other == place then history_here history event NotNow else history) table.seats)
+    (sym (if_same (other == place) (ended_here history event NotNow) [] none))
+    (subst (λ (h : Option History). KeptAt place (ended ++ []) h table.seats)
+    (sym (if_same (other == place) (history_here history event NotNow) history same))
     (none_more ended history (slice_get table.seats place) kept))
-keeps_event told place other ended history table (Some seat) event mark here named (one _) kept =
+keeps_at told place other ended history table (Some seat) event mark here (one _) kept =
     let after = local seat place event mark in
     let was : IsKept ended history seat = rw here at kept in
-    rw (named, eq_itself place)
+    rw (eq_itself place)
     (subst (KeptSeat (ended ++ ended_here history event after.0) (history_here history event after.0))
     (sym (set_here table.seats place seat (seat_behind seat after) here))
     (kept_local told ended history seat place event mark was))
-keeps_event told place other ended history table (Some seat) event mark here named (two _ _ apart) kept =
-    rw (named, apart)
+keeps_at told place other ended history table (Some seat) event mark here (two _ _ apart) kept =
+    rw apart
     (subst (KeptSeat (ended ++ []) history)
     (sym (set_there table.seats other place (seat_behind seat (local seat other event mark)) apart))
     (none_more ended history (slice_get table.seats place) kept))
 
--- a worker's answer
-keeps_held : RepliesTellTheirMarks → (place other worker : ℕ) (ended : List History) (history : Option History)
-    (table : TableState) (found : Option Seat) (mark : Bool)
-    → slice_get table.seats other ≡ found → Places other place → KeptAt place ended history table.seats
-    → KeptAt place (ended ++ []) history (at_place table other found (Answer worker) mark).1.seats
-keeps_held told place other worker ended history table None mark here which kept =
-    none_more ended history (slice_get table.seats place) kept
-keeps_held told place other worker ended history table (Some seat) mark here (one _) kept =
-    let was : IsKept ended history seat = rw here at kept in
-    subst (KeptSeat (ended ++ []) history)
-    (sym (set_here table.seats place seat (seat_behind seat (local seat place (Answer worker) mark)) here))
-    (kept_local told ended history seat place (Answer worker) mark was)
-keeps_held told place other worker ended history table (Some seat) mark here (two _ _ apart) kept =
-    subst (KeptSeat (ended ++ []) history)
-    (sym (set_there table.seats other place (seat_behind seat (local seat other (Answer worker) mark)) apart))
-    (none_more ended history (slice_get table.seats place) kept)
-
+-- a worker's answer, which adds nothing
 keeps_answering : RepliesTellTheirMarks → (place worker : ℕ) (ended : List History) (history : Option History)
     (table : TableState) (holding : Option ℕ) (mark : Bool)
     → KeptAt place ended history table.seats
-    → KeptAt place (ended ++ []) history (answering table worker holding mark).1.seats
+    → KeptAt place (ended ++ []) history (at_event table holding (Answer worker) mark).1.seats
 keeps_answering told place worker ended history table None mark kept =
     none_more ended history (slice_get table.seats place) kept
 keeps_answering told place worker ended history table (Some other) mark kept =
-    keeps_held told place other worker ended history table (slice_get table.seats other) mark refl
-    (places other place) kept
+    let after = (at_event table (Some other) (Answer worker) mark).1 in
+    subst (λ (stays : List History). KeptAt place (ended ++ stays) history after.seats)
+    (if_same (other == place) [] [] refl)
+    (subst (λ (h : Option History). KeptAt place (ended ++ (if other == place then [] else [])) h after.seats)
+    (if_same (other == place) history history refl)
+    (keeps_at told place other ended history table (slice_get table.seats other) (Answer worker) mark refl
+    (places other place) kept))
 
 -- a worker takes the front
 keeps_taking : (place worker : ℕ) (ended : List History) (history : Option History) (table : TableState)
@@ -198,19 +163,19 @@ keeps_happens told place ended history table (Take worker, mark) kept =
 keeps_happens told place ended history table (Answer worker, mark) kept =
     keeps_answering told place worker ended history table (place_held worker table.seats) mark kept
 keeps_happens told place ended history table (Post other command, mark) kept =
-    keeps_event told place other ended history table (slice_get table.seats other) (Post other command) mark refl refl
+    keeps_at told place other ended history table (slice_get table.seats other) (Post other command) mark refl
     (places other place) kept
 keeps_happens told place ended history table (Ask other, mark) kept =
-    keeps_event told place other ended history table (slice_get table.seats other) (Ask other) mark refl refl
+    keeps_at told place other ended history table (slice_get table.seats other) (Ask other) mark refl
     (places other place) kept
 keeps_happens told place ended history table (Collect other, mark) kept =
-    keeps_event told place other ended history table (slice_get table.seats other) (Collect other) mark refl refl
+    keeps_at told place other ended history table (slice_get table.seats other) (Collect other) mark refl
     (places other place) kept
 keeps_happens told place ended history table (Admit other limits, mark) kept =
-    keeps_event told place other ended history table (slice_get table.seats other) (Admit other limits) mark refl refl
+    keeps_at told place other ended history table (slice_get table.seats other) (Admit other limits) mark refl
     (places other place) kept
 keeps_happens told place ended history table (Retire other, mark) kept =
-    keeps_event told place other ended history table (slice_get table.seats other) (Retire other) mark refl refl
+    keeps_at told place other ended history table (slice_get table.seats other) (Retire other) mark refl
     (places other place) kept
 
 keeps_behind : RepliesTellTheirMarks → (place : ℕ) (ended : List History) (history : Option History)

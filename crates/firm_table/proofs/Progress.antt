@@ -18,10 +18,9 @@ use Rattle.firm_table.specs.Answers.{answer_of, tells_memory, text_of_answer}
 use Rattle.firm_table.specs.declared.answers.LineAnswer.{LineAnswer}
 use Rattle.firm_table.specs.Output.{answers_from, output_from, unmarked, AreLinesFrom}
 use Rattle.firm_table.specs.Service.{AnswersFrom, BeginsAnswersFrom, Device, UpToDate}
-use Rattle.firm_table.specs.inner.Adding.{NothingIsTold, OneMoreIsTold, FrontIsWritten, ToldBegins, AllIsWritten}
-use Rattle.firm_table.specs.inner.Adding.{OneMoreBegins}
-use Rattle.firm_table.specs.inner.Line.{State, state_is, Shows}
-use Rattle.firm_table.specs.inner.Progress.{Told}
+use Rattle.firm_table.specs.Adding.{NothingIsTold, OneMoreIsTold, FrontIsWritten, ToldBegins, AllIsWritten}
+use Rattle.firm_table.specs.Adding.{OneMoreBegins}
+use Rattle.firm_table.specs.Progress.{Shows, State, Told, state_is}
 use Rattle.firm_table.proofs.Stays.{after_lines-append, answers_from-append}
 use Rattle.firm_table.proofs.Unmarked.{IsOfText, unmarked_answer}
 

@@ -5,12 +5,12 @@ use Rattle.std.specs.List.{list_any}
 use Rattle.firm_rules.specs.Limits.{TenantLimits}
 use Rattle.firm_rules.specs.declared.commands.Command.TheVariants.{Round}
 use Rattle.firm_text.specs.Rosters.{RosterRow}
-use Rattle.firm_table.specs.Interleaving.{TableState, MarkedEvent, opening_table, happens, event_answers}
+use Rattle.firm_table.specs.Interleaving.{TableState, MarkedEvent, opening_table, named_place, happens, event_answers}
 use Rattle.firm_table.specs.Histories.{History, new_history, commanded_once, replied_once, history_here, ended_here}
-use Rattle.firm_table.specs.Histories.{named_place, is_at, history_with, history_behind, ended_with, ended_behind}
+use Rattle.firm_table.specs.Histories.{is_at, history_with, history_behind, ended_with, ended_behind}
 use Rattle.firm_table.specs.Histories.{opening_history, comes_or_goes, RowsStay}
 use Rattle.firm_table.specs.declared.events.Event.{Event}
-use Rattle.firm_table.specs.declared.events.Event.TheVariants.{Post, Ask, Take, Answer, Collect, Admit, Retire}
+use Rattle.firm_table.specs.declared.events.Event.TheVariants.{Post, Ask, Collect, Admit, Retire}
 use Rattle.firm_table.specs.declared.events.Answer.{Answer as EventAnswer}
 use Rattle.firm_table.specs.declared.events.Answer.TheVariants.{Replied, Queued}
 
@@ -35,20 +35,15 @@ here_same history (Ask place) (Queued ticket) e = changed (commanded_once Round)
 here_same history (Ask place) _ e = refl
 here_same history (Collect place) (Replied reply) e = changed (replied_once reply) (λ stay. refl) history
 here_same history (Collect place) _ e = refl
-here_same history (Take worker) answer e = refl
-here_same history (Answer worker) answer e = refl
 here_same history (Admit place limits) answer e = cc
 here_same history (Retire place) answer e = cc
+here_same history _ answer e = refl
 
 none_ended : (history : Option History) (event : Event) (answer : EventAnswer) → comes_or_goes event ≡ false
     → ended_here history event answer ≡ []
-none_ended history (Post place command) answer e = refl
-none_ended history (Ask place) answer e = refl
-none_ended history (Take worker) answer e = refl
-none_ended history (Answer worker) answer e = refl
-none_ended history (Collect place) answer e = refl
 none_ended history (Admit place limits) answer e = cc
 none_ended history (Retire place) answer e = cc
+none_ended history _ answer e = refl
 
 if_alike : {X Y : Type 0} (value : X → Y) (b : Bool) (x y : X) → value x ≡ value y
     → value (if b then x else y) ≡ value y

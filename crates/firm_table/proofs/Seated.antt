@@ -14,7 +14,7 @@ use Rattle.firm_text.specs.Rosters.{most_places}
 use Rattle.firm_text.specs.declared.registers.Entry.{Entry}
 use Rattle.firm_table.specs.Places.{Stay, Place, book_of, register_of}
 use Rattle.firm_table.specs.Tenants.{tenants_are, BooksFit}
-use Rattle.firm_table.specs.inner.Line.{tenants_at}
+use Rattle.firm_table.specs.Progress.{tenants_at}
 
 module _ (register : List Entry) (books : List (Option Book)) (fits : BooksFit (tenants_are register books)) where
   -- as many books as places

@@ -6,7 +6,7 @@ use Rattle.firm_text.specs.Cutters.{CutterIs}
 use Rattle.firm_table.specs.Places.{Place}
 use Rattle.firm_table.specs.Service.{AnswersFrom, BeginsAnswersFrom, ServedFrom, StoppedFrom, IsCause, device}
 use Rattle.firm_table.specs.Telling.{Telling}
-use Rattle.firm_table.specs.inner.Faults.{IsWritingFault}
+use Rattle.firm_table.specs.Service.{IsWritingFault}
 use Rattle.firm_table.specs.inner.Reading.{Heard, Halted}
 use Rattle.firm_table.specs.declared.faults.ServeFault.{ServeFault}
 use Rattle.firm_table.specs.declared.faults.ServeFault.TheVariants.{Read, Write, TooLong, Memory}

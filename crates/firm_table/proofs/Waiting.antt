@@ -1,28 +1,18 @@
 -- The queue, and the places that wait in it.
 use Rattle.std.proofs.Common.{◌≡◌, ℕ, zero, suc, ◌+◌, ◌≤◌, List, [], ◌∷◌, ◌++◌, length, refl, sym, ap, subst, ◌∙◌}
 use Rattle.std.proofs.Common.{append-nil, length-append, arith}
-use Rattle.std.specs.Prelude.{◌==◌, not, nat_lt, nat_le, Bool, true, false, Option, Some, None, slice_get, slice_set}
-use Rattle.std.specs.Prelude.{if◌then◌else◌}
+use Rattle.std.specs.Prelude.{◌==◌, Bool, false, Option, Some, None, slice_get, slice_set}
 use Rattle.std.proofs.lemmas.List.{length-set}
 use Rattle.std.proofs.lemmas.List.Elements.{filter-append}
-use Rattle.firm_rules.specs.Book.{Book, opening_book}
-use Rattle.firm_rules.specs.Limits.{TenantLimits}
-use Rattle.firm_rules.specs.declared.commands.Command.{Command}
+use Rattle.firm_rules.specs.Book.{Book}
 use Rattle.firm_rules.specs.declared.tickets.Ticket.{Ticket}
-use Rattle.firm_rules.specs.declared.commands.Command.TheVariants.{Round}
-use Rattle.firm_tenant.specs.Step.{step}
-use Rattle.firm_text.specs.Registers.{most_admissions}
 use Rattle.firm_text.specs.Rosters.{most_places}
-use Rattle.firm_table.specs.Interleaving.{is_round, Station, empty, home, queued, held, answered, Seat, TableState}
-use Rattle.firm_table.specs.Interleaving.{posted, asked, taken_by, solved, collected, admitted, retired, local}
-use Rattle.firm_table.specs.Interleaving.{seat_behind, queue_more}
+use Rattle.firm_table.specs.Interleaving.{Station, queued, Seat, TableState, taken_by, seat_behind, queue_more}
 use Rattle.firm_table.specs.inner.Tables.{queued_ticket, waiting_at, tickets_of, waiting, IsSound}
 use Rattle.firm_table.specs.declared.events.Event.{Event}
-use Rattle.firm_table.specs.declared.events.Event.TheVariants.{Post, Ask, Take, Answer, Collect, Admit, Retire}
 use Rattle.firm_table.specs.declared.events.Answer.{Answer as EventAnswer}
-use Rattle.firm_table.specs.declared.events.Answer.TheVariants.{Replied, Queued, Solved, Admitted, NoMemory, Retired}
-use Rattle.firm_table.specs.declared.events.Answer.TheVariants.{NotNow}
 use Rattle.firm_table.proofs.Machine.{Places, one, two, places, eq_itself, set_here, set_there}
+use Rattle.firm_table.proofs.Ways.{Way, queues}
 
 -- what an event at a place adds to the queue is the ticket that then waits there
 pub record AddsTicket (place : ℕ) (station : Station) (outcome : EventAnswer × Station) : Type 0 where
@@ -41,105 +31,14 @@ adds_none place station after answer none same = record {
   others = λ other apart. ap (tickets_of other) none;
 }
 
-adds_either : (place : ℕ) (station : Station) (b : Bool) (x y : EventAnswer × Station) → AddsTicket place station x
-    → AddsTicket place station y
-    → AddsTicket place station (if b then x else y)
-adds_either place station true x y p q = p
-adds_either place station false x y p q = q
-
-adds_posted : (place : ℕ) (station : Station) (command : Command) (mark : Bool)
-    → AddsTicket place station (posted station command mark)
-adds_posted place empty command mark = adds_none place empty empty NotNow refl refl
-adds_posted place (home book) command mark =
-    adds_either place (home book) (is_round command) (NotNow, home book)
-    (Replied (step book command mark).0, home (step book command mark).1)
-    (adds_none place (home book) (home book) NotNow refl refl)
-    (adds_none place (home book) (home (step book command mark).1) (Replied (step book command mark).0) refl refl)
-adds_posted place (queued book ticket) command mark =
-    adds_none place (queued book ticket) (queued book ticket) NotNow refl refl
-adds_posted place (held book ticket worker) command mark =
-    adds_none place (held book ticket worker) (held book ticket worker) NotNow refl refl
-adds_posted place (answered book reply) command mark =
-    adds_none place (answered book reply) (answered book reply) NotNow refl refl
-
-adds_ticket : (place number : ℕ) (book : Book) → let ticket : Ticket = record { place = place; number = number } in
-    AddsTicket place (home book) (Queued ticket, queued book ticket)
-adds_ticket place number book = record {
+pub adds_way : (place : ℕ) (station : Station) (event : Event) (fit : Bool) (answer : EventAnswer) (after : Station)
+    → Way place station event fit answer after → AddsTicket place station (answer, after)
+adds_way place station event fit answer after (queues _ _ number book) = record {
   here = refl;
   own = rw (eq_itself place) refl;
   others = λ other apart. rw apart refl;
 }
-
-adds_asked : (place number : ℕ) (station : Station) (mark : Bool)
-    → AddsTicket place station (asked station (record { place = place; number = number }) mark)
-adds_asked place number empty mark = adds_none place empty empty NotNow refl refl
-adds_asked place number (home book) mark =
-    let ticket : Ticket = record { place = place; number = number } in
-    let now : EventAnswer × Station = (Replied (step book Round mark).0, home (step book Round mark).1) in
-    let later : EventAnswer × Station = (Queued ticket, queued book ticket) in
-    let at_once : AddsTicket place (home book) now =
-    adds_none place (home book) (home (step book Round mark).1) (Replied (step book Round mark).0) refl refl in
-    adds_either place (home book) (nat_le book.rows.limits.life book.given) now (if mark then now else later) at_once
-    (adds_either place (home book) mark now later at_once (adds_ticket place number book))
-adds_asked place number (queued book ticket) mark =
-    adds_none place (queued book ticket) (queued book ticket) NotNow refl refl
-adds_asked place number (held book ticket worker) mark =
-    adds_none place (held book ticket worker) (held book ticket worker) NotNow refl refl
-adds_asked place number (answered book reply) mark =
-    adds_none place (answered book reply) (answered book reply) NotNow refl refl
-
-adds_solved : (place : ℕ) (station : Station) (mark : Bool) → AddsTicket place station (solved station mark)
-adds_solved place empty mark = adds_none place empty empty NotNow refl refl
-adds_solved place (home book) mark = adds_none place (home book) (home book) NotNow refl refl
-adds_solved place (queued book ticket) mark = adds_none place (queued book ticket) (queued book ticket) NotNow refl refl
-adds_solved place (held book ticket worker) mark =
-    adds_none place (held book ticket worker) (answered (step book Round mark).1 (step book Round mark).0)
-    (Solved ticket) refl refl
-adds_solved place (answered book reply) mark =
-    adds_none place (answered book reply) (answered book reply) NotNow refl refl
-
-adds_collected : (place : ℕ) (station : Station) → AddsTicket place station (collected station)
-adds_collected place empty = adds_none place empty empty NotNow refl refl
-adds_collected place (home book) = adds_none place (home book) (home book) NotNow refl refl
-adds_collected place (queued book ticket) = adds_none place (queued book ticket) (queued book ticket) NotNow refl refl
-adds_collected place (held book ticket worker) =
-    adds_none place (held book ticket worker) (held book ticket worker) NotNow refl refl
-adds_collected place (answered book reply) = adds_none place (answered book reply) (home book) (Replied reply) refl refl
-
-adds_admitted : (place : ℕ) (station : Station) (admissions : ℕ) (limits : TenantLimits) (mark : Bool)
-    → AddsTicket place station (admitted station admissions limits mark)
-adds_admitted place empty admissions limits mark =
-    let nobody : EventAnswer × Station = (NoMemory, empty) in
-    let comes : EventAnswer × Station = (Admitted, home (opening_book limits)) in
-    adds_either place empty (not (nat_lt admissions most_admissions)) (NotNow, empty) (if mark then nobody else comes)
-    (adds_none place empty empty NotNow refl refl)
-    (adds_either place empty mark nobody comes (adds_none place empty empty NoMemory refl refl)
-    (adds_none place empty (home (opening_book limits)) Admitted refl refl))
-adds_admitted place (home book) admissions limits mark = adds_none place (home book) (home book) NotNow refl refl
-adds_admitted place (queued book ticket) admissions limits mark =
-    adds_none place (queued book ticket) (queued book ticket) NotNow refl refl
-adds_admitted place (held book ticket worker) admissions limits mark =
-    adds_none place (held book ticket worker) (held book ticket worker) NotNow refl refl
-adds_admitted place (answered book reply) admissions limits mark =
-    adds_none place (answered book reply) (answered book reply) NotNow refl refl
-
-adds_retired : (place : ℕ) (station : Station) → AddsTicket place station (retired station)
-adds_retired place empty = adds_none place empty empty NotNow refl refl
-adds_retired place (home book) = adds_none place (home book) empty Retired refl refl
-adds_retired place (queued book ticket) = adds_none place (queued book ticket) (queued book ticket) NotNow refl refl
-adds_retired place (held book ticket worker) =
-    adds_none place (held book ticket worker) (held book ticket worker) NotNow refl refl
-adds_retired place (answered book reply) = adds_none place (answered book reply) (answered book reply) NotNow refl refl
-
-pub adds_local : (seat : Seat) (place : ℕ) (event : Event) (mark : Bool)
-    → AddsTicket place seat.station (local seat place event mark)
-adds_local seat place (Post at command) mark = adds_posted place seat.station command mark
-adds_local seat place (Ask at) mark = adds_asked place (seat.rounds + 1) seat.station mark
-adds_local seat place (Collect at) mark = adds_collected place seat.station
-adds_local seat place (Admit at limits) mark = adds_admitted place seat.station seat.admissions limits mark
-adds_local seat place (Retire at) mark = adds_retired place seat.station
-adds_local seat place (Take worker) mark = adds_none place seat.station seat.station NotNow refl refl
-adds_local seat place (Answer worker) mark = adds_solved place seat.station mark
+adds_way place station event fit answer after _ = adds_none place station after answer refl refl
 
 -- how many wait once a seat has changed
 pub waiting_set : (seats : List Seat) (place : ℕ) (seat new : Seat) → slice_get seats place ≡ Some seat
@@ -203,11 +102,8 @@ pub record WaitsBy (ticket : Ticket) (more : List Ticket) (station : Station) : 
 
 waits_by : (ticket : Ticket) (more : List Ticket) (station : Station) → ticket ∷ more ≡ queued_ticket station
     → WaitsBy ticket more station
-waits_by ticket more empty e = cc
-waits_by ticket more (home book) e = cc
 waits_by ticket more (queued book own) e = record { book = book; waits = cc; last = cc }
-waits_by ticket more (held book own worker) e = cc
-waits_by ticket more (answered book reply) e = cc
+waits_by ticket more _ e = cc
 
 front_found : (table : TableState) (ticket : Ticket) (rest : List Ticket) (found : Option Seat)
     → slice_get table.seats ticket.place ≡ found

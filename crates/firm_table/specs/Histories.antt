@@ -12,9 +12,10 @@ use Rattle.firm_tenant.specs.Alone.{alone_marked}
 use Rattle.firm_text.specs.Rosters.{RosterRow}
 use Rattle.firm_table.specs.Fitting.{is_empty}
 use Rattle.firm_table.specs.Places.{Given}
-use Rattle.firm_table.specs.Interleaving.{is_home, Seat, MarkedEvent, opening_table, event_answers, table_after}
+use Rattle.firm_table.specs.Interleaving.{is_home, Seat, MarkedEvent, opening_table, named_place, event_answers}
+use Rattle.firm_table.specs.Interleaving.{table_after}
 use Rattle.firm_table.specs.declared.events.Event.{Event}
-use Rattle.firm_table.specs.declared.events.Event.TheVariants.{Post, Ask, Take, Answer, Collect, Admit, Retire}
+use Rattle.firm_table.specs.declared.events.Event.TheVariants.{Post, Ask, Collect, Admit, Retire}
 use Rattle.firm_table.specs.declared.events.Answer.{Answer as EventAnswer}
 use Rattle.firm_table.specs.declared.events.Answer.TheVariants.{Replied, Queued, Admitted, Retired}
 
@@ -49,16 +50,6 @@ history_here history event answer = history
 abbrev pub ended_here : Option History → Event → EventAnswer → List History
 ended_here history (Retire _) Retired = option_to_list history
 ended_here history event answer = []
-
--- the place that an event names
-abbrev pub named_place : Event → Option ℕ
-named_place (Post place command) = Some place
-named_place (Ask place) = Some place
-named_place (Collect place) = Some place
-named_place (Admit place limits) = Some place
-named_place (Retire place) = Some place
-named_place (Take worker) = None
-named_place (Answer worker) = None
 
 abbrev pub is_at : ℕ → Option ℕ → Bool
 is_at place None = false
@@ -109,13 +100,9 @@ stays_at roster workers place events =
 
 -- whether an event admits or retires a tenant
 abbrev pub comes_or_goes : Event → Bool
-comes_or_goes (Post place command) = false
-comes_or_goes (Ask place) = false
-comes_or_goes (Take worker) = false
-comes_or_goes (Answer worker) = false
-comes_or_goes (Collect place) = false
 comes_or_goes (Admit place limits) = true
 comes_or_goes (Retire place) = true
+comes_or_goes _ = false
 
 -- if no tenant comes or goes, no stay has ended, and the current stays are those of the roster's rows, each at its
 -- place

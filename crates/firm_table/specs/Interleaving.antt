@@ -33,11 +33,8 @@ pub data Station : Type 0 where
 
 -- whether a tenant is home
 abbrev pub is_home : Station → Bool
-is_home empty = false
 is_home (home book) = true
-is_home (queued book ticket) = false
-is_home (held book ticket worker) = false
-is_home (answered book reply) = false
+is_home _ = false
 
 -- a place: what stands there, how many rounds all its tenants have queued, and how many tenants it was given to
 pub record Seat : Type 0 where
@@ -73,56 +70,38 @@ opening_table roster workers = record { workers = workers; seats = opening_seats
 
 -- a command that is not a round
 abbrev pub posted : Station → Command → Bool → EventAnswer × Station
-posted empty command mark = (NotNow, empty)
 posted (home book) command mark =
     if is_round command then (NotNow, home book)
     else (Replied (step book command mark).0, home (step book command mark).1)
-posted (queued book ticket) command mark = (NotNow, queued book ticket)
-posted (held book ticket worker) command mark = (NotNow, held book ticket worker)
-posted (answered book reply) command mark = (NotNow, answered book reply)
+posted station command mark = (NotNow, station)
 
 -- a round: a tenant without life left replies at once, and so does one whose round is refused memory
 abbrev pub asked : Station → Ticket → Bool → EventAnswer × Station
-asked empty ticket mark = (NotNow, empty)
 asked (home book) ticket mark =
     if nat_le book.rows.limits.life book.given then (Replied (step book Round mark).0, home (step book Round mark).1)
     else if mark then (Replied (step book Round mark).0, home (step book Round mark).1)
     else (Queued ticket, queued book ticket)
-asked (queued book other) ticket mark = (NotNow, queued book other)
-asked (held book other worker) ticket mark = (NotNow, held book other worker)
-asked (answered book reply) ticket mark = (NotNow, answered book reply)
+asked station ticket mark = (NotNow, station)
 
 -- what stands at a place once this worker has taken the round queued there
 abbrev pub taken_by : ℕ → Station → Station
-taken_by worker empty = empty
-taken_by worker (home book) = home book
 taken_by worker (queued book ticket) = held book ticket worker
-taken_by worker (held book ticket other) = held book ticket other
-taken_by worker (answered book reply) = answered book reply
+taken_by worker station = station
 
 -- whether this worker holds the tenant
 abbrev pub is_held : ℕ → Station → Bool
-is_held worker empty = false
-is_held worker (home book) = false
-is_held worker (queued book ticket) = false
 is_held worker (held book ticket holder) = holder == worker
-is_held worker (answered book reply) = false
+is_held worker _ = false
 
 -- the round is solved
 abbrev pub solved : Station → Bool → EventAnswer × Station
-solved empty mark = (NotNow, empty)
-solved (home book) mark = (NotNow, home book)
-solved (queued book ticket) mark = (NotNow, queued book ticket)
 solved (held book ticket worker) mark = (Solved ticket, answered (step book Round mark).1 (step book Round mark).0)
-solved (answered book reply) mark = (NotNow, answered book reply)
+solved station mark = (NotNow, station)
 
 -- the tenant comes home
 abbrev pub collected : Station → EventAnswer × Station
-collected empty = (NotNow, empty)
-collected (home book) = (NotNow, home book)
-collected (queued book ticket) = (NotNow, queued book ticket)
-collected (held book ticket worker) = (NotNow, held book ticket worker)
 collected (answered book reply) = (Replied reply, home book)
+collected station = (NotNow, station)
 
 -- a tenant comes with its opening book to an empty place that has an admission left; if memory is refused, the place
 -- stays empty
@@ -131,49 +110,25 @@ admitted empty admissions limits mark =
     if not (nat_lt admissions most_admissions) then (NotNow, empty)
     else if mark then (NoMemory, empty)
     else (Admitted, home (opening_book limits))
-admitted (home book) admissions limits mark = (NotNow, home book)
-admitted (queued book ticket) admissions limits mark = (NotNow, queued book ticket)
-admitted (held book ticket worker) admissions limits mark = (NotNow, held book ticket worker)
-admitted (answered book reply) admissions limits mark = (NotNow, answered book reply)
+admitted station admissions limits mark = (NotNow, station)
 
 -- a tenant that is home leaves, and its book is dropped
 abbrev pub retired : Station → EventAnswer × Station
-retired empty = (NotNow, empty)
 retired (home book) = (Retired, empty)
-retired (queued book ticket) = (NotNow, queued book ticket)
-retired (held book ticket worker) = (NotNow, held book ticket worker)
-retired (answered book reply) = (NotNow, answered book reply)
+retired station = (NotNow, station)
 
 -- what an answer adds to the counts of a seat's rounds and tenants, and to the queue
 abbrev pub rounds_more : EventAnswer → ℕ
-rounds_more (Replied reply) = 0
 rounds_more (Queued ticket) = 1
-rounds_more (Took ticket) = 0
-rounds_more (Solved ticket) = 0
-rounds_more Admitted = 0
-rounds_more NoMemory = 0
-rounds_more Retired = 0
-rounds_more NotNow = 0
+rounds_more _ = 0
 
 abbrev pub admissions_more : EventAnswer → ℕ
-admissions_more (Replied reply) = 0
-admissions_more (Queued ticket) = 0
-admissions_more (Took ticket) = 0
-admissions_more (Solved ticket) = 0
 admissions_more Admitted = 1
-admissions_more NoMemory = 0
-admissions_more Retired = 0
-admissions_more NotNow = 0
+admissions_more _ = 0
 
 abbrev pub queue_more : EventAnswer → List Ticket
-queue_more (Replied reply) = []
 queue_more (Queued ticket) = ticket ∷ []
-queue_more (Took ticket) = []
-queue_more (Solved ticket) = []
-queue_more Admitted = []
-queue_more NoMemory = []
-queue_more Retired = []
-queue_more NotNow = []
+queue_more _ = []
 
 -- the next ticket of a place, whichever tenant is there
 abbrev pub next_ticket : ℕ → Seat → Ticket
@@ -232,21 +187,31 @@ take_front table worker (ticket ∷ rest) = taking table worker ticket rest (sli
 abbrev pub may_take : TableState → ℕ → Bool
 may_take table worker = nat_lt worker table.workers && not (list_any (λ seat. is_held worker seat.station) table.seats)
 
--- the answer of the holder of a round, and the table after it
-abbrev pub answering : TableState → ℕ → Option ℕ → Bool → EventAnswer × TableState
-answering table worker None mark = (NotNow, table)
-answering table worker (Some place) mark = at_place table place (slice_get table.seats place) (Answer worker) mark
+-- the place that an event names
+abbrev pub named_place : Event → Option ℕ
+named_place (Post place command) = Some place
+named_place (Ask place) = Some place
+named_place (Collect place) = Some place
+named_place (Admit place limits) = Some place
+named_place (Retire place) = Some place
+named_place (Take worker) = None
+named_place (Answer worker) = None
+
+-- the place at which an event happens: the one that it names, or the one whose round its worker holds
+abbrev pub event_place : TableState → Event → Option ℕ
+event_place table (Answer worker) = place_held worker table.seats
+event_place table event = named_place event
+
+-- an event at this place, if there is one
+abbrev pub at_event : TableState → Option ℕ → Event → Bool → EventAnswer × TableState
+at_event table None event mark = (NotNow, table)
+at_event table (Some place) event mark = at_place table place (slice_get table.seats place) event mark
 
 -- the answer to an event, and the table after it
 abbrev pub happens : TableState → MarkedEvent → EventAnswer × TableState
 happens table (Take worker, mark) =
     if may_take table worker then take_front table worker table.queue else (NotNow, table)
-happens table (Answer worker, mark) = answering table worker (place_held worker table.seats) mark
-happens table (Post place command, mark) = at_place table place (slice_get table.seats place) (Post place command) mark
-happens table (Ask place, mark) = at_place table place (slice_get table.seats place) (Ask place) mark
-happens table (Collect place, mark) = at_place table place (slice_get table.seats place) (Collect place) mark
-happens table (Admit place limits, mark) = at_place table place (slice_get table.seats place) (Admit place limits) mark
-happens table (Retire place, mark) = at_place table place (slice_get table.seats place) (Retire place) mark
+happens table (event, mark) = at_event table (event_place table event) event mark
 
 -- the answers to a list of events, and the table after them
 abbrev pub event_answers : TableState → List MarkedEvent → List EventAnswer

@@ -9,6 +9,8 @@ pub mod Service
 pub mod Tenants
 pub mod Ends
 pub mod Telling
+pub mod Progress
+pub mod Adding
 pub mod Interleaving
 pub mod Histories
 pub mod Fitting

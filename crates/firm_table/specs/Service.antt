@@ -21,6 +21,10 @@ pub record Device : Type 0 where
 abbrev pub device : Option (List ℕ) → Option (List ℕ) → Bool → Device
 device before after failed = record { before = before; after = after; failed = failed }
 
+-- the device between these two of its states, by what tells its bytes and whether a call has failed
+abbrev pub between : {X : Type 0} → (X → Option (List ℕ)) → (X → Bool) → X → X → Device
+between bytes failed old new = device (bytes old) (bytes new) (failed new)
+
 -- what was written is the output for this input, with marks on exactly the lines whose answer says that memory was
 -- refused
 pub record AnswersFrom (places : List Place) (input : List ℕ)
@@ -55,6 +59,13 @@ IsCause Write input most read_failed write_failed = (read_failed ≡ false) × (
 IsCause TooLong input most read_failed write_failed =
     (most < length input) × (read_failed ≡ false) × (write_failed ≡ false)
 IsCause Memory input most read_failed write_failed = (read_failed ≡ false) × (write_failed ≡ false)
+
+-- the fault of a service that reads nothing meanwhile: a write failed, or none did and memory was refused
+abbrev pub IsWritingFault : ServeFault → Bool → Type 0
+IsWritingFault Read write_failed = ⊥
+IsWritingFault Write write_failed = write_failed ≡ true
+IsWritingFault TooLong write_failed = ⊥
+IsWritingFault Memory write_failed = write_failed ≡ false
 
 -- each line of these bytes is whole: its line feed was read, or a read has found the end of the input after it
 abbrev pub AreWholeLines : List ℕ → List ℕ → Device → Type 0

@@ -1,8 +1,6 @@
-pub mod Faults
-pub mod Line
-pub mod Progress
+pub mod Books
+pub mod Serving
 pub mod Reading
-pub mod Adding
 pub mod Seats
 pub mod Tables
 pub mod Events

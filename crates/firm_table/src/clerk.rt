@@ -3,8 +3,7 @@
 ghost use Rattle.std.specs.Prelude.{◌≡◌, ℕ, ◌++◌, ◌∷◌, List, Option, [], false, OnOk, OnErr, IfErr};
 ghost use Rattle.firm_text.specs.Inputs.{input_lines};
 ghost use Rattle.firm_table.specs.Places.{Place};
-ghost use Rattle.firm_table.specs.Service.{AnswersFrom, BeginsAnswersFrom};
-ghost use Rattle.firm_table.specs.inner.Faults.{IsWritingFault};
+ghost use Rattle.firm_table.specs.Service.{AnswersFrom, BeginsAnswersFrom, IsWritingFault};
 
 use crate::faults::ServeFault;
 use firm_text::{Line, Sink, Source};

@@ -12,10 +12,10 @@ ghost use Rattle.firm_table.specs.Cutting.{AnswersGoOnFrom, OutputsGoOnFrom, Sav
 ghost use Rattle.firm_table.specs.Cutting.{TextsAreCut, TextsAreJoined};
 ghost use Rattle.firm_table.specs.Histories.{EventsKeepAlone, RowsStay, StaysAreCounted};
 ghost use Rattle.firm_table.specs.Histories.{EventsAreIsolated};
-ghost use Rattle.firm_table.specs.inner.Adding.{NothingIsTold, OneMoreIsTold, FrontIsWritten, ToldBegins};
-ghost use Rattle.firm_table.specs.inner.Adding.{AllIsWritten, OneMoreBegins, TenantsAreAnswered, StrangersAreAnswered};
-ghost use Rattle.firm_table.specs.inner.Adding.{AdmissionsAreAnswered, AdmissionsFindNoMemory, AdmissionsAreRefused};
-ghost use Rattle.firm_table.specs.inner.Adding.{RetirementsAreAnswered, RetirementsAreRefused};
+ghost use Rattle.firm_table.specs.Adding.{NothingIsTold, OneMoreIsTold, FrontIsWritten, ToldBegins};
+ghost use Rattle.firm_table.specs.Adding.{AllIsWritten, OneMoreBegins, TenantsAreAnswered, StrangersAreAnswered};
+ghost use Rattle.firm_table.specs.Adding.{AdmissionsAreAnswered, AdmissionsFindNoMemory, AdmissionsAreRefused};
+ghost use Rattle.firm_table.specs.Adding.{RetirementsAreAnswered, RetirementsAreRefused};
 
 use firm_tenant::{replies_tell_their_marks, unmarked_steps_are_granted};
 use firm_text::refuses_for_the_form;

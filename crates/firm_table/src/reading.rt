@@ -2,10 +2,10 @@
 
 ghost use Rattle.std.specs.Prelude.{◌≡◌, ℕ, ◌≤◌, ◌<◌, ◌^◌, ◌++◌, List, Option, [], false, length};
 ghost use Rattle.std.specs.Prelude.{OnOk, OnErr, IfOk, IfErr};
-ghost use Rattle.firm_table.specs.Service.{AnswersFrom, BeginsAnswersFrom, ServedFrom, StoppedFrom, UpToDate, device};
+ghost use Rattle.firm_table.specs.Service.{AnswersFrom, BeginsAnswersFrom, ServedFrom, StoppedFrom, UpToDate, between};
 ghost use Rattle.firm_table.specs.Telling.{ToldToTheEnd, WasTold};
 ghost use Rattle.firm_table.specs.declared.faults.ServeFault.TheVariants.{Read};
-ghost use Rattle.firm_table.specs.inner.Faults.{IsWritingFault};
+ghost use Rattle.firm_table.specs.Service.{IsWritingFault};
 ghost use Rattle.firm_table.specs.inner.Reading.{Heard, Halted};
 
 use crate::clerk::Clerk;
@@ -38,18 +38,14 @@ pub fn serve_lines<R: Source, W: Sink, C: Clerk>(
     requires open { C.is_open clerk.old }
     requires opening { C.told clerk.old [] (W.written writer.old) (W.written writer.old) }
     ensures served { OnOk result (ServedFrom (C.opening clerk.old) most
-        (device (R.left reader.old) (R.left reader.new) (R.read_failed reader.new))
-        (device (W.written writer.old) (W.written writer.new) (W.write_failed writer.new))) }
+        (between R.left R.read_failed reader.old reader.new) (between W.written W.write_failed writer.old writer.new)) }
     ensures stopped { IfErr result (StoppedFrom (C.opening clerk.old) most
-        (device (R.left reader.old) (R.left reader.new) (R.read_failed reader.new))
-        (device (W.written writer.old) (W.written writer.new) (W.write_failed writer.new))) }
+        (between R.left R.read_failed reader.old reader.new) (between W.written W.write_failed writer.old writer.new)) }
     ensures told { OnOk result (ToldToTheEnd (C.told clerk.new) most
-        (device (R.left reader.old) (R.left reader.new) (R.read_failed reader.new))
-        (device (W.written writer.old) (W.written writer.new) (W.write_failed writer.new))) }
+        (between R.left R.read_failed reader.old reader.new) (between W.written W.write_failed writer.old writer.new)) }
     ensures finished { OnOk result (C.is_finished clerk.new) }
     ensures waiting { IfErr result (λ fault. fault ≡ Read → C.is_written_out clerk.new × UpToDate (C.told clerk.new)
-        (device (R.left reader.old) (R.left reader.new) (R.read_failed reader.new))
-        (device (W.written writer.old) (W.written writer.new) (W.write_failed writer.new))) }
+        (between R.left R.read_failed reader.old reader.new) (between W.written W.write_failed writer.old writer.new)) }
     ensures open { C.is_open clerk.new }
     ensures opening { C.opening clerk.new ≡ C.opening clerk.old }
     ensures kept { C.kept clerk.new ≡ C.kept clerk.old }

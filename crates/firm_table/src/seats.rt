@@ -1,12 +1,13 @@
 //! A place of the table: its occupant, and how often it was used.
 
-ghost use Rattle.std.specs.Prelude.{◌≡◌, ℕ, Bool, false, IfOk};
+ghost use Rattle.std.specs.Prelude.{◌≡◌, ℕ, Bool, true, false, IfOk};
 ghost use Rattle.firm_rules.specs.Book.{opening_book};
 ghost use Rattle.firm_table.specs.Interleaving.{home, next_ticket, unused_seat, is_held, taken_by};
-ghost use Rattle.firm_table.specs.Interleaving.{posted, asked, solved, collected, admitted, retired};
+ghost use Rattle.firm_table.specs.Interleaving.{posted, asked, solved, collected, admitted, retired, local};
+ghost use Rattle.firm_table.specs.Fitting.{asks};
 ghost use Rattle.firm_table.specs.inner.Seats.{Becomes};
 
-use crate::events::Answer;
+use crate::events::{Answer, Event};
 use crate::occupants::Occupant;
 use firm_rules::{Command, Limits, Ticket};
 use firm_tenant::steps_count_once;
@@ -68,8 +69,24 @@ impl Seat {
         }
     }
 
+    // Carries out an event at this place.
+    pub(crate) fn happen(&mut self, alloc: Global, place: u32, event: Event) -> Answer
+        ensures { (mark : Bool) × (asks event ≡ true → mark ≡ false)
+            × Becomes self.old (local self.old place event mark) result self.new }
+    {
+        match event {
+            Event::Post(_, command) => self.post(alloc, command),
+            Event::Ask(_) => self.ask(alloc, place),
+            Event::Take(_) => Answer::NotNow,
+            Event::Answer(_) => self.solve(alloc),
+            Event::Collect(_) => self.collect(),
+            Event::Admit(_, limits) => self.admit(alloc, limits),
+            Event::Retire(_) => self.retire(),
+        }
+    }
+
     // Answers a command that is not a round.
-    pub(crate) fn post(&mut self, alloc: Global, command: Command) -> Answer
+    fn post(&mut self, alloc: Global, command: Command) -> Answer
         ensures { (mark : Bool) × Becomes self.old (posted self.old.station command mark) result self.new }
     {
         // A law: the count of commands does not fall.
@@ -81,7 +98,7 @@ impl Seat {
     }
 
     // Has a round queued, if life is left for it.
-    pub(crate) fn ask(&mut self, alloc: Global, place: u32) -> Answer
+    fn ask(&mut self, alloc: Global, place: u32) -> Answer
         ensures { Becomes self.old (asked self.old.station (next_ticket place self.old) false) result self.new }
     {
         // A law: a tenant without life left stays as it is.
@@ -107,7 +124,7 @@ impl Seat {
     }
 
     // Solves the round that a worker holds.
-    pub(crate) fn solve(&mut self, alloc: Global) -> Answer
+    fn solve(&mut self, alloc: Global) -> Answer
         ensures { (mark : Bool) × Becomes self.old (solved self.old.station mark) result self.new }
     {
         // A law: life is left for the round, so the count of commands grows with it.
@@ -119,7 +136,7 @@ impl Seat {
     }
 
     // Brings the tenant home with the reply to its round.
-    pub(crate) fn collect(&mut self) -> Answer
+    fn collect(&mut self) -> Answer
         ensures { Becomes self.old (collected self.old.station) result self.new }
     {
         let Some(occupant) = &mut self.occupant else {
@@ -129,7 +146,7 @@ impl Seat {
     }
 
     // Gives the place to a new tenant, if it is empty and has an admission left.
-    pub(crate) fn admit(&mut self, alloc: Global, limits: Limits) -> Answer
+    fn admit(&mut self, alloc: Global, limits: Limits) -> Answer
         ensures { (mark : Bool)
             × Becomes self.old (admitted self.old.station self.old.admissions limits mark) result self.new }
     {
@@ -145,7 +162,7 @@ impl Seat {
     }
 
     // Retires the tenant, if it is home.
-    pub(crate) fn retire(&mut self) -> Answer
+    fn retire(&mut self) -> Answer
         ensures { Becomes self.old (retired self.old.station) result self.new }
     {
         let Some(occupant) = &self.occupant else {

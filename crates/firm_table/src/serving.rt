@@ -1,27 +1,24 @@
 //! The service on one thread: the lines of an input are answered in turn.
 
-ghost use Rattle.std.specs.Prelude.{◌≡◌, ◌≤◌, ◌^◌, [], false, option_map, OnOk, IfOk, IfErr};
-ghost use Rattle.std.specs.Io.{StartsWith};
+ghost use Rattle.std.specs.Prelude.{◌≡◌, ◌≤◌, ◌^◌, Bool, [], false, option_map, OnOk, IfOk, IfErr};
 ghost use Rattle.firm_table.specs.Ends.{ServedTo};
 ghost use Rattle.firm_table.specs.Openings.{places_opened};
-ghost use Rattle.firm_table.specs.Service.{Answers, Served, Stopped, UpToDate, device};
+ghost use Rattle.firm_table.specs.Progress.{state_is, tenants_at};
+ghost use Rattle.firm_table.specs.Service.{Answers, Served, Stopped, UpToDate, between, device};
 ghost use Rattle.firm_table.specs.Service.{AnswersFrom, ServedFrom, StoppedFrom};
 ghost use Rattle.firm_table.specs.declared.faults.ServeFault.TheVariants.{Read};
-ghost use Rattle.firm_table.specs.inner.Granting.{IsGranted};
-ghost use Rattle.firm_table.specs.inner.Line.{book_named, state_is, tenants_at};
-ghost use Rattle.firm_table.specs.inner.Progress.{Told, state_of};
+ghost use Rattle.firm_table.specs.inner.Books.{book_named};
+ghost use Rattle.firm_table.specs.inner.Granting.{ToldAs};
+ghost use Rattle.firm_table.specs.inner.Serving.{state_of};
 
-mod granting;
-
-use self::granting::Granting;
 use crate::clerk::Clerk;
 use crate::faults::ServeFault;
 use crate::openings::Opening;
 use crate::reading::serve_lines;
 use crate::tenants::Tenants;
 use crate::writing::write_held;
-use firm_rules::{Name, Rows};
-use firm_tenant::unmarked_steps_are_granted;
+use firm_rules::Name;
+use firm_tenant::{Tenant, unmarked_steps_are_granted};
 use firm_text::{Line, Roster, Sink, Source, refuses_for_the_form};
 use std::alloc::{AllocError, Global};
 
@@ -72,16 +69,13 @@ pub fn serve_one_from<R: Source, W: Sink>(
     requires reader { R.read_failed reader.old ≡ false }
     requires writer { W.write_failed writer.old ≡ false }
     ensures served { OnOk result (ServedFrom (places_opened opening.entry) most
-        (device (R.left reader.old) (R.left reader.new) (R.read_failed reader.new))
-        (device (W.written writer.old) (W.written writer.new) (W.write_failed writer.new))) }
+        (between R.left R.read_failed reader.old reader.new) (between W.written W.write_failed writer.old writer.new)) }
     ensures stopped { IfErr result (StoppedFrom (places_opened opening.entry) most
-        (device (R.left reader.old) (R.left reader.new) (R.read_failed reader.new))
-        (device (W.written writer.old) (W.written writer.new) (W.write_failed writer.new))) }
+        (between R.left R.read_failed reader.old reader.new) (between W.written W.write_failed writer.old writer.new)) }
     ensures in_full { IfErr result (λ fault. fault ≡ Read → UpToDate (AnswersFrom (places_opened opening.entry))
-        (device (R.left reader.old) (R.left reader.new) (R.read_failed reader.new))
-        (device (W.written writer.old) (W.written writer.new) (W.write_failed writer.new))) }
+        (between R.left R.read_failed reader.old reader.new) (between W.written W.write_failed writer.old writer.new)) }
 {
-    let Ok(mut service) = Service::open(alloc, opening) else {
+    let Ok(mut service) = Service::open(alloc, opening, false) else {
         return Err(ServeFault::Memory);
     };
     serve_lines(reader, writer, &mut service, most)
@@ -101,21 +95,17 @@ pub fn serve_to_state<R: Source, W: Sink>(
     requires reader { R.read_failed reader.old ≡ false }
     requires writer { W.write_failed writer.old ≡ false }
     ensures served { IfOk result (ServedTo (places_opened opening.entry) most
-        (device (R.left reader.old) (R.left reader.new) (R.read_failed reader.new))
-        (device (W.written writer.old) (W.written writer.new) (W.write_failed writer.new))) }
+        (between R.left R.read_failed reader.old reader.new) (between W.written W.write_failed writer.old writer.new)) }
     ensures stopped { IfErr result (StoppedFrom (places_opened opening.entry) most
-        (device (R.left reader.old) (R.left reader.new) (R.read_failed reader.new))
-        (device (W.written writer.old) (W.written writer.new) (W.write_failed writer.new))) }
+        (between R.left R.read_failed reader.old reader.new) (between W.written W.write_failed writer.old writer.new)) }
     ensures in_full { IfErr result (λ fault. fault ≡ Read → UpToDate (AnswersFrom (places_opened opening.entry))
-        (device (R.left reader.old) (R.left reader.new) (R.read_failed reader.new))
-        (device (W.written writer.old) (W.written writer.new) (W.write_failed writer.new))) }
+        (between R.left R.read_failed reader.old reader.new) (between W.written W.write_failed writer.old writer.new)) }
 {
-    let Ok(service) = Service::open(alloc, opening) else {
+    let Ok(mut service) = Service::open(alloc, opening, true) else {
         return Err(ServeFault::Memory);
     };
-    let mut granting = Granting { service };
-    match serve_lines(reader, writer, &mut granting, most) {
-        Ok(()) => Ok(granting.service.into_tenants()),
+    match serve_lines(reader, writer, &mut service, most) {
+        Ok(()) => Ok(service.into_tenants()),
         Err(fault) => Err(fault),
     }
 }
@@ -128,18 +118,26 @@ pub(crate) struct Service<'a> {
     opening: Opening<'a>,
     tenants: Tenants,
     output: Vec<u8>,
+    // Whether the service ends where memory is refused to a line.
+    all_granted: bool,
 }
 
 impl<'a> Service<'a> {
-    pub(crate) fn open(alloc: Global, opening: Opening<'a>) -> Result<Service<'a>, AllocError>
-        ensures { IfOk result (λ service. let places = places_opened opening.entry in
+    pub(crate) fn open(
+        alloc: Global,
+        opening: Opening<'a>,
+        all_granted: bool,
+    ) -> Result<Service<'a>, AllocError>
+        ensures state { IfOk result (λ service. let places = places_opened opening.entry in
             state_of service ≡ state_is places (tenants_at places) []) }
+        ensures granted { IfOk result (λ service. service.all_granted ≡ all_granted) }
     {
         Ok(Service {
             alloc,
             opening,
             tenants: Tenants::open(alloc, opening)?,
             output: Vec::new(alloc),
+            all_granted,
         })
     }
 
@@ -151,39 +149,30 @@ impl<'a> Service<'a> {
         tenants
     }
 
-    // Adds the answer to a line to what is to be written, unless it says that memory was refused.
-    fn put_granted(&mut self, line: Line) -> Result<(), AllocError>
-        ensures kept { StartsWith self.new.output.items self.old.output.items }
-        ensures answered { OnOk result
-            (IsGranted self.old.tenants self.new.tenants line self.old.output.items self.new.output.items) }
-        ensures opening { self.new.opening ≡ self.old.opening }
-    {
-        self.tenants.put_granted(self.alloc, &mut self.output, line)
-    }
-
     // Whether the last line was answered by a solved round.
     pub(crate) fn has_solved(&self) -> bool {
         self.tenants.has_solved()
     }
 
-    // The rows of the tenant of this name, if it is there.
-    pub(crate) fn rows_of(&self, name: Name) -> Option<&Rows>
-        ensures { option_map (λ rows. rows.now) result
-            ≡ option_map (λ book. book.rows) (book_named self.now.tenants name) }
+    // The tenant of this name, if it is there.
+    pub(crate) fn tenant_of(&self, name: Name) -> Option<&Tenant>
+        ensures { option_map (λ tenant. tenant.now) result ≡ book_named self.now.tenants name }
     {
-        self.tenants.rows_of(name)
+        self.tenants.tenant_of(name)
     }
 }
 
 // The clerk that answers each line at once, and holds answers back only to write many in one call.
 impl Clerk for Service<'_> {
-    ghost kept = { λ _. tt };
+    ghost Kept = { Bool };
+
+    ghost kept = { λ service. service.all_granted };
 
     ghost opening = { λ service. places_opened service.opening };
 
     ghost is_open = { λ _. Unit {0} };
 
-    ghost told = { λ service. Told (state_of service) };
+    ghost told = { λ service. ToldAs service.all_granted (state_of service) };
 
     ghost is_written_out = { λ service. service.output.items ≡ [] };
 
@@ -191,7 +180,8 @@ impl Clerk for Service<'_> {
 
     fn answer<W: Sink>(&mut self, writer: &mut W, line: Line) -> Result<(), ServeFault> {
         let before = self.output.len();
-        let Ok(()) = self.tenants.put_answer(self.alloc, &mut self.output, line) else {
+        let tenants = &mut self.tenants;
+        let Ok(()) = tenants.put_answer(self.alloc, &mut self.output, line, self.all_granted) else {
             // Laws: a line that gets no answer can be taken as one that was not refused memory.
             unmarked_steps_are_granted();
             refuses_for_the_form();

@@ -1,15 +1,17 @@
 //! The tenants of a roster as one table, on which one event happens at a time.
 
-ghost use Rattle.std.specs.Prelude.{◌≡◌, ◌≤◌, ◌↔◌, false, IfOk, length, slice_get};
+ghost use Rattle.std.specs.Prelude.{◌≡◌, ◌≢◌, ℕ, ◌+◌, ◌≤◌, ◌++◌, ◌↔◌, false, IfOk, length, slice_get};
+ghost use Rattle.std.specs.VecDeque.{deque_capacity, deque_len};
 ghost use Rattle.std.specs.List.{list_any};
-ghost use Rattle.firm_table.specs.Interleaving.{opening_seats, opening_table, place_held, is_held};
+ghost use Rattle.firm_table.specs.Interleaving.{opening_seats, opening_table, event_place, place_held, is_held};
+ghost use Rattle.firm_table.specs.Interleaving.{queue_more};
 ghost use Rattle.firm_table.specs.Fitting.{IsEventStep, fits};
 ghost use Rattle.firm_table.specs.inner.Events.{IsDone};
 ghost use Rattle.firm_table.specs.inner.Tables.{first_seat};
 
 use crate::events::{Answer, Event};
 use crate::seats::Seat;
-use firm_rules::{Command, Limits, Ticket};
+use firm_rules::Ticket;
 use firm_text::{PLACES, Roster};
 use std::alloc::{AllocError, Global};
 use std::collections::VecDeque;
@@ -67,38 +69,40 @@ impl Table {
         ensures no_memory { result ≡ Answer.NoMemory → self.new ≡ self.old }
     {
         match event {
-            Event::Post(place, command) => self.post(alloc, place, command),
-            Event::Ask(place) => self.ask(alloc, place),
             Event::Take(worker) => self.take(worker),
-            Event::Answer(worker) => self.answer(alloc, worker),
-            Event::Collect(place) => self.collect(place),
-            Event::Admit(place, limits) => self.admit(alloc, place, limits),
-            Event::Retire(place) => self.retire(place),
+            _ => self.happen(alloc, event),
         }
     }
 
-    // Posts a command of the tenant at a place.
-    fn post(&mut self, alloc: Global, place: usize, command: Command) -> Answer
-        ensures { IsDone self.old (Event.Post place command) result self.new }
+    // Carries out an event that takes no round, at its place; a round that it asks for goes into the queue.
+    fn happen(&mut self, alloc: Global, event: Event) -> Answer
+        requires { (worker : ℕ) → event ≢ Event.Take worker }
+        ensures { IsDone self.old event result self.new }
     {
+        let Some(place) = self.place_of(&event) else {
+            return Answer::NotNow;
+        };
         if self.seats.len() <= place {
             return Answer::NotNow;
         }
-        self.seats[place].post(alloc, command)
-    }
-
-    // Asks for a round of the tenant at a place.
-    fn ask(&mut self, alloc: Global, place: usize) -> Answer
-        ensures { IsDone self.old (Event.Ask place) result self.new }
-    {
-        if self.seats.len() <= place {
-            return Answer::NotNow;
-        }
-        let answer = self.seats[place].ask(alloc, place as u32);
-        if let Answer::Queued(ticket) = &answer {
-            self.queue.push_back_reserved(*ticket);
-        }
+        let answer = self.seats[place].happen(alloc, place as u32, event);
+        put_queued(&mut self.queue, &answer);
         answer
+    }
+
+    // The place at which an event happens, if there is one.
+    fn place_of(&self, event: &Event) -> Option<usize>
+        ensures { result ≡ event_place self.now event.now }
+    {
+        match event {
+            Event::Post(place, _) => Some(*place),
+            Event::Ask(place) => Some(*place),
+            Event::Collect(place) => Some(*place),
+            Event::Admit(place, _) => Some(*place),
+            Event::Retire(place) => Some(*place),
+            Event::Answer(worker) => place_held(&self.seats, *worker),
+            Event::Take(_) => None,
+        }
     }
 
     // Gives the front of the queue to a worker.
@@ -116,46 +120,6 @@ impl Table {
         };
         self.seats[ticket.place as usize].give(worker);
         Answer::Took(ticket)
-    }
-
-    // Solves the round that a worker holds.
-    fn answer(&mut self, alloc: Global, worker: usize) -> Answer
-        ensures { IsDone self.old (Event.Answer worker) result self.new }
-    {
-        let Some(place) = place_held(&self.seats, worker) else {
-            return Answer::NotNow;
-        };
-        self.seats[place].solve(alloc)
-    }
-
-    // Brings the tenant at a place home.
-    fn collect(&mut self, place: usize) -> Answer
-        ensures { IsDone self.old (Event.Collect place) result self.new }
-    {
-        if self.seats.len() <= place {
-            return Answer::NotNow;
-        }
-        self.seats[place].collect()
-    }
-
-    // Admits a tenant to a place.
-    fn admit(&mut self, alloc: Global, place: usize, limits: Limits) -> Answer
-        ensures { IsDone self.old (Event.Admit place limits) result self.new }
-    {
-        if self.seats.len() <= place {
-            return Answer::NotNow;
-        }
-        self.seats[place].admit(alloc, limits)
-    }
-
-    // Retires the tenant at a place.
-    fn retire(&mut self, place: usize) -> Answer
-        ensures { IsDone self.old (Event.Retire place) result self.new }
-    {
-        if self.seats.len() <= place {
-            return Answer::NotNow;
-        }
-        self.seats[place].retire()
     }
 }
 
@@ -180,6 +144,17 @@ fn first_seat(alloc: Global, roster: &Roster, place: usize) -> Result<Seat, Allo
     match roster.get(place) {
         Some((_, limits)) => Seat::given(alloc, limits),
         None => Ok(Seat::unused()),
+    }
+}
+
+// Puts the ticket of a round that was asked for at the back of the queue.
+fn put_queued(queue: &mut VecDeque<Ticket>, answer: &Answer)
+    requires { deque_len queue.old + length (queue_more answer.now) ≤ deque_capacity queue.old }
+    ensures items { queue.new.items ≡ queue.old.items ++ queue_more answer.now }
+    ensures capacity { deque_capacity queue.new ≡ deque_capacity queue.old }
+{
+    if let Answer::Queued(ticket) = answer {
+        queue.push_back_reserved(*ticket);
     }
 }
 

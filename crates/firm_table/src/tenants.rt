@@ -11,12 +11,13 @@ ghost use Rattle.firm_saved.specs.StateText.{place_rows, row_text, state_text};
 ghost use Rattle.firm_table.specs.declared.answers.LineAnswer.TheVariants.{ToOperator};
 ghost use Rattle.firm_table.specs.Ends.{place_with, tenants_state};
 ghost use Rattle.firm_table.specs.Openings.{places_opened};
-ghost use Rattle.firm_table.specs.inner.Granting.{IsGranted};
-ghost use Rattle.firm_table.specs.inner.Line.{IsAnswer, IsRight, book_named, books_of, tenants_at};
+ghost use Rattle.firm_table.specs.Progress.{IsRight, books_of, tenants_at};
+ghost use Rattle.firm_table.specs.inner.Books.{book_named};
+ghost use Rattle.firm_table.specs.inner.Granting.{IsAnswerAs};
 
 use crate::answers::LineAnswer;
 use crate::openings::Opening;
-use firm_rules::{Command, Limits, Name, Reply, Rows};
+use firm_rules::{Command, Limits, Name, Reply};
 use firm_saved::{Row, given_count, places_are_given_in_order, put_book, put_heading, put_row};
 use firm_tenant::Tenant;
 use firm_text::{Entry, Line, OperatorLine, OperatorRefusal, OperatorReply, Register};
@@ -56,35 +57,22 @@ impl Tenants {
         })
     }
 
-    // Adds the answer to a line. Fails if memory for its text is refused; part of the text may then have been added.
+    // Adds the answer to a line. Fails if memory for its text is refused, or, if all must be granted, if memory was
+    // refused to the line; part of the text may then have been added.
     pub(crate) fn put_answer(
         &mut self,
         alloc: Global,
         output: &mut Vec<u8>,
         line: Line,
+        all_granted: bool,
     ) -> Result<(), AllocError>
         ensures kept { StartsWith output.new.items output.old.items }
-        ensures answered { OnOk result (IsAnswer self.old self.new line output.old.items output.new.items) }
+        ensures answered { OnOk result
+            (IsAnswerAs all_granted self.old self.new line output.old.items output.new.items) }
     {
         let answer = self.answer(alloc, line);
         self.has_solved = answer.is_round();
-        answer.put(output)
-    }
-
-    // Adds the answer to a line, unless that says that memory was refused. Fails then, and if memory for the text is
-    // refused; part of the text may then have been added.
-    pub(crate) fn put_granted(
-        &mut self,
-        alloc: Global,
-        output: &mut Vec<u8>,
-        line: Line,
-    ) -> Result<(), AllocError>
-        ensures kept { StartsWith output.new.items output.old.items }
-        ensures answered { OnOk result (IsGranted self.old self.new line output.old.items output.new.items) }
-    {
-        let answer = self.answer(alloc, line);
-        self.has_solved = answer.is_round();
-        if answer.tells_memory() {
+        if all_granted && answer.tells_memory() {
             return Err(AllocError);
         }
         answer.put(output)
@@ -95,15 +83,15 @@ impl Tenants {
         self.has_solved
     }
 
-    // The machines, jobs and tasks of the tenant of this name, if it is there.
-    pub(crate) fn rows_of(&self, name: Name) -> Option<&Rows>
-        ensures { option_map (λ rows. rows.now) result ≡ option_map (λ book. book.rows) (book_named self.now name) }
+    // The tenant of this name, if it is there.
+    pub(crate) fn tenant_of(&self, name: Name) -> Option<&Tenant>
+        ensures { option_map (λ tenant. tenant.now) result ≡ book_named self.now name }
     {
         let place = self.register.place_of(name)?;
         let Some(tenant) = &self.places[place] else {
             unreachable!()
         };
-        Some(tenant.rows())
+        Some(tenant)
     }
 
     /// Adds the text of their state. Fails if memory for it is refused; part of the text may then have been added.

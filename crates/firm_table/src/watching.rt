@@ -1,26 +1,33 @@
 //! The service on one thread, with a watcher that is shown its rounds.
 
-ghost use Rattle.std.specs.Prelude.{◌≡◌, ◌^◌, ℕ, List, Option, [], false, OnOk, OnErr, IfErr};
+ghost use Rattle.std.specs.Prelude.{◌≡◌, ◌^◌, ℕ, List, Option, [], false, OnOk, OnErr, IfErr, IfSome};
+ghost use Rattle.firm_rules.specs.Book.{Book};
 ghost use Rattle.firm_table.specs.Openings.{places_opened};
-ghost use Rattle.firm_table.specs.Service.{Answers, Served, Stopped, UpToDate, device};
+ghost use Rattle.firm_table.specs.Service.{Answers, IsWritingFault, Served, Stopped, UpToDate, between};
 ghost use Rattle.firm_table.specs.Service.{AnswersFrom, BeginsAnswersFrom, ServedFrom, StoppedFrom};
 ghost use Rattle.firm_table.specs.declared.faults.ServeFault.TheVariants.{Read};
-ghost use Rattle.firm_table.specs.inner.Faults.{IsWritingFault};
-ghost use Rattle.firm_table.specs.inner.Progress.{Told, state_of};
+ghost use Rattle.firm_table.specs.inner.Books.{book_named};
+ghost use Rattle.firm_table.specs.inner.Granting.{ToldAs};
+ghost use Rattle.firm_table.specs.inner.Serving.{state_of};
 
 use crate::clerk::Clerk;
 use crate::faults::ServeFault;
 use crate::openings::Opening;
 use crate::reading::{MOST_INPUT, serve_lines};
 use crate::serving::Service;
-use firm_rules::{Command, Name, Rows};
+use firm_rules::{Command, Name, RecentCosts, Rows};
 use firm_text::{Line, Roster, Sink, Source};
 use std::alloc::{AllocError, Global};
 
-/// A watcher of a service's rounds, which is shown the tenant's rows before and after each.
+/// A watcher of a service's rounds, which is shown the tenant's book before each and its rows after it.
 pub trait Watcher {
-    /// The tenant of this name is asked for a round, and these are its rows.
-    fn before_round(&mut self, name: Name, rows: &Rows);
+    /// What the watcher keeps of a round to come: that of the tenant of this name, which has this book.
+    ghost awaits: { Self → List ℕ → Book → Type 0 } = { λ _ _ _. Unit {0} };
+
+    /// The tenant of this name is asked for a round, and this is its book: its rows, the costs of its last rounds, and
+    /// how many commands it was given before.
+    fn before_round(&mut self, name: Name, rows: &Rows, costs: RecentCosts, given: u64)
+        ensures { awaits self.new name (record { rows = rows.now; costs = costs; given = given }) };
 
     /// The round was solved, and these are the rows after it. All answers up to its reply were written. Fails if memory
     /// is refused.
@@ -43,14 +50,11 @@ pub fn serve_watched<R: Source, W: Sink, V: Watcher>(
     requires reader { R.read_failed reader.old ≡ false }
     requires writer { W.write_failed writer.old ≡ false }
     ensures served { OnOk result (Served roster.now (2 ^ 32)
-        (device (R.left reader.old) (R.left reader.new) (R.read_failed reader.new))
-        (device (W.written writer.old) (W.written writer.new) (W.write_failed writer.new))) }
+        (between R.left R.read_failed reader.old reader.new) (between W.written W.write_failed writer.old writer.new)) }
     ensures stopped { IfErr result (Stopped roster.now (2 ^ 32)
-        (device (R.left reader.old) (R.left reader.new) (R.read_failed reader.new))
-        (device (W.written writer.old) (W.written writer.new) (W.write_failed writer.new))) }
+        (between R.left R.read_failed reader.old reader.new) (between W.written W.write_failed writer.old writer.new)) }
     ensures in_full { IfErr result (λ fault. fault ≡ Read → UpToDate (Answers roster.now)
-        (device (R.left reader.old) (R.left reader.new) (R.read_failed reader.new))
-        (device (W.written writer.old) (W.written writer.new) (W.write_failed writer.new))) }
+        (between R.left R.read_failed reader.old reader.new) (between W.written W.write_failed writer.old writer.new)) }
 {
     serve_watched_from(alloc, reader, writer, watcher, Opening::Roster(roster))
 }
@@ -66,16 +70,13 @@ pub fn serve_watched_from<R: Source, W: Sink, V: Watcher>(
     requires reader { R.read_failed reader.old ≡ false }
     requires writer { W.write_failed writer.old ≡ false }
     ensures served { OnOk result (ServedFrom (places_opened opening.entry) (2 ^ 32)
-        (device (R.left reader.old) (R.left reader.new) (R.read_failed reader.new))
-        (device (W.written writer.old) (W.written writer.new) (W.write_failed writer.new))) }
+        (between R.left R.read_failed reader.old reader.new) (between W.written W.write_failed writer.old writer.new)) }
     ensures stopped { IfErr result (StoppedFrom (places_opened opening.entry) (2 ^ 32)
-        (device (R.left reader.old) (R.left reader.new) (R.read_failed reader.new))
-        (device (W.written writer.old) (W.written writer.new) (W.write_failed writer.new))) }
+        (between R.left R.read_failed reader.old reader.new) (between W.written W.write_failed writer.old writer.new)) }
     ensures in_full { IfErr result (λ fault. fault ≡ Read → UpToDate (AnswersFrom (places_opened opening.entry))
-        (device (R.left reader.old) (R.left reader.new) (R.read_failed reader.new))
-        (device (W.written writer.old) (W.written writer.new) (W.write_failed writer.new))) }
+        (between R.left R.read_failed reader.old reader.new) (between W.written W.write_failed writer.old writer.new)) }
 {
-    let Ok(service) = Service::open(alloc, opening) else {
+    let Ok(service) = Service::open(alloc, opening, false) else {
         return Err(ServeFault::Memory);
     };
     let mut watched = Watched { service, watcher };
@@ -90,12 +91,14 @@ pub(crate) struct Watched<'a, 'v, V: Watcher> {
 }
 
 impl<V: Watcher> Watched<'_, '_, V> {
-    // Shows the rows before a round of the tenant of this name, if it is there.
+    // Shows the book before a round of the tenant of this name, if it is there.
     fn show_before(&mut self, name: Name)
-        ensures { self.new.service ≡ self.old.service }
+        ensures same { self.new.service ≡ self.old.service }
+        ensures shown { IfSome (book_named self.old.service.tenants name) (V.awaits self.new.watcher.now name) }
     {
-        if let Some(rows) = self.service.rows_of(name) {
-            self.watcher.before_round(name, rows);
+        if let Some(tenant) = self.service.tenant_of(name) {
+            self.watcher
+                .before_round(name, tenant.rows(), tenant.costs(), tenant.given());
         }
     }
 
@@ -103,20 +106,20 @@ impl<V: Watcher> Watched<'_, '_, V> {
     fn show_after<W: Sink>(&mut self, writer: &mut W, name: Name) -> Result<(), ServeFault>
         requires { W.write_failed writer.old ≡ false }
         ensures told { OnOk result ((text : List ℕ) (written : Option (List ℕ))
-            → Told (state_of self.old.service) text written (W.written writer.old)
-            → Told (state_of self.new.service) text written (W.written writer.new)) }
+            → ToldAs self.old.service.all_granted (state_of self.old.service) text written (W.written writer.old)
+            → ToldAs self.new.service.all_granted (state_of self.new.service) text written (W.written writer.new)) }
         ensures begins { OnErr result ((text : List ℕ) (written : Option (List ℕ))
-            → Told (state_of self.old.service) text written (W.written writer.old)
+            → ToldAs self.old.service.all_granted (state_of self.old.service) text written (W.written writer.old)
             → BeginsAnswersFrom (places_opened self.old.service.opening) text written (W.written writer.new)) }
         ensures cause { IfErr result (λ fault. IsWritingFault fault (W.write_failed writer.new)) }
         ensures well { OnOk result (W.write_failed writer.new ≡ false) }
         ensures opening { places_opened self.new.service.opening ≡ places_opened self.old.service.opening }
     {
         self.service.finish(writer)?;
-        let Some(rows) = self.service.rows_of(name) else {
+        let Some(tenant) = self.service.tenant_of(name) else {
             return Ok(());
         };
-        match self.watcher.after_round(name, rows) {
+        match self.watcher.after_round(name, tenant.rows()) {
             Ok(()) => Ok(()),
             Err(_) => Err(ServeFault::Memory),
         }
@@ -131,7 +134,7 @@ impl<V: Watcher> Clerk for Watched<'_, '_, V> {
 
     ghost is_open = { λ _. Unit {0} };
 
-    ghost told = { λ watched. Told (state_of watched.service) };
+    ghost told = { λ watched. ToldAs watched.service.all_granted (state_of watched.service) };
 
     ghost is_written_out = { λ watched. watched.service.output.items ≡ [] };
 

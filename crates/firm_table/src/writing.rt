@@ -2,7 +2,7 @@
 
 ghost use Rattle.std.specs.Prelude.{◌≡◌, ℕ, ◌≤◌, [], false, OnOk, OnErr, IfErr, length, take};
 ghost use Rattle.std.specs.Io.KnownBytes.{Appends};
-ghost use Rattle.firm_table.specs.inner.Faults.{IsWritingFault};
+ghost use Rattle.firm_table.specs.Service.{IsWritingFault};
 
 use crate::faults::ServeFault;
 use firm_text::{Sink, write_all};

@@ -3,8 +3,7 @@ use Rattle.std.specs.Prelude.{◌≡◌, ℕ, ◌+◌, ◌≤◌, ◌==◌, List
 use Rattle.std.specs.List.{filter}
 use Rattle.firm_rules.specs.declared.tickets.Ticket.{Ticket}
 use Rattle.firm_text.specs.Rosters.{RosterRow, most_places}
-use Rattle.firm_table.specs.Interleaving.{Station, empty, home, queued, held, answered, Seat, TableState, opening_seat}
-use Rattle.firm_table.specs.Interleaving.{unused_seat}
+use Rattle.firm_table.specs.Interleaving.{Station, queued, Seat, TableState, opening_seat, unused_seat}
 
 -- the table of these parts
 abbrev pub table_of : ℕ → List Seat → List Ticket → TableState
@@ -17,11 +16,8 @@ first_seat (Some row) = opening_seat row
 
 -- the ticket of a round that waits in the queue
 abbrev pub queued_ticket : Station → List Ticket
-queued_ticket empty = []
-queued_ticket (home book) = []
 queued_ticket (queued book ticket) = ticket ∷ []
-queued_ticket (held book ticket worker) = []
-queued_ticket (answered book reply) = []
+queued_ticket _ = []
 
 -- the ticket that waits at a place, if the table has that place
 abbrev pub waiting_at : Option Seat → List Ticket

@@ -2,12 +2,12 @@ use Rattle.std.proofs.Common.{◌∙◌, [], refl, sym, ap, subst}
 use Rattle.std.proofs.KnownBytes.{Consumes-nil}
 use Rattle.firm_table.specs.declared.faults.ServeFault.TheVariants.{Memory}
 use Rattle.firm_table.specs.Openings.{places_opened}
-use Rattle.firm_table.specs.inner.Line.{State}
-use Rattle.firm_table.specs.inner.Granting.{ToldGranted}
-use Rattle.firm_table.specs.inner.Progress.{state_of}
+use Rattle.firm_table.specs.Progress.{State}
+use Rattle.firm_table.specs.inner.Granting.{ToldAs}
+use Rattle.firm_table.specs.inner.Serving.{state_of}
 use Rattle.firm_table.proofs.Ending.{served_to}
 use Rattle.firm_table.proofs.Pieces.{ended_none}
-use Rattle.firm_table.proofs.Granting.{nothing_granted, told_up_to_date}
+use Rattle.firm_table.proofs.Granting.{nothing_told_as, told_up_to_date}
 use Rattle.firm_table.proofs.Progress.{answers_up_to_date}
 use Rattle.firm_table.proofs.Stops.{stopped_within}
 use Rattle.firm_table.proofs.Written.{nothing_written}
@@ -28,21 +28,23 @@ returns-in_default-clause-stopped g c =
 pub serve_lines-requires-clause-opening : goal.serve_lines-requires-clause-opening
 serve_lines-requires-clause-opening g c =
     subst
-    (λ (state : State). ToldGranted state [] (g.W.Sink.written c.args.writer.now) (g.W.Sink.written c.args.writer.now))
-    (sym c.in-Ok.ensures) (nothing_granted (places_opened c.args.opening) _)
+    (λ (state : State). ToldAs c.in-Ok.service.all_granted state []
+    (g.W.Sink.written c.args.writer.now) (g.W.Sink.written c.args.writer.now))
+    (sym c.in-Ok.ensures.state) (nothing_told_as _ (places_opened c.args.opening) _)
 
 pub returns-in-Ok-serve_lines-clause-served : goal.returns-in-Ok-serve_lines-clause-served
 returns-in-Ok-serve_lines-clause-served g c =
-    let began = ap (λ (state : State). state.opening) c.in-Ok.ensures in
+    let began = ap (λ (state : State). state.opening) c.in-Ok.ensures.state in
     let same = c.serve_lines.ensures.opening ∙ began in
     let e = c.in-Ok-serve_lines.ensures in
-    served_to (places_opened c.args.opening) (state_of c.serve_lines.new.clerk.service) c.args.most _ _ _ same
-    c.into_tenants.ensures e.finished e.told
+    served_to (places_opened c.args.opening) c.serve_lines.new.clerk.all_granted
+    (state_of c.serve_lines.new.clerk) c.args.most _ _ _ same
+    (c.serve_lines.ensures.kept ∙ c.in-Ok.ensures.granted) c.into_tenants.ensures e.finished e.told
     (rw began at e.served)
 
 pub returns-in-Err-clause-in_full : goal.returns-in-Err-clause-in_full
 returns-in-Err-clause-in_full g c reading =
-    let same = c.serve_lines.ensures.opening ∙ ap (λ (state : State). state.opening) c.in-Ok.ensures in
+    let same = c.serve_lines.ensures.opening ∙ ap (λ (state : State). state.opening) c.in-Ok.ensures.state in
     let told = c.in-Err.ensures.waiting reading in
-    answers_up_to_date (places_opened c.args.opening) (state_of c.serve_lines.new.clerk.service) _ _ same told.0
-    (told_up_to_date _ _ _ told.1)
+    answers_up_to_date (places_opened c.args.opening) (state_of c.serve_lines.new.clerk) _ _ same told.0
+    (told_up_to_date _ _ _ _ told.1)

@@ -4,7 +4,7 @@ use Rattle.std.proofs.lemmas.List.{length-map, take_all, take_more}
 use Rattle.firm_rules.specs.Book.{Book}
 use Rattle.firm_table.specs.Places.{Place, book_of}
 use Rattle.firm_table.specs.Openings.{places_opened}
-use Rattle.firm_table.specs.inner.Line.{books_of}
+use Rattle.firm_table.specs.Progress.{books_of}
 use Rattle.firm_table.proofs.Books.{books_at}
 use Rattle.firm_table.proofs.tenants.open_places.Goals as goal
 

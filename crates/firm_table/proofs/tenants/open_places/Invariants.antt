@@ -1,6 +1,6 @@
 use Rattle.std.proofs.Common.{◌≡◌, take}
 use Rattle.firm_table.specs.Openings.{places_opened}
-use Rattle.firm_table.specs.inner.Line.{books_of}
+use Rattle.firm_table.specs.Progress.{books_of}
 use Rattle.firm_table.proofs.tenants.open_places.Given as goal
 
 abbrev pub invariant-loop-place : goal.invariant-loop-place

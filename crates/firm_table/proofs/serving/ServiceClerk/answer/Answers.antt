@@ -1,6 +1,7 @@
 use Rattle.std.proofs.Common.{◌≡◌, ◌∙◌, rules, ap, take, length, ℕ}
 use Rattle.std.proofs.lemmas.Result.{err_from_is_err_and}
-use Rattle.firm_table.proofs.Progress.{one_more, one_more_begins, told_begins, partly_written, all_written_now}
+use Rattle.firm_table.proofs.Granting.{all_written_as, one_more_as}
+use Rattle.firm_table.proofs.Progress.{one_more_begins, told_begins, partly_written, all_written_now}
 use Rattle.firm_table.proofs.serving.ServiceClerk.answer.Goals as goal
 
 pub returns-in_err-write_held-clause-begins : goal.returns-in_err-write_held-clause-begins
@@ -13,7 +14,7 @@ returns-in_err-write_held-clause-begins g c =
     let part = rw kept at c.in_err-write_held.ensures.err in
     rw p.1 (λ text after written more told.
     one_more_begins c.unmarked_steps_are_granted.ensures c.refuses_for_the_form.ensures _ text after written _
-    c.args.line (partly_written _ text written _ _ part.0 told part.2) more)
+    c.args.line (partly_written _ text written _ _ part.0 told.told part.2) more)
 
 pub returns-in_default-clause-begins : goal.returns-in_default-clause-begins
 returns-in_default-clause-begins g c text after written more told =
@@ -23,7 +24,7 @@ returns-in_default-clause-begins g c text after written more told =
     ∙ c.put_answer.ensures.kept in
     one_more_begins c.unmarked_steps_are_granted.ensures c.refuses_for_the_form.ensures _ text after written
     _ c.args.line
-    (all_written_now _ text _ written _ _ told
+    (all_written_now _ text _ written _ _ told.told
     (rw kept at c.in_ok-write_held.ensures.ok) c.in_ok-write_held.ensures.empty) more
 
 pub returns-in_err-write_held-2-clause-begins : goal.returns-in_err-write_held-2-clause-begins
@@ -35,16 +36,16 @@ returns-in_err-write_held-2-clause-begins g c =
     rw p.1 (λ text after written more told.
     told_begins _ after written _
     (partly_written _ after written _ _ part.0
-    (one_more _ text after written _ _ _ c.args.line told more answered).0 part.2))
+    (one_more_as _ _ text after written _ _ _ c.args.line told more answered).told part.2))
 
 pub returns-in_ok-write_held-2-clause-told : goal.returns-in_ok-write_held-2-clause-told
 returns-in_ok-write_held-2-clause-told g c text after written more told =
     let answered = c.in-Ok.ensures.answered in
-    all_written_now _ after _ written _ _
-    (one_more _ text after written _ _ _ c.args.line told more answered).0 c.in_ok-write_held-2.ensures.ok
+    all_written_as _ _ after _ written _ _
+    (one_more_as _ _ text after written _ _ _ c.args.line told more answered) c.in_ok-write_held-2.ensures.ok
     c.in_ok-write_held-2.ensures.empty
 
 pub returns-else-len-ge-FULL-clause-told : goal.returns-else-len-ge-FULL-clause-told
 returns-else-len-ge-FULL-clause-told g c text after written more told =
     let answered = c.in-Ok.ensures.answered in
-    (one_more _ text after written _ _ _ c.args.line told more answered).0
+    one_more_as _ _ text after written _ _ _ c.args.line told more answered

@@ -7,4 +7,4 @@ use Rattle.firm_table.proofs.watching.Watched.show_after.Goals as goal
 pub returns-in-Err-clause-begins : goal.returns-in-Err-clause-begins
 returns-in-Err-clause-begins g c text written told =
     subst (λ (places : List Place). BeginsAnswersFrom places text written (g.W.Sink.written c.finish.new.writer))
-    c.in_ok-finish.ensures.opening (told_begins _ text written _ (c.in_ok-finish.ensures.told text written told))
+    c.in_ok-finish.ensures.opening (told_begins _ text written _ (c.in_ok-finish.ensures.told text written told).told)

@@ -1,21 +1,13 @@
--- What one line makes of the tenants of a service.
-use Rattle.std.specs.Prelude.{◌≡◌, ℕ, List, ◌++◌, Option, Some, None, map, option_map, slice_index_or}
+-- How a service gets on, line by line: what a line makes of its tenants, and what it claims about the lines so far.
+use Rattle.std.specs.Prelude.{◌≡◌, ℕ, List, ◌++◌, Option, map, option_map}
+use Rattle.std.specs.Io.KnownBytes.{Appends}
 use Rattle.firm_rules.specs.Book.{Book}
-use Rattle.firm_text.specs.Registers.{place_in}
 use Rattle.firm_text.specs.declared.inputs.Line.{Line}
 use Rattle.firm_table.specs.Answers.{answer_of, tells_memory, text_of_answer}
 use Rattle.firm_table.specs.declared.answers.LineAnswer.{LineAnswer}
-use Rattle.firm_table.specs.Places.{Place, book_of, register_of, after_line}
+use Rattle.firm_table.specs.Output.{output_from, AreLinesFrom}
+use Rattle.firm_table.specs.Places.{MarkedLine, Place, book_of, register_of, after_line, after_lines}
 use Rattle.firm_table.specs.Tenants.{TenantsState, tenants_are}
-
--- the book at a place, if there is one
-abbrev pub book_at : List (Option Book) → Option ℕ → Option Book
-book_at books None = None
-book_at books (Some place) = slice_index_or books place None
-
--- the book of the tenant of this name, if it is there
-abbrev pub book_named : TenantsState → List ℕ → Option Book
-book_named tenants name = book_at tenants.books (place_in tenants.register name)
 
 -- the books of the tenants that stay at these places
 abbrev pub books_of : List Place → List (Option Book)
@@ -52,3 +44,13 @@ pub record State : Type 0 where
 -- the state of these parts
 abbrev pub state_is : List Place → TenantsState → List ℕ → State
 state_is opening tenants pending = record { opening = opening; tenants = tenants; pending = pending }
+
+-- the lines of this text were answered: the tenants are those after these lines, and what was written and what is still
+-- to be written make up the output for them
+pub record Told (state : State) (text : List ℕ) (written now : Option (List ℕ)) : Type 0 where
+  pub lines : List MarkedLine
+  pub are_lines : AreLinesFrom state.opening text lines
+  pub shows : Shows state.tenants (after_lines state.opening lines)
+  pub sent : List ℕ
+  pub wrote : Appends written now sent
+  pub whole : sent ++ state.pending ≡ output_from state.opening lines

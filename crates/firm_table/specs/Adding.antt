@@ -20,8 +20,7 @@ use Rattle.firm_table.specs.Output.{answers_from}
 use Rattle.firm_table.specs.Places.{Place}
 use Rattle.firm_table.specs.Service.{AnswersFrom, BeginsAnswersFrom}
 use Rattle.firm_table.specs.Tenants.{TenantsState, tenants_are}
-use Rattle.firm_table.specs.inner.Line.{tenants_at, IsRight, IsAnswer, State, state_is}
-use Rattle.firm_table.specs.inner.Progress.{Told}
+use Rattle.firm_table.specs.Progress.{IsAnswer, IsRight, State, Told, state_is, tenants_at}
 
 -- before the first line nothing is to be written
 abbrev pub NothingIsTold : Type 0

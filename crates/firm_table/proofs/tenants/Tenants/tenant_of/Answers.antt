@@ -1,12 +1,12 @@
 use Rattle.std.proofs.Common.{◌≡◌, ◌∙◌, ℕ, List, Some, None, sym, ap, arith}
-use Rattle.std.specs.Prelude.{Option, option_map, true, false, get_or}
+use Rattle.std.specs.Prelude.{Option, true, false, get_or}
 use Rattle.std.specs.Option.{is_some}
 use Rattle.std.proofs.lemmas.List.{get_or_default}
-use Rattle.firm_rules.specs.Book.{Book, TenantRows}
+use Rattle.firm_rules.specs.Book.{Book}
 use Rattle.firm_text.specs.Registers.{place_in}
-use Rattle.firm_table.specs.inner.Line.{book_at}
+use Rattle.firm_table.specs.inner.Books.{book_at}
 use Rattle.firm_table.proofs.Seated.{seated_within, seated_here}
-use Rattle.firm_table.proofs.tenants.Tenants.rows_of.Goals as goal
+use Rattle.firm_table.proofs.tenants.Tenants.tenant_of.Goals as goal
 
 pub index-requires : goal.index-requires
 index-requires c =
@@ -40,6 +40,4 @@ returns c =
     let here : c.index.result.now ≡ get_or books at None = c.index.ensures ∙ get_or_default books at _ None low in
     let book : book_at books (place_in c.self.inside.register c.args.name) ≡ Some c.in-Some.tenant =
     ap (book_at books) found ∙ (sym here ∙ c.in-Some.is) in
-    rw (← c.self.view_is)
-    (ap (λ (rows : TenantRows). Some rows) c.rows.ensures
-    ∙ ap (option_map (λ (b : Book). b.rows)) (sym book))
+    rw (← c.self.view_is) (sym book)
