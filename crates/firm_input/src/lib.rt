@@ -17,8 +17,9 @@
 //! While the caller waits for something else, it asks with `is_ready`. The source then lends its reader to the thread,
 //! which reads one piece of at most 4,096 bytes, gives the reader back and notifies the waker. The reader lies in the
 //! slot of a table whose word says whose turn it is, so no thread waits for a lock of it. Without the thread, the
-//! source is always ready. A failed read, even an interrupted one, is never tried again: the next read gets a failure
-//! or an end that was read ahead. `close` joins the thread; in a read it ends with the program.
+//! source is never ready, and its caller reads once it waits for nothing else. A failed read, even an interrupted one,
+//! is never tried again: the next read gets a failure or an end that was read ahead. `close` joins the thread; in a
+//! read it ends with the program.
 #![tactic(auto)]
 
 mod pieces;

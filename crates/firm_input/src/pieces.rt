@@ -1,10 +1,11 @@
 //! A reader with one piece that was read ahead.
 
-ghost use Rattle.std.specs.Prelude.{◌≡◌, ◌≤◌, ◌<◌, ◌+◌, ◌++◌, length, take};
+ghost use Rattle.std.specs.Prelude.{◌≡◌, ◌≤◌, ◌<◌, ◌+◌, ◌++◌, length, take, IfOk};
 ghost use Rattle.std.specs.Io.{ReadsAtMost};
 ghost use Rattle.std.specs.Io.KnownBytes.{Keeps, ReadConsumes};
 
 use firm_text::Failed;
+use std::alloc::{AllocError, Global};
 use std::io::Read;
 use std::marker::Model;
 
@@ -61,7 +62,7 @@ impl Piece {
         ensures bound { (result ≤ length buffer.new) × (length buffer.new ≡ length buffer.old) }
         ensures bytes { unread self.old ≡ take result buffer.new ++ unread self.new }
         ensures none { result ≡ 0 → 0 < length buffer.new → self.old.left ≡ 0 }
-        ensures fewer { self.new.left ≤ self.old.left }
+        ensures same { result ≡ 0 → self.new ≡ self.old }
     {
         let count = self.left.min(buffer.len());
         let next = self.taken + count;
@@ -76,7 +77,8 @@ impl Piece {
 #[derive(Drop)]
 pub(crate) struct PieceReader<T: Read> {
     inner: T,
-    piece: Piece,
+    // Boxed, since the reader is handed to and fro.
+    piece: Box<Piece>,
     ahead: Ahead,
 }
 
@@ -86,22 +88,25 @@ impl<T: Read> Model for PieceReader<T> {
 
     ghost Value = { Option (List ℕ) };
 
-    ghost view = { λ r. left_behind r.ahead r.piece (T.remaining r.inner) };
+    ghost view = { λ r. left_behind r.ahead r.piece.value (T.remaining r.inner) };
 
-    ghost invariant = { λ r. IsEnd r.ahead r.piece (T.remaining r.inner) };
+    ghost invariant = { λ r. IsEnd r.ahead r.piece.value (T.remaining r.inner) };
+}
+
+impl<T: Read + Drop> PieceReader<T> {
+    /// Fails only if memory is refused.
+    pub(crate) fn new(alloc: Global, inner: T) -> Result<PieceReader<T>, AllocError>
+        ensures { IfOk result (λ reader. reader ≡ T.remaining inner) }
+    {
+        Ok(PieceReader {
+            inner,
+            piece: Box::new(alloc, Piece::new())?,
+            ahead: Ahead::Nothing,
+        })
+    }
 }
 
 impl<T: Read> PieceReader<T> {
-    pub(crate) fn new(inner: T) -> PieceReader<T>
-        ensures { result ≡ T.remaining inner }
-    {
-        PieceReader {
-            inner,
-            piece: Piece::new(),
-            ahead: Ahead::Nothing,
-        }
-    }
-
     /// Whether a read need not ask the reader.
     pub(crate) fn has_piece(&self) -> bool {
         !matches!(self.ahead, Ahead::Nothing)

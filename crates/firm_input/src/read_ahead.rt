@@ -56,7 +56,7 @@ pub fn open<'r, R: Threads + Wait + Clone + Drop + Send + 'static, T: Read + Dro
 ) -> Result<ReadAhead<'r, R, T>, AllocError>
     ensures { IfOk result (λ source. source ≡ source_is (T.remaining inner) false) }
 {
-    let reader = PieceReader::new(inner);
+    let reader = PieceReader::new(alloc, inner)?;
     let (board, mut seat) = Board::vacant(alloc, &[HOME], 1, &reader)?;
     let handover = Arc::new(
         alloc,
@@ -169,10 +169,10 @@ impl<R: Wait, T: Read + Drop> Source for ReadAhead<'_, R, T> {
 
     // Without a waker the caller won't wait, so nothing is read ahead. The waker is stored before the word is read
     // again, and the thread looks for it after its own turn: either this read finds the piece, or the thread finds the
-    // waker.
+    // waker. Without the thread, a read might wait while the caller owes replies: it is never ready for such a caller.
     fn is_ready(&mut self, waker: Option<&Arc<EventCount, Global>>) -> bool {
         if self.thread.is_none() {
-            return true;
+            return false;
         }
         if let Some(waker) = waker {
             let Ok(waker) = Arc::try_clone(waker) else {
